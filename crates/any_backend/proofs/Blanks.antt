@@ -35,9 +35,9 @@ use Rattle.fcb_ring.specs.SectorStates.{state_of}
 use Rattle.fcb_ring.specs.Standing.{erases_due}
 use Rattle.fcb_ring.proofs.PlaceLemmas.{find_nothing}
 use Rattle.fcb_ring.proofs.StandLemmas.{blank-free, blank-untorn}
-use Rattle.backend_fcb.specs.Numbers.{cap}
-use Rattle.backend_fcb.specs.Settings.{settings_of}
-use Rattle.backend_fcb.proofs.BodyLemmas.{settings-none}
+use Rattle.record_settings.specs.Numbers.{cap}
+use Rattle.record_settings.specs.Settings.{settings_of}
+use Rattle.record_settings.proofs.BodyLemmas.{settings-none}
 use Rattle.named_items.specs.Numbering.{Numbering}
 use Rattle.named_items.specs.Pairs.{HasNoStrays}
 use Rattle.named_items.specs.Blank.{nvs-undamaged, nvs-empty, zms-undamaged, zms-empty}

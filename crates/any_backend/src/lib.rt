@@ -1,4 +1,4 @@
-//! Settings over any of the three stores. The role of an area says which one.
+//! Settings in an area of NVS, ZMS or FCB. The area's role says which store it is.
 #![tactic(auto)]
 
 mod backend;

@@ -1,5 +1,6 @@
-//! One interface for all stores of settings. Its meaning is the map of names to values that an area
-//! reads as; everything above is proved once against it.
+//! The trait of every settings store (`Backend`): an area of flash holds a map of names to values,
+//! and each call says what it leaves there, power losses included. The crates above are proved
+//! once, against this trait.
 #![tactic(auto)]
 
 mod backend;

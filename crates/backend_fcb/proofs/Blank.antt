@@ -17,9 +17,9 @@ use Rattle.fcb_ring.specs.Standing.{IsRingArea}
 use Rattle.fcb_ring.proofs.AreaLemmas.{has_size, count-sectors, area_after, length-states, state-at}
 use Rattle.fcb_ring.proofs.RingLemmas.{turned-within, undamaged}
 use Rattle.fcb_ring.proofs.StandLemmas.{part, entries-are, blank-free}
-use Rattle.backend_fcb.specs.Settings.{settings_of}
+use Rattle.record_settings.specs.Settings.{settings_of}
 use Rattle.backend_fcb.specs.Standing.{damage_on, settings_on}
-use Rattle.backend_fcb.proofs.BodyLemmas.{settings-none}
+use Rattle.record_settings.proofs.BodyLemmas.{settings-none}
 use Rattle.backend_fcb.proofs.PutsCosts.{CostsFit, costs-from, puts-none, undamaged-by}
 use Rattle.backend_fcb.proofs.WalkLemmas.{Entry}
 

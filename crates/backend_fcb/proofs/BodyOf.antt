@@ -7,7 +7,7 @@ use Rattle.std.proofs.lemmas.List.{length-take-le}
 use Rattle.std.proofs.lemmas.Option.{none-some}
 use Rattle.setting_name.specs.Name.{is_name, IsName}
 use Rattle.setting_name.proofs.NameTest.{is_name-sound, is_name-complete}
-use Rattle.backend_fcb.specs.Settings.{name_in, value_in, setting_of}
+use Rattle.record_settings.specs.Settings.{name_in, value_in, setting_of}
 
 abbrev pub equals_at : List ℕ → Option ℕ
 equals_at body = position (λ byte. eqb byte 0x3D) body

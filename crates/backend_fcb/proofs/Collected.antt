@@ -24,15 +24,15 @@ use Rattle.fcb_ring.proofs.OthersLemmas.{others_at}
 use Rattle.fcb_ring.proofs.PlaceLemmas.{All-range, range-append, flat_map-agree}
 use Rattle.fcb_ring.proofs.RingLemmas.{turned-zero}
 use Rattle.backend_fcb.specs.Changing.{Copies, CopiesLive, Collects, StopsCopying, parts_on, collect_units}
-use Rattle.backend_fcb.specs.Live.{live_bodies}
-use Rattle.backend_fcb.specs.Numbers.{cap, reserve, put_cost}
+use Rattle.record_settings.specs.Live.{live_bodies}
+use Rattle.record_settings.specs.Numbers.{cap, reserve, put_cost}
 use Rattle.item_laws.specs.PairRounds.{joined}
 use Rattle.item_laws.proofs.NoRoom.{joined-push}
-use Rattle.backend_fcb.specs.Rounds.{bodies_cost}
-use Rattle.backend_fcb.specs.Settings.{settings_of}
+use Rattle.record_settings.specs.Rounds.{bodies_cost}
+use Rattle.record_settings.specs.Settings.{settings_of}
 use Rattle.backend_fcb.specs.Standing.{damage_on, settings_on, IsReady}
-use Rattle.backend_fcb.proofs.Coded.{settings-collected}
-use Rattle.backend_fcb.proofs.CopyCost.{copies_cost-le}
+use Rattle.record_settings.proofs.Coded.{settings-collected}
+use Rattle.record_settings.proofs.CopyCost.{copies_cost-le}
 use Rattle.backend_fcb.proofs.CopySteps.{kept-same}
 use Rattle.backend_fcb.proofs.PartLists.{FitsOne, joined-bodies, joined-on, parts-fit, fit-parts}
 use Rattle.backend_fcb.proofs.PutsCosts.{CostsFit, costs-on, undamaged-after, undamaged-kept, put-le}

@@ -37,18 +37,18 @@ use Rattle.fcb_ring.proofs.ReadLemmas.{stands-has}
 use Rattle.backend_fcb.specs.Changing.{Copies, StopsCopying, CopiesLive}
 use Rattle.backend_fcb.specs.Gathering.{is_within, AreWithin, AreKeptWithin, AreShort, IsKept, bodies_at, Gathers, GathersFrom}
 use Rattle.backend_fcb.specs.declared.gathering.Kept.{Kept}
-use Rattle.backend_fcb.specs.Live.{is_live_by, is_live, live_bodies}
-use Rattle.backend_fcb.specs.Numbers.{cap, put_cost}
+use Rattle.record_settings.specs.Live.{is_live_by, is_live, live_bodies}
+use Rattle.record_settings.specs.Numbers.{cap, put_cost}
 use Rattle.backend_fcb.specs.Reading.{puts_cost}
-use Rattle.backend_fcb.specs.Rounds.{bodies_cost}
-use Rattle.backend_fcb.specs.Settings.{setting_of, longest}
+use Rattle.record_settings.specs.Rounds.{bodies_cost}
+use Rattle.record_settings.specs.Settings.{setting_of, longest}
 use Rattle.backend_fcb.specs.Standing.{damage_on}
-use Rattle.backend_fcb.proofs.BodyLemmas.{setting-says}
-use Rattle.backend_fcb.proofs.CopyCost.{copies_cost-le}
+use Rattle.record_settings.proofs.BodyLemmas.{setting-says}
+use Rattle.record_settings.proofs.CopyCost.{copies_cost-le}
 use Rattle.backend_fcb.proofs.BodyAt.{listed-len, same-body}
 use Rattle.backend_fcb.proofs.GatherSteps.{IsAtPart, part-start, part-step}
 use Rattle.backend_fcb.proofs.Limits.{limit-most, one-program}
-use Rattle.backend_fcb.proofs.LiveLemmas.{copies-none, copies-split}
+use Rattle.record_settings.proofs.LiveLemmas.{copies-none, copies-split}
 use Rattle.backend_fcb.proofs.PutsCosts.{costs-at, costs-on, puts-append, puts-all}
 use Rattle.backend_fcb.proofs.RingLists.{oldest-first, rest-not, within, part_at, collecting-none}
 use Rattle.backend_fcb.proofs.SectorLists.{AreOf, AreNotOf, bodies-append, append-same, entries-of}

@@ -18,14 +18,14 @@ use Rattle.fcb_ring.specs.Writing.{record_cost}
 use Rattle.fcb_ring.proofs.AreaLemmas.{has_size, count-sectors}
 use Rattle.fcb_ring.proofs.FewLemmas.{few-on}
 use Rattle.fcb_ring.proofs.ReadLemmas.{there}
-use Rattle.backend_fcb.specs.Live.{is_live, live_bodies}
+use Rattle.record_settings.specs.Live.{is_live, live_bodies}
 use Rattle.backend_fcb.specs.Gathering.{bodies_at, Gathers, GathersFrom}
 use Rattle.backend_fcb.specs.declared.gathering.Kept.{Kept}
-use Rattle.backend_fcb.specs.Numbers.{put_cost}
+use Rattle.record_settings.specs.Numbers.{put_cost}
 use Rattle.backend_fcb.specs.Reading.{puts_cost}
-use Rattle.backend_fcb.specs.Rounds.{bodies_cost}
-use Rattle.backend_fcb.proofs.CopyCost.{put-live}
-use Rattle.backend_fcb.proofs.LiveLemmas.{copies-none, copies-split}
+use Rattle.record_settings.specs.Rounds.{bodies_cost}
+use Rattle.record_settings.proofs.CopyCost.{put-live}
+use Rattle.record_settings.proofs.LiveLemmas.{copies-none, copies-split}
 use Rattle.backend_fcb.proofs.GatherSteps.{IsAtPart, part-start, part-step}
 use Rattle.backend_fcb.proofs.LookupSteps.{Reads}
 use Rattle.backend_fcb.proofs.TableLaws.{live-few, live-cons}

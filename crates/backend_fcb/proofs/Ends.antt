@@ -32,17 +32,17 @@ use Rattle.backend_api.specs.Room.{HasNoRoom, most_units}
 use Rattle.backend_api.proofs.MapLemmas.{insert-stored, remove-absent}
 use Rattle.backend_fcb.specs.declared.backend.FcbBackend.{FcbBackend}
 use Rattle.backend_fcb.specs.Changing.{HasNoPlace, parts_on, collect_units}
-use Rattle.backend_fcb.specs.Last.{last_value, stored}
-use Rattle.backend_fcb.specs.Numbers.{cap, reserve, room, pair_cost, put_cost, cost_by}
+use Rattle.record_settings.specs.Last.{last_value, stored}
+use Rattle.record_settings.specs.Numbers.{cap, reserve, room, pair_cost, put_cost, cost_by}
 use Rattle.backend_fcb.specs.Reading.{first_overfull}
 use Rattle.item_laws.specs.PairRounds.{joined}
-use Rattle.backend_fcb.specs.Rounds.{FindsNoRoom}
-use Rattle.backend_fcb.specs.Settings.{body_of, longest, setting_of, with_setting, settings_of}
+use Rattle.record_settings.specs.Rounds.{FindsNoRoom}
+use Rattle.record_settings.specs.Settings.{body_of, longest, setting_of, with_setting, settings_of}
 use Rattle.backend_fcb.specs.Standing.{Stands, damage_on, settings_on, bodies_on, IsReady}
 use Rattle.backend_fcb.specs.Tearing.{body_for}
-use Rattle.backend_fcb.proofs.BodyLemmas.{setting-body_of, length-body_of}
-use Rattle.backend_fcb.proofs.LastLemmas.{get-settings_of}
-use Rattle.backend_fcb.proofs.NoRoom.{rounds-no_room}
+use Rattle.record_settings.proofs.BodyLemmas.{setting-body_of, length-body_of}
+use Rattle.record_settings.proofs.LastLemmas.{get-settings_of}
+use Rattle.record_settings.proofs.NoRoom.{rounds-no_room}
 use Rattle.backend_fcb.proofs.PartLists.{joined-on, count-parts}
 use Rattle.backend_fcb.proofs.PutsCosts.{overfull_at, damage-costs, map-none}
 use Rattle.backend_fcb.proofs.RingLists.{ready-none}

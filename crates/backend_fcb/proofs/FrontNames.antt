@@ -7,11 +7,11 @@ use Rattle.std.proofs.lemmas.Bool.{cases_Bool, both_ways, eq-eqb}
 use Rattle.std.proofs.lemmas.List.{append-nil}
 use Rattle.std.proofs.lemmas.Slice.Eq.{bytes_eq-Decides}
 use Rattle.fcb_ring.specs.Entries.{bodies}
-use Rattle.backend_fcb.specs.Last.{last_value}
-use Rattle.backend_fcb.specs.Live.{has_name}
-use Rattle.backend_fcb.specs.Settings.{setting_of, body_of}
-use Rattle.backend_fcb.proofs.BodyLemmas.{setting-says}
-use Rattle.backend_fcb.proofs.LastLemmas.{found_by, last_value-push}
+use Rattle.record_settings.specs.Last.{last_value}
+use Rattle.record_settings.specs.Live.{has_name}
+use Rattle.record_settings.specs.Settings.{setting_of, body_of}
+use Rattle.record_settings.proofs.BodyLemmas.{setting-says}
+use Rattle.record_settings.proofs.LastLemmas.{found_by, last_value-push}
 use Rattle.backend_fcb.proofs.SectorLists.{bodies-append}
 use Rattle.backend_fcb.proofs.FrontWalk.{NoneBegins}
 use Rattle.backend_fcb.proofs.WalkLemmas.{Entry}

@@ -16,9 +16,9 @@ use Rattle.fcb_ring.specs.Standing.{StandsOn as RingStandsOn, IsNext, IsListed, 
 use Rattle.fcb_ring.specs.declared.record.RecordAt.{RecordAt}
 use Rattle.fcb_ring.specs.declared.ring.Ring.{Ring}
 use Rattle.fcb_ring.proofs.NextLemmas.{contained_at}
-use Rattle.backend_fcb.specs.Live.{has_name, is_live, is_live_by, live_bodies}
-use Rattle.backend_fcb.specs.Settings.{setting_of}
-use Rattle.backend_fcb.proofs.LiveLemmas.{copies-none, copies-push}
+use Rattle.record_settings.specs.Live.{has_name, is_live, is_live_by, live_bodies}
+use Rattle.record_settings.specs.Settings.{setting_of}
+use Rattle.record_settings.proofs.LiveLemmas.{copies-none, copies-push}
 use Rattle.backend_fcb.specs.Gathering.{mark, is_within, AreKeptWithin, IsKept, bodies_at, is_kept_of, without_first, struck_by, struck, noted_by, noted, BeginsAt, PassesFrom, StrikesFrom, if_within, Gathers, GathersFrom}
 use Rattle.backend_fcb.specs.declared.gathering.Kept.{Kept}
 use Rattle.backend_fcb.specs.declared.gathering.TheConstants.{TABLE}

@@ -10,7 +10,7 @@ use Rattle.flash_map.specs.declared.area.TheConstants.{VALUE_LIMIT, LONG_VALUE_L
 use Rattle.flash_map.proofs.Rounding.{padding}
 use Rattle.fcb_ring.specs.Standing.{IsRingArea}
 use Rattle.fcb_ring.specs.Writing.{record_cost}
-use Rattle.backend_fcb.specs.Settings.{longest}
+use Rattle.record_settings.specs.Settings.{longest}
 
 pub limit-most : (area : Area) → value_limit area ≤ LONG_VALUE_LIMIT
 limit-most area = elim (cases_Bool (eqb area.version 2)) [

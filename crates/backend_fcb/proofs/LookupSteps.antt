@@ -8,10 +8,10 @@ use Rattle.std.proofs.lemmas.Bool.{cases_Bool}
 use Rattle.fcb_ring.specs.declared.record.RecordAt.{RecordAt}
 use Rattle.fcb_ring.specs.Entries.{bodies}
 use Rattle.fcb_ring.specs.Standing.{record_places, IsNextWith}
-use Rattle.backend_fcb.specs.Last.{last_value}
-use Rattle.backend_fcb.specs.Live.{value_for}
-use Rattle.backend_fcb.specs.Settings.{setting_of, body_of}
-use Rattle.backend_fcb.proofs.LastLemmas.{found_by, last_value-none, last_value-push}
+use Rattle.record_settings.specs.Last.{last_value}
+use Rattle.record_settings.specs.Live.{value_for}
+use Rattle.record_settings.specs.Settings.{setting_of, body_of}
+use Rattle.record_settings.proofs.LastLemmas.{found_by, last_value-none, last_value-push}
 use Rattle.backend_fcb.proofs.SectorLists.{bodies-append}
 use Rattle.backend_fcb.proofs.FrontNames.{skip-last}
 use Rattle.backend_fcb.proofs.FrontWalk.{IsAtWith, first-split, none-first, start-with, step-with, around, with-listed}

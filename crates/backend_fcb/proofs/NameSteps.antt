@@ -10,11 +10,11 @@ use Rattle.fcb_ring.specs.Entries.{bodies}
 use Rattle.fcb_ring.specs.Standing.{IsNext}
 use Rattle.backend_api.specs.Map.{is_behind}
 use Rattle.backend_api.specs.Least.{is_before, IsLeast}
-use Rattle.backend_fcb.specs.Live.{names}
-use Rattle.backend_fcb.specs.Settings.{setting_of}
+use Rattle.record_settings.specs.Live.{names}
+use Rattle.record_settings.specs.Settings.{setting_of}
 use Rattle.backend_fcb.specs.Walking.{name_between}
 use Rattle.backend_fcb.proofs.LookupSteps.{Reads}
-use Rattle.backend_fcb.proofs.NextLemmas.{least_by, least_of, least-none, least-push, least-is}
+use Rattle.record_settings.proofs.NextLemmas.{least_by, least_of, least-none, least-push, least-is}
 use Rattle.backend_fcb.proofs.SectorLists.{bodies-append}
 use Rattle.backend_fcb.proofs.WalkLemmas.{Entry, IsAt, start, step, first-of, body-is, all-done}
 

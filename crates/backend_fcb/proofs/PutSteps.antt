@@ -20,15 +20,15 @@ use Rattle.fcb_ring.specs.Writing.{record_cost}
 use Rattle.fcb_ring.proofs.AppendLemmas.{unit-after, size-after, ready-used}
 use Rattle.backend_api.specs.Map.{Map}
 use Rattle.backend_fcb.specs.Changing.{Collects, HasNoPlace, IsFull, SpendsCost, SpendsUpToCost, StopsDown, PutEnds, TryEnds, parts_on, collect_units}
-use Rattle.backend_fcb.specs.Live.{live_bodies}
-use Rattle.backend_fcb.specs.Numbers.{cap, put_cost}
+use Rattle.record_settings.specs.Live.{live_bodies}
+use Rattle.record_settings.specs.Numbers.{cap, put_cost}
 use Rattle.item_laws.specs.PairRounds.{joined}
-use Rattle.backend_fcb.specs.Rounds.{bodies_cost, FindsNoRoom}
-use Rattle.backend_fcb.specs.Settings.{setting_of, with_setting}
+use Rattle.record_settings.specs.Rounds.{bodies_cost, FindsNoRoom}
+use Rattle.record_settings.specs.Settings.{setting_of, with_setting}
 use Rattle.backend_fcb.specs.Standing.{damage_on, settings_on, IsReady}
 use Rattle.backend_fcb.proofs.Tearing.{down-then, no-record-stops}
 use Rattle.item_laws.proofs.NoRoom.{no_round, round_more}
-use Rattle.backend_fcb.proofs.NoRoom.{settings_rounds}
+use Rattle.record_settings.proofs.NoRoom.{settings_rounds}
 use Rattle.backend_fcb.proofs.PartLists.{count-parts}
 use Rattle.backend_fcb.proofs.RingLists.{ready-none}
 

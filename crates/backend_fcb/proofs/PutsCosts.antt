@@ -21,9 +21,9 @@ use Rattle.fcb_ring.proofs.AppendLemmas.{unit-after, size-after}
 use Rattle.fcb_ring.proofs.AreaLemmas.{HasSize, has_size, count-sectors, area_after}
 use Rattle.fcb_ring.proofs.CostLemmas.{list_cost}
 use Rattle.fcb_ring.proofs.PlaceLemmas.{find_first, find_nothing, found_none}
-use Rattle.backend_fcb.specs.Numbers.{cap, cost_by, put_cost}
+use Rattle.record_settings.specs.Numbers.{cap, cost_by, put_cost}
 use Rattle.backend_fcb.specs.Reading.{puts_cost, first_overfull, damage_of}
-use Rattle.backend_fcb.specs.Settings.{setting_of}
+use Rattle.record_settings.specs.Settings.{setting_of}
 use Rattle.backend_fcb.specs.Standing.{damage_on}
 use Rattle.backend_fcb.proofs.SectorLists.{AreOf, AreNotOf, of_sector, of-all, of-none, sum-bodies, sum-less}
 use Rattle.backend_fcb.proofs.WalkLemmas.{Entry}

@@ -7,9 +7,9 @@ use Rattle.std.proofs.lemmas.Cmp.{nat_list_eq_equiv}
 use Rattle.std.proofs.lemmas.List.{take_more, take_all}
 use Rattle.std.proofs.lemmas.List.Elements.{All-nil, All-cons, All-head, All-tail}
 use Rattle.std.proofs.lemmas.Slice.Eq.{bytes_eq-Decides}
-use Rattle.backend_fcb.specs.Live.{has_name, names, is_live, is_live_by, live_bodies}
-use Rattle.backend_fcb.specs.Settings.{setting_of}
-use Rattle.backend_fcb.proofs.LiveLemmas.{names-append, live-says}
+use Rattle.record_settings.specs.Live.{has_name, names, is_live, is_live_by, live_bodies}
+use Rattle.record_settings.specs.Settings.{setting_of}
+use Rattle.record_settings.proofs.LiveLemmas.{names-append, live-says}
 use Rattle.backend_fcb.specs.Gathering.{without_first}
 
 -- ---- a list without the first that passes

@@ -14,10 +14,10 @@ use Rattle.fcb_ring.proofs.AppendLemmas.{unit-after}
 use Rattle.fcb_ring.proofs.ChanceLemmas.{chance-full}
 use Rattle.backend_api.specs.Commands.{Command, applied, CutMap, StopsAt}
 use Rattle.backend_api.specs.Map.{Map}
-use Rattle.backend_fcb.specs.Numbers.{cost_by, put_cost}
-use Rattle.backend_fcb.specs.Settings.{setting_of, with_setting}
-use Rattle.backend_fcb.specs.Torn.{torn_body, IsTornOf}
-use Rattle.backend_fcb.proofs.TornLemmas.{torn-long, torn-setting}
+use Rattle.record_settings.specs.Numbers.{cost_by, put_cost}
+use Rattle.record_settings.specs.Settings.{setting_of, with_setting}
+use Rattle.record_settings.specs.Torn.{torn_body, IsTornOf}
+use Rattle.record_settings.proofs.TornLemmas.{torn-long, torn-setting}
 use Rattle.backend_fcb.specs.Changing.{StopsDown}
 use Rattle.backend_fcb.specs.Standing.{damage_on, settings_on}
 use Rattle.backend_fcb.specs.Tearing.{body_for, Tears, CutSettings, StopsPutting}

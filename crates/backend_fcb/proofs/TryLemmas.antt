@@ -27,11 +27,11 @@ use Rattle.fcb_ring.proofs.AreaLemmas.{has_size, area_after}
 use Rattle.fcb_ring.proofs.ChanceLemmas.{header-chance, record-chance}
 use Rattle.fcb_ring.proofs.ImageLemmas.{spelled-is}
 use Rattle.backend_fcb.specs.Changing.{TryEnds, IsFull, collect_units}
-use Rattle.backend_fcb.specs.Numbers.{cap, reserve, put_cost}
+use Rattle.record_settings.specs.Numbers.{cap, reserve, put_cost}
 use Rattle.backend_fcb.specs.Reading.{puts_cost}
-use Rattle.backend_fcb.specs.Settings.{setting_of, longest, with_setting, settings_of}
+use Rattle.record_settings.specs.Settings.{setting_of, longest, with_setting, settings_of}
 use Rattle.backend_fcb.specs.Standing.{damage_on, settings_on, IsReady}
-use Rattle.backend_fcb.proofs.BodyLemmas.{settings-push}
+use Rattle.record_settings.proofs.BodyLemmas.{settings-push}
 use Rattle.backend_fcb.proofs.Limits.{limit-most, limit-size, one-program}
 use Rattle.backend_fcb.proofs.PutsCosts.{CostsFit, costs-at, costs-from, costs-on, undamaged-after, put-le, puts-append, puts-here, puts-there, puts-of, puts-none, puts-le}
 use Rattle.backend_fcb.proofs.RingLists.{ready-none, newest-cost, of-part, of-other}

@@ -1,10 +1,11 @@
 -- What collecting and appending make of an area.
-use Rattle.std.specs.Prelude.{◌≡◌, ℕ, ◌+◌, ◌-◌, ◌*◌, ◌/◌, ◌<◌, ◌≤◌, true, false, List, ◌∷◌, ◌++◌, [], length, map, None, Result, Ok, Err}
+use Rattle.std.specs.Prelude.{◌≡◌, ℕ, ◌+◌, ◌-◌, ◌*◌, ◌/◌, ◌<◌, ◌≤◌, true, false, List, ◌∷◌, ◌++◌, [], length, map, All, Some, None, Result, Ok, Err}
 use Rattle.std.specs.List.{range_with_len}
 use Rattle.flash_sim.specs.Device.{Device}
 use Rattle.flash_map.specs.Area.{value_limit, unit_of, sector_size}
 use Rattle.flash_map.specs.Spending.{Spends, SpendsAtMost}
 use Rattle.flash_map.specs.Units.{padded}
+use Rattle.fcb_ring.specs.Chance.{HasNoChance}
 use Rattle.fcb_ring.specs.Changing.{newest_place, sector_list, stays_for}
 use Rattle.fcb_ring.specs.Entries.{bodies}
 use Rattle.fcb_ring.specs.Rings.{turned}
@@ -16,13 +17,15 @@ use Rattle.fcb_ring.specs.declared.ring.Stage.TheVariants.{Collecting}
 use Rattle.fcb_ring.specs.declared.writing.AppendFault.{AppendFault}
 use Rattle.fcb_ring.specs.declared.writing.AppendFault.TheVariants.{Full, TooLong, PowerLost}
 use Rattle.backend_api.specs.Ends.{SpendsSome}
-use Rattle.backend_fcb.specs.Live.{live_bodies}
-use Rattle.backend_fcb.specs.Numbers.{cap}
+use Rattle.backend_fcb.specs.Gathering.{AreKeptWithin, AreShort, IsKept, bodies_at}
+use Rattle.record_settings.specs.Live.{live_bodies}
+use Rattle.record_settings.specs.Numbers.{cap}
 use Rattle.item_laws.specs.PairRounds.{joined}
-use Rattle.backend_fcb.specs.Rounds.{bodies_cost, FindsNoRoom}
-use Rattle.backend_fcb.specs.Settings.{setting_of, with_setting}
+use Rattle.record_settings.specs.Rounds.{bodies_cost, FindsNoRoom}
+use Rattle.record_settings.specs.Settings.{setting_of, with_setting}
 use Rattle.backend_fcb.specs.Standing.{damage_on, settings_on, IsReady}
 use Rattle.backend_fcb.specs.Tearing.{StopsPutting}
+use Rattle.backend_fcb.specs.declared.gathering.Kept.{Kept}
 
 -- the bodies of the records of each sector that counts, the oldest sector first
 abbrev pub parts_on : Device → Ring → List (List (List ℕ))
@@ -149,3 +152,25 @@ PutEnds old new before after body kept rounds (Err Full) =
 PutEnds old new before after body kept rounds (Err TooLong) = ⊥
 PutEnds old new before after body kept rounds (Err PowerLost) =
     StopsDown old new before after body × SpendsUpToCost old new before body kept
+
+-- ---- the calls of a collection
+
+-- The records of a table are listed in the oldest sector, and fit the scratch sector.
+pub record CanCopy (d : Device) (ring : Ring) (live : List Kept) : Type 0 where
+  pub kept : All (IsKept d ring.area) live
+  pub of_oldest : AreKeptWithin (Some ring.oldest) live
+  pub short : AreShort d ring.area live
+  pub fits : ring.end + bodies_cost (unit_of d ring.area) (bodies_at d ring.area live)
+      ≤ sector_size d ring.area
+
+-- The ring is ready again, and the oldest part is collected.
+pub record IsCollected (old new : Device) (before after : Ring) : Type 0 where
+  pub ready : IsReady new after
+  pub collects : Collects old new before after
+  pub used : after.used ≡ before.used
+  pub reserve : after.reserve ≡ before.reserve
+
+-- Power was lost in the collection. The ring is down, and the loss spells no other record by chance.
+pub record StopsCollecting (old new : Device) (before after : Ring) : Type 0 where
+  pub down : is_up after.stage ≡ false
+  pub lost : old.is_on ≡ true → HasNoChance new before.area

@@ -1,9 +1,11 @@
 -- What a command spends whose record fits.
-use Rattle.std.specs.Prelude.{◌≡◌, ℕ, ◌+◌, ◌*◌}
+use Rattle.std.specs.Prelude.{◌≡◌, ℕ, ◌+◌, ◌*◌, Bool, true, Result, OnOk}
 use Rattle.flash_sim.specs.Device.{Device}
-use Rattle.flash_map.specs.Spending.{SpendsAtMost}
+use Rattle.flash_map.specs.Spending.{Spends, SpendsAtMost}
+use Rattle.flash_map.specs.declared.area.Area.{Area}
 use Rattle.backend_api.specs.Commands.{Command, applied}
 use Rattle.backend_api.specs.Commands.Command.{Put, Del}
+use Rattle.fcb_ring.specs.Standing.{erases_on}
 use Rattle.backend_fcb.specs.Changing.{SpendsCost, SpendsUpToCost, collect_units}
 use Rattle.backend_fcb.specs.Standing.{settings_on}
 use Rattle.backend_fcb.specs.Tearing.{body_for}
@@ -29,3 +31,16 @@ SpendsUpToCostOf old new backend command =
 -- No more was spent than so many collections and one append take.
 abbrev pub SpendsRounds : Device → Device → FcbBackend → ℕ → Type 0
 SpendsRounds old new backend rounds = SpendsAtMost old new ((rounds + 1) * collect_units old backend.ring)
+
+-- What a set or delete spends. Where its record fits behind those of the newest sector, just the units of
+-- that record, and up to a loss no more; else no more than so many collections and one append take.
+pub record SpendsFor {X E : Type 0} (old new : Device) (backend : FcbBackend) (command : Command)
+    (rounds : ℕ) (result : Result X E) (stopped : Bool) : Type 0 where
+  pub exact : OnOk result (SpendsCostOf old new backend command)
+  pub no_more : stopped ≡ true → SpendsUpToCostOf old new backend command
+  pub few : SpendsRounds old new backend rounds
+
+-- A mount spends the erases that are due, and up to a loss no more.
+pub record SpendsErases {X E : Type 0} (old new : Device) (area : Area) (result : Result X E) : Type 0 where
+  pub exact : OnOk result (Spends old new (erases_on old area))
+  pub few : SpendsAtMost old new (erases_on old area)

@@ -10,8 +10,8 @@ use Rattle.fcb_ring.specs.Changing.{body_at}
 use Rattle.fcb_ring.specs.Entries.{bodies}
 use Rattle.fcb_ring.specs.Standing.{entries_on, record_places, IsListed}
 use Rattle.fcb_ring.specs.declared.record.RecordAt.{RecordAt}
-use Rattle.backend_fcb.specs.Live.{has_name, live_bodies}
-use Rattle.backend_fcb.specs.Settings.{setting_of, longest}
+use Rattle.record_settings.specs.Live.{has_name, live_bodies}
+use Rattle.record_settings.specs.Settings.{setting_of, longest}
 use Rattle.backend_fcb.specs.declared.gathering.Kept.{Kept}
 use Rattle.backend_fcb.specs.declared.gathering.TheConstants.{TABLE}
 

@@ -1,15 +1,9 @@
 pub mod Changing
 pub mod Exact
 pub mod Gathering
-pub mod Last
 pub mod Laws
-pub mod Live
 pub mod Members
-pub mod Numbers
 pub mod Reading
-pub mod Rounds
-pub mod Settings
 pub mod Standing
 pub mod Tearing
-pub mod Torn
 pub mod Walking

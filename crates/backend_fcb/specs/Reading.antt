@@ -9,8 +9,8 @@ use Rattle.fcb_ring.specs.declared.record.RecordAt.{RecordAt}
 use Rattle.fcb_ring.specs.Entries.{states, entries, bodies}
 use Rattle.fcb_ring.specs.Rings.{first_damage}
 use Rattle.backend_api.specs.Map.{Map}
-use Rattle.backend_fcb.specs.Numbers.{cap, put_cost}
-use Rattle.backend_fcb.specs.Settings.{settings_of}
+use Rattle.record_settings.specs.Numbers.{cap, put_cost}
+use Rattle.record_settings.specs.Settings.{settings_of}
 
 -- what the records of one sector cost that put a value
 unfoldable pub puts_cost : ℕ → ℕ → List (RecordAt × List ℕ) → ℕ → ℕ

@@ -12,7 +12,7 @@ use Rattle.fcb_ring.specs.Entries.{bodies}
 use Rattle.fcb_ring.specs.Standing.{Stands as RingStands, StandsOn as RingStandsOn, entries_on}
 use Rattle.backend_api.specs.Map.{Map}
 use Rattle.backend_fcb.specs.declared.backend.FcbBackend.{FcbBackend}
-use Rattle.backend_fcb.specs.Numbers.{reserve}
+use Rattle.record_settings.specs.Numbers.{reserve}
 use Rattle.backend_fcb.specs.Reading.{damage_of, settings_in}
 
 -- The ring is ready for the next record, keeps the reserve, and the area shows no damage.

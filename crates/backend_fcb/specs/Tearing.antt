@@ -9,7 +9,7 @@ use Rattle.fcb_ring.specs.Writing.{spelled, IsChance}
 use Rattle.backend_api.specs.Commands.{Command}
 use Rattle.backend_api.specs.Commands.Command.{Put, Del}
 use Rattle.backend_api.specs.Map.{Map}
-use Rattle.backend_fcb.specs.Settings.{body_of, setting_of, with_setting}
+use Rattle.record_settings.specs.Settings.{body_of, setting_of, with_setting}
 use Rattle.backend_fcb.specs.Standing.{settings_on}
 
 -- the body of the record that a command puts

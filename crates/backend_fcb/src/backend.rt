@@ -1,11 +1,11 @@
 // The backend over a ring.
-ghost use Rattle.std.specs.Prelude.{◌≡◌, ◌-◌, ◌<◌, ◌≤◌, ◌∷◌, [], length, true, false, is_err, None, IfOk, OnOk, OnErr};
+ghost use Rattle.std.specs.Prelude.{◌≡◌, ◌-◌, ◌<◌, ◌≤◌, ◌∷◌, [], length, true, false, is_err, None, IfOk};
 ghost use Rattle.std.proofs.Common.{ap};
 ghost use Rattle.flash_map.specs.Area.{value_limit, geometry_of};
 ghost use Rattle.flash_map.specs.Faults.{mount_lost};
 ghost use Rattle.flash_map.specs.Lawful.{IsLawfulFor};
 ghost use Rattle.flash_map.specs.On.{on, StandsOn};
-ghost use Rattle.flash_map.specs.Spending.{Spends, SpendsAtMost};
+ghost use Rattle.flash_map.specs.Spending.{SpendsAtMost};
 ghost use Rattle.flash_map.specs.Touches.{Touches};
 ghost use Rattle.flash_map.specs.declared.area.Role.TheVariants.{Fcb as FcbRole};
 ghost use Rattle.fcb_ring.specs.Chance.{chance as chance_of};
@@ -18,7 +18,7 @@ ghost use Rattle.backend_api.specs.Ends.{set_lost, MountEnds, SetEndsOn, DeleteE
 ghost use Rattle.backend_api.specs.Map.{IsStored};
 ghost use Rattle.backend_api.specs.Room.{most_units, mount_units};
 ghost use Rattle.backend_api.specs.Written.{StaysWritten};
-ghost use Rattle.backend_fcb.specs.Exact.{SpendsCostOf, SpendsUpToCostOf, SpendsRounds};
+ghost use Rattle.backend_fcb.specs.Exact.{SpendsFor, SpendsErases};
 ghost use Rattle.backend_fcb.specs.Members.{damage_by, settings_by, room_by, TearsBy, area_of, StandsBy, is_running};
 ghost use Rattle.backend_fcb.specs.Standing.{settings_on};
 ghost use Rattle.backend_fcb.specs.Laws.{reads_settings};
@@ -97,7 +97,7 @@ impl Backend for FcbBackend {
 
     ghost reads_settings = { reads_settings };
 
-    // As the trait says it; and it spends the erases that are due (`exact`), never more (`few`).
+    // As the trait says it; and it spends the erases that are due, never more.
     fn mount<F: Flash, L: Ledger>(
         _alloc: Global,
         flash: &mut F,
@@ -124,10 +124,8 @@ impl Backend for FcbBackend {
         ensures on { IfOk result (λ state. area_of state ≡ area) }
         ensures stands { IfOk result
             (λ state. StandsOn area_of StandsBy (F.device flash.new) state) }
-        ensures exact { let d = F.device flash.old in
-            OnOk result (Spends d (F.device flash.new) (erases_on d area)) }
-        ensures few { let d = F.device flash.old in
-            SpendsAtMost d (F.device flash.new) (erases_on d area) }
+        ensures spends { let d = F.device flash.old in
+            SpendsErases d (F.device flash.new) area result }
     {
         let unit = geometry(flash, &area).unit;
         let mut ring = match Ring::inspect(flash, area, reserve(unit), steps) {
@@ -153,8 +151,8 @@ impl Backend for FcbBackend {
         if value.is_empty() { None } else { Some(value) }
     }
 
-    // As the trait says it. Where the record fits, just its units are spent (`exact`), and up to a
-    // loss no more (`no_more`); else it collects fewer times than the area has sectors (`few`).
+    // As the trait says it. Where the record fits, just its units are spent, and up to a loss no
+    // more; else it collects fewer times than the area has sectors.
     fn set<F: Flash, L: Ledger>(
         &mut self,
         flash: &mut F,
@@ -182,14 +180,9 @@ impl Backend for FcbBackend {
         ensures stands { set_lost result ≡ false
             → StandsOn area_of StandsBy (F.device flash.new) self.new }
         ensures down { set_lost result ≡ true → is_running self.new ≡ false }
-        ensures exact { OnOk result
-            (SpendsCostOf (F.device flash.old) (F.device flash.new) self.old
-            (Put name.now value.now)) }
-        ensures no_more { set_lost result ≡ true
-            → SpendsUpToCostOf (F.device flash.old) (F.device flash.new) self.old
-            (Put name.now value.now) }
-        ensures few { let rounds = (area_of self.old).sectors - 1 in
-            SpendsRounds (F.device flash.old) (F.device flash.new) self.old rounds }
+        ensures spends { let d = F.device flash.old in let e = F.device flash.new in
+            SpendsFor d e self.old (Put name.now value.now) ((area_of self.old).sectors - 1) result
+            (set_lost result) }
     {
         if self.holds(flash, name, value, steps) {
             return Ok(());
@@ -214,8 +207,8 @@ impl Backend for FcbBackend {
         }
     }
 
-    // As the trait says it. Where the record fits, just its units are spent (`exact`), and up to a
-    // loss no more (`no_more`); else it collects once (`few`).
+    // As the trait says it. Where the record fits, just its units are spent, and up to a loss no
+    // more; else it collects once.
     fn delete<F: Flash, L: Ledger>(
         &mut self,
         flash: &mut F,
@@ -239,11 +232,8 @@ impl Backend for FcbBackend {
         ensures stands { is_err result ≡ false
             → StandsOn area_of StandsBy (F.device flash.new) self.new }
         ensures down { is_err result ≡ true → is_running self.new ≡ false }
-        ensures exact { OnOk result
-            (SpendsCostOf (F.device flash.old) (F.device flash.new) self.old (Del name.now)) }
-        ensures no_more { OnErr result
-            (SpendsUpToCostOf (F.device flash.old) (F.device flash.new) self.old (Del name.now)) }
-        ensures few { SpendsRounds (F.device flash.old) (F.device flash.new) self.old 1 }
+        ensures spends { let d = F.device flash.old in let e = F.device flash.new in
+            SpendsFor d e self.old (Del name.now) 1 result (is_err result) }
     {
         if self.get(flash, name, steps).is_none() {
             return Ok(());

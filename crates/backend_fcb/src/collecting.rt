@@ -1,15 +1,13 @@
 // Collecting the oldest sector.
-ghost use Rattle.std.specs.Prelude.{◌≡◌, ◌+◌, ◌≤◌, ◌∷◌, [], true, false, is_err, Some, None, All, OnOk, OnErr};
-ghost use Rattle.flash_map.specs.Area.{unit_of, sector_size, OthersStay};
+ghost use Rattle.std.specs.Prelude.{◌≡◌, ◌∷◌, [], true, is_err, Some, None, OnOk, OnErr};
 ghost use Rattle.flash_map.specs.Spending.{SpendsAtMost};
 ghost use Rattle.flash_map.specs.Touches.{Touches};
-ghost use Rattle.flash_map.specs.Units.{padded};
 ghost use Rattle.fcb_ring.specs.Chance.{HasNoChance};
-ghost use Rattle.fcb_ring.specs.Changing.{is_scratch_left, newest_place, sector_list};
-ghost use Rattle.fcb_ring.specs.Standing.{StandsOn as RingStandsOn, KeepsEntries, is_up};
-ghost use Rattle.backend_fcb.specs.Rounds.{bodies_cost};
-ghost use Rattle.backend_fcb.specs.Changing.{Copies, CopiesLive, Collects, StopsCopying, collect_units};
-ghost use Rattle.backend_fcb.specs.Gathering.{AreKeptWithin, AreShort, IsKept, bodies_at};
+ghost use Rattle.fcb_ring.specs.Changing.{is_scratch_left};
+ghost use Rattle.fcb_ring.specs.Scratch.{ChangesScratch, HasEmptyScratch};
+ghost use Rattle.fcb_ring.specs.Standing.{StandsOn as RingStandsOn};
+ghost use Rattle.backend_fcb.specs.Changing.{Copies, CopiesLive, StopsCopying, CanCopy, IsCollected, StopsCollecting, collect_units};
+ghost use Rattle.backend_fcb.specs.Gathering.{bodies_at};
 ghost use Rattle.backend_fcb.specs.Standing.{damage_on, settings_on, IsReady};
 
 use crate::gathering::{Kept, Table, gather_live};
@@ -27,20 +25,11 @@ fn copy_all<F: Flash, L: Ledger>(
 ) -> Result<(), PowerLost>
     requires stands { RingStandsOn (F.device flash.old) ring.old }
     requires collecting { ring.old.stage ≡ Stage.Collecting }
-    requires kept { All (IsKept (F.device flash.old) ring.old.area) live.now }
-    requires of_oldest { AreKeptWithin (Some ring.old.oldest) live.now }
-    requires short { AreShort (F.device flash.old) ring.old.area live.now }
-    requires fits { let d = F.device flash.old in
-        ring.old.end + bodies_cost (unit_of d ring.old.area) (bodies_at d ring.old.area live.now)
-        ≤ sector_size d ring.old.area }
+    requires live { CanCopy (F.device flash.old) ring.old live.now }
 
     ensures touches { Touches (ring.old.area ∷ []) (F.device flash.old) (F.device flash.new)
         (is_err result) }
-    ensures list { KeepsEntries (F.device flash.old) (F.device flash.new) ring.old.area }
-    ensures others { OthersStay (F.device flash.old) (F.device flash.new) ring.old.area
-        (newest_place ring.old) }
-    ensures area { ring.new.area ≡ ring.old.area }
-    ensures reserve { ring.new.reserve ≡ ring.old.reserve }
+    ensures only { ChangesScratch (F.device flash.old) (F.device flash.new) ring.old ring.new }
     ensures copies { let d = F.device flash.old in
         OnOk result
         (Copies d (F.device flash.new) ring.old ring.new (bodies_at d ring.old.area live.now)) }
@@ -63,20 +52,12 @@ fn copy_live<F: Flash, L: Ledger>(
     flash: &mut F,
     steps: &mut Steps<L>,
 ) -> Result<(), PowerLost>
-    requires stands { RingStandsOn (F.device flash.old) ring.old }
-    requires collecting { ring.old.stage ≡ Stage.Collecting }
+    requires scratch { HasEmptyScratch (F.device flash.old) ring.old }
     requires undamaged { damage_on (F.device flash.old) ring.old.area ≡ None }
-    requires no_copies { sector_list (F.device flash.old) ring.old.area (newest_place ring.old)
-        ≡ [] }
-    requires end { ring.old.end ≡ padded (unit_of (F.device flash.old) ring.old.area) 8 }
 
     ensures touches { Touches (ring.old.area ∷ []) (F.device flash.old) (F.device flash.new)
         (is_err result) }
-    ensures list { KeepsEntries (F.device flash.old) (F.device flash.new) ring.old.area }
-    ensures others { OthersStay (F.device flash.old) (F.device flash.new) ring.old.area
-        (newest_place ring.old) }
-    ensures area { ring.new.area ≡ ring.old.area }
-    ensures reserve { ring.new.reserve ≡ ring.old.reserve }
+    ensures only { ChangesScratch (F.device flash.old) (F.device flash.new) ring.old ring.new }
     ensures copies { OnOk result
         (CopiesLive (F.device flash.old) (F.device flash.new) ring.old ring.new) }
     ensures stops { OnErr result
@@ -113,14 +94,10 @@ pub(crate) fn collect<F: Flash, L: Ledger>(
     ensures at_most { SpendsAtMost (F.device flash.old) (F.device flash.new)
         (collect_units (F.device flash.old) ring.old) }
 
-    ensures ready { OnOk result (IsReady (F.device flash.new) ring.new) }
-    ensures collects { OnOk result
-        (Collects (F.device flash.old) (F.device flash.new) ring.old ring.new) }
-    ensures used { OnOk result (ring.new.used ≡ ring.old.used) }
-    ensures reserve { OnOk result (ring.new.reserve ≡ ring.old.reserve) }
-    ensures down { OnErr result (is_up ring.new.stage ≡ false) }
-    ensures lost { OnErr result
-        ((F.device flash.old).is_on ≡ true → HasNoChance (F.device flash.new) ring.old.area) }
+    ensures collected { OnOk result
+        (IsCollected (F.device flash.old) (F.device flash.new) ring.old ring.new) }
+    ensures stopped { OnErr result
+        (StopsCollecting (F.device flash.old) (F.device flash.new) ring.old ring.new) }
 {
     ring.begin_collect(flash)?;
     copy_live(ring, flash, steps)?;

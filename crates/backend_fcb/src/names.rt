@@ -4,8 +4,8 @@ ghost use Rattle.flash_map.specs.Area.{value_limit};
 ghost use Rattle.fcb_ring.specs.Standing.{StandsOn as RingStandsOn};
 ghost use Rattle.backend_api.specs.Map.{is_behind, next_name as next_name_of};
 ghost use Rattle.backend_api.specs.Least.{is_before, IsLeast};
-ghost use Rattle.backend_fcb.specs.Live.{names};
-ghost use Rattle.backend_fcb.specs.Settings.{setting_of};
+ghost use Rattle.record_settings.specs.Live.{names};
+ghost use Rattle.record_settings.specs.Settings.{setting_of};
 ghost use Rattle.backend_fcb.specs.Standing.{bodies_on, settings_on};
 ghost use Rattle.backend_fcb.specs.Walking.{name_between};
 

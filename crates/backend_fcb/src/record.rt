@@ -5,13 +5,13 @@ ghost use Rattle.flash_map.specs.Area.{value_limit};
 ghost use Rattle.flash_map.specs.Units.{IsUnit};
 ghost use Rattle.flash_map.specs.declared.area.TheConstants.{LONG_VALUE_LIMIT};
 ghost use Rattle.setting_name.specs.Name.{IsName};
-ghost use Rattle.backend_fcb.specs.Numbers.{reserve, cap, put_cost};
-ghost use Rattle.backend_fcb.specs.Settings.{setting_of, body_of};
+ghost use Rattle.record_settings.specs.Numbers.{reserve, cap, put_cost};
+ghost use Rattle.record_settings.specs.Settings.{setting_of, body_of};
 
-use crate::laws::NAME_LIMIT;
 use arrayvec::ArrayVec;
 use fcb_ring::{Ring, record_cost};
 use flash_map::{Geometry, LONG_VALUE_LIMIT, padded};
+use record_settings::NAME_LIMIT;
 use setting_name::Name;
 
 // The most bytes of a body: the longest name, `=` and the longest value.

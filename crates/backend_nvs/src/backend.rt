@@ -6,11 +6,10 @@ ghost use Rattle.backend_nvs.specs.Numbers.{settings_of, nvs_room};
 ghost use Rattle.backend_nvs.specs.Standing.{Stands, Rests, stands-rest, reads_settings};
 
 use crate::numbers::NvsNumbers;
-use crate::putting::set_value;
 use backend_api::{Backend, SetFault};
 use flash_map::{Area, MountFault, area_format};
 use flash_sim::{Flash, Loss, PowerLost, Steps};
-use named_items::{ItemStore, delete_name, mount_store, next_name, standing_value};
+use named_items::{ItemStore, delete_name, mount_store, next_name, set_value, standing_value};
 use nvs_gc::Nvs;
 use setting_name::Name;
 use std::alloc::Global;
@@ -81,7 +80,7 @@ impl Backend for NvsBackend {
         value: &[u8],
         steps: &mut Steps<L>,
     ) -> Result<(), SetFault> {
-        set_value(&mut self.store, flash, name, value, steps)
+        set_value::<NvsNumbers, Nvs, F, L>(&mut self.store, flash, name, value, steps)
     }
 
     fn delete<F: Flash, L: Ledger>(

@@ -1,5 +1,5 @@
-//! Settings over the store of items of an NVS area: the count of names, the names by their numbers,
-//! and their values.
+//! Settings in an NVS area: an item with the count of names, an item for each name, and its value
+//! at a fixed distance above it.
 #![tactic(auto)]
 
 mod backend;

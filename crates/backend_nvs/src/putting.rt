@@ -1,25 +1,25 @@
 // Giving names values.
-ghost use Rattle.std.specs.Prelude.{◌≡◌, ◌+◌, ◌<◌, ◌≤◌, ◌↔◌, ◌∷◌, [], IsTrue, true, false, None, length};
-ghost use Rattle.setting_name.specs.Name.{IsName};
+ghost use Rattle.std.specs.Prelude.{◌≡◌, ◌+◌, ◌<◌, ◌≤◌, ◌↔◌, ◌∷◌, [], IsTrue, None, length};
 ghost use Rattle.flash_map.specs.Area.{geometry_of, value_limit};
 ghost use Rattle.flash_map.specs.Lawful.{IsLawfulFor};
 ghost use Rattle.flash_map.specs.On.{on, StandsOn};
 ghost use Rattle.flash_map.specs.Spending.{SpendsAtMost};
 ghost use Rattle.flash_map.specs.Touches.{Touches};
-ghost use Rattle.backend_api.specs.Ends.{set_lost, SetEnds};
+ghost use Rattle.backend_api.specs.Ends.{set_lost};
 ghost use Rattle.backend_api.specs.Room.{most_units};
 ghost use Rattle.named_items.specs.Pairs.{count_in, HasNoStrays, IsPlaceOf};
 ghost use Rattle.named_items.specs.Looking.{HasIds};
-ghost use Rattle.named_items.specs.Putting.{IsPut, Fits};
+ghost use Rattle.named_items.specs.Mounted.{IsMounted, StaysMounted};
+ghost use Rattle.named_items.specs.Putting.{IsStorable, SetLeavesOn};
 ghost use Rattle.backend_nvs.specs.Numbers.{number_of, numbers_in, settings_of, nvs_room};
 ghost use Rattle.backend_nvs.specs.declared.lookup.TheConstants.{TOP};
 
-use crate::lookup::{COUNT, FIRST, LIMIT, STEP, free_place, read_count};
+use crate::lookup::{COUNT, FIRST, LIMIT, free_place, read_count};
 use crate::numbers::NvsNumbers;
 use backend_api::SetFault;
 use flash_map::WriteFault;
 use flash_sim::{Flash, Steps};
-use named_items::{ItemStore, change_value, price_of_pair, put_new, refused, standing_place};
+use named_items::{ItemStore, NewNames, price_of_pair, put_new, refused};
 use setting_name::Name;
 use std::sync::ledger::Ledger;
 
@@ -67,21 +67,12 @@ fn add_name<S: ItemStore, F: Flash, L: Ledger>(
     count: u32,
     name: &Name,
     value: &[u8],
-    need: u64,
     steps: &mut Steps<L>,
 ) -> Result<(), SetFault>
     requires ids { HasIds TOP S.is_id }
-    requires lawful { IsLawfulFor (F.device flash.old).banks (S.mounted_on store.old) }
-    requires stands { StandsOn S.mounted_on S.stands (F.device flash.old) store.old }
-    requires clean { let area = S.mounted_on store.old in
-        HasNoStrays (numbers_in area) (on S.contents (F.device flash.old) area) }
-    requires fits { let g = geometry_of (F.device flash.old) (S.mounted_on store.old) in
-        Fits (value_limit (S.mounted_on store.old)) (S.price g) (S.cap g) }
-    requires some { 0 < length value.now }
-    requires short { length value.now ≤ value_limit (S.mounted_on store.old) }
-    requires named { IsName name.now }
-    requires needs { let g = geometry_of (F.device flash.old) (S.mounted_on store.old) in
-        need ≡ S.price g (length value.now) + S.price g (length name.now) }
+    requires here { IsMounted S.mounted_on S.stands S.contents numbers_in (F.device flash.old)
+        store.old }
+    requires value { IsStorable (value_limit (S.mounted_on store.old)) value.now }
     requires absent { let area = S.mounted_on store.old in
         IsPlaceOf (numbers_in area) (on S.contents (F.device flash.old) area) name.now None }
     requires counted { let area = S.mounted_on store.old in
@@ -90,169 +81,48 @@ fn add_name<S: ItemStore, F: Flash, L: Ledger>(
 
     ensures touches { Touches (S.mounted_on store.old ∷ []) (F.device flash.old)
         (F.device flash.new) (set_lost result) }
-    ensures area { S.mounted_on store.new ≡ S.mounted_on store.old }
-    ensures ends { let area = S.mounted_on store.old in let d = F.device flash.old in
-        let e = F.device flash.new in let g = geometry_of d area in
-        SetEnds (nvs_room S.price S.cap g) area.sectors d e
-        (settings_of area (on S.contents d area)) (settings_of area (on S.contents e area)) name.now
-        value.now result }
+    ensures store { StaysMounted S.mounted_on S.stands S.runs S.damage (F.device flash.new)
+        store.old store.new (set_lost result) }
+    ensures ends { let d = F.device flash.old in let e = F.device flash.new in
+        SetLeavesOn numbers_in (nvs_room S.price S.cap) S.contents d e (S.mounted_on store.old)
+        name.now value.now result }
     ensures at_most { let d = F.device flash.old in
         SpendsAtMost d (F.device flash.new) (most_units (geometry_of d (S.mounted_on store.old))) }
-    ensures sound { on S.damage (F.device flash.new) (S.mounted_on store.old) ≡ None }
-    ensures cut { let area = S.mounted_on store.old in
-        set_lost result ≡ true
-        → IsPut (settings_of area (on S.contents (F.device flash.old) area))
-        (settings_of area (on S.contents (F.device flash.new) area)) name.now value.now }
-    ensures stands { set_lost result ≡ false
-        → StandsOn S.mounted_on S.stands (F.device flash.new) store.new }
-    ensures clean { let area = S.mounted_on store.old in
-        set_lost result ≡ false
-        → HasNoStrays (numbers_in area) (on S.contents (F.device flash.new) area) }
-    ensures down { set_lost result ≡ true → S.runs store.new ≡ false }
 {
+    let need = price_of_pair(store, flash, name, value);
     let bytes = bytes_of_count(count + 1);
     match store.write(flash, COUNT, &bytes, steps) {
-        Ok(()) => put_new::<NvsNumbers, S, F, L>(
-            store,
-            flash,
-            FIRST + count,
-            FIRST + count + STEP,
-            name,
-            value,
-            need,
-            steps,
-        ),
+        Ok(()) => {
+            put_new::<NvsNumbers, S, F, L>(store, flash, FIRST + count, name, value, steps)
+        }
         Err(WriteFault::PowerLost) => Err(SetFault::PowerLost),
         Err(WriteFault::NoSpace { .. }) => Err(refused::<NvsNumbers, S, F, L>(
             store, flash, need, steps,
         )),
-        Err(WriteFault::TooLong) => Err(refused::<NvsNumbers, S, F, L>(store, flash, need, steps)),
+        Err(WriteFault::TooLong) => unreachable!(),
     }
 }
 
-// Gives a name its first value. `need` is what both need together, in bytes.
-fn put_name<S: ItemStore, F: Flash, L: Ledger>(
-    store: &mut S,
-    flash: &mut F,
-    name: &Name,
-    value: &[u8],
-    need: u64,
-    steps: &mut Steps<L>,
-) -> Result<(), SetFault>
-    requires ids { HasIds TOP S.is_id }
-    requires lawful { IsLawfulFor (F.device flash.old).banks (S.mounted_on store.old) }
-    requires stands { StandsOn S.mounted_on S.stands (F.device flash.old) store.old }
-    requires clean { let area = S.mounted_on store.old in
-        HasNoStrays (numbers_in area) (on S.contents (F.device flash.old) area) }
-    requires fits { let g = geometry_of (F.device flash.old) (S.mounted_on store.old) in
-        Fits (value_limit (S.mounted_on store.old)) (S.price g) (S.cap g) }
-    requires some { 0 < length value.now }
-    requires short { length value.now ≤ value_limit (S.mounted_on store.old) }
-    requires named { IsName name.now }
-    requires needs { let g = geometry_of (F.device flash.old) (S.mounted_on store.old) in
-        need ≡ S.price g (length value.now) + S.price g (length name.now) }
-    requires absent { let area = S.mounted_on store.old in
-        IsPlaceOf (numbers_in area) (on S.contents (F.device flash.old) area) name.now None }
-
-    ensures touches { Touches (S.mounted_on store.old ∷ []) (F.device flash.old)
-        (F.device flash.new) (set_lost result) }
-    ensures area { S.mounted_on store.new ≡ S.mounted_on store.old }
-    ensures ends { let area = S.mounted_on store.old in let d = F.device flash.old in
-        let e = F.device flash.new in let g = geometry_of d area in
-        SetEnds (nvs_room S.price S.cap g) area.sectors d e
-        (settings_of area (on S.contents d area)) (settings_of area (on S.contents e area)) name.now
-        value.now result }
-    ensures at_most { let d = F.device flash.old in
-        SpendsAtMost d (F.device flash.new) (most_units (geometry_of d (S.mounted_on store.old))) }
-    ensures sound { on S.damage (F.device flash.new) (S.mounted_on store.old) ≡ None }
-    ensures cut { let area = S.mounted_on store.old in
-        set_lost result ≡ true
-        → IsPut (settings_of area (on S.contents (F.device flash.old) area))
-        (settings_of area (on S.contents (F.device flash.new) area)) name.now value.now }
-    ensures stands { set_lost result ≡ false
-        → StandsOn S.mounted_on S.stands (F.device flash.new) store.new }
-    ensures clean { let area = S.mounted_on store.old in
-        set_lost result ≡ false
-        → HasNoStrays (numbers_in area) (on S.contents (F.device flash.new) area) }
-    ensures down { set_lost result ≡ true → S.runs store.new ≡ false }
-{
-    let mut index = S::new_index();
-    store.tell(flash, &mut index, steps);
-    match free_place(store, flash, &index, steps) {
-        Some(free) => put_new::<NvsNumbers, S, F, L>(
-            store,
-            flash,
-            free,
-            free + STEP,
-            name,
-            value,
-            need,
-            steps,
-        ),
-        None => {
-            let count = read_count(store, flash, &index, steps);
-            if is_full(count) {
-                Err(SetFault::TooManyNames)
-            } else {
-                add_name(store, flash, count, name, value, need, steps)
+impl NewNames for NvsNumbers {
+    fn put_name<S: ItemStore, F: Flash, L: Ledger>(
+        store: &mut S,
+        flash: &mut F,
+        name: &Name,
+        value: &[u8],
+        steps: &mut Steps<L>,
+    ) -> Result<(), SetFault> {
+        let mut index = S::new_index();
+        store.tell(flash, &mut index, steps);
+        match free_place(store, flash, &index, steps) {
+            Some(free) => put_new::<NvsNumbers, S, F, L>(store, flash, free, name, value, steps),
+            None => {
+                let count = read_count(store, flash, &index, steps);
+                if is_full(count) {
+                    Err(SetFault::TooManyNames)
+                } else {
+                    add_name(store, flash, count, name, value, steps)
+                }
             }
-        }
-    }
-}
-
-// Gives a name a value.
-pub(crate) fn set_value<S: ItemStore, F: Flash, L: Ledger>(
-    store: &mut S,
-    flash: &mut F,
-    name: &Name,
-    value: &[u8],
-    steps: &mut Steps<L>,
-) -> Result<(), SetFault>
-    requires ids { HasIds TOP S.is_id }
-    requires lawful { IsLawfulFor (F.device flash.old).banks (S.mounted_on store.old) }
-    requires stands { StandsOn S.mounted_on S.stands (F.device flash.old) store.old }
-    requires clean { let area = S.mounted_on store.old in
-        HasNoStrays (numbers_in area) (on S.contents (F.device flash.old) area) }
-    requires fits { let g = geometry_of (F.device flash.old) (S.mounted_on store.old) in
-        Fits (value_limit (S.mounted_on store.old)) (S.price g) (S.cap g) }
-    requires some { 0 < length value.now }
-    requires short { length value.now ≤ value_limit (S.mounted_on store.old) }
-
-    ensures touches { Touches (S.mounted_on store.old ∷ []) (F.device flash.old)
-        (F.device flash.new) (set_lost result) }
-    ensures area { S.mounted_on store.new ≡ S.mounted_on store.old }
-    ensures ends { let area = S.mounted_on store.old in let d = F.device flash.old in
-        let e = F.device flash.new in let g = geometry_of d area in
-        SetEnds (nvs_room S.price S.cap g) area.sectors d e
-        (settings_of area (on S.contents d area)) (settings_of area (on S.contents e area)) name.now
-        value.now result }
-    ensures at_most { let d = F.device flash.old in
-        SpendsAtMost d (F.device flash.new) (most_units (geometry_of d (S.mounted_on store.old))) }
-    ensures sound { on S.damage (F.device flash.new) (S.mounted_on store.old) ≡ None }
-    ensures cut { let area = S.mounted_on store.old in
-        set_lost result ≡ true
-        → IsPut (settings_of area (on S.contents (F.device flash.old) area))
-        (settings_of area (on S.contents (F.device flash.new) area)) name.now value.now }
-    ensures stands { set_lost result ≡ false
-        → StandsOn S.mounted_on S.stands (F.device flash.new) store.new }
-    ensures clean { let area = S.mounted_on store.old in
-        set_lost result ≡ false
-        → HasNoStrays (numbers_in area) (on S.contents (F.device flash.new) area) }
-    ensures down { set_lost result ≡ true → S.runs store.new ≡ false }
-{
-    match standing_place::<NvsNumbers, S, F, L>(store, flash, name, steps) {
-        Some(place) => change_value::<NvsNumbers, S, F, L>(
-            store,
-            flash,
-            place,
-            place + STEP,
-            name,
-            value,
-            steps,
-        ),
-        None => {
-            let need = price_of_pair(store, flash, name, value);
-            put_name(store, flash, name, value, need, steps)
         }
     }
 }

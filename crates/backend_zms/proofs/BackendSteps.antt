@@ -1,25 +1,20 @@
--- What a backend over a ZMS store needs of the store, and what an erased area reads as.
+-- What an erased area reads as.
 use Rattle.std.proofs.Common.{◌≡◌, ◌≤◌, None, ap, ◌∙◌, replicate, arith}
 use Rattle.std.specs.Prelude.{map}
 use Rattle.std.specs.FinMap.{empty}
 use Rattle.flash_sim.specs.Bank.{IsLawful}
 use Rattle.flash_sim.specs.Device.{Device}
 use Rattle.flash_map.specs.declared.area.Area.{Area}
-use Rattle.flash_map.specs.Area.{geometry_of, sector_size, sectors_of, value_limit}
+use Rattle.flash_map.specs.Area.{geometry_of, sector_size, sectors_of}
 use Rattle.flash_map.specs.Lawful.{IsLawfulFor}
 use Rattle.flash_map.specs.On.{on}
 use Rattle.flash_map.specs.Sectors.{blanked}
 use Rattle.named_items.specs.Blank.{zms-undamaged, zms-empty}
-use Rattle.named_items.specs.ZmsStore.{zms_damage, zms_items, zms_price, zms_cap, zms-fits}
-use Rattle.named_items.specs.Putting.{Fits}
+use Rattle.named_items.specs.ZmsStore.{zms_damage, zms_items}
 use Rattle.named_items.proofs.EmptySteps.{no-settings}
 use Rattle.named_items.proofs.FormatSteps.{blanked-on}
 use Rattle.backend_zms.specs.Numbers.{numbers_in}
-use Rattle.backend_zms.specs.Standing.{IsServed, settings_of}
-
--- values as long as the area allows fit a sector
-pub fits-area : (d : Device) (area : Area) → IsLawfulFor d.banks area → IsServed area (geometry_of d area) → Fits (value_limit area) (zms_price (geometry_of d area)) (zms_cap (geometry_of d area))
-fits-area d area lawful serves = λ length short. zms-fits d area length lawful serves short
+use Rattle.backend_zms.specs.Standing.{settings_of}
 
 module _ (d e : Device) (area : Area) (banks : IsLawful d.banks d.bytes) (lawful : IsLawfulFor d.banks area) (is : sectors_of e area ≡ map blanked (sectors_of d area)) where
   pub erased : sectors_of e area ≡ replicate area.sectors (replicate (sector_size d area) 255)

@@ -48,8 +48,3 @@ pub reads_settings : (d : Device) (area : Area) → IsLawful d.banks d.bytes →
 reads_settings d area lawful for serves undamaged =
     settings-lawful (numbers_in area) (zms-numbers (value_limit area)) step-small
     (zms_items area (geometry_of d area) (sectors_of d area))
-
--- the backend stands on a lawful area
-pub record IsReady (d : Device) (backend : ZmsBackend) : Type 0 where
-  pub lawful : IsLawfulFor d.banks backend.store.store.area
-  pub stands : Stands backend (geometry_of d backend.store.store.area) (sectors_of d backend.store.store.area)

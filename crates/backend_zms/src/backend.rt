@@ -5,11 +5,10 @@ ghost use Rattle.backend_zms.specs.Numbers.{zms_room};
 ghost use Rattle.backend_zms.specs.Standing.{IsServed, settings_of, Rests, Stands, stands-rest, reads_settings};
 
 use crate::numbers::ZmsNumbers;
-use crate::putting::set_value;
 use backend_api::{Backend, SetFault};
 use flash_map::{Area, MountFault, area_format};
 use flash_sim::{Flash, Loss, PowerLost, Steps};
-use named_items::{ItemStore, delete_name, mount_store, next_name, standing_value};
+use named_items::{ItemStore, delete_name, mount_store, next_name, set_value, standing_value};
 use setting_name::Name;
 use std::alloc::Global;
 use std::sync::ledger::Ledger;
@@ -80,7 +79,7 @@ impl Backend for ZmsBackend {
         value: &[u8],
         steps: &mut Steps<L>,
     ) -> Result<(), SetFault> {
-        set_value(&mut self.store, flash, name, value, steps)
+        set_value::<ZmsNumbers, Zms, F, L>(&mut self.store, flash, name, value, steps)
     }
 
     fn delete<F: Flash, L: Ledger>(

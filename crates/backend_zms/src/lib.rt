@@ -1,11 +1,10 @@
-//! Settings over a store of items with ids of 32 bits: the id of a name is found by its hash, and
-//! each value has the id of its name plus a constant.
+//! Settings in a ZMS area: a hash of the name gives the id of the name's item, and the value's item
+//! stands at a fixed distance above it.
 #![tactic(auto)]
 
 mod backend;
 mod hash;
 mod numbers;
-mod putting;
 
 pub use backend::ZmsBackend;
 pub use hash::{FIRST, GROUP_SIZE, first_of};

@@ -13,8 +13,9 @@ ghost use Rattle.backend_zms.specs.declared.hash.TheConstants.{GROUP_BITS};
 ghost use Rattle.backend_zms.specs.Numbers.{numbers_in, top, too_many, zms-numbers, zms-within, no-count, stored-one};
 
 use crate::hash::{FIRST, GROUP_BITS, GROUP_SIZE, STEP, first_of};
+use backend_api::SetFault;
 use flash_sim::{Flash, Steps};
-use named_items::{Ids, ItemStore, Numbers, is_at, is_free, name_in};
+use named_items::{Ids, ItemStore, NewNames, Numbers, is_at, is_free, name_in, put_new};
 use setting_name::Name;
 use std::sync::ledger::Ledger;
 
@@ -90,6 +91,23 @@ impl Numbers for ZmsNumbers {
     }
 }
 
+impl NewNames for ZmsNumbers {
+    fn put_name<S: ItemStore, F: Flash, L: Ledger>(
+        store: &mut S,
+        flash: &mut F,
+        name: &Name,
+        value: &[u8],
+        steps: &mut Steps<L>,
+    ) -> Result<(), SetFault> {
+        let mut index = S::new_index();
+        store.tell(flash, &mut index, steps);
+        match free_place(store, flash, &index, name, steps) {
+            Some(free) => put_new::<ZmsNumbers, S, F, L>(store, flash, free, name, value, steps),
+            None => Err(SetFault::TooManyNames),
+        }
+    }
+}
+
 // Where the name stands that counts, if it has a value: at the least id of its group.
 fn place_of<S: ItemStore, F: Flash, L: Ledger>(
     store: &S,
@@ -162,7 +180,7 @@ fn stands_at<S: ItemStore, F: Flash, L: Ledger>(
 }
 
 // The least id of the name's group that is free, and its value's.
-pub(crate) fn free_place<S: ItemStore, F: Flash, L: Ledger>(
+fn free_place<S: ItemStore, F: Flash, L: Ledger>(
     store: &S,
     flash: &F,
     index: &S::Index,

@@ -1,5 +1,5 @@
-//! Tests of hosts, texts, CRCs, caches, flash, areas, image files, and rings of records with logs
-//! on them.
+//! Tests of the low crates: hosts, texts, CRCs, caches, flash, areas, image files, and rings of
+//! records with the logs on them.
 #![tactic(auto)]
 
 #[cfg(test)]

@@ -1,4 +1,4 @@
-//! The words of `image_tool`, read by `clap`.
+//! The command line of `image_tool`, read with `clap`.
 #![tactic(auto)]
 
 mod commands;

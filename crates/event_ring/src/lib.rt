@@ -1,5 +1,4 @@
-//! An application log over a ring of records: each append adds a record, and where the ring is full
-//! the oldest sector's records are dropped for it.
+//! An application log in a ring of records: a full log erases its oldest sector to make room.
 #![tactic(auto)]
 
 mod appending;

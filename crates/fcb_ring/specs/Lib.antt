@@ -1,9 +1,11 @@
 pub mod Chance
 pub mod Changing
+pub mod Ends
 pub mod Entries
 pub mod Gains
 pub mod Records
 pub mod Rings
+pub mod Scratch
 pub mod SectorStates
 pub mod Standing
 pub mod Writing

@@ -1,12 +1,12 @@
 // Collecting: the records of the oldest sector that are to stay are copied into the scratch sector.
-ghost use Rattle.std.specs.Prelude.{◌≡◌, ◌+◌, ◌-◌, ◌/◌, ◌<◌, ◌≤◌, ◌∷◌, [], true, false, is_err, length, OnOk, OnErr};
+ghost use Rattle.std.specs.Prelude.{◌≡◌, ◌+◌, ◌-◌, ◌/◌, ◌<◌, ◌≤◌, ◌∷◌, [], true, is_err, length, OnOk, OnErr};
 ghost use Rattle.flash_sim.specs.declared.flash.TheConstants.{PROGRAM_LIMIT};
-ghost use Rattle.flash_map.specs.Area.{sector_size, sectors_of, OthersStay};
-ghost use Rattle.flash_map.specs.Spending.{Spends, SpendsAtMost};
+ghost use Rattle.flash_map.specs.Area.{sector_size, OthersStay};
 ghost use Rattle.flash_map.specs.Touches.{Touches};
-ghost use Rattle.fcb_ring.specs.Changing.{Begun, StopsBeginning, CopiedRecord, StopsCopyingRecord, cost_on, is_scratch_left, IsEraseLoss, body_at, EndsCollection};
+ghost use Rattle.fcb_ring.specs.Changing.{Begun, StopsBeginning, CopiedRecord, StopsCopyingRecord, cost_on, is_scratch_left, body_at};
+ghost use Rattle.fcb_ring.specs.Ends.{Collected, StopsCollecting};
 ghost use Rattle.fcb_ring.specs.Rings.{IsRing};
-ghost use Rattle.fcb_ring.specs.Standing.{StandsOn, states_on, IsListed, KeepsEntries, is_up};
+ghost use Rattle.fcb_ring.specs.Standing.{StandsOn, states_on, IsListed};
 
 use crate::record::RecordAt;
 use crate::ring::{Ring, Stage};
@@ -107,26 +107,11 @@ impl Ring {
             (is_err result) }
         ensures others { OthersStay (F.device flash.old) (F.device flash.new) self.old.area
             self.old.oldest }
-        ensures area { self.new.area ≡ self.old.area }
-        ensures reserve { self.new.reserve ≡ self.old.reserve }
 
-        ensures stands { OnOk result (StandsOn (F.device flash.new) self.new) }
-        ensures ready { OnOk result (self.new.stage ≡ Stage.Ready) }
-        ensures end { OnOk result (self.new.end ≡ self.old.end) }
-        ensures ends { OnOk result
-            (EndsCollection (F.device flash.old) (F.device flash.new) self.old self.new) }
-        ensures units { OnOk result (Spends (F.device flash.old) (F.device flash.new) 1) }
-
-        ensures list { OnErr result
-            (KeepsEntries (F.device flash.old) (F.device flash.new) self.old.area) }
-        ensures same { let area = self.old.area in
-            OnErr result
-            (sectors_of (F.device flash.new) area ≡ sectors_of (F.device flash.old) area) }
-        ensures down { OnErr result (is_up self.new.stage ≡ false) }
-        ensures lost { OnErr result
-            ((F.device flash.old).is_on ≡ true
-            → IsEraseLoss (F.device flash.new) self.old.area self.old.oldest) }
-        ensures bound { OnErr result (SpendsAtMost (F.device flash.old) (F.device flash.new) 1) }
+        ensures ended { let d = F.device flash.old in
+            OnOk result (Collected d (F.device flash.new) self.old self.new) }
+        ensures stopped { let d = F.device flash.old in
+            OnErr result (StopsCollecting d (F.device flash.new) self.old self.new) }
     {
         let oldest = self.oldest;
         let next = self.place(1);

@@ -1,5 +1,5 @@
-//! A ring of records in flash: sectors with a header and rising ids, and records one behind the
-//! other. One sector is kept free, so that a collection has somewhere to put what it keeps.
+//! One FCB area: a ring of sectors, each with a header and an id, and the records that they hold.
+//! One sector stays empty, so that a collection has somewhere to copy live records.
 #![tactic(auto)]
 
 mod collecting;

@@ -1,12 +1,10 @@
 // The ring over one area.
-ghost use Rattle.std.specs.Prelude.{◌≡◌, ◌+◌, ◌-◌, ◌<◌, ◌≤◌, ◌∷◌, [], Some, None, is_err, length, min, IfOk, OnOk, OnErr, MatchResult, false, true};
-ghost use Rattle.flash_map.specs.Area.{sectors_of};
-ghost use Rattle.flash_map.specs.Spending.{Spends, SpendsAtMost};
+ghost use Rattle.std.specs.Prelude.{◌≡◌, ◌-◌, ◌<◌, ◌≤◌, ◌∷◌, [], Some, None, is_err, length, min, IfOk, OnOk, OnErr, MatchResult, false, true};
 ghost use Rattle.flash_map.specs.Touches.{Touches};
 ghost use Rattle.fcb_ring.specs.SectorStates.{state_of};
 ghost use Rattle.fcb_ring.specs.Rings.{state_at, turned, oldest_place, first_damage};
-ghost use Rattle.fcb_ring.specs.Changing.{StopsErasing};
-ghost use Rattle.fcb_ring.specs.Standing.{IsRingArea, StandsOn, states_on, state_on, KeepsEntries, is_up, is_finished, is_collecting, is_uncounted, erases_on, ring_damage, mounted_on};
+ghost use Rattle.fcb_ring.specs.Ends.{Finished, StopsFinishing};
+ghost use Rattle.fcb_ring.specs.Standing.{IsRingArea, StandsOn, states_on, state_on, KeepsEntries, is_up, is_finished, is_collecting, is_uncounted, erases_on, ring_damage};
 
 use crate::erasing::erase_torn;
 use crate::sector::{SectorState, state_of};
@@ -187,22 +185,11 @@ impl Ring {
         ensures list { KeepsEntries (F.device flash.old) (F.device flash.new) self.old.area }
         ensures idle { erases_on (F.device flash.old) self.old.area ≡ 0
             → F.device flash.new ≡ F.device flash.old }
-        ensures area { self.new.area ≡ self.old.area }
-        ensures reserve { self.new.reserve ≡ self.old.reserve }
 
-        ensures stands { OnOk result (StandsOn (F.device flash.new) self.new) }
-        ensures ready { OnOk result (self.new.stage ≡ Stage.Ready) }
-        ensures erased { OnOk result
-            (sectors_of (F.device flash.new) self.old.area
-            ≡ mounted_on (F.device flash.old) self.old.area) }
-        ensures units { let d = F.device flash.old in
-            OnOk result (Spends d (F.device flash.new) (erases_on d self.old.area)) }
-
-        ensures down { OnErr result (is_up self.new.stage ≡ false) }
-        ensures part { OnErr result
-            (StopsErasing (F.device flash.old) (F.device flash.new) self.old.area) }
-        ensures bound { let d = F.device flash.old in
-            OnErr result (SpendsAtMost d (F.device flash.new) (erases_on d self.old.area)) }
+        ensures finished { let d = F.device flash.old in
+            OnOk result (Finished d (F.device flash.new) self.old self.new) }
+        ensures stopped { let d = F.device flash.old in
+            OnErr result (StopsFinishing d (F.device flash.new) self.old self.new) }
     {
         let is_full = self.is_uncounted();
         self.stage = Stage::Down;

@@ -1,14 +1,13 @@
 // Opening sectors, and putting records.
-ghost use Rattle.std.specs.Prelude.{◌≡◌, ◌+◌, ◌-◌, ◌/◌, ◌<◌, ◌≤◌, ◌∷◌, [], true, false, is_err, length, OnOk, OnErr, ◌==◌, if◌then◌else◌};
+ghost use Rattle.std.specs.Prelude.{◌≡◌, ◌+◌, ◌-◌, ◌/◌, ◌<◌, ◌≤◌, ◌∷◌, [], true, is_err, length, OnOk, OnErr, ◌==◌, if◌then◌else◌};
 ghost use Rattle.flash_sim.specs.declared.flash.TheConstants.{PROGRAM_LIMIT};
-ghost use Rattle.flash_map.specs.Area.{sector_size, Writes, OthersStay};
-ghost use Rattle.flash_map.specs.Spending.{Spends, SpendsAtMost};
+ghost use Rattle.flash_map.specs.Area.{sector_size, OthersStay};
 ghost use Rattle.flash_map.specs.Touches.{Touches};
 ghost use Rattle.flash_map.specs.Units.{IsUnit, padded};
-ghost use Rattle.fcb_ring.specs.Changing.{image_on, cost_on, record_units, header_on, header_units, kept_room, is_too_long, has_room, is_scratch_left, newest_place, next_place, sector_list, FitsOpened, PutsRecord, LosesRecord, LosesHeader, CutAppend, AddsRecord, GoesOn, end_for, opening_units, EndsWithRecord, next_id, IsReady, IsDown, append_lost, stays_for, place_for, AppendEnds, RotateEnds};
-ghost use Rattle.fcb_ring.specs.Gains.{records_in, GainsRecord, CutInRecord, CutRing};
-ghost use Rattle.fcb_ring.specs.Rings.{is_full, IsRing};
-ghost use Rattle.fcb_ring.specs.Standing.{StandsOn, states_on, KeepsEntries, is_finished, is_up};
+ghost use Rattle.fcb_ring.specs.Changing.{cost_on, header_on, kept_room, is_too_long, has_room, is_scratch_left, newest_place, next_place, FitsOpened, end_for, EndsWithRecord, next_id, append_lost, stays_for, place_for, AppendEnds, RotateEnds};
+ghost use Rattle.fcb_ring.specs.Ends.{Opened, StopsOpening, PutsInNewest, StopsInNewest, PutsInNext, StopsInNext};
+ghost use Rattle.fcb_ring.specs.Gains.{GainsRecord, CutRing};
+ghost use Rattle.fcb_ring.specs.Standing.{StandsOn, KeepsEntries, is_finished};
 ghost use Rattle.fcb_ring.specs.Writing.{record_image, record_cost};
 
 use crate::image::{header_image, record_cost, record_image};
@@ -91,30 +90,11 @@ impl Ring {
         ensures list { KeepsEntries (F.device flash.old) (F.device flash.new) self.old.area }
         ensures others { OthersStay (F.device flash.old) (F.device flash.new) self.old.area
             (next_place self.old) }
-        ensures area { self.new.area ≡ self.old.area }
-        ensures reserve { self.new.reserve ≡ self.old.reserve }
 
-        ensures stands { OnOk result (StandsOn (F.device flash.new) self.new) }
-        ensures used { OnOk result (self.new.used ≡ self.old.used + 1) }
-        ensures oldest { OnOk result (self.new.oldest ≡ self.old.oldest) }
-        ensures id { OnOk result (self.new.id ≡ next_id self.old) }
-        ensures end { OnOk result (self.new.end ≡ header_on (F.device flash.old) self.old.area) }
-        ensures stage { OnOk result (self.new.stage ≡ next) }
-        ensures fresh { OnOk result
-            (sector_list (F.device flash.new) self.old.area (newest_place self.new) ≡ []) }
-        ensures units { let d = F.device flash.old in
-            OnOk result (Spends d (F.device flash.new) (header_units d self.old.area)) }
-        ensures empty { let at = next_place self.old in let area = self.old.area in
-            OnOk result
-            (records_in (F.device flash.new) area at ≡ records_in (F.device flash.old) area at) }
-
-        ensures down { OnErr result (is_up self.new.stage ≡ false) }
-        ensures form { let e = F.device flash.new in
-            OnErr result (IsRing (states_on e self.old.area) self.old.oldest self.old.used) }
-        ensures lost { OnErr result
-            (LosesHeader (F.device flash.old) (F.device flash.new) self.old) }
-        ensures bound { let d = F.device flash.old in
-            OnErr result (SpendsAtMost d (F.device flash.new) (header_units d self.old.area)) }
+        ensures opened { let d = F.device flash.old in
+            OnOk result (Opened d (F.device flash.new) self.old self.new next) }
+        ensures stopped { let d = F.device flash.old in
+            OnErr result (StopsOpening d (F.device flash.new) self.old self.new) }
     {
         let unit = geometry(flash, &self.area).unit;
         let place = self.place(self.used);
@@ -148,53 +128,11 @@ impl Ring {
             (is_err result) }
         ensures others { OthersStay (F.device flash.old) (F.device flash.new) self.old.area
             (newest_place self.old) }
-        ensures area { self.new.area ≡ self.old.area }
-        ensures reserve { self.new.reserve ≡ self.old.reserve }
 
-        ensures stands { OnOk result (StandsOn (F.device flash.new) self.new) }
-        ensures used { OnOk result (self.new.used ≡ self.old.used) }
-        ensures oldest { OnOk result (self.new.oldest ≡ self.old.oldest) }
-        ensures id { OnOk result (self.new.id ≡ self.old.id) }
-        ensures end { OnOk result
-            (self.new.end
-            ≡ self.old.end + cost_on (F.device flash.old) self.old.area (length body.now)) }
-        ensures stage { OnOk result (self.new.stage ≡ self.old.stage) }
-        ensures written { let d = F.device flash.old in
-            OnOk result
-            (Writes d (F.device flash.new) self.old.area (newest_place self.old) self.old.end
-            (image_on d self.old.area body.now)) }
-        ensures ends_with { OnOk result
-            (EndsWithRecord (F.device flash.new) self.new (newest_place self.old) body.now) }
-        ensures puts { OnOk result
-            (PutsRecord (F.device flash.old) (F.device flash.new) self.old body.now) }
-        ensures gains { let d = F.device flash.old in
-            OnOk result
-            (GainsRecord d (F.device flash.new) self.old.area (newest_place self.old) body.now
-            true) }
-        ensures units { let d = F.device flash.old in
-            OnOk result
-            (Spends d (F.device flash.new) (record_units d self.old.area (length body.now))) }
-
-        ensures down { OnErr result (is_up self.new.stage ≡ false) }
-        ensures counted { OnErr result
-            (self.old.used < self.old.area.sectors
-            → CutAppend (F.device flash.old) (F.device flash.new) self.old.area
-            (newest_place self.old) body.now) }
-        ensures lost { OnErr result
-            (LosesRecord (F.device flash.old) (F.device flash.new) self.old body.now) }
-        ensures torn { let d = F.device flash.old in let place = newest_place self.old in
-            OnErr result
-            (d.is_on ≡ true
-            → CutInRecord d (F.device flash.new) self.old place self.old.used body.now) }
-        ensures full { OnErr result
-            (self.old.used ≡ self.old.area.sectors
-            → is_full (states_on (F.device flash.new) self.old.area) ≡ true) }
-        ensures uncounted { OnErr result
-            (self.old.used ≡ self.old.area.sectors
-            → KeepsEntries (F.device flash.old) (F.device flash.new) self.old.area) }
-        ensures bound { let d = F.device flash.old in
-            OnErr result
-            (SpendsAtMost d (F.device flash.new) (record_units d self.old.area (length body.now))) }
+        ensures put { let d = F.device flash.old in
+            OnOk result (PutsInNewest d (F.device flash.new) self.old self.new body.now) }
+        ensures stopped { let d = F.device flash.old in
+            OnErr result (StopsInNewest d (F.device flash.new) self.old self.new body.now) }
     {
         let unit = geometry(flash, &self.area).unit;
         let record = record_image(unit, body);
@@ -222,37 +160,14 @@ impl Ring {
 
         ensures touches { Touches (self.old.area ∷ []) (F.device flash.old) (F.device flash.new)
             (is_err result) }
-        ensures area { self.new.area ≡ self.old.area }
-        ensures reserve { self.new.reserve ≡ self.old.reserve }
 
         ensures others { OthersStay (F.device flash.old) (F.device flash.new) self.old.area
             (next_place self.old) }
 
-        ensures adds { OnOk result
-            (AddsRecord (F.device flash.old) (F.device flash.new) self.old.area
-            (next_place self.old) body.now) }
-        ensures goes_on { OnOk result (GoesOn self.old self.new false) }
-        ensures end { let d = F.device flash.old in
-            OnOk result
-            (self.new.end ≡ header_on d self.old.area + cost_on d self.old.area (length body.now)) }
-        ensures ends_with { OnOk result
-            (EndsWithRecord (F.device flash.new) self.new (next_place self.old) body.now) }
-        ensures ready { let d = F.device flash.old in
-            OnOk result
-            (IsReady d (F.device flash.new) self.new (opening_units d self.old.area body.now)) }
-
-        ensures gains { let d = F.device flash.old in
-            OnOk result
-            (GainsRecord d (F.device flash.new) self.old.area (next_place self.old) body.now true) }
-
-        ensures cut { OnErr result
-            (CutAppend (F.device flash.old) (F.device flash.new) self.old.area (next_place self.old)
-            body.now) }
-        ensures torn { let d = F.device flash.old in
-            OnErr result (d.is_on ≡ true → CutRing false d (F.device flash.new) self.old body.now) }
-        ensures down { let d = F.device flash.old in
-            OnErr result
-            (IsDown d (F.device flash.new) self.new (opening_units d self.old.area body.now)) }
+        ensures put { let d = F.device flash.old in
+            OnOk result (PutsInNext d (F.device flash.new) self.old self.new body.now) }
+        ensures stopped { let d = F.device flash.old in
+            OnErr result (StopsInNext d (F.device flash.new) self.old self.new body.now) }
     {
         self.open_next(flash, Stage::Ready)?;
         self.put_record(flash, body)?;

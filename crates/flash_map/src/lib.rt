@@ -1,4 +1,4 @@
-//! Areas of a flash: runs of whole sectors, and calls that change one area alone.
+//! Areas of flash: runs of whole sectors, and calls that change one area alone.
 #![tactic(auto)]
 
 mod area;

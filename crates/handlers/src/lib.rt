@@ -1,4 +1,4 @@
-//! Handlers of settings, and the registry that keeps them with their subtrees.
+//! Handlers of settings, and the registry that maps a subtree of names to its handler.
 #![tactic(auto)]
 
 mod best;

@@ -7,7 +7,6 @@ use Rattle.flash_sim.specs.declared.flash.Bank.{Bank}
 use Rattle.flash_sim.specs.declared.flash.NoMemory.{NoMemory as OutOfMemory}
 use Rattle.flash_map.specs.declared.area.Area.{Area}
 use Rattle.image_file.specs.declared.spec.Items.{Items}
-use Rattle.image_file.specs.declared.lawful.TheConstants.{MOST_BANKS, MOST_AREAS}
 use Rattle.image_file.specs.declared.image.SpecFault.{SpecFault}
 use Rattle.image_file.specs.declared.image.SpecFault.TheVariants.{BadSpec, NoMemory}
 use Rattle.image_file.specs.Format.{plain_area}
@@ -18,9 +17,9 @@ use Rattle.image_file.specs.Spec.{Listed, listed, nothing_listed, second_version
 -- what holds of banks and areas that were added one after another
 pub record IsListed (l : Listed) : Type 0 where
   pub version : IsVersion l.version
-  pub few_banks : length l.banks ≤ MOST_BANKS
+  pub few_banks : length l.banks ≤ 2
   pub each_bank : (i : ℕ) → i < length l.banks → IsImageBank l.version (bank_at l.banks i)
-  pub few_areas : length l.areas ≤ MOST_AREAS
+  pub few_areas : length l.areas ≤ 8
   pub versions : All (HasVersion l.version) l.areas
   pub each_area : (i : ℕ) → i < length l.areas → IsImageArea l.banks (take i l.areas) (area_at l.areas i)
   pub plain : map plain_area l.areas ≡ l.areas
@@ -28,9 +27,9 @@ pub record IsListed (l : Listed) : Type 0 where
 -- the answer says whether the bank may be added
 abbrev pub TakesBank : ℕ → List Bank → List Bank → List Area → Bank → Result Bool OutOfMemory → Type 0
 TakesBank version old new areas bank (Ok true) =
-    IsImageBank version bank × (areas ≡ []) × (length old < MOST_BANKS) × (new ≡ old ++ bank ∷ [])
+    IsImageBank version bank × (areas ≡ []) × (length old < 2) × (new ≡ old ++ bank ∷ [])
 TakesBank version old new areas bank (Ok false) =
-    (IsImageBank version bank → areas ≡ [] → length old < MOST_BANKS → ⊥) × (new ≡ old)
+    (IsImageBank version bank → areas ≡ [] → length old < 2 → ⊥) × (new ≡ old)
 TakesBank version old new areas bank (Err _) = ⊤
 
 -- a selector is the only one
@@ -40,10 +39,10 @@ IsAlone others area = is_selector area ≡ true → count_by is_selector others 
 -- the answer says whether the area may be added
 abbrev pub TakesListed : List Bank → List Area → List Area → Area → Result Bool OutOfMemory → Type 0
 TakesListed banks old new area (Ok true) =
-    IsImageArea banks (map plain_area old) (plain_area area) × (length old < MOST_AREAS)
+    IsImageArea banks (map plain_area old) (plain_area area) × (length old < 8)
     × IsAlone (map plain_area old) area × (new ≡ old ++ area ∷ [])
 TakesListed banks old new area (Ok false) =
-    (IsImageArea banks (map plain_area old) (plain_area area) → length old < MOST_AREAS
+    (IsImageArea banks (map plain_area old) (plain_area area) → length old < 8
     → IsAlone (map plain_area old) area → ⊥) × (new ≡ old)
 TakesListed banks old new area (Err _) = ⊤
 

@@ -9,7 +9,6 @@ use Rattle.flash_map.specs.Units.{IsUnit}
 use Rattle.flash_map.specs.declared.area.Area.{Area}
 use Rattle.flash_map.specs.declared.area.Role.{Role}
 use Rattle.flash_map.specs.declared.area.Role.TheVariants.{Nvs, Zms, Fcb, Sel}
-use Rattle.image_file.specs.declared.lawful.TheConstants.{LEAST_SECTOR, LEAST_LONG_SECTOR, MOST_SECTOR, MOST_SECTORS, MOST_BANKS, MOST_AREAS}
 use Rattle.image_file.specs.Format.{Plain, plain_area}
 
 abbrev pub IsVersion : ℕ → Type 0
@@ -18,13 +17,13 @@ IsVersion version = (version ≡ 1) ⊎ (version ≡ 2)
 -- an image of this version may have the bank
 pub record IsImageBank (version : ℕ) (bank : Bank) : Type 0 where
   pub unit : IsUnit bank.unit
-  pub at_least : LEAST_SECTOR ≤ bank.sector
+  pub at_least : 512 ≤ bank.sector
   -- a sector has room for the longest value
-  pub long_values : version ≡ 2 → LEAST_LONG_SECTOR ≤ bank.sector
-  pub at_most : bank.sector ≤ MOST_SECTOR
+  pub long_values : version ≡ 2 → 4096 ≤ bank.sector
+  pub at_most : bank.sector ≤ 32_768
   pub whole : bank.sector % 64 ≡ 0
   pub some : 2 ≤ bank.count
-  pub few : bank.count ≤ MOST_SECTORS
+  pub few : bank.count ≤ 64
 
 -- a to z and 0 to 9
 abbrev pub is_label_byte : ℕ → Bool
@@ -89,10 +88,10 @@ area_at areas i = slice_index_or areas i no_area
 pub record IsImage (image : Plain) : Type 0 where
   pub version : IsVersion image.version
   pub some_banks : 1 ≤ length image.banks
-  pub few_banks : length image.banks ≤ MOST_BANKS
+  pub few_banks : length image.banks ≤ 2
   pub each_bank : (i : ℕ) → i < length image.banks → IsImageBank image.version (bank_at image.banks i)
   pub some_areas : 1 ≤ length image.areas
-  pub few_areas : length image.areas ≤ MOST_AREAS
+  pub few_areas : length image.areas ≤ 8
   pub versions : All (HasVersion image.version) image.areas
   -- each area beside those before it
   pub each_area : (i : ℕ) → i < length image.areas

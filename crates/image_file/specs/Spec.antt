@@ -11,7 +11,6 @@ use Rattle.flash_map.specs.declared.area.Area.{Area}
 use Rattle.flash_map.specs.declared.area.Role.{Role}
 use Rattle.flash_map.specs.declared.area.Role.TheVariants.{Nvs, Zms, Fcb, Sel}
 use Rattle.image_file.specs.declared.image.Image.{Image}
-use Rattle.image_file.specs.declared.lawful.TheConstants.{MOST_BANKS, MOST_AREAS}
 use Rattle.image_file.specs.declared.image.SpecFault.{SpecFault}
 use Rattle.image_file.specs.declared.image.SpecFault.TheVariants.{BadSpec, NoMemory}
 use Rattle.image_file.specs.Format.{Plain, plain, plain_area}
@@ -68,7 +67,7 @@ pub record AddsBank (old : Listed) (item : List ℕ) (new : Listed) : Type 0 whe
   pub words : parts 47 item ≡ bank_words bank
   pub lawful : IsImageBank old.version bank
   pub no_areas : old.areas ≡ []
-  pub few : length old.banks < MOST_BANKS
+  pub few : length old.banks < 2
   pub is : new ≡ record { version = old.version; banks = old.banks ++ bank ∷ []; areas = [] }
 
 -- new is old with an area that the item describes
@@ -78,7 +77,7 @@ pub record AddsArea (old : Listed) (item : List ℕ) (new : Listed) : Type 0 whe
   pub words : parts 47 item ≡ area_words area
   pub version : area.version ≡ old.version
   pub lawful : IsImageArea old.banks old.areas area
-  pub few : length old.areas < MOST_AREAS
+  pub few : length old.areas < 8
   -- a second selector may not be added
   pub alone : is_selector area ≡ true → count_by is_selector old.areas ≡ 0
   pub is : new ≡ record { version = old.version; banks = old.banks; areas = old.areas ++ area ∷ [] }

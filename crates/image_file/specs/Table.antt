@@ -5,7 +5,6 @@ use Rattle.flash_sim.specs.declared.flash.Bank.{Bank}
 use Rattle.flash_map.specs.declared.area.Area.{Area}
 use Rattle.image_file.specs.declared.image.ImageWhy.{ImageWhy}
 use Rattle.image_file.specs.declared.image.ImageWhy.TheVariants.{BadMagic, BadVersion, BadBank, BadArea, Short, Long}
-use Rattle.image_file.specs.declared.lawful.TheConstants.{MOST_BANKS, MOST_AREAS}
 use Rattle.image_file.specs.Format.{bank_text, area_text}
 use Rattle.image_file.specs.Lawful.{IsVersion, IsImageBank, IsImageArea, IsLabel, HasNeeded}
 use Rattle.image_file.specs.Said.{field_at, bank_said, area_said, version_said, bank_count, area_count, bank_place, area_place, all_banks, all_areas, areas_said, contents_place, contents_size}
@@ -73,8 +72,8 @@ pub record IsAreaText (version : ℕ) (banks : List Bank) (others : List Area) (
 abbrev pub Rule : List ℕ → Row → Type 0
 Rule bytes Magic = field_at bytes 0 4 ≡ 0x5A ∷ 0x53 ∷ 0x49 ∷ 0x4D ∷ []
 Rule bytes Version = IsVersion (version_said bytes)
-Rule bytes BankCount = (1 ≤ bank_count bytes) × (bank_count bytes ≤ MOST_BANKS)
-Rule bytes AreaCount = (1 ≤ area_count bytes) × (area_count bytes ≤ MOST_AREAS)
+Rule bytes BankCount = (1 ≤ bank_count bytes) × (bank_count bytes ≤ 2)
+Rule bytes AreaCount = (1 ≤ area_count bytes) × (area_count bytes ≤ 8)
 Rule bytes Zero = slice_index bytes 7 ≡ 0
 Rule bytes (BankAt i) = IsBankText (version_said bytes) (field_at bytes (bank_place i) 12)
 Rule bytes (AreaAt i) =

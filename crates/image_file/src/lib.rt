@@ -1,5 +1,5 @@
-//! Image files: banks, areas and bytes of a flash as one file, and the word that describes a blank
-//! image.
+//! Image files: the banks, areas and bytes of a flash in one file, and the word on the command line
+//! that describes a blank image.
 #![tactic(auto)]
 
 mod fields;

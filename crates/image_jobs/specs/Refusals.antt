@@ -39,7 +39,8 @@ script_why line_why.Number = codes "Number"
 abbrev pub usage_line : List ℕ
 usage_line =
     codes "usage: image_tool build OUT SPEC | run IMAGE SCRIPT OUT | dump IMAGE | migrate IMAGE OUT"
-    ++ codes " | gen OUT BACKEND N | log IMAGE SCRIPT OUT | items IMAGE SCRIPT OUT | mirror IMAGE SCRIPT OUT\n"
+    ++ codes " | gen OUT BACKEND N | log IMAGE SCRIPT OUT | items IMAGE SCRIPT OUT"
+    ++ codes " | mirror IMAGE SCRIPT OUT\n"
 
 abbrev pub line_of : Refusal → List ℕ
 line_of BadSpec = usage_line

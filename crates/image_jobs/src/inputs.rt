@@ -97,7 +97,7 @@ fn generates(alloc: Global, n: u32) -> Result<Vec<Line>, NoMemory>
 pub fn read_source<'a, H: Host>(
     alloc: Global,
     source: &Source<'a>,
-    limit: usize,
+    limit: u32,
     host: &mut H,
 ) -> Result<Vec<Line>, Stop<'a>>
     ensures lines { let h = H.outside host.old in

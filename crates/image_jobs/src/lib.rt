@@ -1,6 +1,5 @@
-//! The areas of an image as a map of areas on which a session works: laws alone.
-//!
-//! Plays: scripts of lines on the settings of an image, on a bench that may lose power at any unit.
+//! The jobs of `image_tool` on settings: take an image, carry out the lines of a script on it,
+//! power losses included, and keep the answers and the image that is left.
 #![tactic(auto)]
 
 mod building;

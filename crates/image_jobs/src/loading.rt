@@ -16,14 +16,14 @@ use image_file::write_image;
 use std::alloc::Global;
 
 /// The most bytes of a value in an image of these areas.
-pub fn longest_value(areas: &FlashMap) -> usize
+pub fn longest_value(areas: &FlashMap) -> u32
     requires some { is_store_at areas.now (first_store areas.now) ≡ true }
     requires versions { (i j : ℕ) (a b : area) → slice_get areas.now i ≡ Some a
         → slice_get areas.now j ≡ Some b → a.version ≡ b.version }
     ensures { result ≡ limit_of areas.now }
 {
     match areas.at(0) {
-        Some(area) => area.value_limit() as usize,
+        Some(area) => area.value_limit(),
         None => unreachable!(),
     }
 }

@@ -86,7 +86,7 @@ pub fn read_script_text<'a, H: Host>(
 pub fn read_lines<'a, H: Host>(
     alloc: Global,
     name: &'a str,
-    limit: usize,
+    limit: u32,
     host: &mut H,
 ) -> Result<Vec<Line>, Stop<'a>>
     ensures { let h = H.outside host.old in

@@ -29,11 +29,12 @@ use Rattle.image_tool.specs.declared.tasks.Task.TheVariants.{Build, Plays, Log, 
 use Rattle.image_tool.specs.Tasks.{Causes, Does, Prepares, task_of}
 use Rattle.image_tool.specs.Telling.{Delivers, DeliversOnly, Reports}
 use Rattle.image_tool.specs.Tool.{MayWrite, OnlyFile, TaskEnds, ToolEnds, out_file, status_of}
+use Rattle.image_tool.specs.Worlds.{World, with_stage}
 
-module _ (k : Stores) (kinds : List HandlerKind) (task : Task) (host host' : Outside) (old new : Stage) where
+module _ (k : Stores) (kinds : List HandlerKind) (task : Task) (old new : World) where
   -- ---- a task that was to print a text and write a file
 
-  pub ends : (text : List ℕ) (file : Option File) → Does k kinds task host old new text file → (result : Status) → Delivers host host' text file result → TaskEnds k kinds task host host' old new result
+  pub ends : (text : List ℕ) (file : Option File) → Does k kinds task old new.stage text file → (result : Status) → Delivers old.outside new.outside text file result → TaskEnds k kinds task old new result
   ends text file does status.Done is = (text, file, does, is)
   ends text file does status.HostFault is = inr (inr (text, file, does, is))
   ends text file does status.NoMemory is = inr (inr (text, file, does, is))
@@ -44,7 +45,7 @@ module _ (k : Stores) (kinds : List HandlerKind) (task : Task) (host host' : Out
 
   -- ---- a task that was refused
 
-  refused_ends : (refusal : Refusal) → Causes k kinds task host old new refusal → host' ≡ printed_more host (line_of refusal) → TaskEnds k kinds task host host' old new (status_of refusal)
+  refused_ends : (refusal : Refusal) → Causes k kinds task old new.stage refusal → new.outside ≡ printed_more old.outside (line_of refusal) → TaskEnds k kinds task old new (status_of refusal)
   refused_ends BadSpec causes is = (BadSpec, causes, refl, is)
   refused_ends (NoFile word) causes is = (NoFile word, causes, refl, is)
   refused_ends (BadFile at why) causes is = (BadFile at why, causes, refl, is)
@@ -55,30 +56,30 @@ module _ (k : Stores) (kinds : List HandlerKind) (task : Task) (host host' : Out
   refused_ends (Unfit label) causes is = (Unfit label, causes, refl, is)
   refused_ends (BadScript n why) causes is = (BadScript n why, causes, refl, is)
 
-  pub reported : (refusal : Refusal) (result : Status) → Causes k kinds task host old new refusal → Reports host host' (line_of refusal) (status_of refusal) result → TaskEnds k kinds task host host' old new result
-  reported refusal result causes (inl whole) = subst (λ (s : Status). TaskEnds k kinds task host host' old new s) (sym whole.0) (refused_ends refusal causes whole.1)
-  reported refusal result causes (inr (inl fault)) = subst (λ (s : Status). TaskEnds k kinds task host host' old new s) (sym fault.0) (inr (inl (refusal, causes, fault.1)))
-  reported refusal result causes (inr (inr stopped)) = subst (λ (s : Status). TaskEnds k kinds task host host' old new s) (sym stopped.0) (inr (inl (refusal, causes, stopped.1)))
+  pub reported : (refusal : Refusal) (result : Status) → Causes k kinds task old new.stage refusal → Reports old.outside new.outside (line_of refusal) (status_of refusal) result → TaskEnds k kinds task old new result
+  reported refusal result causes (inl whole) = subst (λ (s : Status). TaskEnds k kinds task old new s) (sym whole.0) (refused_ends refusal causes whole.1)
+  reported refusal result causes (inr (inl fault)) = subst (λ (s : Status). TaskEnds k kinds task old new s) (sym fault.0) (inr (inl (refusal, causes, fault.1)))
+  reported refusal result causes (inr (inr stopped)) = subst (λ (s : Status). TaskEnds k kinds task old new s) (sym stopped.0) (inr (inl (refusal, causes, stopped.1)))
 
   -- what was prepared is the refusal that was reported; `middle` is the outside then
   pub refused_by : (middle : Outside) (field : Stop) (found refusal : Refusal) (result : Status) → field ≡ Refused found → refusal ≡ found
-      → Prepares k kinds task host middle old new (Err field) → Reports middle host' (line_of refusal) (status_of refusal) result → TaskEnds k kinds task host host' old new result
+      → Prepares k kinds task old (with_stage middle new.stage) (Err field) → Reports middle new.outside (line_of refusal) (status_of refusal) result → TaskEnds k kinds task old new result
   refused_by middle field found refusal result field_is found_is prepares reports =
-      let causes = subst (λ (s : Stop). Prepares k kinds task host middle old new (Err s)) field_is prepares in
+      let causes = subst (λ (s : Stop). Prepares k kinds task old (with_stage middle new.stage) (Err s)) field_is prepares in
       reported refusal result
-      (subst (λ (r : Refusal). Causes k kinds task host old new r) (sym found_is) causes.0)
-      (subst (λ (o : Outside). Reports o host' (line_of refusal) (status_of refusal) result) causes.1 reports)
+      (subst (λ (r : Refusal). Causes k kinds task old new.stage r) (sym found_is) causes.0)
+      (subst (λ (o : Outside). Reports o new.outside (line_of refusal) (status_of refusal) result) causes.1 reports)
 
-  pub done_by : (middle : Outside) (outcome : Outcome) (result : Status) → Prepares k kinds task host middle old new (Ok outcome)
-      → Delivers middle host' outcome.text.items (file_of outcome.file) result → TaskEnds k kinds task host host' old new result
+  pub done_by : (middle : Outside) (outcome : Outcome) (result : Status) → Prepares k kinds task old (with_stage middle new.stage) (Ok outcome)
+      → Delivers middle new.outside outcome.text.items (file_of outcome.file) result → TaskEnds k kinds task old new result
   done_by middle outcome result prepares delivers =
-      ends outcome.text.items (file_of outcome.file) prepares.0 result (subst (λ (o : Outside). Delivers o host' outcome.text.items (file_of outcome.file) result) prepares.1 delivers)
+      ends outcome.text.items (file_of outcome.file) prepares.0 result (subst (λ (o : Outside). Delivers o new.outside outcome.text.items (file_of outcome.file) result) prepares.1 delivers)
 
-  -- ---- files
+-- ---- files
 
-  play_wrote : (output : Output) (image : Plain) (file : Option File) → WritesLeft (out_of output) image file → DeliversOnly file host host' → OnlyFile (out_of output) host host'
-  play_wrote Nowhere image file is only = subst (λ (f : Option File). DeliversOnly f host host') is only
-  play_wrote (Into name) image file (bytes, is_file, is) only = subst (λ (f : Option File). DeliversOnly f host host') is only
+play_wrote : (output : Output) (image : Plain) (file : Option File) (host host' : Outside) → WritesLeft (out_of output) image file → DeliversOnly file host host' → OnlyFile (out_of output) host host'
+play_wrote Nowhere image file host host' is only = subst (λ (f : Option File). DeliversOnly f host host') is only
+play_wrote (Into name) image file host host' (bytes, is_file, is) only = subst (λ (f : Option File). DeliversOnly f host host') is only
 
 same_files : (name : List ℕ) (files : Option Files) → SameBut name files files
 same_files name None = tt
@@ -93,46 +94,46 @@ wrote_nothing None host host' is = is
 wrote_nothing (Some out) host host' is = same_but out host.files host'.files is
 
 -- a refusal writes nothing; `middle` is the outside before its line was printed
-pub refused_wrote : (k : Stores) (kinds : List HandlerKind) (task : Task) (host middle host' : Outside) (old new : Stage) (field : Stop) (found : Refusal) → field ≡ Refused found
-    → Prepares k kinds task host middle old new (Err field) → host'.files ≡ middle.files → OnlyFile (out_file task) host host'
-refused_wrote k kinds task host middle host' old new field found field_is prepares files =
-    let causes = subst (λ (s : Stop). Prepares k kinds task host middle old new (Err s)) field_is prepares in
-    wrote_nothing (out_file task) host host' (files ∙ ap (λ (o : Outside). o.files) causes.1)
+pub refused_wrote : (k : Stores) (kinds : List HandlerKind) (task : Task) (old middle : World) (host' : Outside) (field : Stop) (found : Refusal) → field ≡ Refused found
+    → Prepares k kinds task old middle (Err field) → host'.files ≡ middle.outside.files → OnlyFile (out_file task) old.outside host'
+refused_wrote k kinds task old middle host' field found field_is prepares files =
+    let causes = subst (λ (s : Stop). Prepares k kinds task old middle (Err s)) field_is prepares in
+    wrote_nothing (out_file task) old.outside host' (files ∙ ap (λ (o : Outside). o.files) causes.1)
 
-module _ (k : Stores) (kinds : List HandlerKind) (host0 host host' : Outside) (old new : Stage) where
-  pub wrote : (task : Task) (text : List ℕ) (file : Option File) → Does k kinds task host0 old new text file → DeliversOnly file host host' → OnlyFile (out_file task) host host'
+module _ (k : Stores) (kinds : List HandlerKind) (old : World) (new : Stage) (host host' : Outside) where
+  pub wrote : (task : Task) (text : List ℕ) (file : Option File) → Does k kinds task old new text file → DeliversOnly file host host' → OnlyFile (out_file task) host host'
   wrote (Build out spec) text file does only = subst (λ (f : Option File). DeliversOnly f host host') does.0.writes only
-  wrote (Plays play) text file does only = play_wrote k kinds (Plays play) host host' old new play.output _ file does.writes only
+  wrote (Plays play) text file does only = play_wrote play.output _ file host host' does.writes only
   wrote (Log image script out) text file does only = subst (λ (f : Option File). DeliversOnly f host host') does.0.writes.2 only
   wrote (Items image script out) text file does only = subst (λ (f : Option File). DeliversOnly f host host') does.0.writes.2 only
   wrote (Mirror image script out) text file does only = subst (λ (f : Option File). DeliversOnly f host host') does.0.writes.2 only
 
 -- ---- a play on a log
 
-pub log_prepared : (k : Stores) (kinds : List HandlerKind) (image script out : Bor (List ℕ)) (host host' : Outside) (old new : Stage) (result : Result Outcome Stop)
-    → LogPlayEnds image.now script.now out.now host host' old.bench new.bench result → new.registry ≡ old.registry → Prepares k kinds (Log image script out) host host' old new result
-log_prepared k kinds image script out host host' old new (Ok outcome) ends same = ((ends.0, same), ends.1)
-log_prepared k kinds image script out host host' old new (Err (Refused refusal)) ends same = ((ends.0, same), ends.1)
-log_prepared k kinds image script out host host' old new (Err HostFailed) ends same = ((inl ends.0, same), ends.1)
-log_prepared k kinds image script out host host' old new (Err NoMemory) ends same = ((ends.0, same), ends.1)
+pub log_prepared : (k : Stores) (kinds : List HandlerKind) (image script out : Bor (List ℕ)) (old new : World) (result : Result Outcome Stop)
+    → LogPlayEnds image.now script.now out.now old.outside new.outside old.stage.bench new.stage.bench result → new.stage.registry ≡ old.stage.registry → Prepares k kinds (Log image script out) old new result
+log_prepared k kinds image script out old new (Ok outcome) ends same = ((ends.0, same), ends.1)
+log_prepared k kinds image script out old new (Err (Refused refusal)) ends same = ((ends.0, same), ends.1)
+log_prepared k kinds image script out old new (Err HostFailed) ends same = ((inl ends.0, same), ends.1)
+log_prepared k kinds image script out old new (Err NoMemory) ends same = ((ends.0, same), ends.1)
 
 -- ---- a play on items
 
-pub items_prepared : (k : Stores) (kinds : List HandlerKind) (image script out : Bor (List ℕ)) (host host' : Outside) (old new : Stage) (result : Result Outcome Stop)
-    → ItemPlayEnds image.now script.now out.now host host' old.bench new.bench result → new.registry ≡ old.registry → Prepares k kinds (Items image script out) host host' old new result
-items_prepared k kinds image script out host host' old new (Ok outcome) ends same = ((ends.0, same), ends.1)
-items_prepared k kinds image script out host host' old new (Err (Refused refusal)) ends same = ((ends.0, same), ends.1)
-items_prepared k kinds image script out host host' old new (Err HostFailed) ends same = ((inl ends.0, same), ends.1)
-items_prepared k kinds image script out host host' old new (Err NoMemory) ends same = ((ends.0, same), ends.1)
+pub items_prepared : (k : Stores) (kinds : List HandlerKind) (image script out : Bor (List ℕ)) (old new : World) (result : Result Outcome Stop)
+    → ItemPlayEnds image.now script.now out.now old.outside new.outside old.stage.bench new.stage.bench result → new.stage.registry ≡ old.stage.registry → Prepares k kinds (Items image script out) old new result
+items_prepared k kinds image script out old new (Ok outcome) ends same = ((ends.0, same), ends.1)
+items_prepared k kinds image script out old new (Err (Refused refusal)) ends same = ((ends.0, same), ends.1)
+items_prepared k kinds image script out old new (Err HostFailed) ends same = ((inl ends.0, same), ends.1)
+items_prepared k kinds image script out old new (Err NoMemory) ends same = ((ends.0, same), ends.1)
 
 -- ---- a play on a mirror
 
-pub mirror_prepared : (k : Stores) (kinds : List HandlerKind) (image script out : Bor (List ℕ)) (host host' : Outside) (old new : Stage) (result : Result Outcome Stop)
-    → MirrorPlayEnds image.now script.now out.now host host' old.bench new.bench result → new.registry ≡ old.registry → Prepares k kinds (Mirror image script out) host host' old new result
-mirror_prepared k kinds image script out host host' old new (Ok outcome) ends same = ((ends.0, same), ends.1)
-mirror_prepared k kinds image script out host host' old new (Err (Refused refusal)) ends same = ((ends.0, same), ends.1)
-mirror_prepared k kinds image script out host host' old new (Err HostFailed) ends same = ((inl ends.0, same), ends.1)
-mirror_prepared k kinds image script out host host' old new (Err NoMemory) ends same = ((ends.0, same), ends.1)
+pub mirror_prepared : (k : Stores) (kinds : List HandlerKind) (image script out : Bor (List ℕ)) (old new : World) (result : Result Outcome Stop)
+    → MirrorPlayEnds image.now script.now out.now old.outside new.outside old.stage.bench new.stage.bench result → new.stage.registry ≡ old.stage.registry → Prepares k kinds (Mirror image script out) old new result
+mirror_prepared k kinds image script out old new (Ok outcome) ends same = ((ends.0, same), ends.1)
+mirror_prepared k kinds image script out old new (Err (Refused refusal)) ends same = ((ends.0, same), ends.1)
+mirror_prepared k kinds image script out old new (Err HostFailed) ends same = ((inl ends.0, same), ends.1)
+mirror_prepared k kinds image script out old new (Err NoMemory) ends same = ((ends.0, same), ends.1)
 
 -- ---- words that are a command
 
@@ -213,10 +214,10 @@ module _ (words : List (List ℕ)) (field : Option Command) (found command : Com
   is_command : IsCommand words command
   is_command = subst (IsCommand words) (sym found_is) (subst (λ (o : Option Command). MatchOption o (IsNoCommand words) (IsCommand words)) field_is read)
 
-  pub command_ends : (k : Stores) (kinds : List HandlerKind) (task : Task) (host host' : Outside) (old new : Stage) (result : Status) → task ≡ task_of command
-      → TaskEnds k kinds task host host' old new result → ToolEnds k kinds words host host' old new result
-  command_ends k kinds task host host' old new result task_is is =
-      inl (command, is_command, subst (λ (t : Task). TaskEnds k kinds t host host' old new result) task_is is)
+  pub command_ends : (k : Stores) (kinds : List HandlerKind) (task : Task) (old new : World) (result : Status) → task ≡ task_of command
+      → TaskEnds k kinds task old new result → ToolEnds k kinds words old new result
+  command_ends k kinds task old new result task_is is =
+      inl (command, is_command, subst (λ (t : Task). TaskEnds k kinds t old new result) task_is is)
 
   pub command_wrote : (task : Task) (host host' : Outside) → task ≡ task_of command → OnlyFile (out_file task) host host' → (c : Command) → IsCommand words c → MayWrite c host host'
   command_wrote task host host' task_is is c other =

@@ -30,6 +30,7 @@ use Rattle.image_tool.specs.Blank.{BlanksLackLinesAlone, GenIsCarriedOut, SpecsA
 use Rattle.image_tool.specs.Complete.{IsCarriedOut}
 use Rattle.image_tool.specs.Tasks.{Causes, task_of}
 use Rattle.image_tool.specs.Tool.{TaskEnds, any_stores}
+use Rattle.image_tool.specs.Worlds.{World}
 use Rattle.image_tool.proofs.Blanks.{blanks_are_not_refused}
 
 -- ---- the image of a word
@@ -75,12 +76,12 @@ blanks_lack_lines_alone kinds play kind host old new refusal start refuses = for
 
 -- ---- generated scripts
 
-module _ (kinds : List HandlerKind) (host host' : Outside) (old new : Stage) where
+module _ (kinds : List HandlerKind) (old new : World) where
   -- it has its lines
-  never_refused : (out : Bor (List ℕ)) (kind : StoreKind) (n : ℕ) (refusal : Refusal) → Causes any_stores kinds (task_of (Gen out kind n)) host old new refusal → ⊥
-  never_refused out kind n refusal refuses = (for_lines kinds _ kind host old new refl refusal refuses).lacks
+  never_refused : (out : Bor (List ℕ)) (kind : StoreKind) (n : ℕ) (refusal : Refusal) → Causes any_stores kinds (task_of (Gen out kind n)) old new.stage refusal → ⊥
+  never_refused out kind n refusal refuses = (for_lines kinds _ kind old.outside old.stage new.stage refl refusal refuses).lacks
 
-  gen_ends : (out : Bor (List ℕ)) (kind : StoreKind) (n : ℕ) (result : Status) → TaskEnds any_stores kinds (task_of (Gen out kind n)) host host' old new result → IsCarriedOut result
+  gen_ends : (out : Bor (List ℕ)) (kind : StoreKind) (n : ℕ) (result : Status) → TaskEnds any_stores kinds (task_of (Gen out kind n)) old new result → IsCarriedOut result
   gen_ends out kind n status.Done ends = tt
   gen_ends out kind n status.HostFault ends = tt
   gen_ends out kind n status.NoMemory ends = tt
@@ -98,7 +99,7 @@ module _ (kinds : List HandlerKind) (host host' : Outside) (old new : Stage) whe
       first (word ∷ rest) = slice_index word 0
 
   ends_as : (words : List (List ℕ)) (out : Bor (List ℕ)) (kind : StoreKind) (n : ℕ) (result : Status) → IsCommand words (Gen out kind n)
-      → (c : Command) → IsCommand words c → TaskEnds any_stores kinds (task_of c) host host' old new result → IsCarriedOut result
+      → (c : Command) → IsCommand words c → TaskEnds any_stores kinds (task_of c) old new result → IsCarriedOut result
   ends_as words out kind n result gen (Gen to other m) is ends = gen_ends to other m result ends
   ends_as words out kind n result gen (Build to spec) is ends = let no : ◌≡◌ {A = ℕ} 103 98 = first_byte words (Gen out kind n) (Build to spec) gen is in absurd (omega arith)
   ends_as words out kind n result gen (Run image script to) is ends = let no : ◌≡◌ {A = ℕ} 103 114 = first_byte words (Gen out kind n) (Run image script to) gen is in absurd (omega arith)
@@ -109,6 +110,6 @@ module _ (kinds : List HandlerKind) (host host' : Outside) (old new : Stage) whe
   ends_as words out kind n result gen (Mirror image script to) is ends = let no : ◌≡◌ {A = ℕ} 103 109 = first_byte words (Gen out kind n) (Mirror image script to) gen is in absurd (omega arith)
 
 pub gen_is_carried_out : GenIsCarriedOut
-gen_is_carried_out kinds words out kind n host host' old new result gen (inl (c, is, ends)) = ends_as kinds host host' old new words out kind n result gen c is ends
-gen_is_carried_out kinds words out kind n host host' old new result gen (inr (inl (none, _, _))) = absurd (none (Gen out kind n) gen)
-gen_is_carried_out kinds words out kind n host host' old new result gen (inr (inr (is, _, _))) = subst IsCarriedOut (sym is) tt
+gen_is_carried_out kinds words out kind n old new result gen (inl (c, is, ends)) = ends_as kinds old new words out kind n result gen c is ends
+gen_is_carried_out kinds words out kind n old new result gen (inr (inl (none, _, _))) = absurd (none (Gen out kind n) gen)
+gen_is_carried_out kinds words out kind n old new result gen (inr (inr (is, _, _))) = subst IsCarriedOut (sym is) tt

@@ -1,15 +1,15 @@
 -- Handlers put into the pool one after another, and what the process then ends with.
-use Rattle.std.proofs.Common.{◌≡◌, ℕ, List, [], ◌∷◌, ◌++◌, map, None, Result, Ok, Err, inl, refl, sym, ap, subst, ◌∙◌}
+use Rattle.std.proofs.Common.{◌≡◌, ℕ, List, [], ◌∷◌, ◌++◌, map, Result, Ok, Err, inl, ap, subst, ◌∙◌}
 use Rattle.std.specs.Prelude.{IfOk}
 use Rattle.std.specs.declared.alloc.AllocError.{AllocError}
 use Rattle.flash_sim.specs.Device.{Device}
 use Rattle.zs_host.specs.Outside.{Outside}
 use Rattle.handlers.specs.declared.handler.HandlerKind.{HandlerKind}
 use Rattle.handlers.specs.Registry.{Registered}
-use Rattle.image_jobs.specs.Stages.{Stage, stage}
 use Rattle.image_tool.specs.declared.status.Status.{Status}
 use Rattle.image_tool.specs.Exits.{Exits, ExitsOr, ProcessExits, no_flash, program_kinds, real_host}
 use Rattle.image_tool.specs.Tool.{ToolEnds, any_stores, exit_code}
+use Rattle.image_tool.specs.Worlds.{world}
 
 pub pool_of_eight : {B X : Type 0} (kind : B → X) {items : List B} {p1 p2 p3 p4 p5 p6 p7 p8 : List X} {a b c d e f g h : X}
     → items ≡ [] → p1 ≡ map kind items ++ a ∷ [] → p2 ≡ p1 ++ b ∷ [] → p3 ≡ p2 ++ c ∷ [] → p4 ≡ p3 ++ d ∷ []
@@ -27,14 +27,14 @@ pool_of_eight {B} {X} kind {items} {p1} {p2} {p3} {p4} {p5} {p6} {p7} {p8} {a} {
 
 pub exits : {C : Type 0} (row : C → Registered) {rows : List C} {kinds : List HandlerKind} {left : List Registered}
     (words : List (List ℕ)) (host host' : Outside) (old new : Device) (code : ℕ) → kinds ≡ program_kinds → rows ≡ []
-    → ((ends : Status) × (code ≡ exit_code ends) × ToolEnds any_stores kinds words host host' (stage old (map row rows)) (stage new left) ends)
+    → ((ends : Status) × (code ≡ exit_code ends) × ToolEnds any_stores kinds words (world host old (map row rows)) (world host' new left) ends)
     → Exits words host host' old new code
 exits {C} row {rows} {kinds} {left} words host host' old new code are none ends = (
   ends.0,
   left,
   ends.1,
-  subst (λ (ks : List HandlerKind). ToolEnds any_stores ks words host host' (stage old []) (stage new left) ends.0) are
-      (subst (λ (rs : List C). ToolEnds any_stores kinds words host host' (stage old (map row rs)) (stage new left) ends.0) none ends.2),
+  subst (λ (ks : List HandlerKind). ToolEnds any_stores ks words (world host old []) (world host' new left) ends.0) are
+      (subst (λ (rs : List C). ToolEnds any_stores kinds words (world host old (map row rs)) (world host' new left) ends.0) none ends.2),
 )
 
 pub words_exit : (result : Result ℕ AllocError) (words : List (List ℕ)) (host host' : Outside) (old new : Device) → host ≡ real_host → old ≡ no_flash

@@ -29,6 +29,7 @@ use Rattle.image_tool.specs.declared.tasks.Task.TheVariants.{Build, Plays, Log, 
 use Rattle.image_tool.specs.Complete.{IsCarriedOut, IsSound, IsSoundTask, SoundIsCarriedOut}
 use Rattle.image_tool.specs.Tasks.{Causes}
 use Rattle.image_tool.specs.Tool.{TaskEnds, any_stores}
+use Rattle.image_tool.specs.Worlds.{World}
 use Rattle.image_tool.proofs.SoundFiles.{has_image, never_long, never_missing, same_file, same_image}
 use Rattle.image_tool.proofs.SoundLog.{log_is_not_refused}
 use Rattle.image_tool.proofs.SoundItems.{items_are_not_refused}
@@ -96,15 +97,15 @@ module _ (k : Stores) (kinds : List HandlerKind) (play : Play) (host : Outside) 
 
 -- ---- tasks
 
-module _ (k : Stores) (kinds : List HandlerKind) (host host' : Outside) (old new : Stage) where
-  no_cause : (task : Task) (refusal : Refusal) → IsSoundTask k task host → Causes k kinds task host old new refusal → ⊥
+module _ (k : Stores) (kinds : List HandlerKind) (old new : World) where
+  no_cause : (task : Task) (refusal : Refusal) → IsSoundTask k task old.outside → Causes k kinds task old new.stage refusal → ⊥
   no_cause (Build out spec) refusal (image, is) (lacks, _) = no_bad_item spec.now image lacks.1 is lacks.2
-  no_cause (Plays play) refusal sound causes = never_refused k kinds play host old new sound refusal causes
-  no_cause (Log image script out) refusal sound causes = log_is_not_refused image.now script.now host old.bench new.bench sound refusal causes.0
-  no_cause (Items image script out) refusal sound causes = items_are_not_refused image.now script.now host old.bench new.bench sound refusal causes.0
-  no_cause (Mirror image script out) refusal sound causes = mirror_is_not_refused image.now script.now host old.bench new.bench sound refusal causes.0
+  no_cause (Plays play) refusal sound causes = never_refused k kinds play old.outside old.stage new.stage sound refusal causes
+  no_cause (Log image script out) refusal sound causes = log_is_not_refused image.now script.now old.outside old.stage.bench new.stage.bench sound refusal causes.0
+  no_cause (Items image script out) refusal sound causes = items_are_not_refused image.now script.now old.outside old.stage.bench new.stage.bench sound refusal causes.0
+  no_cause (Mirror image script out) refusal sound causes = mirror_is_not_refused image.now script.now old.outside old.stage.bench new.stage.bench sound refusal causes.0
 
-  carried_out : (task : Task) (result : Status) → IsSoundTask k task host → TaskEnds k kinds task host host' old new result → IsCarriedOut result
+  carried_out : (task : Task) (result : Status) → IsSoundTask k task old.outside → TaskEnds k kinds task old new result → IsCarriedOut result
   carried_out task status.Done sound ends = tt
   carried_out task status.HostFault sound ends = tt
   carried_out task status.NoMemory sound ends = tt
@@ -114,7 +115,7 @@ module _ (k : Stores) (kinds : List HandlerKind) (host host' : Outside) (old new
   carried_out task status.BadImage sound (refusal, causes, _, _) = no_cause task refusal sound causes
 
 pub sound_is_carried_out : SoundIsCarriedOut
-sound_is_carried_out kinds words host host' old new result are sound (inl (c, is, ends)) =
-    carried_out any_stores kinds host host' old new _ result (sound c is) ends
-sound_is_carried_out kinds words host host' old new result are sound (inr (inl (none, _, _))) = absurd (are none)
-sound_is_carried_out kinds words host host' old new result are sound (inr (inr (is, _, _))) = subst IsCarriedOut (sym is) tt
+sound_is_carried_out kinds words old new result are sound (inl (c, is, ends)) =
+    carried_out any_stores kinds old new _ result (sound c is) ends
+sound_is_carried_out kinds words old new result are sound (inr (inl (none, _, _))) = absurd (are none)
+sound_is_carried_out kinds words old new result are sound (inr (inr (is, _, _))) = subst IsCarriedOut (sym is) tt

@@ -20,6 +20,7 @@ use Rattle.image_jobs.specs.Stages.{Stage}
 use Rattle.image_tool.specs.declared.status.Status.{Status}
 use Rattle.image_tool.specs.Complete.{IsCarriedOut}
 use Rattle.image_tool.specs.Tool.{ToolEnds, any_stores}
+use Rattle.image_tool.specs.Worlds.{World}
 
 -- The image shows no damage, its first store area is active, and it reads as no settings.
 pub record IsEmptyImage (areas : List Area) (image : Plain) : Type 0 where
@@ -45,6 +46,6 @@ BlanksLackLinesAlone =
 abbrev pub GenIsCarriedOut : Type 0
 GenIsCarriedOut =
     (kinds : List HandlerKind) (words : List (List ℕ)) (out : Bor (List ℕ)) (kind : StoreKind) (n : ℕ)
-    (host host' : Outside) (old new : Stage) (result : Status)
-    → IsCommand words (Gen out kind n) → ToolEnds any_stores kinds words host host' old new result
+    (old new : World) (result : Status)
+    → IsCommand words (Gen out kind n) → ToolEnds any_stores kinds words old new result
     → IsCarriedOut result

@@ -26,13 +26,14 @@ use Rattle.image_jobs.specs.declared.stops.Refusal.{Refusal}
 use Rattle.image_jobs.specs.Images.{HasAreas, damage_of}
 use Rattle.image_jobs.specs.Reading.{HasImage}
 use Rattle.image_jobs.specs.Inputs.{BeginsWith, LacksStart, PlaysLines, blank_spec}
-use Rattle.image_jobs.specs.Stages.{Stage, Stores}
+use Rattle.image_jobs.specs.Stages.{Stores}
 use Rattle.image_tool.specs.declared.status.Status.{Status}
 use Rattle.image_tool.specs.declared.status.Status.TheVariants as status
 use Rattle.image_tool.specs.declared.tasks.Task.{Task}
 use Rattle.image_tool.specs.declared.tasks.Task.TheVariants.{Build, Plays, Log, Items, Mirror}
 use Rattle.image_tool.specs.Tasks.{task_of}
 use Rattle.image_tool.specs.Tool.{ToolEnds, any_stores}
+use Rattle.image_tool.specs.Worlds.{World}
 
 -- The host tells its files, and the play begins with an image: it shows no damage, and there are lines to
 -- play. Lists of the areas of one image differ in the unused room of their labels alone.
@@ -99,10 +100,10 @@ IsCarriedOut status.NoFile = ⊥
 -- Words that are a command on what is sound are not refused.
 abbrev pub SoundIsCarriedOut : Type 0
 SoundIsCarriedOut =
-    (kinds : List HandlerKind) (words : List (List ℕ)) (host host' : Outside) (old new : Stage)
-    (result : Status)
-    → (IsNoCommand words → ⊥) → ((c : Command) → IsCommand words c → IsSoundTask any_stores (task_of c) host)
-    → ToolEnds any_stores kinds words host host' old new result → IsCarriedOut result
+    (kinds : List HandlerKind) (words : List (List ℕ)) (old new : World) (result : Status)
+    → (IsNoCommand words → ⊥)
+    → ((c : Command) → IsCommand words c → IsSoundTask any_stores (task_of c) old.outside)
+    → ToolEnds any_stores kinds words old new result → IsCarriedOut result
 
 -- The word of each blank image on which a generated script runs is lawful, so `gen` is never refused for it.
 abbrev pub BlanksAreLawful : Type 0

@@ -6,10 +6,10 @@ use Rattle.zs_host.specs.Outside.{Outside}
 use Rattle.handlers.specs.declared.handler.HandlerKind.{HandlerKind}
 use Rattle.handlers.specs.declared.handler.HandlerKind.TheVariants.{Table, Counter, Level}
 use Rattle.handlers.specs.Registry.{Registered}
-use Rattle.image_jobs.specs.Stages.{stage}
 use Rattle.image_tool.specs.declared.status.Status.{Status}
 use Rattle.image_tool.specs.declared.status.Status.TheVariants as status
 use Rattle.image_tool.specs.Tool.{NoCommandEnds, ToolEnds, any_stores, exit_code}
+use Rattle.image_tool.specs.Worlds.{world}
 
 -- the handlers of the program: four tables, two counters and two levels
 abbrev pub program_kinds : List HandlerKind
@@ -20,7 +20,7 @@ program_kinds = Table ∷ Table ∷ Table ∷ Table ∷ Counter ∷ Counter ∷ 
 abbrev pub Exits : List (List ℕ) → Outside → Outside → Device → Device → ℕ → Type 0
 Exits words host host' old new code =
     (ends : Status) × (left : List Registered) × (code ≡ exit_code ends)
-    × ToolEnds any_stores program_kinds words host host' (stage old []) (stage new left) ends
+    × ToolEnds any_stores program_kinds words (world host old []) (world host' new left) ends
 
 -- the words ended so, or memory ran out before they were read
 abbrev pub ExitsOr : List (List ℕ) → Outside → Outside → Device → Device → Result ℕ AllocError → Type 0

@@ -1,3 +1,4 @@
+pub mod Worlds
 pub mod Tasks
 pub mod Telling
 pub mod Tool

@@ -1,6 +1,6 @@
 -- What a command does before anything is printed or written, and why it does not.
 use Rattle.std.specs.Prelude.{◌≡◌, ℕ, Option, Result, Ok, Err, List}
-use Rattle.zs_host.specs.Outside.{Outside, failed}
+use Rattle.zs_host.specs.Outside.{failed}
 use Rattle.handlers.specs.declared.handler.HandlerKind.{HandlerKind}
 use Rattle.command_words.specs.declared.commands.Command.{Command}
 use Rattle.command_words.specs.declared.commands.Command.TheVariants as command
@@ -20,6 +20,7 @@ use Rattle.image_jobs.specs.Plays.{Builds, File, Plays, Refuses, Stops, file_of}
 use Rattle.image_jobs.specs.Stages.{Stage, Stores}
 use Rattle.image_tool.specs.declared.tasks.Task.{Task}
 use Rattle.image_tool.specs.declared.tasks.Task.TheVariants.{Build, Plays as ToPlay, Log, Items, Mirror}
+use Rattle.image_tool.specs.Worlds.{World}
 
 -- `run` plays a script, `dump` asks for the names and prints that answer alone, `migrate` mounts and
 -- migrates, and `gen` plays a generated script on a blank image and prints its summary; `log` plays a script
@@ -40,46 +41,53 @@ task_of (command.Items image script out) = Items image script out
 task_of (command.Mirror image script out) = Mirror image script out
 
 -- this text is printed, and this file is written, if any
-abbrev pub Does : Stores → List HandlerKind → Task → Outside → Stage → Stage → List ℕ → Option File → Type 0
-Does k kinds (Build out spec) host old new text file = Builds out.now spec.now text file × (new ≡ old)
-Does k kinds (ToPlay play) host old new text file = Plays k kinds play host old new text file
-Does k kinds (Log image script out) host old new text file =
-    PlaysLog image.now script.now out.now host old.bench new.bench text file × (new.registry ≡ old.registry)
-Does k kinds (Items image script out) host old new text file =
-    PlaysItems image.now script.now out.now host old.bench new.bench text file × (new.registry ≡ old.registry)
-Does k kinds (Mirror image script out) host old new text file =
-    PlaysMirror image.now script.now out.now host old.bench new.bench text file
-    × (new.registry ≡ old.registry)
+abbrev pub Does : Stores → List HandlerKind → Task → World → Stage → List ℕ → Option File → Type 0
+Does k kinds (Build out spec) old new text file = Builds out.now spec.now text file × (new ≡ old.stage)
+Does k kinds (ToPlay play) old new text file = Plays k kinds play old.outside old.stage new text file
+Does k kinds (Log image script out) old new text file =
+    PlaysLog image.now script.now out.now old.outside old.stage.bench new.bench text file
+    × (new.registry ≡ old.stage.registry)
+Does k kinds (Items image script out) old new text file =
+    PlaysItems image.now script.now out.now old.outside old.stage.bench new.bench text file
+    × (new.registry ≡ old.stage.registry)
+Does k kinds (Mirror image script out) old new text file =
+    PlaysMirror image.now script.now out.now old.outside old.stage.bench new.bench text file
+    × (new.registry ≡ old.stage.registry)
 
 -- it is refused for this cause
-abbrev pub Causes : Stores → List HandlerKind → Task → Outside → Stage → Stage → Refusal → Type 0
-Causes k kinds (Build out spec) host old new refusal = LacksSpec spec.now refusal × (new ≡ old)
-Causes k kinds (ToPlay play) host old new refusal = Refuses k kinds play host old new refusal
-Causes k kinds (Log image script out) host old new refusal =
-    RefusesLog image.now script.now host old.bench new.bench refusal × (new.registry ≡ old.registry)
-Causes k kinds (Items image script out) host old new refusal =
-    RefusesItems image.now script.now host old.bench new.bench refusal × (new.registry ≡ old.registry)
-Causes k kinds (Mirror image script out) host old new refusal =
-    RefusesMirror image.now script.now host old.bench new.bench refusal × (new.registry ≡ old.registry)
+abbrev pub Causes : Stores → List HandlerKind → Task → World → Stage → Refusal → Type 0
+Causes k kinds (Build out spec) old new refusal = LacksSpec spec.now refusal × (new ≡ old.stage)
+Causes k kinds (ToPlay play) old new refusal = Refuses k kinds play old.outside old.stage new refusal
+Causes k kinds (Log image script out) old new refusal =
+    RefusesLog image.now script.now old.outside old.stage.bench new.bench refusal
+    × (new.registry ≡ old.stage.registry)
+Causes k kinds (Items image script out) old new refusal =
+    RefusesItems image.now script.now old.outside old.stage.bench new.bench refusal
+    × (new.registry ≡ old.stage.registry)
+Causes k kinds (Mirror image script out) old new refusal =
+    RefusesMirror image.now script.now old.outside old.stage.bench new.bench refusal
+    × (new.registry ≡ old.stage.registry)
 
 -- it stopped there, since the host failed or memory ran out
-abbrev pub StopsAt : Stores → List HandlerKind → Task → Outside → Stage → Stage → Type 0
-StopsAt k kinds (Build out spec) host old new = new ≡ old
-StopsAt k kinds (ToPlay play) host old new = Stops k kinds play host old new
-StopsAt k kinds (Log image script out) host old new =
-    StopsLog image.now script.now host old.bench new.bench × (new.registry ≡ old.registry)
-StopsAt k kinds (Items image script out) host old new =
-    StopsItems image.now script.now host old.bench new.bench × (new.registry ≡ old.registry)
-StopsAt k kinds (Mirror image script out) host old new =
-    StopsMirror image.now script.now host old.bench new.bench × (new.registry ≡ old.registry)
+abbrev pub StopsAt : Stores → List HandlerKind → Task → World → Stage → Type 0
+StopsAt k kinds (Build out spec) old new = new ≡ old.stage
+StopsAt k kinds (ToPlay play) old new = Stops k kinds play old.outside old.stage new
+StopsAt k kinds (Log image script out) old new =
+    StopsLog image.now script.now old.outside old.stage.bench new.bench × (new.registry ≡ old.stage.registry)
+StopsAt k kinds (Items image script out) old new =
+    StopsItems image.now script.now old.outside old.stage.bench new.bench
+    × (new.registry ≡ old.stage.registry)
+StopsAt k kinds (Mirror image script out) old new =
+    StopsMirror image.now script.now old.outside old.stage.bench new.bench
+    × (new.registry ≡ old.stage.registry)
 
 -- before anything is printed or written
-abbrev pub Prepares : Stores → List HandlerKind → Task → Outside → Outside → Stage → Stage
-    → Result Outcome Stop → Type 0
-Prepares k kinds task host host' old new (Ok outcome) =
-    Does k kinds task host old new outcome.text.items (file_of outcome.file) × (host' ≡ host)
-Prepares k kinds task host host' old new (Err (Refused refusal)) =
-    Causes k kinds task host old new refusal × (host' ≡ host)
-Prepares k kinds task host host' old new (Err HostFailed) =
-    StopsAt k kinds task host old new × (host' ≡ failed host)
-Prepares k kinds task host host' old new (Err NoMemory) = StopsAt k kinds task host old new × (host' ≡ host)
+abbrev pub Prepares : Stores → List HandlerKind → Task → World → World → Result Outcome Stop → Type 0
+Prepares k kinds task old new (Ok outcome) =
+    Does k kinds task old new.stage outcome.text.items (file_of outcome.file) × (new.outside ≡ old.outside)
+Prepares k kinds task old new (Err (Refused refusal)) =
+    Causes k kinds task old new.stage refusal × (new.outside ≡ old.outside)
+Prepares k kinds task old new (Err HostFailed) =
+    StopsAt k kinds task old new.stage × (new.outside ≡ failed old.outside)
+Prepares k kinds task old new (Err NoMemory) =
+    StopsAt k kinds task old new.stage × (new.outside ≡ old.outside)

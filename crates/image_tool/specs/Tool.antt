@@ -10,13 +10,14 @@ use Rattle.image_jobs.specs.Inputs.{out_of}
 use Rattle.image_jobs.specs.Plays.{File}
 use Rattle.image_jobs.specs.Refusals.{line_of, usage_line}
 use Rattle.any_backend.specs.ByRole.{any_chance, any_contents, any_damage, any_rests, any_room, any_tears}
-use Rattle.image_jobs.specs.Stages.{Stage, Stores, stores}
+use Rattle.image_jobs.specs.Stages.{Stores, stores}
 use Rattle.image_tool.specs.declared.status.Status.{Status}
 use Rattle.image_tool.specs.declared.status.Status.TheVariants as status
 use Rattle.image_tool.specs.declared.tasks.Task.{Task}
 use Rattle.image_tool.specs.declared.tasks.Task.TheVariants.{Build, Plays, Log, Items, Mirror}
 use Rattle.image_tool.specs.Tasks.{Causes, Does, StopsAt, task_of}
 use Rattle.image_tool.specs.Telling.{DeliversPart, PrintsFront, delivered}
+use Rattle.image_tool.specs.Worlds.{World}
 
 -- the stores of the program: each area has that of its role
 abbrev pub any_stores : Stores
@@ -36,50 +37,46 @@ status_of (BadScript n reason) = status.BadScript
 -- ---- a task that was not done; `from` is the outside of before, with one more fault where the host failed
 
 -- the line of a refusal, which has its cause, was printed, whole or only its beginning
-abbrev pub TellsRefusal : Stores → List HandlerKind → Task → Outside → Outside → Outside → Stage → Stage
-    → Type 0
-TellsRefusal k kinds task from host host' old new =
-    (refusal : Refusal) × Causes k kinds task host old new refusal × PrintsFront from host' (line_of refusal)
+abbrev pub TellsRefusal : Stores → List HandlerKind → Task → Outside → World → World → Type 0
+TellsRefusal k kinds task from old new =
+    (refusal : Refusal) × Causes k kinds task old new.stage refusal
+    × PrintsFront from new.outside (line_of refusal)
 
 -- the text was printed, whole or only its beginning; or it was printed whole, and OUT may hold anything
-abbrev pub TellsPart : Stores → List HandlerKind → Task → Outside → Outside → Outside → Stage → Stage → Type 0
-TellsPart k kinds task from host host' old new =
-    (text : List ℕ) × (file : Option File) × Does k kinds task host old new text file
-    × DeliversPart from host' text file
+abbrev pub TellsPart : Stores → List HandlerKind → Task → Outside → World → World → Type 0
+TellsPart k kinds task from old new =
+    (text : List ℕ) × (file : Option File) × Does k kinds task old new.stage text file
+    × DeliversPart from new.outside text file
 
 -- Nothing was printed, and the task stopped; or a part was of what it would print and write.
-abbrev pub EndsEarly : Stores → List HandlerKind → Task → Outside → Outside → Outside → Stage → Stage → Type 0
-EndsEarly k kinds task from host host' old new =
-    (StopsAt k kinds task host old new × (host' ≡ from))
-    ⊎ TellsRefusal k kinds task from host host' old new
-    ⊎ TellsPart k kinds task from host host' old new
+abbrev pub EndsEarly : Stores → List HandlerKind → Task → Outside → World → World → Type 0
+EndsEarly k kinds task from old new =
+    (StopsAt k kinds task old new.stage × (new.outside ≡ from))
+    ⊎ TellsRefusal k kinds task from old new
+    ⊎ TellsPart k kinds task from old new
 
 -- ---- what each status means
 
 -- what the task does was printed and written, and nothing else
-abbrev pub IsDone : Stores → List HandlerKind → Task → Outside → Outside → Stage → Stage → Type 0
-IsDone k kinds task host host' old new =
-    (text : List ℕ) × (file : Option File) × Does k kinds task host old new text file
-    × (host' ≡ delivered host text file)
+abbrev pub IsDone : Stores → List HandlerKind → Task → World → World → Type 0
+IsDone k kinds task old new =
+    (text : List ℕ) × (file : Option File) × Does k kinds task old new.stage text file
+    × (new.outside ≡ delivered old.outside text file)
 
 -- the line of a refusal of this status, which has its cause, was printed, and nothing else
-abbrev pub IsRefused : Stores → List HandlerKind → Task → Outside → Outside → Stage → Stage → Status → Type 0
-IsRefused k kinds task host host' old new result =
-    (refusal : Refusal) × Causes k kinds task host old new refusal × (result ≡ status_of refusal)
-    × (host' ≡ printed_more host (line_of refusal))
+abbrev pub IsRefused : Stores → List HandlerKind → Task → World → World → Status → Type 0
+IsRefused k kinds task old new result =
+    (refusal : Refusal) × Causes k kinds task old new.stage refusal × (result ≡ status_of refusal)
+    × (new.outside ≡ printed_more old.outside (line_of refusal))
 
-abbrev pub TaskEnds : Stores → List HandlerKind → Task → Outside → Outside → Stage → Stage → Status → Type 0
-TaskEnds k kinds task host host' old new status.Done = IsDone k kinds task host host' old new
-TaskEnds k kinds task host host' old new status.HostFault =
-    EndsEarly k kinds task (failed host) host host' old new
-TaskEnds k kinds task host host' old new status.NoMemory = EndsEarly k kinds task host host host' old new
-TaskEnds k kinds task host host' old new status.Usage = IsRefused k kinds task host host' old new status.Usage
-TaskEnds k kinds task host host' old new status.NoFile =
-    IsRefused k kinds task host host' old new status.NoFile
-TaskEnds k kinds task host host' old new status.BadScript =
-    IsRefused k kinds task host host' old new status.BadScript
-TaskEnds k kinds task host host' old new status.BadImage =
-    IsRefused k kinds task host host' old new status.BadImage
+abbrev pub TaskEnds : Stores → List HandlerKind → Task → World → World → Status → Type 0
+TaskEnds k kinds task old new status.Done = IsDone k kinds task old new
+TaskEnds k kinds task old new status.HostFault = EndsEarly k kinds task (failed old.outside) old new
+TaskEnds k kinds task old new status.NoMemory = EndsEarly k kinds task old.outside old new
+TaskEnds k kinds task old new status.Usage = IsRefused k kinds task old new status.Usage
+TaskEnds k kinds task old new status.NoFile = IsRefused k kinds task old new status.NoFile
+TaskEnds k kinds task old new status.BadScript = IsRefused k kinds task old new status.BadScript
+TaskEnds k kinds task old new status.BadImage = IsRefused k kinds task old new status.BadImage
 
 -- the words are no command: the usage line was printed, whole or only its beginning
 abbrev pub NoCommandEnds : Outside → Outside → Status → Type 0
@@ -92,12 +89,11 @@ NoCommandEnds host host' status.BadScript = ⊥
 NoCommandEnds host host' status.BadImage = ⊥
 
 -- The words are a command, and it ended so; or they are none; or memory ran out before they were read.
-abbrev pub ToolEnds : Stores → List HandlerKind → List (List ℕ) → Outside → Outside → Stage → Stage → Status
-    → Type 0
-ToolEnds k kinds words host host' old new result =
-    ((c : Command) × IsCommand words c × TaskEnds k kinds (task_of c) host host' old new result)
-    ⊎ (IsNoCommand words × NoCommandEnds host host' result × (new ≡ old))
-    ⊎ ((result ≡ status.NoMemory) × (host' ≡ host) × (new ≡ old))
+abbrev pub ToolEnds : Stores → List HandlerKind → List (List ℕ) → World → World → Status → Type 0
+ToolEnds k kinds words old new result =
+    ((c : Command) × IsCommand words c × TaskEnds k kinds (task_of c) old new result)
+    ⊎ (IsNoCommand words × NoCommandEnds old.outside new.outside result × (new.stage ≡ old.stage))
+    ⊎ ((result ≡ status.NoMemory) × (new.outside ≡ old.outside) × (new.stage ≡ old.stage))
 
 -- what the status is as an exit code
 abbrev pub exit_code : Status → ℕ

@@ -1,4 +1,4 @@
-//! Runs scripts of settings on simulated flash that may lose power at any unit.
+//! The program `image_tool`: it runs scripts on images of flash that may lose power at any unit.
 #![tactic(auto)]
 
 ghost use Rattle.std.specs.Prelude.{◌≡◌, [], ◌∷◌, ◌++◌, All, OnOk, IfOk, map};
@@ -7,10 +7,10 @@ ghost use Rattle.std.specs.Process.{exit_status};
 ghost use Rattle.handlers.specs.Held.{fresh};
 ghost use Rattle.handlers.specs.Registry.{registered};
 ghost use Rattle.session.specs.OnMap.{IsFresh, kinds};
-ghost use Rattle.image_jobs.specs.Stages.{stage};
 ghost use Rattle.image_tool.specs.declared.status.Status.{Status as status};
 ghost use Rattle.image_tool.specs.Exits.{ExitsOr, ProcessExits};
 ghost use Rattle.image_tool.specs.Tool.{NoCommandEnds, ToolEnds, any_stores, exit_code};
+ghost use Rattle.image_tool.specs.Worlds.{world};
 
 mod delivering;
 mod laws;
@@ -78,11 +78,11 @@ fn exit_after<H: Host, B: Bench>(
 ) -> u8
     requires pool { All (IsFresh state) pool.items }
     requires registry { registered state registry.old ≡ [] }
-    ensures { (ends : status) × (result ≡ exit_code ends)
-        × ToolEnds any_stores (kinds state pool.items) (map string_bytes words.now)
-        (H.outside host.old) (H.outside host.new)
-        (stage (B.device bench.old) (registered state registry.old))
-        (stage (B.device bench.new) (registered state registry.new)) ends }
+    ensures { let said = map string_bytes words.now in
+        let old = world (H.outside host.old) (B.device bench.old) (registered state registry.old) in
+        let new = world (H.outside host.new) (B.device bench.new) (registered state registry.new) in
+        (ends : status) × (result ≡ exit_code ends)
+        × ToolEnds any_stores (kinds state pool.items) said old new ends }
 {
     tool(alloc, words, host, bench, pool, registry).code()
 }
@@ -107,46 +107,22 @@ fn with_handlers<H: Host, B: Bench>(
 {
     let mut registry = Registry::new(alloc);
     let mut pool = Vec::new(alloc);
-    add(
-        &mut pool,
-        HandlerKind::Table,
-        Box::new(alloc, TableHandler::new(alloc))?,
-    )?;
-    add(
-        &mut pool,
-        HandlerKind::Table,
-        Box::new(alloc, TableHandler::new(alloc))?,
-    )?;
-    add(
-        &mut pool,
-        HandlerKind::Table,
-        Box::new(alloc, TableHandler::new(alloc))?,
-    )?;
-    add(
-        &mut pool,
-        HandlerKind::Table,
-        Box::new(alloc, TableHandler::new(alloc))?,
-    )?;
-    add(
-        &mut pool,
-        HandlerKind::Counter,
-        Box::new(alloc, CounterHandler::new(alloc))?,
-    )?;
-    add(
-        &mut pool,
-        HandlerKind::Counter,
-        Box::new(alloc, CounterHandler::new(alloc))?,
-    )?;
-    add(
-        &mut pool,
-        HandlerKind::Level,
-        Box::new(alloc, LevelHandler::new(alloc))?,
-    )?;
-    add(
-        &mut pool,
-        HandlerKind::Level,
-        Box::new(alloc, LevelHandler::new(alloc))?,
-    )?;
+    let table = Box::new(alloc, TableHandler::new(alloc))?;
+    add(&mut pool, HandlerKind::Table, table)?;
+    let table = Box::new(alloc, TableHandler::new(alloc))?;
+    add(&mut pool, HandlerKind::Table, table)?;
+    let table = Box::new(alloc, TableHandler::new(alloc))?;
+    add(&mut pool, HandlerKind::Table, table)?;
+    let table = Box::new(alloc, TableHandler::new(alloc))?;
+    add(&mut pool, HandlerKind::Table, table)?;
+    let counter = Box::new(alloc, CounterHandler::new(alloc))?;
+    add(&mut pool, HandlerKind::Counter, counter)?;
+    let counter = Box::new(alloc, CounterHandler::new(alloc))?;
+    add(&mut pool, HandlerKind::Counter, counter)?;
+    let level = Box::new(alloc, LevelHandler::new(alloc))?;
+    add(&mut pool, HandlerKind::Level, level)?;
+    let level = Box::new(alloc, LevelHandler::new(alloc))?;
+    add(&mut pool, HandlerKind::Level, level)?;
     Ok(exit_after(alloc, words, host, bench, pool, &mut registry))
 }
 

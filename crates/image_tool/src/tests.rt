@@ -68,7 +68,7 @@ fn spelled(alloc: Global, text: &str) -> Result<String, AllocError> {
 fn host_with(alloc: Global, spec: &str, script: &str) -> Result<MemHost, Fail> {
     let mut host = MemHost::new(alloc);
     let script = spelled(alloc, script)?;
-    host.put_file(alloc, "s.txt", script.as_bytes())?;
+    host.put_file("s.txt", script.as_bytes())?;
     let build = format!(in alloc; "build x.img {spec}")?;
     ends(alloc, &mut host, &mut FlatSim::new(alloc), build.as_str())?;
     Ok(host)
@@ -696,7 +696,7 @@ fn change(alloc: Global, host: &mut MemHost, case: &Refused) -> Result<(), Fail>
         }
     }
     file.truncate(case.size);
-    host.put_file(alloc, "x.img", file.as_slice())?;
+    host.put_file("x.img", file.as_slice())?;
     Ok(())
 }
 

@@ -9,9 +9,10 @@ ghost use Rattle.session.specs.OnMap.{IsFresh, IsServedMap, kinds};
 ghost use Rattle.command_words.specs.Commands.{IsCommand};
 ghost use Rattle.command_words.specs.declared.commands.Command.{Command as command};
 ghost use Rattle.image_jobs.specs.Held.{held};
-ghost use Rattle.image_jobs.specs.Stages.{stage, stores};
+ghost use Rattle.image_jobs.specs.Stages.{stores};
 ghost use Rattle.image_tool.specs.Tasks.{Prepares};
 ghost use Rattle.image_tool.specs.Tool.{TaskEnds, NoCommandEnds, ToolEnds, MayWrite, OnlyFile, any_stores, out_file};
+ghost use Rattle.image_tool.specs.Worlds.{world};
 
 use crate::delivering::{deliver, refuse, report};
 use crate::status::Status;
@@ -40,9 +41,9 @@ fn prepare<'a, K: Backend, H: Host, B: Bench>(
     requires pool { All (IsFresh state) pool.items }
     requires registry { registered state registry.old ≡ [] }
     ensures { let k = stores K.contents K.room K.chance K.tears K.damage K.rests in
-        Prepares k (kinds state pool.items) task.now (H.outside host.old) (H.outside host.new)
-        (stage (B.device bench.old) (registered state registry.old))
-        (stage (B.device bench.new) (registered state registry.new)) result }
+        let old = world (H.outside host.old) (B.device bench.old) (registered state registry.old) in
+        let new = world (H.outside host.new) (B.device bench.new) (registered state registry.new) in
+        Prepares k (kinds state pool.items) task.now old new result }
 {
     match task {
         Task::Build { out, spec } => build(alloc, out, spec),
@@ -69,9 +70,9 @@ fn carry_out<K: Backend, H: Host, B: Bench>(
     requires pool { All (IsFresh state) pool.items }
     requires registry { registered state registry.old ≡ [] }
     ensures ends { let k = stores K.contents K.room K.chance K.tears K.damage K.rests in
-        TaskEnds k (kinds state pool.items) task.now (H.outside host.old) (H.outside host.new)
-        (stage (B.device bench.old) (registered state registry.old))
-        (stage (B.device bench.new) (registered state registry.new)) result }
+        let old = world (H.outside host.old) (B.device bench.old) (registered state registry.old) in
+        let new = world (H.outside host.new) (B.device bench.new) (registered state registry.new) in
+        TaskEnds k (kinds state pool.items) task.now old new result }
     ensures files { OnlyFile (out_file task.now) (H.outside host.old) (H.outside host.new) }
 {
     match prepare::<K, H, B>(alloc, task, host, bench, pool, registry) {
@@ -104,9 +105,10 @@ fn serve<K: Backend, H: Host, B: Bench>(
     requires pool { All (IsFresh state) pool.items }
     requires registry { registered state registry.old ≡ [] }
     ensures ends { let k = stores K.contents K.room K.chance K.tears K.damage K.rests in
-        ToolEnds k (kinds state pool.items) (map string_bytes words.now) (H.outside host.old)
-        (H.outside host.new) (stage (B.device bench.old) (registered state registry.old))
-        (stage (B.device bench.new) (registered state registry.new)) result }
+        let said = map string_bytes words.now in
+        let old = world (H.outside host.old) (B.device bench.old) (registered state registry.old) in
+        let new = world (H.outside host.new) (B.device bench.new) (registered state registry.new) in
+        ToolEnds k (kinds state pool.items) said old new result }
     ensures files { (c : command) → IsCommand (map string_bytes words.now) c
         → MayWrite c (H.outside host.old) (H.outside host.new) }
 {
@@ -141,10 +143,10 @@ pub fn tool<H: Host, B: Bench>(
 ) -> Status
     requires pool { All (IsFresh state) pool.items }
     requires registry { registered state registry.old ≡ [] }
-    ensures ends { ToolEnds any_stores (kinds state pool.items) (map string_bytes words.now)
-        (H.outside host.old) (H.outside host.new)
-        (stage (B.device bench.old) (registered state registry.old))
-        (stage (B.device bench.new) (registered state registry.new)) result }
+    ensures ends { let said = map string_bytes words.now in
+        let old = world (H.outside host.old) (B.device bench.old) (registered state registry.old) in
+        let new = world (H.outside host.new) (B.device bench.new) (registered state registry.new) in
+        ToolEnds any_stores (kinds state pool.items) said old new result }
     // Whatever the end, no other file changed.
     ensures files { (c : command) → IsCommand (map string_bytes words.now) c
         → MayWrite c (H.outside host.old) (H.outside host.new) }

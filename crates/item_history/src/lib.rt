@@ -1,4 +1,4 @@
-//! What a store of items still has of the past of each, and what room its area has.
+//! The older versions of an item that an area still holds, and how the area's space is used.
 #![tactic(auto)]
 
 mod history;

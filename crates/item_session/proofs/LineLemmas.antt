@@ -27,7 +27,8 @@ use Rattle.item_store.specs.Standing.{KeepsItems}
 use Rattle.item_store.specs.Versions.{versions}
 use Rattle.script_lines.specs.Plan.Replan.{keeps}
 use Rattle.item_session.specs.Device.{RestsOn, rules_on, state_of, turned_on}
-use Rattle.item_session.specs.LineDone.{Keeps, LineDone, Redoes, WritesBy, powered_for}
+use Rattle.session_table.specs.Bench.{Keeps}
+use Rattle.item_session.specs.LineDone.{LineDone, Redoes, WritesBy, powered_for}
 use Rattle.item_session.specs.Step.{Step}
 use Rattle.item_session.proofs.AccountLemmas.{at_most, kept, lost, units_most}
 use Rattle.item_laws.proofs.ItemsCost.{items_cost-is}
@@ -37,7 +38,7 @@ none_spent : (units spent : ℕ) → units ≡ 0 → units ≡ spent - spent
 none_spent units spent is = omega (arith, is)
 
 -- what a call on the area leaves alone
-pub kept_beside : (area : Area) (old new : Device) (cut : Bool) → Touches (area ∷ []) old new cut → Keeps area old new
+pub kept_beside : (area : Area) (old new : Device) (cut : Bool) → Touches (area ∷ []) old new cut → Keeps (area ∷ []) old new
 kept_beside area old new cut touches = record { banks = touches.banks; loads = touches.loads; outside = touches.outside }
 
 -- ---- lines that leave the bench

@@ -40,13 +40,13 @@ module _ (limit end other : ℕ) (first second : List ℕ) where
       → ReadsField limit (below end) said first (Err e) → ReadsFields limit (below end ∷ below other ∷ []) say operands (Err e)
   first_err said say operands (Refused why) are reads =
       subst (λ (operands : List (List ℕ)). RefusesFields limit (below end ∷ below other ∷ []) operands why) (sym are) (first_refused why reads)
-  first_err said say operands NoMemory are reads = tt
+  first_err said say operands NoMemory are reads = inl reads
 
   pub second_err : {S T : Type 0} (said : S → Said) (say : T → List Said) (operands : List (List ℕ)) (e : LineFault) → operands ≡ first ∷ second ∷ []
       → ReadsField limit (below other) said second (Err e) → ReadsFields limit (below end ∷ below other ∷ []) say operands (Err e)
   second_err said say operands (Refused why) are reads =
       subst (λ (operands : List (List ℕ)). RefusesFields limit (below end ∷ below other ∷ []) operands why) (sym are) (second_refused why reads)
-  second_err said say operands NoMemory are reads = tt
+  second_err said say operands NoMemory are reads = inr (inl reads)
 
   pub both : (operands : List (List ℕ)) (one more : Said) → operands ≡ first ∷ second ∷ []
       → SaysField limit (below end) first one → SaysField limit (below other) second more → SaysAll limit (below end ∷ below other ∷ []) operands (one ∷ more ∷ [])

@@ -5,7 +5,6 @@ use Rattle.std.proofs.lemmas.List.Sums.{sum_by-cons}
 use Rattle.std.proofs.lemmas.List.Elements.{All-head, All-tail}
 use Rattle.flash_sim.specs.Device.{Device, Plan, counted}
 use Rattle.flash_sim.specs.declared.flash.Bank.{Bank}
-use Rattle.flash_sim.specs.Bank.{bank_at}
 use Rattle.flash_map.specs.declared.area.Area.{Area}
 use Rattle.item_store.proofs.Areas.{same_geometry}
 use Rattle.flash_map.specs.declared.area.Geometry.{Geometry}
@@ -17,16 +16,18 @@ use Rattle.item_session.specs.declared.line.Line.{Line}
 use Rattle.item_session.specs.declared.answer.Answer.{Answer}
 use Rattle.item_session.specs.Plan.{units_of, is_lost, losses_in, Planned, plan_through, PlansNoLoss}
 use Rattle.item_store.specs.Kind.{Kind}
-use Rattle.item_session.specs.LineDone.{Keeps, LineDone, Runs, StaysUnplanned}
+use Rattle.session_table.specs.Bench.{Keeps, StaysUnplanned}
+use Rattle.item_session.specs.LineDone.{LineDone, Runs}
 use Rattle.item_session.specs.Laws.{LinesMakeRuns}
 use Rattle.item_session.specs.Device.{rules_of, rules_on, state_of}
-use Rattle.item_session.specs.Step.{IsCounted, Rules, Step}
+use Rattle.session_table.specs.Rules.{IsCounted}
+use Rattle.item_session.specs.Step.{Rules, Step}
 
 module _ (kind : Geometry → Kind) (area : Area) where
-  keeps_same : (d : Device) → Keeps area d d
+  keeps_same : (d : Device) → Keeps (area ∷ []) d d
   keeps_same d = record { banks = refl; loads = refl; outside = λ bank offset out. refl }
 
-  keeps_both : (a b c : Device) → Keeps area a b → Keeps area b c → Keeps area a c
+  keeps_both : (a b c : Device) → Keeps (area ∷ []) a b → Keeps (area ∷ []) b c → Keeps (area ∷ []) a c
   keeps_both a b c one two = record {
     banks = two.banks ∙ one.banks;
     loads = two.loads ∙ one.loads;
@@ -94,7 +95,7 @@ module _ (kind : Geometry → Kind) (area : Area) where
     spent = summed (LineDone kind area) (λ d. d.spent) units_of (λ line answer a b done. done.accounts.spent) lines answers old new runs;
     losses = losses_of lines answers old new runs;
     planned = λ counts. planned_of lines answers old new counts runs;
-    keeps = kept (LineDone kind area) (Keeps area) keeps_same keeps_both (λ line answer a b done. done.keeps) lines answers old new runs;
+    keeps = kept (LineDone kind area) (Keeps (area ∷ [])) keeps_same keeps_both (λ line answer a b done. done.keeps) lines answers old new runs;
     unplanned = unplanned_of lines answers old new runs;
   }
 

@@ -18,7 +18,8 @@ use Rattle.item_store.specs.Writing.{DeleteEnds, Deletes, FindsNoSpace, StopsDel
 use Rattle.item_session.specs.Device.{TakesValues, rules_on, state_of}
 use Rattle.item_session.specs.LineDone.{LineDone}
 use Rattle.item_session.specs.Standing.{damage_on}
-use Rattle.item_session.specs.Step.{IsCounted, State}
+use Rattle.session_table.specs.Rules.{IsCounted}
+use Rattle.item_session.specs.Step.{State}
 use Rattle.item_session.proofs.AccountLemmas.{kept, lost, units_are}
 use Rattle.item_laws.proofs.ItemsCost.{items_cost-is}
 use Rattle.item_session.proofs.LineLemmas.{delete_no_mount, few_units, kept_beside, set_no_mount}

@@ -9,7 +9,8 @@ use Rattle.item_session.specs.declared.answer.Answer.TheVariants as answers
 use Rattle.item_session.specs.Plan.{is_lost}
 use Rattle.item_store.specs.Versions.{versions, KeepsVersions}
 use Rattle.session_table.specs.Follows.{Follows}
-use Rattle.item_session.specs.Step.{IsCounted, Rules, State, Step, items}
+use Rattle.session_table.specs.Rules.{IsCounted}
+use Rattle.item_session.specs.Step.{Rules, State, Step, items}
 
 -- a state, what its area said of items at the start, and behind it each set and delete that was carried
 -- out since, the oldest first

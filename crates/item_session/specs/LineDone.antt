@@ -1,11 +1,12 @@
 -- What lines make of a bench.
 use Rattle.std.specs.Prelude.{◌≡◌, ℕ, ◌+◌, ◌≤◌, ⊤, Bool, true, false, None, List, [], ◌∷◌, if◌then◌else◌, All}
-use Rattle.flash_sim.specs.Device.{Device, Never, counted}
+use Rattle.flash_sim.specs.Device.{Device, counted}
 use Rattle.flash_map.specs.declared.area.Area.{Area}
 use Rattle.flash_map.specs.declared.area.Geometry.{Geometry}
 use Rattle.flash_map.specs.Area.{sectors_of}
-use Rattle.flash_map.specs.Touches.{SameOutside, Touches}
+use Rattle.flash_map.specs.Touches.{Touches}
 use Rattle.script_lines.specs.Plan.Replan.{keeps as keeps_plan}
+use Rattle.session_table.specs.Bench.{Keeps, StaysUnplanned}
 use Rattle.session_table.specs.Follows.{Follows}
 use Rattle.item_session.specs.declared.line.Line.{Line}
 use Rattle.item_session.specs.declared.line.Line.TheVariants.{Set, Get, Delete, Older, Space, Mount}
@@ -19,22 +20,13 @@ use Rattle.item_store.specs.Listed.{kind_on}
 use Rattle.item_store.specs.Standing.{list_at, KeepsItems, SpendsIn, SpendsUpTo}
 use Rattle.item_store.specs.Writing.{Deletes, FindsNoSpace, StopsDeleting, StopsWriting, Writes}
 use Rattle.item_session.specs.Device.{RestsOn, rules_on, state_of, turned_on}
-use Rattle.item_session.specs.Step.{IsCounted, Step}
+use Rattle.session_table.specs.Rules.{IsCounted}
+use Rattle.item_session.specs.Step.{Step}
 
 -- a mount turns power on first
 abbrev pub powered_for : Line → Device → Device
 powered_for Mount d = turned_on d
 powered_for line d = d
-
--- the banks, the count of loads, and each byte outside the area
-pub record Keeps (area : Area) (old new : Device) : Type 0 where
-  pub banks : new.banks ≡ old.banks
-  pub loads : new.loads ≡ old.loads
-  pub outside : SameOutside (area ∷ []) old new
-
--- on a flash that tells that no loss is planned none comes, and none is planned afterwards
-abbrev pub StaysUnplanned : Device → Device → Type 0
-StaysUnplanned old new = old.plan ≡ Never → (new.plan ≡ Never) × (new.losses ≡ old.losses)
 
 -- counts and plan
 pub record Accounts (line : Line) (answer : Answer) (old new : Device) : Type 0 where
@@ -100,7 +92,7 @@ pub record LineDone (kind : Geometry → Kind) (area : Area) (line : Line) (answ
       (last : ℕ) → new.spent ≤ last
       → Step (rules_on kind old area) last line answer (state_of kind area old) (state_of kind area new)
   pub accounts : Accounts line answer old new
-  pub keeps : Keeps area old new
+  pub keeps : Keeps (area ∷ []) old new
   pub touches : replan line ≡ keeps_plan → Touches (area ∷ []) (powered_for line old) new (is_lost answer)
   pub writes : WritesBy kind area line answer old new
   pub mounts : line ≡ Mount → MountsBy kind area answer old new
@@ -118,5 +110,5 @@ pub record Runs (kind : Geometry → Kind) (area : Area) (lines : List Line) (an
   pub losses : new.losses ≡ counted old.losses (losses_in answers)
   pub planned :
       IsCounted new.spent → Planned old.plan lines answers × (new.plan ≡ plan_through old.plan lines answers)
-  pub keeps : Keeps area old new
+  pub keeps : Keeps (area ∷ []) old new
   pub unplanned : All PlansNoLoss lines → StaysUnplanned old new

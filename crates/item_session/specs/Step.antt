@@ -1,11 +1,12 @@
 -- The table: which answers plain items, each with its versions, give to a line, and what they make of
 -- them. The choices are whether power is lost in a line, whether a set or a delete stands then, how
 -- many of the oldest versions are kept no more, and the units.
-use Rattle.std.specs.Prelude.{◌≡◌, ◌⊎◌, ℕ, ◌+◌, ◌-◌, ◌*◌, ◌^◌, ◌<◌, ◌≤◌, Bool, true, false, List, [], length, slice_get, Some, None}
+use Rattle.std.specs.Prelude.{◌≡◌, ◌⊎◌, ℕ, ◌+◌, ◌-◌, ◌*◌, ◌<◌, ◌≤◌, Bool, true, false, List, [], length, slice_get, Some, None}
 use Rattle.std.specs.FinMap.{get, insert, remove}
 use Rattle.item_laws.specs.Costs.{items_cost}
 use Rattle.item_laws.specs.Items.{Items, items_of}
 use Rattle.item_history.specs.Usage.{stale_cost}
+use Rattle.session_table.specs.Rules.{IsCounted}
 use Rattle.item_session.specs.declared.line.Line.{Line}
 use Rattle.item_session.specs.declared.line.Line.TheVariants.{Set, Get, Delete, Older, Space, Cut, Uncut, Mount}
 use Rattle.item_session.specs.declared.answer.Answer.{Answer}
@@ -31,10 +32,6 @@ IsOn state = state.is_on ≡ true
 
 abbrev pub IsOff : State → Type 0
 IsOff state = state.is_on ≡ false
-
--- this count of units is not at its end
-abbrev pub IsCounted : ℕ → Type 0
-IsCounted spent = spent < 2 ^ 64 - 1
 
 -- ---- room and units
 

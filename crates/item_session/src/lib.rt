@@ -1,8 +1,5 @@
-//! The lines of a script on numbered items, carried out on a flash that may lose power at any unit,
-//! by a store over any kind of sector.
-//!
-//! The lines of a script on numbered items, the texts of their answers, and the plan of a loss
-//! through them.
+//! Scripts on numbered items: the lines, their answers, and a session that carries them out on an
+//! NVS or ZMS area, power losses included.
 #![tactic(auto)]
 
 mod answer;

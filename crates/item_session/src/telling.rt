@@ -28,7 +28,7 @@ fn value_of(alloc: Global, bytes: &[u8]) -> Result<Answer, NoMemory>
 }
 
 // The bytes of an item. `NoMemory`: there was none for these.
-pub(crate) fn tell_item<T: SlotSectors, B: Bench, L: Ledger>(
+pub fn tell_item<T: SlotSectors, B: Bench, L: Ledger>(
     alloc: Global,
     bench: &B,
     store: &Store<T>,
@@ -51,7 +51,7 @@ pub(crate) fn tell_item<T: SlotSectors, B: Bench, L: Ledger>(
 }
 
 // A version of an item. `NoMemory`: there was none for its bytes.
-pub(crate) fn tell_older<T: SlotSectors, B: Bench, L: Ledger>(
+pub fn tell_older<T: SlotSectors, B: Bench, L: Ledger>(
     alloc: Global,
     bench: &B,
     store: &Store<T>,
@@ -77,7 +77,7 @@ pub(crate) fn tell_older<T: SlotSectors, B: Bench, L: Ledger>(
 }
 
 // What the items and their other versions cost, and what is free.
-pub(crate) fn tell_space<T: SlotSectors, B: Bench, L: Ledger>(
+pub fn tell_space<T: SlotSectors, B: Bench, L: Ledger>(
     bench: &B,
     store: &Store<T>,
     area: &Area,

@@ -14,7 +14,7 @@ use script_lines::Bytes;
 use std::sync::ledger::Ledger;
 
 // Sets an item.
-pub(crate) fn set_item<T: SlotSectors, B: Bench, L: Ledger>(
+pub fn set_item<T: SlotSectors, B: Bench, L: Ledger>(
     bench: &mut B,
     store: &mut Store<T>,
     area: &Area,
@@ -47,7 +47,7 @@ pub(crate) fn set_item<T: SlotSectors, B: Bench, L: Ledger>(
 }
 
 // Deletes an item.
-pub(crate) fn delete_item<T: SlotSectors, B: Bench, L: Ledger>(
+pub fn delete_item<T: SlotSectors, B: Bench, L: Ledger>(
     bench: &mut B,
     store: &mut Store<T>,
     area: &Area,

@@ -2,6 +2,7 @@ pub mod Asking
 pub mod Cached
 pub mod Closing
 pub mod Collecting
+pub mod Ends
 pub mod Kind
 pub mod Lasts
 pub mod Latest

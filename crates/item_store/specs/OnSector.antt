@@ -173,3 +173,29 @@ pub record IsMarked {T : Type 0} (kind : Geometry → Kind) (keep : Geometry →
 pub record StopsMarking (kind : Geometry → Kind) (old new : Device) (on : Area) (place : ℕ) : Type 0 where
   pub lost : KeepsMarksOn kind old new on place
   pub spends_lost : SpendsUpTo old new ((kind_on kind old on).units.done (sector_on old on place))
+
+-- How a sector is made ready for entries. Where power was lost, its list is as before.
+pub record BeginEnds {T X E : Type 0} (kind : Geometry → Kind) (keep : Geometry → List ℕ → T)
+    (old new : Device) (on : Area) (place : ℕ) (held : T) (result : Result X E) : Type 0 where
+  pub only : ChangesOnlyOn old new on place
+  pub begins : OnOk result (BeginsOn kind old new on place)
+  pub kept : OnOk result (IsKeptAfter keep old new on place held)
+  pub lost : OnErr result (KeepsOn kind old new on place)
+  pub room_lost : OnErr result
+      (LeavesRoom (kind_on kind old on) (sector_on old on place) (sector_on new on place) 0)
+  pub spends : OnOk result (SpendsIn old new ((kind_on kind old on).units.begin (sector_on old on place)))
+  pub spends_lost : OnErr result
+      (SpendsUpTo old new ((kind_on kind old on).units.begin (sector_on old on place)))
+
+-- How a close ends. Where power was lost, the sector's list is as before, or the sector is closed.
+pub record CloseEnds {X E : Type 0} (kind : Geometry → Kind) (old new : Device) (on : Area) (place : ℕ)
+    (result : Result X E) : Type 0 where
+  pub only : ChangesOnlyOn old new on place
+  pub closes : OnOk result (ClosesOn kind old new on place)
+  pub lost : OnErr result (KeepsOn kind old new on place ⊎ ClosesOn kind old new on place)
+  pub blank_lost : OnErr result
+      ((kind_on kind old on).reading.is_blank (sector_on old on place) ≡ true
+      → (sector_on new on place ≡ sector_on old on place) ⊎ ClosesOn kind old new on place)
+  pub spends : OnOk result (SpendsIn old new ((kind_on kind old on).units.close (sector_on old on place)))
+  pub spends_lost : OnErr result
+      (SpendsUpTo old new ((kind_on kind old on).units.close (sector_on old on place)))

@@ -1,17 +1,19 @@
 // Closing, collecting, and what a mount has to do again.
 ghost use Rattle.std.specs.Prelude.{◌≡◌, ◌+◌, ◌*◌, ◌<◌, ◌≤◌, ◌∷◌, [], true, false, None, is_err, IfOk, OnOk, OnErr, ◌⊎◌};
-ghost use Rattle.flash_map.specs.Area.{geometry_of, sector_size, sectors_of, sector_at, ChangesOnly};
+ghost use Rattle.flash_map.specs.Area.{geometry_of, sectors_of, sector_at, ChangesOnly};
 ghost use Rattle.flash_map.specs.Touches.{Touches};
 ghost use Rattle.item_laws.specs.Area.{next, is_blank_at, is_closed_at};
 ghost use Rattle.item_laws.specs.Forms.{AtRest, Collecting, to_copy};
 ghost use Rattle.item_laws.specs.Live.{live_in, cost_of};
-ghost use Rattle.item_store.specs.OnSector.{sector_on, IsReadyOn, IsKeptOn, IsKeptAfter, IsOpenOn, NextIsClosedOn, NextIsNotClosedOn, HasNoGcDoneOn, IsSoundOn, ChangesOnlyOn, KeepsMarksOn};
+ghost use Rattle.item_store.specs.OnSector.{sector_on, IsCollecting, IsKeptAfter, IsKeptOn, IsOpenOn, IsOpenSector};
+ghost use Rattle.item_store.specs.Ends.{CopyEnds, IsVictimSlot, OpenEnds, RedoEnds, RoundEndsOn};
+ghost use Rattle.item_store.specs.Stands.{StandsAt};
 ghost use Rattle.item_store.specs.Kind.{is_clean_at, slots};
 ghost use Rattle.item_store.specs.Listed.{kind_on};
 ghost use Rattle.item_store.specs.Seen.{holds_live};
-ghost use Rattle.item_store.specs.Collecting.{HasBegun, HasOpened, HasCopied, StopsCopying, CopiesOne, copy_units, CollectsAt, KeepsOrCollects, KeepsOrTurns, KeepsOrRedoes, TurnsAt, redo_of, redo_list, redo_units};
-ghost use Rattle.item_store.specs.Spending.{copies, collect_units, ready_units, again_units, open_units, round_units};
-ghost use Rattle.item_store.specs.Standing.{IsStoreArea, list_of, KeepsItems, SpendsIn, SpendsUpTo};
+ghost use Rattle.item_store.specs.Collecting.{HasBegun, HasCopied, StopsCopying, CollectsAt, KeepsOrCollects, redo_of};
+ghost use Rattle.item_store.specs.Spending.{copies, collect_units, ready_units, again_units};
+ghost use Rattle.item_store.specs.Standing.{IsStoreArea, KeepsItems, SpendsIn, SpendsUpTo};
 ghost use Rattle.item_store.specs.Steps.{Keeps, StopsClearing};
 ghost use Rattle.item_store.specs.Written.{IsWritten};
 
@@ -33,20 +35,10 @@ fn copy_slot<T: SlotSectors, F: Flash, L: Ledger>(
     live: bool,
     steps: &mut Steps<L>,
 ) -> Result<(), PowerLost>
-    requires area { IsStoreArea T.role (F.device flash.old).banks area.now }
-    requires kept { IsKeptOn T.kept (F.device flash.old) area.now current opened.old }
-    requires current { IsOpenOn T.kind (F.device flash.old) area.now current }
-    requires place { current < area.now.sectors }
-    requires inside { victim < area.now.sectors }
-    requires other { victim ≡ current → ⊥ }
-    requires listed { let d = F.device flash.old in let k = kind_on T.kind d area.now in
-        (k.first ≤ slot) × (slot < k.first + k.count (sector_on d area.now victim)) }
-    requires ready { IsReadyOn T.kind (F.device flash.old) area.now current }
-    requires collecting { NextIsClosedOn T.kind (F.device flash.old) area.now current }
-    requires not_done { HasNoGcDoneOn T.kind (F.device flash.old) area.now current }
-    requires source { IsSoundOn T.kind (F.device flash.old) area.now victim }
-    requires within { let d = F.device flash.old in
-        (kind_on T.kind d area.now).within (sector_on d area.now victim) ≡ true }
+    requires here { IsOpenSector T.role T.kind T.kept (F.device flash.old) area.now current
+        opened.old }
+    requires collects { IsCollecting T.kind (F.device flash.old) area.now current }
+    requires victim { IsVictimSlot T.kind (F.device flash.old) area.now current victim slot }
     requires room { let d = F.device flash.old in let k = kind_on T.kind d area.now in
         cost_of (slots k) (live_in (slots k) (sectors_of d area.now) victim slot) + 3 * k.slot
         ≤ k.free (sector_on d area.now current) }
@@ -54,25 +46,10 @@ fn copy_slot<T: SlotSectors, F: Flash, L: Ledger>(
         live ≡ holds_live (kind_on T.kind d area.now) (sectors_of d area.now) victim slot }
     ensures touches { let d = F.device flash.old in let e = F.device flash.new in
         Touches (area.now ∷ []) d e (is_err result) }
-    ensures copies { let d = F.device flash.old in let e = F.device flash.new in
-        let k = kind_on T.kind d area.now in
-        OnOk result
-        (CopiesOne k (sectors_of d area.now) (sectors_of e area.now) current
-        (live_in (slots k) (sectors_of d area.now) victim slot)) }
-    ensures kept { let d = F.device flash.old in let e = F.device flash.new in
-        OnOk result (IsKeptAfter T.kept d e area.now current opened.new) }
-    ensures only { let d = F.device flash.old in let e = F.device flash.new in
-        OnErr result (ChangesOnlyOn d e area.now current) }
-    ensures lost { let d = F.device flash.old in let e = F.device flash.new in
-        OnErr result (KeepsMarksOn T.kind d e area.now current) }
-    ensures spends { let d = F.device flash.old in let e = F.device flash.new in
-        let k = kind_on T.kind d area.now in
-        OnOk result
-        (SpendsIn d e (copy_units k (live_in (slots k) (sectors_of d area.now) victim slot))) }
-    ensures spends_lost { let d = F.device flash.old in let e = F.device flash.new in
-        let k = kind_on T.kind d area.now in
-        OnErr result
-        (SpendsUpTo d e (copy_units k (live_in (slots k) (sectors_of d area.now) victim slot))) }
+    ensures ends { let d = F.device flash.old in let e = F.device flash.new in
+        let entry =
+        live_in (slots (kind_on T.kind d area.now)) (sectors_of d area.now) victim slot in
+        CopyEnds T.kind T.kept d e area.now current entry opened.new result }
 {
     match live_in::<T, F, L>(flash, area, victim, slot, live, steps) {
         Some(placed) => opened.copy(flash, area, current, &placed, steps),
@@ -298,46 +275,15 @@ pub fn redo<T: SlotSectors, F: Flash, L: Ledger>(
     requires kept { IsKeptOn T.kept (F.device flash.old) area.now current opened.old }
     ensures touches { let d = F.device flash.old in let e = F.device flash.new in
         Touches (area.now ∷ []) d e (is_err result) }
-    ensures rested { let d = F.device flash.old in let e = F.device flash.new in
-        OnOk result (AtRest (kind_on T.kind d area.now).reading (sectors_of e area.now) current) }
     ensures items { let d = F.device flash.old in let e = F.device flash.new in
         KeepsItems (kind_on T.kind d area.now) (sectors_of d area.now) (sectors_of e area.now) }
-    ensures list { let d = F.device flash.old in let e = F.device flash.new in
-        let k = kind_on T.kind d area.now in
-        OnOk result
-        (list_of k (sectors_of e area.now)
-        ≡ redo_list k (sectors_of d area.now) current (redo_of k (sectors_of d area.now) current)) }
-    ensures list_lost { let d = F.device flash.old in let e = F.device flash.new in
-        OnErr result
-        (KeepsOrRedoes (kind_on T.kind d area.now) (sectors_of d area.now) (sectors_of e area.now)
-        current) }
     ensures written { let d = F.device flash.old in let e = F.device flash.new in
         (F.device flash.new ≡ d) ⊎ IsWritten (kind_on T.kind d area.now) (sectors_of e area.now) }
     ensures same { let d = F.device flash.old in
         AtRest (kind_on T.kind d area.now).reading (sectors_of d area.now) current
         → F.device flash.new ≡ d }
-    ensures busy { let d = F.device flash.old in
-        OnErr result
-        (AtRest (kind_on T.kind d area.now).reading (sectors_of d area.now) current → ⊥) }
-    ensures collects { let d = F.device flash.old in let e = F.device flash.new in
-        let k = kind_on T.kind d area.now in
-        OnOk result
-        (Collecting k.reading (sectors_of d area.now) current
-        → CollectsAt k (sectors_of d area.now) (sectors_of e area.now) current) }
-    ensures kept { let d = F.device flash.old in let e = F.device flash.new in
-        OnOk result (IsKeptAfter T.kept d e area.now current opened.new) }
-    ensures spends { let d = F.device flash.old in let e = F.device flash.new in
-        let k = kind_on T.kind d area.now in
-        OnOk result
-        (SpendsIn d e
-        (redo_units k (sectors_of d area.now) current
-        (redo_of k (sectors_of d area.now) current))) }
-    ensures spends_lost { let d = F.device flash.old in let e = F.device flash.new in
-        let k = kind_on T.kind d area.now in
-        OnErr result
-        (SpendsUpTo d e
-        (redo_units k (sectors_of d area.now) current
-        (redo_of k (sectors_of d area.now) current))) }
+    ensures ends { let d = F.device flash.old in let e = F.device flash.new in
+        RedoEnds T.kind T.kept d e area.now current opened.new result }
 {
     match what_to_redo(flash, area, opened, current, steps) {
         Redo::Nothing => Ok(()),
@@ -365,34 +311,14 @@ fn open_next<T: SlotSectors, F: Flash, L: Ledger>(
         is_blank_at k.reading (sectors_of d area.now) current ≡ true }
     ensures touches { let d = F.device flash.old in let e = F.device flash.new in
         Touches (area.now ∷ []) d e (is_err result) }
-    ensures opens { let d = F.device flash.old in let e = F.device flash.new in
-        let k = kind_on T.kind d area.now in let old = sectors_of d area.now in
-        let new = sectors_of e area.now in
-        OnOk result (AtRest k.reading old current → HasOpened k old new current) }
-    ensures collects { let d = F.device flash.old in let e = F.device flash.new in
-        let k = kind_on T.kind d area.now in let old = sectors_of d area.now in
-        let new = sectors_of e area.now in
-        OnOk result (Collecting k.reading old current → CollectsAt k old new current) }
     ensures items { let d = F.device flash.old in let e = F.device flash.new in
         let k = kind_on T.kind d area.now in
         KeepsItems k (sectors_of d area.now) (sectors_of e area.now) }
-    ensures list_lost { let d = F.device flash.old in let e = F.device flash.new in
-        let k = kind_on T.kind d area.now in let old = sectors_of d area.now in
-        let new = sectors_of e area.now in OnErr result (KeepsOrRedoes k old new current) }
     ensures written { let d = F.device flash.old in let e = F.device flash.new in
         let k = kind_on T.kind d area.now in let new = sectors_of e area.now in
         IsWritten k (sectors_of d area.now) → IsWritten k new }
-    ensures kept { let d = F.device flash.old in
-        let new = sectors_of (F.device flash.new) area.now in
-        OnOk result (opened.new ≡ T.kept (geometry_of d area.now) (sector_at new current)) }
-    ensures spends { let d = F.device flash.old in let e = F.device flash.new in
-        let k = kind_on T.kind d area.now in
-        let range = open_units k (sectors_of d area.now) current in
-        OnOk result (SpendsIn d e range) }
-    ensures spends_lost { let d = F.device flash.old in let e = F.device flash.new in
-        let k = kind_on T.kind d area.now in
-        let range = open_units k (sectors_of d area.now) current in
-        OnErr result (SpendsUpTo d e range) }
+    ensures ends { let d = F.device flash.old in let e = F.device flash.new in
+        OpenEnds T.kind T.kept d e area.now current opened.new result }
 {
     if T::is_closed(flash, area, area.next(current), steps) {
         return collect_again(flash, area, opened, current, steps);
@@ -412,47 +338,24 @@ pub fn round<T: SlotSectors, F: Flash, L: Ledger>(
     current: u32,
     steps: &mut Steps<L>,
 ) -> Result<u32, PowerLost>
-    requires area { IsStoreArea T.role (F.device flash.old).banks area.now }
-    requires undamaged { let d = F.device flash.old in
-        (kind_on T.kind d area.now).damage (sectors_of d area.now) ≡ None }
-    requires current { IsOpenOn T.kind (F.device flash.old) area.now current }
-    requires kept { IsKeptOn T.kept (F.device flash.old) area.now current opened.old }
-    requires rested { NextIsNotClosedOn T.kind (F.device flash.old) area.now current }
+    requires stands { StandsAt T.role T.kind T.kept (F.device flash.old) area.now current
+        opened.old }
     requires used { let d = F.device flash.old in
         is_clean_at (kind_on T.kind d area.now) (sectors_of d area.now) current ≡ false }
     ensures touches { let d = F.device flash.old in let e = F.device flash.new in
         Touches (area.now ∷ []) d e (is_err result) }
     ensures opened { let d = F.device flash.old in
         IfOk result (λ place. place ≡ next (sectors_of d area.now) current) }
-    ensures rested { let d = F.device flash.old in let e = F.device flash.new in
-        OnOk result
-        (AtRest (kind_on T.kind d area.now).reading (sectors_of e area.now)
-        (next (sectors_of d area.now) current)) }
     ensures items { let d = F.device flash.old in let e = F.device flash.new in
         KeepsItems (kind_on T.kind d area.now) (sectors_of d area.now) (sectors_of e area.now) }
-    ensures list_lost { let d = F.device flash.old in let e = F.device flash.new in
-        OnErr result
-        (KeepsOrTurns (kind_on T.kind d area.now) (sectors_of d area.now) (sectors_of e area.now)
-        current) }
     ensures written { let d = F.device flash.old in let e = F.device flash.new in
         let k = kind_on T.kind d area.now in let new = sectors_of e area.now in
         IsWritten k (sectors_of d area.now) → IsWritten k new }
     ensures changed { let d = F.device flash.old in let e = F.device flash.new in
         let k = kind_on T.kind d area.now in let new = sectors_of e area.now in
         (new ≡ sectors_of d area.now) ⊎ IsWritten k new }
-    ensures kept { let d = F.device flash.old in let e = F.device flash.new in
-        OnOk result
-        (IsKeptAfter T.kept d e area.now (next (sectors_of d area.now) current) opened.new) }
-    ensures turns { let d = F.device flash.old in let e = F.device flash.new in
-        OnOk result
-        (TurnsAt (kind_on T.kind d area.now) (sector_size d area.now) (sectors_of d area.now)
-        (sectors_of e area.now) current) }
-    ensures spends { let d = F.device flash.old in let e = F.device flash.new in
-        OnOk result
-        (SpendsIn d e (round_units (kind_on T.kind d area.now) (sectors_of d area.now) current)) }
-    ensures spends_lost { let d = F.device flash.old in let e = F.device flash.new in
-        OnErr result
-        (SpendsUpTo d e (round_units (kind_on T.kind d area.now) (sectors_of d area.now) current)) }
+    ensures ends { let d = F.device flash.old in let e = F.device flash.new in
+        RoundEndsOn T.kind T.kept d e area.now current opened.new result }
 {
     opened.close(flash, area, current, steps)?;
     let place = area.next(current);

@@ -1,4 +1,5 @@
-//! A store of items in an area of several sectors, for any sectors that hold entries in slots.
+//! A store of numbered items over sectors of entries: it mounts, writes, reads, deletes and
+//! collects garbage, whatever the format of a sector (`SlotSectors`).
 #![tactic(auto)]
 
 mod asking;

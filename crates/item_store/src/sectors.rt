@@ -11,9 +11,8 @@ ghost use Rattle.item_laws.specs.Live.{last_in, bytes_of};
 ghost use Rattle.item_store.specs.Kind.{Kind, IsKind, placed_at, slots, fits};
 ghost use Rattle.item_store.specs.Lasts.{AreOthers};
 ghost use Rattle.item_store.specs.Listed.{IsListedOn, IsWithinOn, kind_on};
-ghost use Rattle.item_store.specs.OnSector.{IsMarked, StopsMarking, IsOpenSector, IsCollecting, IsSource, PutEnds, sector_on, free_on, bytes_on, IsKeptOn, IsKeptAfter, IsSoundOn, IsOpenOn, NextIsNotClosedOn, FitsOn, HasCopyRoomOn, ChangesOnlyOn, KeepsOn, KeepsMarksOn, MarksOn, AddsOn, ClosesOn, ClearsOn, BeginsOn, StopsClearingOn};
+ghost use Rattle.item_store.specs.OnSector.{BeginEnds, CloseEnds, IsMarked, StopsMarking, IsOpenSector, IsCollecting, IsSource, PutEnds, sector_on, free_on, bytes_on, IsKeptOn, IsKeptAfter, IsSoundOn, IsOpenOn, NextIsNotClosedOn, FitsOn, HasCopyRoomOn, ChangesOnlyOn, KeepsMarksOn, AddsOn, ClearsOn, StopsClearingOn};
 ghost use Rattle.item_store.specs.Standing.{IsStoreArea, SpendsIn, SpendsUpTo};
-ghost use Rattle.item_store.specs.Steps.{Keeps, LeavesRoom, Marks, Closes};
 
 use crate::entry::Placed;
 use flash_map::{Area, Damaged, Geometry};
@@ -267,23 +266,8 @@ pub trait SlotSectors: Copy {
             is_closed_at (kind_on kind d area.now).reading (sectors_of d area.now) place ≡ false }
         ensures touches { Touches (area.now ∷ []) (F.device flash.old) (F.device flash.new)
             (is_err result) }
-        ensures only { ChangesOnlyOn (F.device flash.old) (F.device flash.new) area.now place }
-        ensures begins { let d = F.device flash.old in let e = F.device flash.new in
-            OnOk result (BeginsOn kind d e area.now place) }
-        ensures kept { let d = F.device flash.old in let e = F.device flash.new in
-            OnOk result (IsKeptAfter kept d e area.now place self.new) }
-        ensures lost { let d = F.device flash.old in let e = F.device flash.new in
-            OnErr result (KeepsOn kind d e area.now place) }
-        ensures room_lost { let d = F.device flash.old in let e = F.device flash.new in
-            let k = kind_on kind d area.now in
-            OnErr result
-            (LeavesRoom k (sector_on d area.now place) (sector_on e area.now place) 0) }
-        ensures spends { let d = F.device flash.old in let e = F.device flash.new in
-            OnOk result
-            (SpendsIn d e ((kind_on kind d area.now).units.begin (sector_on d area.now place))) }
-        ensures spends_lost { let d = F.device flash.old in let e = F.device flash.new in
-            OnErr result
-            (SpendsUpTo d e ((kind_on kind d area.now).units.begin (sector_on d area.now place))) };
+        ensures ends { let d = F.device flash.old in let e = F.device flash.new in
+            BeginEnds kind kept d e area.now place self.new result };
 
     /// Puts an item's bytes and their entry. No bytes are a delete.
     ///
@@ -389,23 +373,8 @@ pub trait SlotSectors: Copy {
             (kind_on kind d area.now).is_clean (sector_on d area.now place) ≡ false }
         ensures touches { Touches (area.now ∷ []) (F.device flash.old) (F.device flash.new)
             (is_err result) }
-        ensures only { ChangesOnlyOn (F.device flash.old) (F.device flash.new) area.now place }
-        ensures closes { let d = F.device flash.old in let e = F.device flash.new in
-            OnOk result (ClosesOn kind d e area.now place) }
-        ensures lost { let d = F.device flash.old in let k = kind_on kind d area.now in
-            let b = sector_at (sectors_of d area.now) place in
-            let e = sector_at (sectors_of (F.device flash.new) area.now) place in
-            OnErr result (Keeps k b e ⊎ Closes k b e) }
-        ensures blank_lost { let d = F.device flash.old in let k = kind_on kind d area.now in
-            let b = sector_at (sectors_of d area.now) place in
-            let e = sector_at (sectors_of (F.device flash.new) area.now) place in
-            OnErr result (k.reading.is_blank b ≡ true → (e ≡ b) ⊎ Closes k b e) }
-        ensures spends { let d = F.device flash.old in let e = F.device flash.new in
-            OnOk result
-            (SpendsIn d e ((kind_on kind d area.now).units.close (sector_on d area.now place))) }
-        ensures spends_lost { let d = F.device flash.old in let e = F.device flash.new in
-            OnErr result
-            (SpendsUpTo d e ((kind_on kind d area.now).units.close (sector_on d area.now place))) };
+        ensures ends { let d = F.device flash.old in let e = F.device flash.new in
+            CloseEnds kind d e area.now place result };
 
     // ---- a step in any sector
 

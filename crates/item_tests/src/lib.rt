@@ -1,5 +1,4 @@
-//! Tests of entries and sectors of items, and of stores of items: NVS, ZMS, and the store over the
-//! sectors of either.
+//! Tests of entries, sectors and stores of items, for NVS and for ZMS.
 #![tactic(auto)]
 
 #[cfg(test)]

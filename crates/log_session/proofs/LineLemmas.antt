@@ -19,16 +19,18 @@ use Rattle.log_session.specs.declared.line.Line.TheVariants.{Put, Records, Cut, 
 use Rattle.log_session.specs.declared.answer.Answer.{Answer}
 use Rattle.log_session.specs.declared.answer.Answer.TheVariants.{Done, Log, Lost, Off}
 use Rattle.log_session.specs.Plan.{units_of, is_lost, replan}
-use Rattle.log_session.specs.LineDone.{Keeps, LineDone, MountsBy, PutsBy, TellsChance, powered_for, state_of, turned_on}
+use Rattle.session_table.specs.Bench.{Keeps}
+use Rattle.log_session.specs.LineDone.{LineDone, MountsBy, PutsBy, TellsChance, powered_for, state_of, turned_on}
 use Rattle.log_session.specs.Standing.{IsMounted}
-use Rattle.log_session.specs.Step.{Step, IsCounted}
+use Rattle.session_table.specs.Rules.{IsCounted}
+use Rattle.log_session.specs.Step.{Step}
 use Rattle.log_session.proofs.AccountLemmas.{at_most, kept, lost, units_are, units_most}
 
 none_spent : (units spent : ℕ) → units ≡ 0 → units ≡ spent - spent
 none_spent units spent is = omega (arith, is)
 
 -- what a call on the area leaves alone
-pub kept_beside : (area : Area) (old new : Device) (cut : Bool) → Touches (area ∷ []) old new cut → Keeps area old new
+pub kept_beside : (area : Area) (old new : Device) (cut : Bool) → Touches (area ∷ []) old new cut → Keeps (area ∷ []) old new
 kept_beside area old new cut touches = record { banks = touches.banks; loads = touches.loads; outside = touches.outside }
 
 -- ---- states

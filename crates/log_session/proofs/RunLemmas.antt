@@ -16,15 +16,17 @@ use Rattle.session_table.proofs.FollowsLemmas.{kept, summed}
 use Rattle.log_session.specs.declared.line.Line.{Line}
 use Rattle.log_session.specs.declared.answer.Answer.{Answer}
 use Rattle.log_session.specs.Plan.{units_of, is_lost, losses_in, Planned, plan_through, PlansNoLoss}
-use Rattle.log_session.specs.LineDone.{Keeps, LineDone, Runs, StaysUnplanned, TellsChance, TellsLastChance, state_of}
+use Rattle.session_table.specs.Bench.{Keeps, StaysUnplanned}
+use Rattle.log_session.specs.LineDone.{LineDone, Runs, TellsChance, TellsLastChance, state_of}
 use Rattle.log_session.specs.Laws.{LinesMakeRuns}
-use Rattle.log_session.specs.Step.{IsCounted, Step}
+use Rattle.session_table.specs.Rules.{IsCounted}
+use Rattle.log_session.specs.Step.{Step}
 
 module _ (area : Area) where
-  keeps_same : (d : Device) → Keeps area d d
+  keeps_same : (d : Device) → Keeps (area ∷ []) d d
   keeps_same d = record { banks = refl; loads = refl; outside = λ bank offset out. refl }
 
-  keeps_both : (a b c : Device) → Keeps area a b → Keeps area b c → Keeps area a c
+  keeps_both : (a b c : Device) → Keeps (area ∷ []) a b → Keeps (area ∷ []) b c → Keeps (area ∷ []) a c
   keeps_both a b c one two = record {
     banks = two.banks ∙ one.banks;
     loads = two.loads ∙ one.loads;
@@ -102,7 +104,7 @@ module _ (area : Area) where
     spent = summed (LineDone area) (λ d. d.spent) units_of (λ line answer a b done. done.accounts.spent) lines answers old new runs;
     losses = losses_of lines answers old new runs;
     planned = λ counts. planned_of lines answers old new counts runs;
-    keeps = kept (LineDone area) (Keeps area) keeps_same keeps_both (λ line answer a b done. done.keeps) lines answers old new runs;
+    keeps = kept (LineDone area) (Keeps (area ∷ [])) keeps_same keeps_both (λ line answer a b done. done.keeps) lines answers old new runs;
     unplanned = unplanned_of lines answers old new runs;
     chance = chance_of lines answers old new runs;
   }

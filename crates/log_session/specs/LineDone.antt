@@ -1,10 +1,10 @@
 -- What lines make of a bench.
 use Rattle.std.specs.Prelude.{◌≡◌, ℕ, ◌+◌, ◌≤◌, ⊤, Bool, true, false, List, [], ◌∷◌, length, None, Some, Result, Ok, Err, if◌then◌else◌, All}
-use Rattle.flash_sim.specs.Device.{Device, Never, counted}
+use Rattle.flash_sim.specs.Device.{Device, counted}
 use Rattle.flash_sim.specs.declared.flash.Loss.{Loss}
 use Rattle.flash_map.specs.declared.area.Area.{Area}
 use Rattle.flash_map.specs.Area.{geometry_of}
-use Rattle.flash_map.specs.Touches.{SameOutside, Touches}
+use Rattle.flash_map.specs.Touches.{Touches}
 use Rattle.fcb_ring.specs.declared.ring.Ring.{Ring}
 use Rattle.fcb_ring.specs.Chance.{chance_on}
 use Rattle.fcb_ring.specs.Standing.{erases_on, ring_damage}
@@ -14,13 +14,15 @@ use Rattle.event_ring.specs.Appending.{LogAppends}
 use Rattle.event_ring.specs.Items.{log_on}
 use Rattle.event_ring.specs.Standing.{IsOpen, KeepsItems}
 use Rattle.script_lines.specs.Plan.Replan.{keeps as keeps_plan}
+use Rattle.session_table.specs.Bench.{Keeps, StaysUnplanned}
 use Rattle.session_table.specs.Follows.{Follows}
 use Rattle.log_session.specs.declared.line.Line.{Line}
 use Rattle.log_session.specs.declared.line.Line.TheVariants.{Put, Records, Mount}
 use Rattle.log_session.specs.declared.answer.Answer.{Answer}
 use Rattle.log_session.specs.declared.answer.Answer.TheVariants.{Appended, Lost}
 use Rattle.log_session.specs.Plan.{units_of, is_lost, units_in, losses_in, replan, Allows, plan_after, Planned, plan_through, PlansNoLoss}
-use Rattle.log_session.specs.Step.{State, Step, IsCounted}
+use Rattle.session_table.specs.Rules.{IsCounted}
+use Rattle.log_session.specs.Step.{State, Step}
 
 -- the state that the flash's bytes and power are
 abbrev pub state_of : Area → Device → State
@@ -38,16 +40,6 @@ turned_on d = record d { is_on = true }
 abbrev pub powered_for : Line → Device → Device
 powered_for Mount d = turned_on d
 powered_for line d = d
-
--- the banks, the count of loads, and each byte outside the area
-pub record Keeps (area : Area) (old new : Device) : Type 0 where
-  pub banks : new.banks ≡ old.banks
-  pub loads : new.loads ≡ old.loads
-  pub outside : SameOutside (area ∷ []) old new
-
--- on a flash that tells that no loss is planned none comes, and none is planned afterwards
-abbrev pub StaysUnplanned : Device → Device → Type 0
-StaysUnplanned old new = old.plan ≡ Never → (new.plan ≡ Never) × (new.losses ≡ old.losses)
 
 -- counts and plan
 pub record Accounts (line : Line) (answer : Answer) (old new : Device) : Type 0 where
@@ -102,7 +94,7 @@ pub record LineDone (area : Area) (line : Line) (answer : Answer) (old new : Dev
   pub step : (last : ℕ) → new.spent ≤ last
       → Step (geometry_of old area) last line answer (state_of area old) (state_of area new)
   pub accounts : Accounts line answer old new
-  pub keeps : Keeps area old new
+  pub keeps : Keeps (area ∷ []) old new
   pub touches : replan line ≡ keeps_plan → Touches (area ∷ []) (powered_for line old) new (is_lost answer)
   pub puts : PutsBy area line answer old new
   pub mounts : line ≡ Mount → MountsBy area answer old new
@@ -125,6 +117,6 @@ pub record Runs (area : Area) (lines : List Line) (answers : List Answer) (old n
   pub losses : new.losses ≡ counted old.losses (losses_in answers)
   pub planned : IsCounted new.spent
       → Planned old.plan lines answers × (new.plan ≡ plan_through old.plan lines answers)
-  pub keeps : Keeps area old new
+  pub keeps : Keeps (area ∷ []) old new
   pub unplanned : All PlansNoLoss lines → StaysUnplanned old new
   pub chance : TellsLastChance area lines answers new

@@ -1,11 +1,12 @@
 -- The table: which answers a plain list of records gives to a line, and what they make of it. The choices are
 -- whether power is lost in a line, what a lost append leaves then, how many of the oldest records an append
 -- drops, and the units.
-use Rattle.std.specs.Prelude.{◌≡◌, ◌⊎◌, ℕ, ◌+◌, ◌-◌, ◌/◌, ◌^◌, ◌<◌, ◌≤◌, Bool, true, false, List, [], ◌∷◌, ◌++◌, length, sum_by}
+use Rattle.std.specs.Prelude.{◌≡◌, ◌⊎◌, ℕ, ◌+◌, ◌-◌, ◌/◌, ◌≤◌, Bool, true, false, List, [], ◌∷◌, ◌++◌, length, sum_by}
 use Rattle.flash_map.specs.declared.area.Geometry.{Geometry}
 use Rattle.flash_map.specs.Units.{padded}
 use Rattle.fcb_ring.specs.Writing.{record_cost}
 use Rattle.event_ring.specs.Appending.{LeavesLog}
+use Rattle.session_table.specs.Rules.{IsCounted}
 use Rattle.log_session.specs.declared.line.Line.{Line}
 use Rattle.log_session.specs.declared.line.Line.TheVariants.{Put, Records, Cut, Uncut, Mount}
 use Rattle.log_session.specs.declared.answer.Answer.{Answer}
@@ -21,10 +22,6 @@ IsOn state = state.is_on ≡ true
 
 abbrev pub IsOff : State → Type 0
 IsOff state = state.is_on ≡ false
-
--- this count of units is not at its end
-abbrev pub IsCounted : ℕ → Type 0
-IsCounted spent = spent < 2 ^ 64 - 1
 
 -- ---- units and bytes
 

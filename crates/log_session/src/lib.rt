@@ -1,8 +1,5 @@
-//! The lines of a script on an application log, carried out on a flash that may lose power at any
-//! unit.
-//!
-//! The lines of a script on an application log, the texts of their answers, and the plan of a loss
-//! through them.
+//! Scripts on an application log: the lines, their answers, and a session that carries them out on
+//! an FCB area, power losses included.
 #![tactic(auto)]
 
 mod answer;

@@ -1,4 +1,4 @@
-//! Where the latest entry of an id was put, for a store that looks it up by its id.
+//! A cache of lookups: where the latest entry of an id was written.
 #![tactic(auto)]
 
 mod cache;

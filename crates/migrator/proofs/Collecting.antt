@@ -1,12 +1,13 @@
 -- A whole collection of the selector's ring.
-use Rattle.std.proofs.Common.{◌≡◌, ◌≢◌, ℕ, ◌+◌, ◌-◌, ◌*◌, ◌/◌, ◌<◌, ◌≤◌, true, false, cond, eqb, List, [], ◌∷◌, ◌++◌, length, Option, Some, None, refl, sym, ap, subst, ◌∙◌, arith}
-use Rattle.std.specs.Prelude.{Contains, unwrap_or}
+use Rattle.std.proofs.Common.{◌≡◌, ◌≢◌, ℕ, ◌+◌, ◌-◌, ◌*◌, ◌/◌, ◌<◌, ◌≤◌, true, false, cond, eqb, List, [], ◌∷◌, ◌++◌, length, Option, Some, None, Result, Ok, Err, refl, sym, ap, subst, ◌∙◌, arith}
+use Rattle.std.specs.Prelude.{Contains, unwrap_or, OnOk, OnErr}
 use Rattle.std.specs.List.{slice_get}
 use Rattle.std.specs.Option.{option_map, ForSome}
 use Rattle.std.proofs.lemmas.Bool.{eqb-true}
 use Rattle.std.proofs.lemmas.Option.{none-some}
 use Rattle.flash_sim.specs.Bank.{IsLawful}
 use Rattle.flash_sim.specs.Device.{Device}
+use Rattle.flash_sim.specs.declared.flash.PowerLost.{PowerLost as Lost}
 use Rattle.flash_sim.specs.declared.flash.TheConstants.{PROGRAM_LIMIT}
 use Rattle.flash_map.specs.declared.area.Area.{Area}
 use Rattle.flash_map.specs.Area.{unit_of, sector_size, sectors_of, sector_bytes, OthersStay}
@@ -17,9 +18,10 @@ use Rattle.flash_map.proofs.SpendingLemmas.{spends_none, spends_then}
 use Rattle.fcb_ring.specs.declared.record.RecordAt.{RecordAt}
 use Rattle.fcb_ring.specs.declared.ring.Ring.{Ring}
 use Rattle.fcb_ring.specs.declared.ring.Stage.TheVariants.{Ready, Collecting}
-use Rattle.fcb_ring.specs.Changing.{newest_place, next_place, header_units, record_units, is_scratch_left, sector_list, body_at, EndsCollection, GoesOn}
+use Rattle.fcb_ring.specs.Changing.{Begun, CopiedRecord, StopsCopyingRecord, newest_place, next_place, header_on, header_units, record_units, is_scratch_left, sector_list, body_at, EndsCollection, GoesOn}
 use Rattle.fcb_ring.specs.Entries.{bodies, sector_entries}
 use Rattle.fcb_ring.specs.Rings.{turned}
+use Rattle.fcb_ring.specs.Scratch.{ChangesScratch}
 use Rattle.fcb_ring.specs.Standing.{StandsOn, KeepsEntries, entries_on, record_places}
 use Rattle.fcb_ring.specs.Writing.{record_cost}
 use Rattle.fcb_ring.proofs.AppendLemmas.{unit-after}
@@ -232,3 +234,21 @@ no-copy d ring none = subst (λ (list : List Entry). Spends d d (copy_units d ri
 
 pub others-stay : (d : Device) (ring : Ring) → OthersStay d d ring.area (newest_place ring)
 others-stay d ring = others_same d d ring.area (newest_place ring) refl
+
+-- a copy of a record changes the scratch sector alone, whole or cut
+pub only-scratch : (old new : Device) (before after : Ring) (r : RecordAt) (result : Result (Unit {0}) Lost)
+    → OnOk result (CopiedRecord old new before after r) → OnErr result (StopsCopyingRecord old new before after r)
+    → ChangesScratch old new before after
+only-scratch old new before after r (Ok x) did stopped =
+    record { list = did.list; others = did.others; area = did.area; reserve = did.reserve }
+only-scratch old new before after r (Err e) did stopped =
+    record { list = stopped.list; others = stopped.others; area = stopped.area; reserve = stopped.reserve }
+
+-- the scratch sector, once a collection began
+pub begun-end : (old new : Device) (before after : Ring) → Begun old new before after → after.end ≡ header_on new after.area
+begun-end old new before after begun =
+    begun.end ∙ ap (λ (u : ℕ). padded u 8) (sym (unit-after old new before.area after.area begun.banks begun.area))
+
+pub begun-fresh : (old new : Device) (before after : Ring) → Begun old new before after → sector_list new after.area (newest_place after) ≡ []
+begun-fresh old new before after begun =
+    subst (λ (x : Area). sector_list new x (newest_place after) ≡ []) (sym begun.area) begun.fresh

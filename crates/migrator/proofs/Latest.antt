@@ -1,10 +1,10 @@
 -- What is found in the last element of a list in which something is.
-use Rattle.std.proofs.Common.{◌≡◌, ℕ, zero, suc, List, [], ◌∷◌, ◌++◌, Option, Some, None, fold, refl, sym, ap, ◌∙◌}
+use Rattle.std.proofs.Common.{◌≡◌, ℕ, zero, suc, List, [], ◌∷◌, ◌++◌, Option, Some, None, refl, sym, ap, ◌∙◌}
 use Rattle.std.specs.Prelude.{map}
-use Rattle.std.specs.List.{slice_get}
+use Rattle.std.specs.List.{slice_get, filter_map, cons_option}
 use Rattle.std.specs.Option.{option_or, option_map}
 use Rattle.std.proofs.lemmas.Option.{none-some}
-use Rattle.migrator.specs.Active.{latest}
+use Rattle.migrator.specs.Active.{last, latest}
 
 or-assoc : {Y : Type 0} (a b c : Option Y) → option_or (option_or a b) c ≡ option_or a (option_or b c)
 or-assoc None b c = refl
@@ -15,22 +15,16 @@ or-none None = refl
 or-none (Some y) = refl
 
 module _ {X Y : Type 0} (found : X → Option Y) where
-  from : (last : Option Y) (list : List X) → fold (λ last x. option_or (found x) last) last list ≡ option_or (latest found list) last
-  unfolding latest
-  from last [] = refl
-  from last (x ∷ list) =
-      from (option_or (found x) last) list
-      ∙ ap (λ (o : Option Y). option_or (latest found list) (option_or o last)) (sym (or-none (found x)))
-      ∙ sym (or-assoc (latest found list) (option_or (found x) None) last)
-      ∙ ap (λ (o : Option Y). option_or o last) (sym (from (option_or (found x) None) list))
-
   pub latest-nil : latest found [] ≡ None
   unfolding latest
   latest-nil = refl
 
   pub latest-cons : (x : X) (list : List X) → latest found (x ∷ list) ≡ option_or (latest found list) (found x)
   unfolding latest
-  latest-cons x list = from (option_or (found x) None) list ∙ ap (λ (o : Option Y). option_or (latest found list) o) (or-none (found x))
+  latest-cons x list = by (found x) where
+    by : (o : Option Y) → last (cons_option o (filter_map found list)) ≡ option_or (last (filter_map found list)) o
+    by None = sym (or-none (last (filter_map found list)))
+    by (Some y) = refl
 
   pub latest-append : (xs ys : List X) → latest found (xs ++ ys) ≡ option_or (latest found ys) (latest found xs)
   latest-append [] ys = sym (or-none (latest found ys)) ∙ ap (λ (o : Option Y). option_or (latest found ys) o) (sym latest-nil)

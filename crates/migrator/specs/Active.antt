@@ -1,5 +1,6 @@
 -- Which area of a map is active, by the records of the selector.
-use Rattle.std.specs.Prelude.{ℕ, ◌-◌, ◌&&◌, ◌==◌, Bool, List, length, slice_index, fold, Option, Some, None, unwrap_or, if◌then◌else◌}
+use Rattle.std.specs.Prelude.{ℕ, ◌-◌, ◌&&◌, ◌==◌, Bool, List, [], ◌∷◌, length, slice_index, Option, Some, None, unwrap_or, if◌then◌else◌}
+use Rattle.std.specs.List.{filter_map}
 use Rattle.std.specs.Option.{option_and_then, option_map, option_or}
 use Rattle.flash_sim.specs.Device.{Device}
 use Rattle.flash_map.specs.declared.area.Area.{Area}
@@ -20,9 +21,13 @@ unfoldable pub named : List Area → List ℕ → Option ℕ
 named areas body =
     if is_choice body && is_store_at areas (slice_index body 0) then Some (slice_index body 0) else None
 
--- what is found in the last element of a list in which something is
+abbrev pub last : {X : Type 0} → List X → Option X
+last [] = None
+last (x ∷ list) = option_or (last list) (Some x)
+
+-- the last of what is found in the elements of a list
 unfoldable pub latest : {X Y : Type 0} → (X → Option Y) → List X → Option Y
-latest found list = fold (λ last x. option_or (found x) last) None list
+latest found list = last (filter_map found list)
 
 -- the store area that the last of these records names that names one
 abbrev pub chosen : List Area → List (List ℕ) → Option ℕ

@@ -7,7 +7,9 @@ use Rattle.flash_sim.specs.Device.{Device}
 use Rattle.flash_map.specs.declared.area.Area.{Area}
 use Rattle.flash_map.specs.declared.area.Geometry.{Geometry}
 use Rattle.flash_map.specs.declared.faults.Damaged.{Damaged}
-use Rattle.flash_map.specs.Area.{geometry_of}
+use Rattle.flash_map.specs.Area.{geometry_of, AreApart}
+use Rattle.flash_map.specs.Lawful.{IsLawfulFor}
+use Rattle.fcb_ring.specs.Standing.{is_up, ring_damage}
 use Rattle.fcb_ring.specs.declared.ring.Ring.{Ring}
 use Rattle.backend_api.specs.Map.{Map}
 use Rattle.flash_map.specs.On.{on, StandsOn}
@@ -136,6 +138,30 @@ migrate_units d areas selector active names =
 -- the active area is the one that was
 abbrev pub StaysActive : List Area → Area → Device → Device → Type 0
 StaysActive areas selector old new = active_in areas new selector ≡ active_in areas old selector
+
+-- The settings of a mounted store may move to this area. It, the store's area and the selector's share no
+-- sector; the selector takes records.
+pub record CanMove {S : Type 0} (serves : Area → Geometry → Type 0) (mounted_on : S → Area)
+    (stands : S → Geometry → List (List ℕ) → Type 0) (d : Device) (ring : Ring) (state : S) (to : Area) :
+    Type 0 where
+  pub lawful_from : IsLawfulFor d.banks (mounted_on state)
+  pub stands_from : StandsOn mounted_on stands d state
+  pub lawful : IsLawfulFor d.banks to
+  pub served : serves to (geometry_of d to)
+  pub version : to.version ≡ (mounted_on state).version
+  pub mounted : IsOpen d ring
+  pub apart_source : AreApart to (mounted_on state)
+  pub apart_selector : AreApart to ring.area
+  pub selector_source : AreApart ring.area (mounted_on state)
+  pub selector_target : AreApart ring.area to
+
+-- The selector's area shows no damage, and the selector still takes records. Where power was lost, it may be
+-- down.
+pub record KeepsSelector (new : Device) (before after : Ring) (is_lost : Bool) : Type 0 where
+  pub area : after.area ≡ before.area
+  pub sound : ring_damage new before.area ≡ None
+  pub open_ring : is_lost ≡ false → IsOpen new after
+  pub lost : is_lost ≡ true → (is_up after.stage ≡ false) ⊎ IsOpen new after
 
 -- How moving the settings to the area at this index ends.
 abbrev pub MoveEnds : {S : Type 0} → (S → Area) → (Area → Geometry → List (List ℕ) → Option Damaged)

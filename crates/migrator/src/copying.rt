@@ -1,7 +1,7 @@
 // Copying all settings from one store into another.
 ghost use Rattle.std.specs.Prelude.{◌≡◌, ℕ, ◌*◌, ◌<◌, ◌≤◌, ◌∷◌, [], List, true, false, length, Some};
 ghost use Rattle.std.specs.FinMap as finite;
-ghost use Rattle.flash_map.specs.Area.{geometry_of, sectors_of, value_limit, AreApart};
+ghost use Rattle.flash_map.specs.Area.{geometry_of, sectors_of, value_limit};
 ghost use Rattle.flash_map.specs.declared.area.TheConstants.{LONG_VALUE_LIMIT};
 ghost use Rattle.flash_map.specs.Lawful.{IsLawfulFor};
 ghost use Rattle.flash_map.specs.Spending.{SpendsAtMost};
@@ -10,7 +10,7 @@ ghost use Rattle.backend_api.specs.Ends.{set_lost, SetEndsOn};
 ghost use Rattle.backend_api.specs.Map.{IsStored, Map as settings_type};
 ghost use Rattle.backend_api.specs.Room.{most_units};
 ghost use Rattle.flash_map.specs.On.{on, StandsOn};
-ghost use Rattle.migrator.specs.Copying.{CopyEnds, PutsInOrder};
+ghost use Rattle.migrator.specs.Copying.{AreTwoStores, CopyEnds, PutsInOrder};
 ghost use Rattle.migrator.specs.Migrating.{room_on};
 
 use arrayvec::ArrayVec;
@@ -68,12 +68,7 @@ fn copy_one<F: Flash, K: Backend, L: Ledger>(
     name: &Name,
     steps: &mut Steps<L>,
 ) -> Result<(), SetFault>
-    requires lawful_from { IsLawfulFor (F.device flash.old).banks (K.mounted_on from.now) }
-    requires stands_from { StandsOn K.mounted_on K.stands (F.device flash.old) from.now }
-    requires lawful_to { IsLawfulFor (F.device flash.old).banks (K.mounted_on to.old) }
-    requires stands_to { StandsOn K.mounted_on K.stands (F.device flash.old) to.old }
-    requires apart { AreApart (K.mounted_on to.old) (K.mounted_on from.now) }
-    requires version { (K.mounted_on to.old).version ≡ (K.mounted_on from.now).version }
+    requires stores { AreTwoStores K.mounted_on K.stands (F.device flash.old) from.now to.old }
     requires stored { let settings = on K.contents (F.device flash.old) (K.mounted_on from.now) in
         finite.contains_key settings name.now ≡ true }
 
@@ -102,12 +97,7 @@ pub(crate) fn copy_all<F: Flash, K: Backend, L: Ledger>(
     flash: &mut F,
     steps: &mut Steps<L>,
 ) -> Result<(), SetFault>
-    requires lawful_from { IsLawfulFor (F.device flash.old).banks (K.mounted_on from.now) }
-    requires stands_from { StandsOn K.mounted_on K.stands (F.device flash.old) from.now }
-    requires lawful_to { IsLawfulFor (F.device flash.old).banks (K.mounted_on to.old) }
-    requires stands_to { StandsOn K.mounted_on K.stands (F.device flash.old) to.old }
-    requires apart { AreApart (K.mounted_on to.old) (K.mounted_on from.now) }
-    requires version { (K.mounted_on to.old).version ≡ (K.mounted_on from.now).version }
+    requires stores { AreTwoStores K.mounted_on K.stands (F.device flash.old) from.now to.old }
     requires empty { on K.contents (F.device flash.old) (K.mounted_on to.old) ≡ finite.empty }
 
     ensures touches { Touches (K.mounted_on to.old ∷ []) (F.device flash.old) (F.device flash.new)

@@ -1,5 +1,5 @@
-//! Which of several stores is active, by the records of a selector, and how all settings go from
-//! one to another.
+//! Several settings stores, a selector that records which of them is active, and the migration of
+//! all settings to the next one.
 #![tactic(auto)]
 
 mod areas;

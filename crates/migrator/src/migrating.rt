@@ -1,5 +1,5 @@
 // Moving all settings to another area.
-ghost use Rattle.std.specs.Prelude.{◌≡◌, ◌≢◌, ◌⊎◌, ℕ, ◌+◌, ◌<◌, ◌≤◌, ◌∷◌, [], List, true, false, length, Some, None, IfOk, OnErr, OnOk, count_by, is_err};
+ghost use Rattle.std.specs.Prelude.{◌≡◌, ◌⊎◌, ◌+◌, ◌<◌, ◌∷◌, [], true, false, Some, None, IfOk, OnErr, OnOk, count_by, is_err};
 ghost use Rattle.std.specs.FinMap as finite;
 ghost use Rattle.flash_map.specs.Area.{sectors_of, geometry_of, AreApart};
 ghost use Rattle.flash_map.specs.Lawful.{IsLawfulFor};
@@ -8,10 +8,10 @@ ghost use Rattle.flash_map.specs.Touches.{Touches};
 ghost use Rattle.flash_map.specs.Units.{is_written};
 ghost use Rattle.backend_api.specs.Room.{mount_units};
 ghost use Rattle.flash_map.specs.On.{on, StandsOn};
-ghost use Rattle.fcb_ring.specs.Standing.{is_up, ring_damage};
+ghost use Rattle.fcb_ring.specs.Standing.{is_up};
 ghost use Rattle.migrator.specs.Areas.{is_store_at};
 ghost use Rattle.migrator.specs.Choosing.{IsOpen};
-ghost use Rattle.migrator.specs.Migrating.{migrate_lost, is_refused, IsServed, fill_units, move_units, migrate_units, filled_as, moved_as, worked_on, room_on, OpenEnds, FillEnds, ReadsAs, MoveEnds, MigrateEnds};
+ghost use Rattle.migrator.specs.Migrating.{migrate_lost, is_refused, IsServed, CanMove, KeepsSelector, fill_units, move_units, migrate_units, filled_as, moved_as, worked_on, room_on, OpenEnds, FillEnds, ReadsAs, MoveEnds, MigrateEnds};
 
 use crate::Selector;
 use crate::areas::{area_at, target};
@@ -175,28 +175,16 @@ fn move_to<F: Flash, K: Backend, L: Ledger>(
     index: u8,
     steps: &mut Steps<L>,
 ) -> Result<(K, usize), MigrateFault>
-    requires lawful_from { IsLawfulFor (F.device flash.old).banks (K.mounted_on from.now) }
-    requires stands_from { StandsOn K.mounted_on K.stands (F.device flash.old) from.now }
-    requires lawful { IsLawfulFor (F.device flash.old).banks area }
-    requires serves { K.serves area (geometry_of (F.device flash.old) area) }
-    requires mounted { IsOpen (F.device flash.old) selector.old.ring }
+    requires moves { let d = F.device flash.old in
+        CanMove K.serves K.mounted_on K.stands d selector.old.ring from.now area }
     requires store { is_store_at map.now index ≡ true }
-    requires apart_source { AreApart area (K.mounted_on from.now) }
-    requires version { area.version ≡ (K.mounted_on from.now).version }
-    requires apart_selector { AreApart area selector.old.ring.area }
-    requires selector_source { AreApart selector.old.ring.area (K.mounted_on from.now) }
-    requires selector_target { AreApart selector.old.ring.area area }
 
     ensures touches { let areas = area ∷ selector.old.ring.area ∷ [] in
         Touches areas (F.device flash.old) (F.device flash.new) (migrate_lost result) }
     ensures source { let area = K.mounted_on from.now in
         sectors_of (F.device flash.new) area ≡ sectors_of (F.device flash.old) area }
-    ensures area { selector.new.ring.area ≡ selector.old.ring.area }
-    ensures sound { ring_damage (F.device flash.new) selector.old.ring.area ≡ None }
-    ensures open_ring { migrate_lost result ≡ false
-        → IsOpen (F.device flash.new) selector.new.ring }
-    ensures lost { let e = F.device flash.new in migrate_lost result ≡ true
-        → (is_up selector.new.ring.stage ≡ false) ⊎ IsOpen e selector.new.ring }
+    ensures selector { let e = F.device flash.new in
+        KeepsSelector e selector.old.ring selector.new.ring (migrate_lost result) }
     ensures ends { let d = F.device flash.old in
         let settings = on K.contents d (K.mounted_on from.now) in
         MoveEnds K.mounted_on K.damage K.contents (room_on K.room d area) map.now

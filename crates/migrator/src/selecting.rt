@@ -1,13 +1,14 @@
 // The selector: a ring of records, the last of which that names a store area tells which one is
 // active.
-ghost use Rattle.std.specs.Prelude.{◌≡◌, ℕ, ◌+◌, ◌≤◌, ◌<◌, ◌∷◌, [], List, true, false, is_err, length, None, Some, OnOk, OnErr};
+ghost use Rattle.std.specs.Prelude.{◌≡◌, ◌+◌, ◌<◌, ◌∷◌, [], List, true, false, is_err, None, Some, OnOk, OnErr};
 ghost use Rattle.std.specs.Option.{option_map, option_or, ForSome};
 ghost use Rattle.flash_map.specs.declared.area.Area.{Area as area_type};
-ghost use Rattle.flash_map.specs.Area.{sectors_of, OthersStay};
+ghost use Rattle.flash_map.specs.Area.{sectors_of};
 ghost use Rattle.flash_map.specs.Faults.{mount_lost};
 ghost use Rattle.flash_map.specs.Spending.{Spends, SpendsAtMost};
 ghost use Rattle.flash_map.specs.Touches.{Touches};
-ghost use Rattle.fcb_ring.specs.Changing.{append_lost, header_on, header_units, is_scratch_left, newest_place, record_units, sector_list, StopsErasing};
+ghost use Rattle.fcb_ring.specs.Changing.{append_lost, header_units, is_scratch_left, newest_place, record_units, sector_list, StopsErasing};
+ghost use Rattle.fcb_ring.specs.Scratch.{ChangesScratch, HasEmptyScratch};
 ghost use Rattle.fcb_ring.specs.Standing.{IsRingArea, StandsOn as RingStandsOn, KeepsEntries, IsListed, entries_on, is_up, erases_on, mounted_on, ring_damage};
 ghost use Rattle.migrator.specs.Areas.{is_store_at};
 ghost use Rattle.migrator.specs.Active.{named, last_choice, last_record, active_in};
@@ -90,21 +91,13 @@ fn copy_last<F: Flash, L: Ledger>(
     last: Option<RecordAt>,
     steps: &mut Steps<L>,
 ) -> Result<(), PowerLost>
-    requires stands { RingStandsOn (F.device flash.old) ring.old }
-    requires collecting { ring.old.stage ≡ Stage.Collecting }
+    requires scratch { HasEmptyScratch (F.device flash.old) ring.old }
     requires listed { ForSome last (IsListed (F.device flash.old) ring.old.area) }
     requires short { ForSome last (λ r. r.len ≡ 2) }
-    requires no_copies { sector_list (F.device flash.old) ring.old.area (newest_place ring.old)
-        ≡ [] }
-    requires end { ring.old.end ≡ header_on (F.device flash.old) ring.old.area }
 
     ensures touches { Touches (ring.old.area ∷ []) (F.device flash.old) (F.device flash.new)
         (is_err result) }
-    ensures list { KeepsEntries (F.device flash.old) (F.device flash.new) ring.old.area }
-    ensures others { OthersStay (F.device flash.old) (F.device flash.new) ring.old.area
-        (newest_place ring.old) }
-    ensures area { ring.new.area ≡ ring.old.area }
-    ensures reserve { ring.new.reserve ≡ ring.old.reserve }
+    ensures only { ChangesScratch (F.device flash.old) (F.device flash.new) ring.old ring.new }
 
     ensures stands { OnOk result (RingStandsOn (F.device flash.new) ring.new) }
     ensures collecting { OnOk result (ring.new.stage ≡ Stage.Collecting) }

@@ -11,7 +11,7 @@ use Rattle.std.proofs.lemmas.List.Folds.{list_all-map}
 use Rattle.std.proofs.lemmas.List.Sums.{sum_by-cons}
 use Rattle.std.proofs.lemmas.Bool.Decides.{nat_tests}
 use Rattle.std.proofs.lemmas.List.{length-replicate}
-use Rattle.backend_fcb.specs.declared.laws.TheConstants.{NAME_LIMIT}
+use Rattle.record_settings.specs.declared.laws.TheConstants.{NAME_LIMIT}
 use Rattle.backend_api.specs.Map.{Map, IsStored, IsAbsent}
 use Rattle.backend_api.specs.Room.{Room, HasNoRoom}
 use Rattle.backend_api.proofs.LeastLemmas.{cmp}

@@ -15,7 +15,7 @@ use Rattle.flash_map.specs.Area.{geometry_of, value_limit}
 use Rattle.flash_map.specs.On.{on, StandsOn}
 use Rattle.flash_map.specs.Touches.{Touches}
 use Rattle.setting_name.specs.Name.{IsName}
-use Rattle.backend_fcb.specs.declared.laws.TheConstants.{NAME_LIMIT}
+use Rattle.record_settings.specs.declared.laws.TheConstants.{NAME_LIMIT}
 use Rattle.backend_api.specs.Map.{Map, IsSettings, IsStored}
 use Rattle.backend_api.specs.Room.{Room}
 use Rattle.backend_api.proofs.LeastLemmas.{cmp}

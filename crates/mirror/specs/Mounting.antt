@@ -7,7 +7,8 @@ use Rattle.flash_map.specs.declared.area.Geometry.{Geometry}
 use Rattle.flash_map.specs.declared.faults.Damaged.{Damaged}
 use Rattle.flash_map.specs.declared.faults.MountFault.{MountFault}
 use Rattle.flash_map.specs.declared.faults.MountFault.TheVariants.{Damaged as MountDamaged, PowerLost as MountLost, NoMemory as MountNoMemory}
-use Rattle.flash_map.specs.Area.{geometry_of, sectors_of}
+use Rattle.flash_map.specs.Area.{geometry_of, sectors_of, AreApart}
+use Rattle.flash_map.specs.Lawful.{IsLawfulFor}
 use Rattle.flash_map.specs.On.{on, HoldsOn, StandsOn}
 use Rattle.flash_map.specs.Touches.{Touches}
 use Rattle.fcb_ring.specs.Standing.{erases_on, ring_damage}
@@ -25,7 +26,7 @@ use Rattle.mirror.specs.declared.mounting.MirrorMount.TheVariants.{Damaged as Is
 use Rattle.mirror.specs.declared.mirror.Mirror.{Mirror}
 use Rattle.mirror.specs.declared.sides.Side.{Side}
 use Rattle.mirror.specs.Mirrored.{IsMirror, SideStands}
-use Rattle.mirror.specs.Room.{Prices, FitsOn}
+use Rattle.mirror.specs.Room.{Prices, FitsOn, IsMirrored}
 use Rattle.mirror.specs.Trusted.{damage_shown, selector_place, trusted_on}
 
 -- the answer says that power was lost
@@ -140,6 +141,21 @@ BothFitEnds room prices areas d trusted other settings (Err NoMemory) = ⊤
 abbrev pub IsKeptIf : {S : Type 0} → Option S → S → Type 0 → Type 0
 IsKeptIf (Some kept) store holds = (kept ≡ store) × holds
 IsKeptIf None store holds = ¬ holds
+
+-- An area that may be made a copy of the trusted store: it shares no sector with that store's area, is of an
+-- image of the same version, and has room for the map.
+pub record MayCopyTrusted {S : Type 0} (serves : Area → Geometry → Type 0) (mounted_on : S → Area)
+    (stands : S → Geometry → List (List ℕ) → Type 0) (contents : Area → Geometry → List (List ℕ) → Map)
+    (room : Area → Geometry → Room) (prices : Area → Geometry → Prices) (d : Device) (trusted : S)
+    (other : Area) : Type 0 where
+  pub lawful_trusted : IsLawfulFor d.banks (mounted_on trusted)
+  pub stands_trusted : StandsOn mounted_on stands d trusted
+  pub lawful : IsLawfulFor d.banks other
+  pub role : IsMirrored other
+  pub served : serves other (geometry_of d other)
+  pub apart : AreApart other (mounted_on trusted)
+  pub version : other.version ≡ (mounted_on trusted).version
+  pub fits : FitsOn room prices d other (on contents d (mounted_on trusted))
 
 -- The area is not damaged, and has these settings.
 pub record HoldsMap (damage : Area → Geometry → List (List ℕ) → Option Damaged)

@@ -7,7 +7,7 @@ use Rattle.flash_map.specs.declared.area.Area.{Area}
 use Rattle.flash_map.specs.declared.area.Geometry.{Geometry}
 use Rattle.flash_map.specs.declared.area.Role.TheVariants.{Nvs, Zms}
 use Rattle.flash_map.specs.Area.{geometry_of, value_limit}
-use Rattle.backend_fcb.specs.declared.laws.TheConstants.{NAME_LIMIT}
+use Rattle.record_settings.specs.declared.laws.TheConstants.{NAME_LIMIT}
 use Rattle.backend_api.specs.Map.{Map}
 use Rattle.backend_api.specs.Room.{Room}
 use Rattle.named_items.specs.PairRoom.{pair_room}

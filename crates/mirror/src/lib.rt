@@ -1,7 +1,5 @@
-//! Two areas that hold one map of settings: each command goes to the trusted area first, and then
-//! to the other one. A mount trusts the area that the selector names, and repairs the other one.
-//!
-//! The stores of a mirror: settings over NVS or ZMS, with what they cost in each.
+//! A mirror: two areas of NVS or ZMS that hold the same settings. A command goes to the trusted
+//! area first and then to the other, and a mount repairs the other after a power loss.
 #![tactic(auto)]
 
 mod areas;

@@ -14,7 +14,7 @@ ghost use Rattle.backend_api.specs.Written.{StaysWritten};
 ghost use Rattle.migrator.specs.Areas.{is_store_at, selector_of};
 ghost use Rattle.migrator.specs.Migrating.{fill_units};
 ghost use Rattle.mirror.specs.Mirrored.{SideStands};
-ghost use Rattle.mirror.specs.Mounting.{BothEnds, BothFitEnds, FitEnds, HoldEnds, HoldsMap, IsAtRest, IsKeptIf, IsNotRefused, MirrorMounts, OtherEnds, RepairsAs, SideEnds, SparesBoth, both_units, fault_at, mount_lost, other_place, other_units, trust_units, worked_on};
+ghost use Rattle.mirror.specs.Mounting.{BothEnds, BothFitEnds, FitEnds, HoldEnds, HoldsMap, IsAtRest, IsKeptIf, IsNotRefused, MayCopyTrusted, MirrorMounts, OtherEnds, RepairsAs, SideEnds, SparesBoth, both_units, fault_at, mount_lost, other_place, other_units, trust_units, worked_on};
 ghost use Rattle.mirror.specs.Room.{FitsOn, IsMirrored};
 ghost use Rattle.mirror.specs.Trusted.{IsMirrorMap, MirrorReads, trusted_on};
 
@@ -223,15 +223,9 @@ fn repair<K: Priced, F: Flash, L: Ledger>(
     area: Area,
     steps: &mut Steps<L>,
 ) -> Result<K, MirrorMount>
-    requires lawful_trusted { IsLawfulFor (F.device flash.old).banks (K.mounted_on trusted.now) }
-    requires stands_trusted { StandsOn K.mounted_on K.stands (F.device flash.old) trusted.now }
-    requires lawful { IsLawfulFor (F.device flash.old).banks area }
-    requires role { IsMirrored area }
-    requires serves { K.serves area (geometry_of (F.device flash.old) area) }
-    requires apart { AreApart area (K.mounted_on trusted.now) }
-    requires version { area.version ≡ (K.mounted_on trusted.now).version }
-    requires fits { let d = F.device flash.old in
-        FitsOn K.room K.prices d area (on K.contents d (K.mounted_on trusted.now)) }
+    requires other { let d = F.device flash.old in
+        MayCopyTrusted K.serves K.mounted_on K.stands K.contents K.room K.prices d trusted.now
+        area }
 
     ensures touches { Touches (area ∷ []) (F.device flash.old) (F.device flash.new)
         (mount_lost result) }
@@ -257,15 +251,9 @@ fn open_other<K: Priced, F: Flash, L: Ledger>(
     area: Area,
     steps: &mut Steps<L>,
 ) -> Result<K, MirrorMount>
-    requires lawful_trusted { IsLawfulFor (F.device flash.old).banks (K.mounted_on trusted.now) }
-    requires stands_trusted { StandsOn K.mounted_on K.stands (F.device flash.old) trusted.now }
-    requires lawful { IsLawfulFor (F.device flash.old).banks area }
-    requires role { IsMirrored area }
-    requires serves { K.serves area (geometry_of (F.device flash.old) area) }
-    requires apart { AreApart area (K.mounted_on trusted.now) }
-    requires version { area.version ≡ (K.mounted_on trusted.now).version }
-    requires fits { let d = F.device flash.old in
-        FitsOn K.room K.prices d area (on K.contents d (K.mounted_on trusted.now)) }
+    requires other { let d = F.device flash.old in
+        MayCopyTrusted K.serves K.mounted_on K.stands K.contents K.room K.prices d trusted.now
+        area }
 
     ensures touches { Touches (area ∷ []) (F.device flash.old) (F.device flash.new)
         (mount_lost result) }

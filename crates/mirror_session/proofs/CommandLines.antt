@@ -38,7 +38,8 @@ use Rattle.mirror_session.specs.Plan.{units_of, is_lost, replan}
 use Rattle.mirror_session.specs.Bench.{Meanings, beside_in, is_gone, moment, rules_of, state_of}
 use Rattle.mirror_session.specs.LineDone.{BothNow, Cuts, CutsBoth, Finds, FitNow, FitsThen, Keeps, LineDone, Replaced, StaysSound, is_quiet, powered_for, replaces, store_areas, worked_on}
 use Rattle.mirror_session.specs.Standing.{IsHeld}
-use Rattle.mirror_session.specs.State.{State, Rules, IsCounted}
+use Rattle.session_table.specs.Rules.{IsCounted}
+use Rattle.mirror_session.specs.State.{State, Rules}
 use Rattle.mirror_session.specs.Step.{Changes, HasOrNot, HasRoom, IsCut, IsDone, IsFree, Step, changing}
 use Rattle.mirror_session.proofs.AccountLemmas.{kept, kept_beside}
 use Rattle.mirror_session.proofs.AccountLemmas as counts

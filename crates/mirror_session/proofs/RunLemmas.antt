@@ -21,9 +21,10 @@ use Rattle.mirror_session.specs.declared.fault.SessionFault.{SessionFault}
 use Rattle.mirror_session.specs.declared.fault.SessionFault.TheVariants.{Damaged, Unfit, NoMemory}
 use Rattle.mirror_session.specs.Bench.{Meanings, Moment, rules_of, state_of}
 use Rattle.mirror_session.specs.Laws.{LinesMakeRuns}
-use Rattle.mirror_session.specs.LineDone.{BothNow, FitNow, FitsThen, Keeps, LineDone, StaysUnplanned, replaces}
+use Rattle.session_table.specs.Bench.{StaysUnplanned}
+use Rattle.mirror_session.specs.LineDone.{BothNow, FitNow, FitsThen, Keeps, LineDone, replaces}
 use Rattle.mirror_session.specs.Running.{LineStops, Ran, RunStops, StopsAt, TellsUnfit, is_mounted, mounted_in, replaced_in}
-use Rattle.mirror_session.specs.State.{IsCounted}
+use Rattle.session_table.specs.Rules.{IsCounted}
 use Rattle.mirror_session.specs.Step.{Step}
 use Rattle.mirror_session.proofs.AccountLemmas.{counted_none}
 

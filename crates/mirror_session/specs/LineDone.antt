@@ -3,7 +3,7 @@ use Rattle.std.specs.Prelude.{◌≡◌, ◌⊎◌, ℕ, ◌+◌, ◌*◌, ◌�
 use Rattle.std.specs.FinMap as finite
 use Rattle.std.specs.List.{slice_get}
 use Rattle.flash_sim.specs.declared.flash.Bank.{Bank}
-use Rattle.flash_sim.specs.Device.{Device, Never, bytes_of, counted, loaded, overwritten}
+use Rattle.flash_sim.specs.Device.{Device, bytes_of, counted, loaded, overwritten}
 use Rattle.flash_map.specs.declared.area.Area.{Area}
 use Rattle.flash_map.specs.Area.{sector_size, value_limit}
 use Rattle.flash_map.specs.On.{on}
@@ -28,7 +28,8 @@ use Rattle.mirror_session.specs.declared.answer.Answer.{Answer}
 use Rattle.mirror_session.specs.declared.answer.Answer.TheVariants.{Told}
 use Rattle.mirror_session.specs.Plan.{units_of, is_lost, replan, Allows, plan_after, PlansNoLoss}
 use Rattle.mirror_session.specs.Bench.{Meanings, Moment, beside_in, labelled, rules_of, state_of}
-use Rattle.mirror_session.specs.State.{State, IsCounted, IsOn}
+use Rattle.session_table.specs.Rules.{IsCounted}
+use Rattle.mirror_session.specs.State.{State, IsOn}
 use Rattle.mirror_session.specs.Step.{Step}
 
 -- a line's value is one that the areas take
@@ -51,10 +52,6 @@ pub record Keeps (areas : List Area) (loads : ℕ) (old new : Device) : Type 0 w
   pub banks : new.banks ≡ old.banks
   pub loaded : new.loads ≡ counted old.loads loads
   pub outside : SameOutside areas old new
-
--- on a flash that tells that no loss is planned none comes, and none is planned afterwards
-abbrev pub StaysUnplanned : Device → Device → Type 0
-StaysUnplanned old new = old.plan ≡ Never → (new.plan ≡ Never) × (new.losses ≡ old.losses)
 
 -- counts and plan
 pub record Accounts (line : Line) (answer : Answer) (old new : Device) : Type 0 where

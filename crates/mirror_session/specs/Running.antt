@@ -10,7 +10,7 @@ use Rattle.migrator.specs.Areas.{selector_of}
 use Rattle.mirror.specs.Mounting.{IsUnfit}
 use Rattle.mirror.specs.Trusted.{MirrorReads, damage_shown, trusted_on}
 use Rattle.script_lines.specs.declared.answer.Answer.TheVariants as settings
-use Rattle.session_table.specs.Bench.{area_at}
+use Rattle.session_table.specs.Bench.{area_at, StaysUnplanned}
 use Rattle.session_table.specs.Follows.{Follows}
 use Rattle.mirror_session.specs.declared.line.Line.{Line}
 use Rattle.mirror_session.specs.declared.line.Line.TheVariants.{Get, Names, Mount, Blank}
@@ -21,9 +21,9 @@ use Rattle.mirror_session.specs.declared.fault.SessionFault.{SessionFault}
 use Rattle.mirror_session.specs.declared.fault.SessionFault.TheVariants.{Damaged, Unfit, NoMemory}
 use Rattle.mirror_session.specs.Bench.{Meanings, Moment, moment, rules_of, state_of}
 use Rattle.mirror_session.specs.Standing.{RestsNow}
-use Rattle.mirror_session.specs.LineDone.{BothNow, FitNow, FitsBoth, Keeps, LineDone, StaysUnplanned, replaces}
+use Rattle.mirror_session.specs.LineDone.{BothNow, FitNow, FitsBoth, Keeps, LineDone, replaces}
 use Rattle.session.specs.OnMap.{turned_on}
-use Rattle.mirror_session.specs.State.{IsCounted}
+use Rattle.session_table.specs.Rules.{IsCounted}
 use Rattle.mirror_session.specs.Step.{Step}
 
 -- how many areas were replaced

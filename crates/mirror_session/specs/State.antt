@@ -1,5 +1,5 @@
 -- What lines on a mirror and their answers are about.
-use Rattle.std.specs.Prelude.{◌≡◌, ℕ, ◌-◌, ◌^◌, ◌<◌, Bool, true, false, List, Option, if◌then◌else◌}
+use Rattle.std.specs.Prelude.{◌≡◌, ℕ, Bool, true, false, List, Option, if◌then◌else◌}
 use Rattle.backend_api.specs.Map.{Map}
 
 pub record State : Type 0 where
@@ -41,7 +41,3 @@ pub record Rules : Type 0 where
 -- the place of the area that is read, which is the trusted one
 abbrev pub trusted_of : Rules → State → ℕ
 trusted_of r s = if s.gone then r.beside s.named else s.named
-
--- this count of units is not at its end
-abbrev pub IsCounted : ℕ → Type 0
-IsCounted spent = spent < 2 ^ 64 - 1

@@ -13,7 +13,8 @@ use Rattle.mirror_session.specs.declared.line.Line.{Line}
 use Rattle.mirror_session.specs.declared.line.Line.TheVariants.{Set, Get, Del, Names, Mount, Cut, Uncut, Blank}
 use Rattle.mirror_session.specs.declared.answer.Answer.{Answer}
 use Rattle.mirror_session.specs.declared.answer.Answer.TheVariants.{Told, On, NoArea, NotYet}
-use Rattle.mirror_session.specs.State.{State, Rules, IsOn, IsOff, IsCounted, trusted_of}
+use Rattle.session_table.specs.Rules.{IsCounted}
+use Rattle.mirror_session.specs.State.{State, Rules, IsOn, IsOff, trusted_of}
 
 -- ---- changing settings
 

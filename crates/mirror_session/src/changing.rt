@@ -17,7 +17,7 @@ use setting_name::Name;
 use std::sync::ledger::Ledger;
 
 // Sets a setting to a value that is not empty.
-pub(crate) fn set_setting<K: Priced, B: Bench, L: Ledger>(
+pub fn set_setting<K: Priced, B: Bench, L: Ledger>(
     bench: &mut B,
     mirror: &mut Mirror<K>,
     map: &FlashMap,
@@ -55,7 +55,7 @@ pub(crate) fn set_setting<K: Priced, B: Bench, L: Ledger>(
 }
 
 // Deletes a setting.
-pub(crate) fn delete_setting<K: Priced, B: Bench, L: Ledger>(
+pub fn delete_setting<K: Priced, B: Bench, L: Ledger>(
     bench: &mut B,
     mirror: &mut Mirror<K>,
     map: &FlashMap,
@@ -84,7 +84,7 @@ pub(crate) fn delete_setting<K: Priced, B: Bench, L: Ledger>(
 }
 
 // Sets a setting, or deletes it where the value is empty.
-pub(crate) fn change_setting<K: Priced, B: Bench, L: Ledger>(
+pub fn change_setting<K: Priced, B: Bench, L: Ledger>(
     bench: &mut B,
     mirror: &mut Mirror<K>,
     map: &FlashMap,

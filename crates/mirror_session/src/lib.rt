@@ -1,8 +1,5 @@
-//! The lines of a script on a mirror of settings, carried out on a flash that may lose power at any
-//! unit.
-//!
-//! The lines of a script on a mirror of settings, the texts of their answers, and the plan of a
-//! loss through them.
+//! Scripts on a mirror of settings: the lines, their answers, and a session that carries them out
+//! on its two areas, power losses included.
 #![tactic(auto)]
 
 mod answer;

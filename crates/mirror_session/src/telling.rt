@@ -31,7 +31,7 @@ fn copied(alloc: Global, bytes: &[u8]) -> Result<Bytes, NoMemory>
 }
 
 // The value of a name.
-pub(crate) fn get_setting<K: Priced, B: Bench, L: Ledger>(
+pub fn get_setting<K: Priced, B: Bench, L: Ledger>(
     alloc: Global,
     bench: &B,
     mirror: &Mirror<K>,
@@ -118,7 +118,7 @@ fn label_of(alloc: Global, area: &Area) -> Result<Label, NoMemory>
 }
 
 // The label of the trusted area and all settings.
-pub(crate) fn tell_all<K: Priced, B: Bench, L: Ledger>(
+pub fn tell_all<K: Priced, B: Bench, L: Ledger>(
     alloc: Global,
     bench: &B,
     mirror: &Mirror<K>,

@@ -2,9 +2,11 @@
 use Rattle.std.proofs.Common.{◌≡◌, ℕ, ◌+◌, ◌<◌, ◌≤◌, Bool, true, false, List, length, Some, is_some, refl, sym, ap, subst, ◌∙◌, inl, inr, arith}
 use Rattle.std.specs.FinMap.{get, insert, contains_key}
 use Rattle.flash_sim.specs.Device.{Device}
+use Rattle.flash_sim.specs.declared.flash.Bank.{Bank}
 use Rattle.flash_map.specs.declared.area.Area.{Area}
 use Rattle.flash_map.specs.declared.area.Geometry.{Geometry}
 use Rattle.flash_map.specs.Area.{geometry_of}
+use Rattle.flash_map.specs.Lawful.{IsLawfulFor}
 use Rattle.flash_map.specs.On.{on}
 use Rattle.item_laws.specs.Costs.{items_cost}
 use Rattle.item_laws.specs.Items.{Items}
@@ -27,6 +29,10 @@ some_same : {A : Type 0} (x y : A) → Some x ≡ Some y → x ≡ y
 some_same x y e = cc
 
 -- ---- the same, on the area that a call hands back
+
+pub moved-lawful : (own other : Area) → other ≡ own → (a b : Device) → b.banks ≡ a.banks → IsLawfulFor a.banks own → IsLawfulFor b.banks other
+moved-lawful own other same a b banks lawful =
+    subst (λ (x : Area). IsLawfulFor b.banks x) (sym same) (subst (λ (list : List Bank). IsLawfulFor list own) (sym banks) lawful)
 
 module _ (numbers : Area → Numbering) (counted : (ℕ → ℕ) → ℕ) (too_many : Map → List ℕ → Bool) (contents : Area → Geometry → List (List ℕ) → Items) (own other : Area) (same : other ≡ own) where
   pub moved-clean : (b : Device) → HasNoStrays (numbers own) (on contents b own) → HasNoStrays (numbers other) (on contents b other)

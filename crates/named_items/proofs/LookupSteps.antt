@@ -8,7 +8,7 @@ use Rattle.setting_name.proofs.NameTest.{is_name-complete, is_name-sound}
 use Rattle.std.specs.FinMap.{get}
 use Rattle.item_laws.specs.Items.{Items}
 use Rattle.named_items.specs.Numbering.{Numbering}
-use Rattle.named_items.specs.Pairs.{count_in, is_pair, pair_of, HasName, IsAt}
+use Rattle.named_items.specs.Pairs.{count_in, is_pair, pair_of, HasName, IsAt, IsInside}
 use Rattle.named_items.proofs.PairLemmas.{Makes, pair-made, made-pair}
 use Rattle.named_items.proofs.RangePairs.{Pair}
 use Rattle.named_items.specs.Looking.{is_value, IsHere}
@@ -63,6 +63,13 @@ module _ (n : Numbering) where
       let made = pair-made n place name first second has in
       is_name-sound name (parts place name made.value made.passes).lawful
 
+  -- both ids of a name up to the count are the store's
+  pub inside-known : (items : Items) (place : ℕ) → IsInside n items place → (top : ℕ) → ((count : Option (List ℕ)) → n.first + n.count_of count + n.step ≤ top) → place + n.step < top
+  inside-known items place inside top within =
+      let room : n.first + count_in n items + n.step ≤ top = within (get items n.count_id) in
+      let to : place < n.first + count_in n items = inside.to in
+      omega arith
+
   module _ (items : Items) (name : List ℕ) (place : ℕ) (at : IsAt n items name place) where
     made : Makes n place name (get items place) (get items (place + n.step))
     made = pair-made n place name (get items place) (get items (place + n.step)) at.here
@@ -76,10 +83,7 @@ module _ (n : Numbering) where
 
     -- both ids are the store's
     pub at-known : (top : ℕ) → ((count : Option (List ℕ)) → n.first + n.count_of count + n.step ≤ top) → place + n.step < top
-    at-known top within =
-        let room : n.first + count_in n items + n.step ≤ top = within (get items n.count_id) in
-        let to : place < n.first + count_in n items = at.inside.to in
-        omega arith
+    at-known top within = inside-known items place at.inside top within
 
 pub named-as : (x y : List ℕ) (o : Option (List ℕ)) → o ≡ Some x → o ≡ Some y → x ≡ y
 named-as x y o a b = cc

@@ -1,7 +1,8 @@
 -- Items that were only removed, one id after the other, also where power was lost.
 use Rattle.std.proofs.Common.{◌≡◌, ◌⊎◌, ℕ, ◌<◌, ◌≤◌, Option, Some, None, Result, Ok, Err, refl, sym, ap, subst, ◌∙◌, inl, inr, arith}
+use Rattle.std.specs.Prelude.{is_err, true}
 use Rattle.std.specs.FinMap.{get, remove}
-use Rattle.std.proofs.lemmas.Bool.{cases_eq}
+use Rattle.std.proofs.lemmas.Bool.{cases_eq, false≢true}
 use Rattle.flash_sim.specs.Device.{Device}
 use Rattle.flash_sim.specs.declared.flash.PowerLost.{PowerLost as Lost}
 use Rattle.item_laws.specs.Items.{Items}
@@ -10,7 +11,7 @@ use Rattle.named_items.specs.Pairs.{IsKept, AltersOnly}
 use Rattle.named_items.proofs.CostLemmas.{get-cut, get-cut_other}
 use Rattle.named_items.proofs.StrayLemmas.{kept-stays}
 use Rattle.named_items.specs.StoreEnds.{IsNextId, DeleteEnds}
-use Rattle.named_items.specs.Strays.{OnlyRemoves, StaysKept, StopsAt}
+use Rattle.named_items.specs.Strays.{OnlyRemoves, RemovalEnds, StaysKept, StopsAt}
 use Rattle.named_items.proofs.SoFar.{HasNoneBefore}
 
 -- ---- one delete, whatever its result
@@ -92,3 +93,7 @@ module _ (start before after : Items) (id : ℕ) (only : AltersOnly before after
         elim (so_far other less) [ inl none ↦ inl (only other apart ∙ none) | inr kept ↦ inr (still other kept) ];
     above = above;
   }
+
+pub removal-cut : {T E : Type 0} (n : Numbering) (before after : Items) (result : Result T E) → is_err result ≡ true → ((id : ℕ) × StopsAt n before after id) → RemovalEnds n before after result
+removal-cut n before after (Ok x) is stops = absurd (false≢true is)
+removal-cut n before after (Err lost) is stops = stops

@@ -5,6 +5,7 @@ pub mod Few
 pub mod Homes
 pub mod Limits
 pub mod Looking
+pub mod Mounted
 pub mod Numbering
 pub mod NvsStore
 pub mod PairHomes

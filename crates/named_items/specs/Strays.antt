@@ -1,11 +1,11 @@
 -- The removal of items that belong to no setting, in rising order of their ids.
-use Rattle.std.specs.Prelude.{◌≡◌, ◌⊎◌, ℕ, ◌+◌, ◌*◌, ◌<◌, ◌≤◌, None}
+use Rattle.std.specs.Prelude.{◌≡◌, ◌⊎◌, ℕ, ◌+◌, ◌*◌, ◌<◌, ◌≤◌, Bool, true, false, None, Result, Ok, Err}
 use Rattle.std.specs.FinMap.{get, len}
 use Rattle.flash_sim.specs.Device.{Device}
-use Rattle.flash_map.specs.Spending.{Spends}
+use Rattle.flash_map.specs.Spending.{Spends, SpendsAtMost}
 use Rattle.item_laws.specs.Items.{Items}
 use Rattle.named_items.specs.Numbering.{Numbering}
-use Rattle.named_items.specs.Pairs.{IsKept}
+use Rattle.named_items.specs.Pairs.{settings_in, AltersOnly, HasNoStrays, IsKept}
 
 -- each item that is kept has the bytes that it had
 abbrev pub KeepsEach : Numbering → Items → Items → Type 0
@@ -35,3 +35,31 @@ pub record SpendsPerItem (most : ℕ) (old new : Device) (before after : Items) 
   pub units : ℕ
   pub at_most : units + len after * most ≤ len before * most
   pub spent : Spends old new units
+
+-- The removal takes strays alone: the settings stay, and each item that is kept; no item is new or has other
+-- bytes.
+pub record KeepsSettings (n : Numbering) (before after : Items) : Type 0 where
+  pub settings : settings_in n after ≡ settings_in n before
+  pub kept : KeepsEach n before after
+  pub gone : OnlyRemoves before after
+
+-- One id was looked at, and its item deleted if it is a stray. Where it is kept, or where no item is a stray,
+-- nothing is programmed; power is lost only where the id has an item.
+pub record LooksAt (n : Numbering) (old new : Device) (before after : Items) (id : ℕ) (lost : Bool) : Type 0
+  where
+    pub others : AltersOnly before after id
+    pub still : StaysKept n before after
+    pub idle : IsKept n before id → new ≡ old
+    pub rests : HasNoStrays n before → new ≡ old
+    pub present : lost ≡ true → ¬ (get before id ≡ None)
+    pub removes : lost ≡ false → Removes n before after id
+
+-- it spent what one removal may, and nothing where the item stays
+pub record SpendsOnOne (most : ℕ) (old new : Device) (before after : Items) (lost : Bool) : Type 0 where
+  pub at_most : SpendsAtMost old new most
+  pub per_item : lost ≡ false → SpendsPerItem most old new before after
+
+-- no stray is left, or power was lost and the removal came as far as one id
+abbrev pub RemovalEnds : {T E : Type 0} → Numbering → Items → Items → Result T E → Type 0
+RemovalEnds n before after (Ok x) = HasNoStrays n after
+RemovalEnds n before after (Err lost) = (id : ℕ) × StopsAt n before after id

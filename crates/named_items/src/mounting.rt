@@ -8,10 +8,11 @@ ghost use Rattle.flash_map.specs.Touches.{Touches};
 ghost use Rattle.backend_api.specs.Ends.{MountEnds};
 ghost use Rattle.backend_api.specs.Room.{mount_units};
 ghost use Rattle.backend_api.specs.Written.{StaysWritten};
-ghost use Rattle.flash_map.specs.On.{on, HoldsOn, StandsOn};
-ghost use Rattle.named_items.specs.Pairs.{settings_in, HasNoStrays};
+ghost use Rattle.flash_map.specs.On.{on, HoldsOn};
+ghost use Rattle.named_items.specs.Mounted.{IsMountedOn};
+ghost use Rattle.named_items.specs.Pairs.{HasNoStrays};
 ghost use Rattle.named_items.specs.Looking.{HasIds};
-ghost use Rattle.named_items.specs.Strays.{KeepsEach, OnlyRemoves};
+ghost use Rattle.named_items.specs.Strays.{KeepsSettings};
 
 use crate::numbers::Numbers;
 use crate::store::ItemStore;
@@ -47,13 +48,7 @@ pub fn mount_store<N: Numbers, S: ItemStore, F: Flash, L: Ledger>(
     ensures sound { on S.damage (F.device flash.old) area ≡ None
         → on S.damage (F.device flash.new) area ≡ None }
     ensures keeps { on S.damage (F.device flash.old) area ≡ None
-        → settings_in (N.numbers area) (on S.contents (F.device flash.new) area)
-        ≡ settings_in (N.numbers area) (on S.contents (F.device flash.old) area) }
-    ensures kept { on S.damage (F.device flash.old) area ≡ None
-        → KeepsEach (N.numbers area) (on S.contents (F.device flash.old) area)
-        (on S.contents (F.device flash.new) area) }
-    ensures gone { on S.damage (F.device flash.old) area ≡ None
-        → OnlyRemoves (on S.contents (F.device flash.old) area)
+        → KeepsSettings (N.numbers area) (on S.contents (F.device flash.old) area)
         (on S.contents (F.device flash.new) area) }
     ensures rests { HoldsOn S.rests (F.device flash.old) area
         → HasNoStrays (N.numbers area) (on S.contents (F.device flash.old) area)
@@ -61,11 +56,9 @@ pub fn mount_store<N: Numbers, S: ItemStore, F: Flash, L: Ledger>(
     ensures written { StaysWritten (F.device flash.old) (F.device flash.new) area }
     ensures at_most { let d = F.device flash.old in
         SpendsAtMost d (F.device flash.new) (mount_units (geometry_of d area)) }
-    ensures on { IfOk result (λ store. S.mounted_on store ≡ area) }
-    ensures stands { IfOk result
-        (λ store. StandsOn S.mounted_on S.stands (F.device flash.new) store) }
-    ensures clean { IfOk result
-        (λ store. HasNoStrays (N.numbers area) (on S.contents (F.device flash.new) area)) }
+    ensures store { let e = F.device flash.new in
+        IfOk result
+        (λ store. IsMountedOn S.mounted_on S.stands S.contents N.numbers e area store) }
 {
     match S::mount(alloc, flash, area, steps) {
         Ok(mut store) => match remove_strays::<N, S, F, L>(&mut store, flash, steps) {

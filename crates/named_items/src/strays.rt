@@ -1,5 +1,5 @@
 // The removal of items that belong to no setting.
-ghost use Rattle.std.specs.Prelude.{◌≡◌, ◌*◌, ◌<◌, ◌∷◌, [], ℕ, false, true, None, is_err};
+ghost use Rattle.std.specs.Prelude.{◌≡◌, ◌*◌, ◌<◌, ◌∷◌, [], false, is_err};
 ghost use Rattle.std.specs.FinMap as finite;
 ghost use Rattle.flash_map.specs.Area.{geometry_of};
 ghost use Rattle.flash_map.specs.Lawful.{IsLawfulFor};
@@ -8,9 +8,10 @@ ghost use Rattle.flash_map.specs.Touches.{Touches};
 ghost use Rattle.flash_map.specs.On.{on, HoldsOn, StandsOn};
 ghost use Rattle.backend_api.specs.Room.{removal_units};
 ghost use Rattle.backend_api.specs.Written.{StaysWritten};
-ghost use Rattle.named_items.specs.Pairs.{settings_in, AltersOnly, HasNoStrays, IsKept};
+ghost use Rattle.named_items.specs.Mounted.{StaysMounted};
+ghost use Rattle.named_items.specs.Pairs.{HasNoStrays};
 ghost use Rattle.named_items.specs.Looking.{HasIds};
-ghost use Rattle.named_items.specs.Strays.{KeepsEach, OnlyRemoves, Removes, SpendsPerItem, StaysKept, StopsAt};
+ghost use Rattle.named_items.specs.Strays.{KeepsSettings, LooksAt, RemovalEnds, SpendsOnOne};
 
 use crate::numbers::Numbers;
 use crate::store::ItemStore;
@@ -35,54 +36,27 @@ pub fn remove_if_stray<N: Numbers, S: ItemStore, F: Flash, L: Ledger>(
     requires lawful { IsLawfulFor (F.device flash.old).banks (S.mounted_on store.old) }
     requires stands { StandsOn S.mounted_on S.stands (F.device flash.old) store.old }
     requires tells { HoldsOn (S.tells index.old) (F.device flash.old) (S.mounted_on store.old) }
-    requires sound { on S.damage (F.device flash.old) (S.mounted_on store.old) ≡ None }
     requires known { id < N.top }
 
     ensures touches { Touches (S.mounted_on store.old ∷ []) (F.device flash.old)
         (F.device flash.new) (is_err result) }
-    ensures area { S.mounted_on store.new ≡ S.mounted_on store.old }
-    ensures sound { on S.damage (F.device flash.new) (S.mounted_on store.old) ≡ None }
+    ensures store { StaysMounted S.mounted_on S.stands S.runs S.damage (F.device flash.new)
+        store.old store.new (is_err result) }
     ensures keeps { let area = S.mounted_on store.old in
-        settings_in (N.numbers area) (on S.contents (F.device flash.new) area)
-        ≡ settings_in (N.numbers area) (on S.contents (F.device flash.old) area) }
-    ensures kept { let area = S.mounted_on store.old in
-        KeepsEach (N.numbers area) (on S.contents (F.device flash.old) area)
+        KeepsSettings (N.numbers area) (on S.contents (F.device flash.old) area)
         (on S.contents (F.device flash.new) area) }
-    ensures still { let area = S.mounted_on store.old in
-        StaysKept (N.numbers area) (on S.contents (F.device flash.old) area)
-        (on S.contents (F.device flash.new) area) }
-    ensures others { let area = S.mounted_on store.old in
-        AltersOnly (on S.contents (F.device flash.old) area)
-        (on S.contents (F.device flash.new) area) id }
-    ensures gone { let area = S.mounted_on store.old in
-        OnlyRemoves (on S.contents (F.device flash.old) area)
-        (on S.contents (F.device flash.new) area) }
-    ensures idle { let area = S.mounted_on store.old in
-        IsKept (N.numbers area) (on S.contents (F.device flash.old) area) id
-        → F.device flash.new ≡ F.device flash.old }
-    ensures per_item { let d = F.device flash.old in let e = F.device flash.new in
+    ensures ends { let d = F.device flash.old in let e = F.device flash.new in
         let area = S.mounted_on store.old in
-        is_err result ≡ false
-        → SpendsPerItem (removal_units (geometry_of d area)) d e (on S.contents d area)
-        (on S.contents e area) }
-    ensures at_most { let d = F.device flash.old in
-        SpendsAtMost d (F.device flash.new)
-        (removal_units (geometry_of d (S.mounted_on store.old))) }
-    ensures present { is_err result ≡ true
-        → ¬ (finite.get (on S.contents (F.device flash.old) (S.mounted_on store.old)) id ≡ None) }
+        LooksAt (N.numbers area) d e (on S.contents d area) (on S.contents e area) id
+        (is_err result) }
+    ensures units { let d = F.device flash.old in let e = F.device flash.new in
+        let area = S.mounted_on store.old in
+        SpendsOnOne (removal_units (geometry_of d area)) d e (on S.contents d area)
+        (on S.contents e area) (is_err result) }
     ensures written { StaysWritten (F.device flash.old) (F.device flash.new)
         (S.mounted_on store.old) }
-    ensures rests { let area = S.mounted_on store.old in
-        HasNoStrays (N.numbers area) (on S.contents (F.device flash.old) area)
-        → F.device flash.new ≡ F.device flash.old }
-    ensures stands { is_err result ≡ false
-        → StandsOn S.mounted_on S.stands (F.device flash.new) store.new }
     ensures tells { is_err result ≡ false
         → HoldsOn (S.tells index.new) (F.device flash.new) (S.mounted_on store.new) }
-    ensures removes { let area = S.mounted_on store.old in
-        is_err result ≡ false
-        → Removes (N.numbers area) (on S.contents (F.device flash.old) area)
-        (on S.contents (F.device flash.new) area) id }
 {
     if N::is_kept(store, flash, index, id, steps) {
         return Ok(());
@@ -108,25 +82,17 @@ pub fn remove_strays<N: Numbers, S: ItemStore, F: Flash, L: Ledger>(
     requires ids { HasIds N.top S.is_id }
     requires lawful { IsLawfulFor (F.device flash.old).banks (S.mounted_on store.old) }
     requires stands { StandsOn S.mounted_on S.stands (F.device flash.old) store.old }
-    requires sound { on S.damage (F.device flash.old) (S.mounted_on store.old) ≡ None }
 
     ensures touches { Touches (S.mounted_on store.old ∷ []) (F.device flash.old)
         (F.device flash.new) (is_err result) }
-    ensures area { S.mounted_on store.new ≡ S.mounted_on store.old }
-    ensures sound { on S.damage (F.device flash.new) (S.mounted_on store.old) ≡ None }
+    ensures store { StaysMounted S.mounted_on S.stands S.runs S.damage (F.device flash.new)
+        store.old store.new (is_err result) }
     ensures keeps { let area = S.mounted_on store.old in
-        settings_in (N.numbers area) (on S.contents (F.device flash.new) area)
-        ≡ settings_in (N.numbers area) (on S.contents (F.device flash.old) area) }
-    ensures kept { let area = S.mounted_on store.old in
-        KeepsEach (N.numbers area) (on S.contents (F.device flash.old) area)
+        KeepsSettings (N.numbers area) (on S.contents (F.device flash.old) area)
         (on S.contents (F.device flash.new) area) }
-    ensures gone { let area = S.mounted_on store.old in
-        OnlyRemoves (on S.contents (F.device flash.old) area)
-        (on S.contents (F.device flash.new) area) }
-    ensures order { let d = F.device flash.old in let e = F.device flash.new in
-        let area = S.mounted_on store.old in
-        is_err result ≡ true
-        → (id : ℕ) × StopsAt (N.numbers area) (on S.contents d area) (on S.contents e area) id }
+    ensures ends { let area = S.mounted_on store.old in
+        RemovalEnds (N.numbers area) (on S.contents (F.device flash.old) area)
+        (on S.contents (F.device flash.new) area) result }
     ensures at_most { let d = F.device flash.old in let area = S.mounted_on store.old in
         SpendsAtMost d (F.device flash.new)
         (finite.len (on S.contents d area) * removal_units (geometry_of d area)) }
@@ -135,11 +101,6 @@ pub fn remove_strays<N: Numbers, S: ItemStore, F: Flash, L: Ledger>(
     ensures rests { let area = S.mounted_on store.old in
         HasNoStrays (N.numbers area) (on S.contents (F.device flash.old) area)
         → F.device flash.new ≡ F.device flash.old }
-    ensures stands { is_err result ≡ false
-        → StandsOn S.mounted_on S.stands (F.device flash.new) store.new }
-    ensures clean { let area = S.mounted_on store.old in
-        is_err result ≡ false
-        → HasNoStrays (N.numbers area) (on S.contents (F.device flash.new) area) }
 {
     let mut index = S::new_index();
     store.tell(flash, &mut index, steps);

@@ -1,5 +1,5 @@
 // Writing and deleting the two items of a setting.
-ghost use Rattle.std.specs.Prelude.{◌≡◌, ◌⊎◌, ℕ, ◌+◌, ◌*◌, ◌<◌, ◌∷◌, [], true, false, None, is_err, length};
+ghost use Rattle.std.specs.Prelude.{◌≡◌, ℕ, ◌+◌, ◌*◌, ◌<◌, ◌∷◌, [], None, is_err, length};
 ghost use Rattle.std.specs.FinMap as finite;
 ghost use Rattle.flash_map.specs.Area.{geometry_of};
 ghost use Rattle.flash_map.specs.Faults.{write_lost};
@@ -7,12 +7,13 @@ ghost use Rattle.flash_map.specs.Lawful.{IsLawfulFor};
 ghost use Rattle.flash_map.specs.Spending.{SpendsAtMost};
 ghost use Rattle.flash_map.specs.Touches.{Touches};
 ghost use Rattle.flash_map.specs.On.{on, StandsOn};
-ghost use Rattle.backend_api.specs.Ends.{DeleteEnds};
 ghost use Rattle.backend_api.specs.Room.{most_units};
 ghost use Rattle.named_items.specs.StoreEnds as items;
-ghost use Rattle.named_items.specs.Pairs.{settings_in, HasNoStrays, IsAt};
+ghost use Rattle.named_items.specs.Pairs.{IsAt};
 ghost use Rattle.named_items.specs.Ends.{AltersTwo, DeletesPair, PutsPair};
 ghost use Rattle.named_items.specs.Looking.{HasIds};
+ghost use Rattle.named_items.specs.Mounted.{IsMounted, StaysMounted};
+ghost use Rattle.named_items.specs.Putting.{DeleteLeavesOn};
 
 use crate::lookup::standing_place;
 use crate::numbers::Numbers;
@@ -43,16 +44,13 @@ pub fn delete_pair<S: ItemStore, F: Flash, L: Ledger>(
 
     ensures touches { Touches (S.mounted_on store.old ∷ []) (F.device flash.old)
         (F.device flash.new) (is_err result) }
-    ensures area { S.mounted_on store.new ≡ S.mounted_on store.old }
+    ensures store { StaysMounted S.mounted_on S.stands S.runs S.damage (F.device flash.new)
+        store.old store.new (is_err result) }
     ensures ends { let area = S.mounted_on store.old in
         DeletesPair (on S.contents (F.device flash.old) area)
         (on S.contents (F.device flash.new) area) first second result }
     ensures at_most { let d = F.device flash.old in
         SpendsAtMost d (F.device flash.new) (most_units (geometry_of d (S.mounted_on store.old))) }
-    ensures sound { on S.damage (F.device flash.new) (S.mounted_on store.old) ≡ None }
-    ensures stands { is_err result ≡ false
-        → StandsOn S.mounted_on S.stands (F.device flash.new) store.new }
-    ensures down { is_err result ≡ true → S.runs store.new ≡ false }
 {
     store.delete(flash, first, steps)?;
     store.delete(flash, second, steps)
@@ -69,18 +67,15 @@ pub fn delete_name<N: Numbers, S: ItemStore, F: Flash, L: Ledger>(
     steps: &mut Steps<L>,
 ) -> Result<(), PowerLost>
     requires ids { HasIds N.top S.is_id }
-    requires lawful { IsLawfulFor (F.device flash.old).banks (S.mounted_on store.old) }
-    requires stands { StandsOn S.mounted_on S.stands (F.device flash.old) store.old }
-    requires clean { let area = S.mounted_on store.old in
-        HasNoStrays (N.numbers area) (on S.contents (F.device flash.old) area) }
+    requires here { IsMounted S.mounted_on S.stands S.contents N.numbers (F.device flash.old)
+        store.old }
 
     ensures touches { Touches (S.mounted_on store.old ∷ []) (F.device flash.old)
         (F.device flash.new) (is_err result) }
-    ensures area { S.mounted_on store.new ≡ S.mounted_on store.old }
-    ensures ends { let area = S.mounted_on store.old in let d = F.device flash.old in
-        let e = F.device flash.new in
-        DeleteEnds d e (settings_in (N.numbers area) (on S.contents d area))
-        (settings_in (N.numbers area) (on S.contents e area)) name.now result }
+    ensures store { StaysMounted S.mounted_on S.stands S.runs S.damage (F.device flash.new)
+        store.old store.new (is_err result) }
+    ensures ends { DeleteLeavesOn N.numbers S.contents (F.device flash.old) (F.device flash.new)
+        (S.mounted_on store.old) name.now result }
     ensures others { let area = S.mounted_on store.old in
         let before = on S.contents (F.device flash.old) area in
         let after = on S.contents (F.device flash.new) area in
@@ -88,17 +83,6 @@ pub fn delete_name<N: Numbers, S: ItemStore, F: Flash, L: Ledger>(
         → AltersTwo before after place (place + (N.numbers area).step) }
     ensures at_most { let d = F.device flash.old in
         SpendsAtMost d (F.device flash.new) (most_units (geometry_of d (S.mounted_on store.old))) }
-    ensures sound { on S.damage (F.device flash.new) (S.mounted_on store.old) ≡ None }
-    ensures cut { let area = S.mounted_on store.old in
-        let before = settings_in (N.numbers area) (on S.contents (F.device flash.old) area) in
-        let after = settings_in (N.numbers area) (on S.contents (F.device flash.new) area) in
-        is_err result ≡ true → (after ≡ before) ⊎ (after ≡ finite.remove before name.now) }
-    ensures stands { is_err result ≡ false
-        → StandsOn S.mounted_on S.stands (F.device flash.new) store.new }
-    ensures clean { let area = S.mounted_on store.old in
-        is_err result ≡ false
-        → HasNoStrays (N.numbers area) (on S.contents (F.device flash.new) area) }
-    ensures down { is_err result ≡ true → S.runs store.new ≡ false }
 {
     match standing_place::<N, S, F, L>(store, flash, name, steps) {
         Some(place) => delete_pair(store, flash, place, place + N::step(), steps),
@@ -133,7 +117,8 @@ pub fn put_pair<S: ItemStore, F: Flash, L: Ledger>(
 
     ensures touches { Touches (S.mounted_on store.old ∷ []) (F.device flash.old)
         (F.device flash.new) (write_lost result) }
-    ensures area { S.mounted_on store.new ≡ S.mounted_on store.old }
+    ensures store { StaysMounted S.mounted_on S.stands S.runs S.damage (F.device flash.new)
+        store.old store.new (write_lost result) }
     ensures ends { let area = S.mounted_on store.old in
         let g = geometry_of (F.device flash.old) area in
         PutsPair (S.price g) (S.cap g) area.sectors (on S.contents (F.device flash.old) area)
@@ -141,10 +126,6 @@ pub fn put_pair<S: ItemStore, F: Flash, L: Ledger>(
     ensures at_most { let d = F.device flash.old in
         SpendsAtMost d (F.device flash.new)
         (3 * items.most_units (geometry_of d (S.mounted_on store.old))) }
-    ensures sound { on S.damage (F.device flash.new) (S.mounted_on store.old) ≡ None }
-    ensures stands { write_lost result ≡ false
-        → StandsOn S.mounted_on S.stands (F.device flash.new) store.new }
-    ensures down { write_lost result ≡ true → S.runs store.new ≡ false }
 {
     match store.write(flash, second, value, steps) {
         Ok(()) => {}

@@ -1,2 +1,3 @@
-//! The sectors of NVS as one store of items asks for them.
+//! How NVS sectors read, as `item_store` asks of a sector format: entries, damage, and what each
+//! step costs.
 #![tactic(auto)]

@@ -1,8 +1,5 @@
-//! A store of items in the sectors of NVS: it mounts, collects garbage, and reads, writes and
-//! deletes items. It is the one store over any sectors, with ids of 16 bits. Wherever power is
-//! lost, the items are those from before the call or those after it.
-//!
-//! The sectors of NVS for one store of items.
+//! The NVS store: items with ids of 16 bits, mounted, written and garbage collected by `item_store`
+//! over NVS sectors. A call cut by a power loss leaves the items from before it or those after it.
 #![tactic(auto)]
 
 mod nvs;

@@ -1,9 +1,14 @@
 -- What is said of an NVS area on a device: its scan, damage and list, and what steps make of it.
-use Rattle.std.specs.Prelude.{◌≡◌, ℕ, ◌/◌, Bool, true, List, [], ◌∷◌, ◌++◌, Option, None, IsTrue}
+use Rattle.std.specs.Prelude.{◌≡◌, ℕ, ◌+◌, ◌/◌, ◌<◌, ◌≤◌, Bool, true, List, [], ◌∷◌, ◌++◌, Option, None, IsTrue, Result, OnOk, OnErr}
 use Rattle.flash_sim.specs.Device.{Device}
 use Rattle.flash_map.specs.declared.area.Area.{Area}
 use Rattle.flash_map.specs.declared.faults.Damaged.{Damaged}
 use Rattle.flash_map.specs.Area.{unit_of, sector_size, sectors_of, sector_bytes}
+use Rattle.flash_map.specs.declared.area.Role.TheVariants.{Nvs}
+use Rattle.flash_map.specs.declared.pieces.TheConstants.{PIECE}
+use Rattle.flash_map.specs.Lawful.{IsLawfulFor}
+use Rattle.flash_map.specs.Pieces.{LosesWithin}
+use Rattle.flash_map.specs.Spending.{Spends, SpendsAtMost}
 use Rattle.flash_map.specs.Units.{is_erased}
 use Rattle.item_laws.specs.Items.{Items, items_of}
 use Rattle.item_laws.specs.Area.{is_closed_at, counts_at, open_sector}
@@ -11,6 +16,7 @@ use Rattle.nvs_store.specs.declared.scan.Found.{Found}
 use Rattle.nvs_store.specs.declared.scan.Redo.{Redo}
 use Rattle.nvs_store.specs.declared.scan.Scan.{Scan}
 use Rattle.nvs_store.specs.Geometry.{slot_size, cost, capacity}
+use Rattle.nvs_store.specs.Images.{after_append}
 use Rattle.nvs_store.specs.Sector.{is_sound}
 use Rattle.nvs_store.specs.Scans.{reading, scan_of, redo_of, fits, damage_of, list_of, all_placed, counted_in, last_placed, placed_bytes, AddsPairAt, StopsAddingAt, MarksDoneAt, StopsMarkingAt, ClosesAt}
 
@@ -127,3 +133,32 @@ StopsMarkingOn old new area place =
 
 abbrev pub ClosesOn : Device → Device → Area → ℕ → Type 0
 ClosesOn old new area place = ClosesAt (unit_of old area) (sectors_of old area) (sectors_of new area) place
+
+-- ---- what a call in the open sector asks for, and how it ends
+
+-- The area of a store, with the scan that a mount makes of it.
+pub record IsScanned (d : Device) (on : Area) (held : Scan) : Type 0 where
+  pub lawful : IsLawfulFor d.banks on
+  pub role : on.role ≡ Nvs
+  pub scan : held ≡ scan_on d on
+
+-- An ordinary entry of another sector, whose data ends in that sector.
+pub record IsSource (d : Device) (on : Area) (held : Scan) (from : Found) : Type 0 where
+  pub has_source : from.sector < on.sectors
+  pub other : from.sector ≡ held.current → ⊥
+  pub ordinary : from.entry.id < 0xFFFF
+  pub inside : from.entry.offset + from.entry.len ≤ sector_size d on
+
+-- How a call ends that puts a pair in the open sector. `before` is the scan that it got, `after` the one it
+-- left.
+pub record PairEnds {X E : Type 0} (old new : Device) (on : Area) (before after : Scan) (id len : ℕ)
+    (bytes : List ℕ) (result : Result X E) : Type 0 where
+  pub ok : OnOk result (AddsPairOn old new on before.current id bytes)
+  pub image : OnOk result
+      (sector_bytes new on before.current
+      ≡ after_append (unit_of old on) (sector_bytes old on before.current) id bytes)
+  pub scan : OnOk result (after ≡ scan_on new on)
+  pub spent : OnOk result (Spends old new (entry_units old on len))
+  pub lost : OnErr result (StopsAddingOn old new on before.current id bytes)
+  pub in_pieces : OnErr result (LosesWithin PIECE old new)
+  pub spent_at_most : OnErr result (SpendsAtMost old new (entry_units old on len))

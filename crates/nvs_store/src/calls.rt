@@ -1,18 +1,14 @@
 // The calls that program the open sector of an area.
 ghost use Rattle.std.specs.Prelude.{◌≡◌, ◌⊎◌, ◌+◌, ◌/◌, ◌*◌, ◌^◌, ◌<◌, ◌≤◌, ◌∷◌, [], ◌++◌, length, is_err, true, false, OnOk, OnErr};
-ghost use Rattle.flash_map.specs.declared.area.Role.TheVariants.{Nvs};
-ghost use Rattle.flash_map.specs.Area.{unit_of, sector_size, sectors_of, sector_bytes};
-ghost use Rattle.flash_map.specs.Lawful.{IsLawfulFor};
-ghost use Rattle.flash_map.specs.Pieces.{LosesWithin};
+ghost use Rattle.flash_map.specs.Area.{unit_of, sectors_of, sector_bytes};
 ghost use Rattle.flash_map.specs.Spending.{Spends, SpendsAtMost};
-ghost use Rattle.flash_map.specs.declared.pieces.TheConstants.{PIECE};
 ghost use Rattle.flash_map.specs.Touches.{Touches};
 ghost use Rattle.nvs_store.specs.declared.scan.Redo.TheVariants.{Nothing};
 ghost use Rattle.nvs_store.specs.Geometry.{slot_size, cost};
-ghost use Rattle.nvs_store.specs.Images.{after_append, after_gc_done, after_close};
+ghost use Rattle.nvs_store.specs.Images.{after_gc_done, after_close};
 ghost use Rattle.nvs_store.specs.Sector.{special_entry, is_sound, pairs, pairs_cost};
 ghost use Rattle.nvs_store.specs.Scans.{free};
-ghost use Rattle.nvs_store.specs.On.{AddsPairOn, AppendsOn, ClosesOn, FitsOn, KeepsListOn, MarksDoneOn, StaysSoundOn, StaysUndamaged, StopsAddingOn, StopsMarkingOn, bytes_on, capacity_on, entry_units, is_closed_on, scan_on, slot_units};
+ghost use Rattle.nvs_store.specs.On.{AppendsOn, ClosesOn, FitsOn, KeepsListOn, IsScanned, IsSource, MarksDoneOn, PairEnds, StaysSoundOn, StaysUndamaged, StopsMarkingOn, bytes_on, capacity_on, is_closed_on, scan_on, slot_units};
 
 use crate::entry::{Entry, SPECIAL_ID, encode_entry};
 use crate::geometry::slot_size;
@@ -35,38 +31,21 @@ pub fn append<F: Flash>(
     id: u16,
     bytes: &[u8],
 ) -> Result<(), PowerLost>
-    requires lawful { IsLawfulFor (F.device flash.old).banks area.now }
-    requires role { area.now.role ≡ Nvs }
-    requires scan { scan.old ≡ scan_on (F.device flash.old) area.now }
+    requires scanned { IsScanned (F.device flash.old) area.now scan.old }
     requires redo { scan.old.redo ≡ Nothing }
     requires ordinary { id < 0xFFFF }
     requires fits { FitsOn (F.device flash.old) area.now scan.old (length bytes.now) }
 
     ensures touches { Touches (area.now ∷ []) (F.device flash.old) (F.device flash.new)
         (is_err result) }
-    ensures ok { let d = F.device flash.old in
-        OnOk result (AddsPairOn d (F.device flash.new) area.now scan.old.current id bytes.now) }
-    ensures image { let d = F.device flash.old in
-        OnOk result
-        (sector_bytes (F.device flash.new) area.now scan.old.current
-        ≡ after_append (unit_of d area.now) (sector_bytes d area.now scan.old.current) id
-        bytes.now) }
+    ensures ends { let d = F.device flash.old in let e = F.device flash.new in
+        PairEnds d e area.now scan.old scan.new id (length bytes.now) bytes.now result }
     ensures list { OnOk result
         (AppendsOn (F.device flash.old) (F.device flash.new) area.now id bytes.now) }
-    ensures scan { OnOk result (scan.new ≡ scan_on (F.device flash.new) area.now) }
-    ensures spent { let d = F.device flash.old in
-        OnOk result (Spends d (F.device flash.new) (entry_units d area.now (length bytes.now))) }
-
-    ensures lost { let d = F.device flash.old in
-        OnErr result (StopsAddingOn d (F.device flash.new) area.now scan.old.current id bytes.now) }
     ensures list_lost { let d = F.device flash.old in
         OnErr result
         (KeepsListOn d (F.device flash.new) area.now
         ⊎ AppendsOn d (F.device flash.new) area.now id bytes.now) }
-    ensures in_pieces { OnErr result (LosesWithin PIECE (F.device flash.old) (F.device flash.new)) }
-    ensures spent_at_most { let d = F.device flash.old in
-        OnErr result
-        (SpendsAtMost d (F.device flash.new) (entry_units d area.now (length bytes.now))) }
     ensures sound { StaysSoundOn (F.device flash.old) (F.device flash.new) area.now
         scan.old.current }
     ensures undamaged { StaysUndamaged (F.device flash.old) (F.device flash.new) area.now }
@@ -101,41 +80,16 @@ pub fn copy_entry<F: Flash, L: Ledger>(
     from: &Found,
     steps: &mut Steps<L>,
 ) -> Result<(), PowerLost>
-    requires lawful { IsLawfulFor (F.device flash.old).banks area.now }
-    requires role { area.now.role ≡ Nvs }
-    requires scan { scan.old ≡ scan_on (F.device flash.old) area.now }
-    requires has_source { from.now.sector < area.now.sectors }
-    requires other { from.now.sector ≡ scan.old.current → ⊥ }
-    requires ordinary { from.now.entry.id < 0xFFFF }
-    requires inside { from.now.entry.offset + from.now.entry.len
-        ≤ sector_size (F.device flash.old) area.now }
+    requires scanned { IsScanned (F.device flash.old) area.now scan.old }
+    requires source { IsSource (F.device flash.old) area.now scan.old from.now }
     requires free { let unit = unit_of (F.device flash.old) area.now in
         cost unit from.now.entry.len + 3 * slot_size unit ≤ free scan.old }
 
     ensures touches { Touches (area.now ∷ []) (F.device flash.old) (F.device flash.new)
         (is_err result) }
-    ensures ok { let d = F.device flash.old in
-        OnOk result
-        (AddsPairOn d (F.device flash.new) area.now scan.old.current from.now.entry.id
-        (bytes_on d area.now from.now)) }
-    ensures image { let d = F.device flash.old in
-        let bytes = sector_bytes d area.now scan.old.current in
-        OnOk result
-        (sector_bytes (F.device flash.new) area.now scan.old.current
-        ≡ after_append (unit_of d area.now) bytes from.now.entry.id
-        (bytes_on d area.now from.now)) }
-    ensures scan { OnOk result (scan.new ≡ scan_on (F.device flash.new) area.now) }
-    ensures spent { let d = F.device flash.old in
-        OnOk result (Spends d (F.device flash.new) (entry_units d area.now from.now.entry.len)) }
-
-    ensures lost { let d = F.device flash.old in
-        OnErr result
-        (StopsAddingOn d (F.device flash.new) area.now scan.old.current from.now.entry.id
-        (bytes_on d area.now from.now)) }
-    ensures in_pieces { OnErr result (LosesWithin PIECE (F.device flash.old) (F.device flash.new)) }
-    ensures spent_at_most { let d = F.device flash.old in
-        OnErr result
-        (SpendsAtMost d (F.device flash.new) (entry_units d area.now from.now.entry.len)) }
+    ensures ends { let d = F.device flash.old in let e = F.device flash.new in
+        PairEnds d e area.now scan.old scan.new from.now.entry.id from.now.entry.len
+        (bytes_on d area.now from.now) result }
 {
     let unit = geometry(flash, area).unit;
     let entry = Entry {
@@ -178,9 +132,7 @@ fn special(place: u32) -> Entry
 /// `PowerLost`: the open sector's part of the list is as before, and so is whether gc-done stands. A slot may be used
 /// up. The area is to be mounted again.
 pub fn put_done<F: Flash>(flash: &mut F, area: &Area, scan: &mut Scan) -> Result<(), PowerLost>
-    requires lawful { IsLawfulFor (F.device flash.old).banks area.now }
-    requires role { area.now.role ≡ Nvs }
-    requires scan { scan.old ≡ scan_on (F.device flash.old) area.now }
+    requires scanned { IsScanned (F.device flash.old) area.now scan.old }
     requires free { 2 * slot_size (unit_of (F.device flash.old) area.now) ≤ free scan.old }
 
     ensures touches { Touches (area.now ∷ []) (F.device flash.old) (F.device flash.new)
@@ -220,9 +172,7 @@ pub fn put_done<F: Flash>(flash: &mut F, area: &Area, scan: &mut Scan) -> Result
 /// # Errors
 /// `PowerLost`: no byte of the area changed, or the sector is closed. The area is to be mounted again.
 pub fn put_close<F: Flash>(flash: &mut F, area: &Area, scan: &Scan) -> Result<(), PowerLost>
-    requires lawful { IsLawfulFor (F.device flash.old).banks area.now }
-    requires role { area.now.role ≡ Nvs }
-    requires scan { scan.now ≡ scan_on (F.device flash.old) area.now }
+    requires scanned { IsScanned (F.device flash.old) area.now scan.now }
     requires not_closed { is_closed_on (F.device flash.old) area.now scan.now.current ≡ false }
 
     ensures touches { Touches (area.now ∷ []) (F.device flash.old) (F.device flash.new)

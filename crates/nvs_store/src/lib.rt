@@ -1,4 +1,5 @@
-//! The entries of an NVS store in the sectors of an area.
+//! One NVS sector, with the scan of its area: entries are appended, copied, marked done, closed and
+//! looked up here.
 #![tactic(auto)]
 
 mod calls;
@@ -17,6 +18,6 @@ pub use geometry::{capacity, cost, fits, slot_size};
 pub use lookup::{find, walk};
 pub use mounting::mount_scan;
 pub use places::{is_blank, is_closed};
-pub use scan::{Found, Redo, Scan, SlotEntry, is_hidden};
+pub use scan::{Found, Redo, Scan, SlotEntry};
 pub use sector::{find_in, scan_sector};
 pub use slots::{counting_entry, used_count};

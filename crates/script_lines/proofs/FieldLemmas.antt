@@ -9,7 +9,7 @@ use Rattle.script_lines.specs.declared.why.LineWhy.{LineWhy}
 use Rattle.script_lines.specs.declared.why.LineFault.{LineFault}
 use Rattle.script_lines.specs.declared.why.LineFault.TheVariants.{Refused, NoMemory}
 use Rattle.script_lines.specs.declared.why.LineWhy.TheVariants.{Unknown, Words, Name, Kind, Hex, Long, Number}
-use Rattle.script_lines.specs.Forms.{Field, Said, IsHex, IsDash, IsNoHex, IsNoKind, IsTooLong, kind_word, SaysField, SaysAll, HasFault, SomeFault, rank, IsFirstFault, RefusesFields, ReadsField, ReadsFields, ReadsNameOrNothing}
+use Rattle.script_lines.specs.Forms.{Field, Said, IsHex, IsDash, IsNoHex, IsNoKind, IsTooLong, kind_word, SaysField, SaysAll, HasFault, SomeFault, rank, IsFirstFault, SomeTakesMemory, RefusesFields, ReadsField, ReadsFields, ReadsNameOrNothing}
 use Rattle.script_lines.specs.Forms.Field.{a_name, a_label, a_kind, some_bytes, any_bytes, below}
 use Rattle.script_lines.specs.Forms.Said.{name, label, kind, bytes, number}
 
@@ -215,7 +215,7 @@ alone_refused limit field word why fault =
 by_alone : {T : Type 0} (limit : ℕ) (field : Field) (say : T → Said) (word : List ℕ) (r : Result T LineFault) → ReadsField limit field say word r → ReadsFields limit (field ∷ []) (λ x. say x ∷ []) (word ∷ []) r
 by_alone limit field say word (Ok x) reads = (reads, tt)
 by_alone limit field say word (Err (Refused why)) reads = alone_refused limit field word why reads
-by_alone limit field say word (Err NoMemory) reads = tt
+by_alone limit field say word (Err NoMemory) reads = inl reads
 
 pub alone : {T : Type 0} (limit : ℕ) (field : Field) (say : T → Said) (word : List ℕ) (operands : List (List ℕ)) (r : Result T LineFault) → operands ≡ word ∷ [] → ReadsField limit field say word r
     → ReadsFields limit (field ∷ []) (λ x. say x ∷ []) operands r
@@ -248,13 +248,13 @@ pub first_err : {S T : Type 0} (limit : ℕ) (field : Field) (said : S → Said)
     → ReadsField limit a_name said word (Err e) → ReadsFields limit (a_name ∷ field ∷ []) say operands (Err e)
 first_err limit field said say word second operands (Refused why) are reads =
     subst (λ (operands : List (List ℕ)). RefusesFields limit (a_name ∷ field ∷ []) operands why) (sym are) (first_refused limit field word second why reads)
-first_err limit field said say word second operands NoMemory are reads = tt
+first_err limit field said say word second operands NoMemory are reads = inl reads
 
 pub second_err : {S T : Type 0} (limit : ℕ) (field : Field) (first : Said) (said : S → Said) (say : T → List Said) (word second : List ℕ) (operands : List (List ℕ)) (e : LineFault) → operands ≡ word ∷ second ∷ []
     → SaysField limit a_name word first → ReadsField limit field said second (Err e) → ReadsFields limit (a_name ∷ field ∷ []) say operands (Err e)
 second_err limit field first said say word second operands (Refused why) are says reads =
     subst (λ (operands : List (List ℕ)). RefusesFields limit (a_name ∷ field ∷ []) operands why) (sym are) (second_refused limit field word second first why says reads)
-second_err limit field first said say word second operands NoMemory are says reads = tt
+second_err limit field first said say word second operands NoMemory are says reads = inr (inl reads)
 
 pub both : (limit : ℕ) (field : Field) (word second : List ℕ) (operands : List (List ℕ)) (one other : Said) → operands ≡ word ∷ second ∷ []
     → SaysField limit a_name word one → SaysField limit field second other → SaysAll limit (a_name ∷ field ∷ []) operands (one ∷ other ∷ [])
@@ -262,6 +262,10 @@ both limit field word second operands one other are first then =
     subst (λ (operands : List (List ℕ)). SaysAll limit (a_name ∷ field ∷ []) operands (one ∷ other ∷ [])) (sym are) (first, (then, tt))
 
 -- One name or nothing.
+
+name_takes_none : SomeTakesMemory (a_name ∷ []) → ⊥
+name_takes_none (inl takes) = takes
+name_takes_none (inr takes) = takes
 
 pub some_name : {T : Type 0} (limit : ℕ) (say : T → List Said) (operands : List (List ℕ)) (e : LineFault) → 0 < length operands → ReadsFields limit (a_name ∷ []) say operands (Err e) → ReadsNameOrNothing limit operands (Err e)
 some_name limit say operands (Refused Unknown) some reads = reads
@@ -271,7 +275,7 @@ some_name limit say operands (Refused Kind) some reads = reads
 some_name limit say operands (Refused Hex) some reads = reads
 some_name limit say operands (Refused Long) some reads = reads
 some_name limit say operands (Refused Number) some reads = reads
-some_name limit say operands NoMemory some reads = tt
+some_name limit say operands NoMemory some reads = name_takes_none reads
 
 -- Text is one word at least.
 
@@ -308,7 +312,7 @@ bytes_err limit end said say first second operands (Refused why) are reads =
     subst (λ (operands : List (List ℕ)). RefusesFields limit (below end ∷ some_bytes ∷ []) operands why) (sym are)
     (refuses limit (below end ∷ some_bytes ∷ []) (first ∷ second ∷ []) why (late limit some_bytes second why reads) refl
     (record { here = inr (inl reads); none_before = λ earlier less found. none_of_bytes limit end first second why earlier reads less found }))
-bytes_err limit end said say first second operands NoMemory are reads = tt
+bytes_err limit end said say first second operands NoMemory are reads = inr (inl reads)
 
 pub number_err : {S T : Type 0} (limit end : ℕ) (value : Said) (said : S → Said) (say : T → List Said) (first second : List ℕ) (operands : List (List ℕ)) (e : LineFault) → operands ≡ first ∷ second ∷ []
     → SaysField limit some_bytes second value → ReadsField limit (below end) said first (Err e) → ReadsFields limit (below end ∷ some_bytes ∷ []) say operands (Err e)
@@ -316,7 +320,7 @@ number_err limit end value said say first second operands (Refused why) are says
     subst (λ (operands : List (List ℕ)). RefusesFields limit (below end ∷ some_bytes ∷ []) operands why) (sym are)
     (refuses limit (below end ∷ some_bytes ∷ []) (first ∷ second ∷ []) why (late limit (below end) first why reads) refl
     (record { here = inl reads; none_before = λ earlier less found. none_of_number limit end first second value why earlier says reads less found }))
-number_err limit end value said say first second operands NoMemory are says reads = tt
+number_err limit end value said say first second operands NoMemory are says reads = inl reads
 
 pub number_and_bytes : (limit end : ℕ) (first second : List ℕ) (operands : List (List ℕ)) (n value : Said) → operands ≡ first ∷ second ∷ []
     → SaysField limit (below end) first n → SaysField limit some_bytes second value → SaysAll limit (below end ∷ some_bytes ∷ []) operands (n ∷ value ∷ [])

@@ -185,18 +185,31 @@ RefusesFields limit fields operands Words = length operands ≢ length fields
 RefusesFields limit fields operands why =
     (length operands ≡ length fields) × IsFirstFault limit fields operands why
 
--- What reading a word, or the words behind the first one, answers.
+-- Which words take memory to be read: a name and a kind take none.
+abbrev pub TakesMemory : Field → Type 0
+TakesMemory a_name = ⊥
+TakesMemory a_label = ⊤
+TakesMemory a_kind = ⊥
+TakesMemory some_bytes = ⊤
+TakesMemory any_bytes = ⊤
+TakesMemory (below end) = ⊤
+
+abbrev pub SomeTakesMemory : List Field → Type 0
+SomeTakesMemory [] = ⊥
+SomeTakesMemory (field ∷ fields) = TakesMemory field ⊎ SomeTakesMemory fields
+
+-- What reading a word, or the words behind the first one, answers. Memory is wanting only where it is taken.
 
 abbrev pub ReadsField : {T : Type 0} → ℕ → Field → (T → Said) → List ℕ → Result T LineFault → Type 0
 ReadsField limit field say word (Ok x) = SaysField limit field word (say x)
 ReadsField limit field say word (Err (Refused why)) = HasFault limit field word why
-ReadsField limit field say word (Err NoMemory) = ⊤
+ReadsField limit field say word (Err NoMemory) = TakesMemory field
 
 abbrev pub ReadsFields : {T : Type 0} → ℕ → List Field → (T → List Said) → List (List ℕ) → Result T LineFault
     → Type 0
 ReadsFields limit fields say operands (Ok x) = SaysAll limit fields operands (say x)
 ReadsFields limit fields say operands (Err (Refused why)) = RefusesFields limit fields operands why
-ReadsFields limit fields say operands (Err NoMemory) = ⊤
+ReadsFields limit fields say operands (Err NoMemory) = SomeTakesMemory fields
 
 -- the words of what is left of a line
 abbrev pub words_of : Option (Bor (List ℕ)) → List (List ℕ)
@@ -231,7 +244,7 @@ ReadsNameOrNothing limit operands (Ok None) = operands ≡ []
 ReadsNameOrNothing limit operands (Ok (Some text)) = SaysAll limit (a_name ∷ []) operands (name text ∷ [])
 ReadsNameOrNothing limit operands (Err (Refused Words)) = 1 < length operands
 ReadsNameOrNothing limit operands (Err (Refused why)) = RefusesFields limit (a_name ∷ []) operands why
-ReadsNameOrNothing limit operands (Err NoMemory) = ⊤
+ReadsNameOrNothing limit operands (Err NoMemory) = ⊥
 
 -- What reading a line answers, for lines that say rows of a table.
 abbrev pub ReadsRow : {L : Type 0} → List Form → (L → Row) → ℕ → List (List ℕ) → Result L LineFault → Type 0

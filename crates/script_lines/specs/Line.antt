@@ -1,7 +1,6 @@
 -- The lines of a script on settings: their table, and what each says.
 use Rattle.std.specs.Prelude.{◌≡◌, ℕ, ◌^◌, ⊤, Option, Some, None, Result, Ok, Err, List, [], ◌∷◌, codes}
 use Rattle.handlers.specs.declared.handler.HandlerKind.{HandlerKind}
-use Rattle.script_lines.specs.declared.line.TheConstants.{UNITS_END}
 use Rattle.script_lines.specs.declared.line.Line.{Line}
 use Rattle.script_lines.specs.declared.line.Line.TheVariants.{Set, Get, Del, Register, Load, Direct, Save, Commit, RunSet, RunGet, Names, Mount, Cut, Uncut, Migrate}
 use Rattle.script_lines.specs.declared.why.LineFault.{LineFault}
@@ -26,7 +25,7 @@ settings_forms =
     ∷ form (codes "rget") (a_name ∷ [])
     ∷ form (codes "names") []
     ∷ form (codes "mount") []
-    ∷ form (codes "cut") (below UNITS_END ∷ [])
+    ∷ form (codes "cut") (below 4_294_967_296 ∷ [])
     ∷ form (codes "uncut") []
     ∷ form (codes "migrate") []
     ∷ []

@@ -1,5 +1,5 @@
-//! Scripts by tables of forms: the lines of a script on settings, the texts of their answers, and
-//! the generated script.
+//! Scripts on settings: the grammar of their lines, the texts of their answers, and the generator
+//! of random scripts.
 #![tactic(auto)]
 
 mod answer;

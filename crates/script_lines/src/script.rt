@@ -29,10 +29,10 @@ impl ScriptLine for Line {
 ///
 /// # Errors
 /// Those of `read_lines`.
-pub fn read_script(alloc: Global, bytes: &[u8], limit: usize) -> Result<Vec<Line>, ScriptFault>
+pub fn read_script(alloc: Global, bytes: &[u8], limit: u32) -> Result<Vec<Line>, ScriptFault>
     ensures { ReadsScript limit bytes.now result }
 {
-    read_lines(alloc, bytes, limit)
+    read_lines(alloc, bytes, limit as usize)
 }
 
 /// By any table, words are one line at most, and then they are not refused; they are refused for

@@ -1,6 +1,6 @@
-//! A session on the settings of a map of areas, over any backend: the lines of a script, each with
-//! its answer, one at a time or all. One area of the map is active, as its selector says; a
-//! migration moves the settings to the next one.
+//! A session on settings: it carries out the lines of a script on an image's areas, and answers
+//! each. The selector says which area is active, and a migration moves the settings to the next
+//! one.
 #![tactic(auto)]
 
 mod answers;

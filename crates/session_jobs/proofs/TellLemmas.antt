@@ -1,6 +1,6 @@
--- Answers of a run on a mirror have texts: the label of the area that is read is one, and names rise.
+-- Answers of a run have texts. On a mirror the label of the area that is read is one, and names rise.
 use Rattle.std.proofs.Common.{ℕ, ◌≤◌, List, [], ◌∷◌, refl, sym, subst, arith}
-use Rattle.std.specs.Prelude.{All}
+use Rattle.std.specs.Prelude.{⊤, All}
 use Rattle.std.proofs.lemmas.List.Elements.{All-nil, All-cons}
 use Rattle.flash_sim.specs.Device.{Device}
 use Rattle.flash_map.specs.declared.area.Area.{Area}
@@ -25,7 +25,13 @@ use Rattle.mirror_session.specs.State.{Rules, State}
 use Rattle.mirror_session.specs.Step.{Step}
 use Rattle.image_jobs.proofs.Labels.{active_is_store, names_rise, store_label}
 
--- ---- one answer
+-- ---- on a log and on items each answer has one
+
+pub each_has_text : {X : Type 0} (answers : List X) → All (λ (x : X). ⊤) answers
+each_has_text {X} [] = All-nil (λ (x : X). ⊤)
+each_has_text {X} (answer ∷ answers) = All-cons (λ (x : X). ⊤) answer answers tt (each_has_text answers)
+
+-- ---- one answer on a mirror
 
 named_label : (r : Rules) (line : Line) (label : List ℕ) (pairs : List Pair) (old new : State) → IsLabel (r.label old.named) → Step r line (Told (Named label pairs)) old new
     → CanTellSettings (Named label pairs)

@@ -14,7 +14,7 @@ ghost use Rattle.item_store.specs.Standing.{IsStoreArea};
 ghost use Rattle.session_jobs.specs.ItemInputs.{HasLines, IsItemArea, ids_of};
 ghost use Rattle.session_jobs.specs.ItemPlays.{IsStop, ItemPlayEnds, ServesItems, kind_of};
 
-use crate::opening::{ItemImage, ids_of, open_items, read_item_lines};
+use crate::item_opening::{ItemImage, ids_of, open_items, read_item_lines};
 use crate::telling::all_texts;
 use flash_map::{Area, Role};
 use flash_sim::{Bench, Steps};

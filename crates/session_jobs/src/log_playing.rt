@@ -12,7 +12,7 @@ ghost use Rattle.log_session.specs.Running.{RunEnds};
 ghost use Rattle.session_jobs.specs.LogInputs.{HasLines, IsLogArea};
 ghost use Rattle.session_jobs.specs.LogPlays.{IsStop, LogPlayEnds};
 
-use crate::opening::{LogImage, open_log, read_log_lines};
+use crate::log_opening::{LogImage, open_log, read_log_lines};
 use crate::telling::all_texts;
 use flash_map::Area;
 use flash_sim::{Bench, Steps};

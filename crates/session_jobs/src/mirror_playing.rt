@@ -14,7 +14,7 @@ ghost use Rattle.mirror_session.specs.Running.{RunEnds};
 ghost use Rattle.session_jobs.specs.MirrorInputs.{AreMirrored, HasLines};
 ghost use Rattle.session_jobs.specs.MirrorPlays.{IsStop, MirrorPlayEnds, any_meanings};
 
-use crate::opening::{open_mirror, read_mirror_lines};
+use crate::mirror_opening::{open_mirror, read_mirror_lines};
 use crate::telling::all_texts;
 use flash_map::FlashMap;
 use flash_sim::{Bench, Steps};

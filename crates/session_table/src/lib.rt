@@ -1,5 +1,5 @@
-//! The table of a session on settings: which answers a plain map gives to lines of a script,
-//! wherever power is lost.
+//! What a settings session must answer: for each line of a script and each power loss, the answers
+//! that a plain map of names to values allows.
 #![tactic(auto)]
 
 pub mod laws;

@@ -1,5 +1,4 @@
-//! Tests of lines and texts of answers, of scripts on items, on a log and on a map of areas, and of
-//! migrations.
+//! Tests of script lines and answers, of sessions on settings, items and logs, and of migrations.
 #![tactic(auto)]
 
 #[cfg(test)]

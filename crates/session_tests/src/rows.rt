@@ -25,7 +25,7 @@ fn read(alloc: Global, script: &[u8]) -> Result<Vec<Line>, Fail>
     ensures { IfOk result (λ lines. All (IsServed ValueLimit) lines.items) }
 {
     lines_fit();
-    Ok(read_script(alloc, script, VALUE_LIMIT as usize)?)
+    Ok(read_script(alloc, script, VALUE_LIMIT)?)
 }
 
 // The label of the active area, and each name with the bytes of its value.

@@ -1,5 +1,4 @@
-//! Names of settings: parts with a slash between each two, as `bt/mesh/iv`, and how a name matches
-//! a subtree.
+//! Names of settings, such as `bt/mesh/iv`, and how a name matches a subtree.
 #![tactic(auto)]
 
 pub mod laws;

@@ -89,13 +89,10 @@ fn tell<K: Backend, F: Flash, L: Ledger, E: Each>(
     requires lawful { IsLawfulFor (F.device flash.now).banks (K.mounted_on backend.now) }
     requires stands { StandsOn K.mounted_on K.stands (F.device flash.now) backend.now }
     requires room { count.old < 2 ^ 32 - 1 }
-    ensures { TellEnds (E.had each.old) (E.had each.new)
-        (option_map (λ name. name.now) subtree.entry) (
-          name.now,
-          unwrap_or
-              (finite.get (on K.contents (F.device flash.now) (K.mounted_on backend.now)) name.now) [],
-        )
-        count.old count.new result }
+    ensures { let area = K.mounted_on backend.now in let d = F.device flash.now in
+        TellEnds (E.had each.old) (E.had each.new) (option_map (λ name. name.now) subtree.entry)
+        (name.now, unwrap_or (finite.get (on K.contents d area) name.now) []) count.old count.new
+        result }
 {
     if !is_under(name, subtree) {
         return Ok(());

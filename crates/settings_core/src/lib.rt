@@ -1,4 +1,5 @@
-//! Settings of one backend and the handlers that they are for.
+//! The settings runtime: load, save, delete and commit settings of one store, with the handlers of
+//! the application.
 #![tactic(auto)]
 
 mod committing;

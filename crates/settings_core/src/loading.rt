@@ -67,9 +67,8 @@ impl<K: Backend> Settings<K> {
         };
         let mut after: Option<Name> = None;
         while let Some(name) = self.backend.next_name(flash, after.as_ref(), steps) {
-            let ended = load_name(
+            let ended = self.load_name(
                 alloc,
-                &self.backend,
                 flash,
                 registry,
                 subtree,
@@ -86,34 +85,34 @@ impl<K: Backend> Settings<K> {
         commit(registry, subtree);
         Ok(loaded)
     }
-}
 
-// Loads one name, if it matches.
-fn load_name<K: Backend, F: Flash, L: Ledger, R: Report>(
-    alloc: Global,
-    backend: &K,
-    flash: &F,
-    registry: &mut Registry,
-    subtree: Option<&Name>,
-    report: &mut R,
-    loaded: &mut Loaded,
-    name: &Name,
-    steps: &mut Steps<L>,
-) -> Result<(), NoMemory>
-    requires lawful { IsLawfulFor (F.device flash.now).banks (K.mounted_on backend.now) }
-    requires stands { StandsOn K.mounted_on K.stands (F.device flash.now) backend.now }
-    requires room { loaded.old.taken + loaded.old.rejected + loaded.old.passed < 2 ^ 32 - 1 }
-    ensures { let area = K.mounted_on backend.now in let d = F.device flash.now in
-        LoadNameEnds (registered state registry.old) (registered state registry.new)
-        (R.gives report.old) (R.gives report.new) (option_map (λ name. name.now) subtree.entry)
-        (name.now, unwrap_or (finite.get (on K.contents d area) name.now) []) loaded.old loaded.new
-        result }
-{
-    if is_under(name, subtree) {
-        let value = stored(backend, flash, name, steps);
-        load_one(alloc, registry, report, loaded, name, value)
-    } else {
-        Ok(())
+    // Loads one name, if it matches.
+    fn load_name<F: Flash, L: Ledger, R: Report>(
+        &self,
+        alloc: Global,
+        flash: &F,
+        registry: &mut Registry,
+        subtree: Option<&Name>,
+        report: &mut R,
+        loaded: &mut Loaded,
+        name: &Name,
+        steps: &mut Steps<L>,
+    ) -> Result<(), NoMemory>
+        requires lawful { IsLawfulFor (F.device flash.now).banks (K.mounted_on self.now.backend) }
+        requires stands { StandsOn K.mounted_on K.stands (F.device flash.now) self.now.backend }
+        requires room { loaded.old.taken + loaded.old.rejected + loaded.old.passed < 2 ^ 32 - 1 }
+        ensures { let area = K.mounted_on self.now.backend in let d = F.device flash.now in
+            LoadNameEnds (registered state registry.old) (registered state registry.new)
+            (R.gives report.old) (R.gives report.new) (option_map (λ name. name.now) subtree.entry)
+            (name.now, unwrap_or (finite.get (on K.contents d area) name.now) []) loaded.old
+            loaded.new result }
+    {
+        if is_under(name, subtree) {
+            let value = stored(&self.backend, flash, name, steps);
+            load_one(alloc, registry, report, loaded, name, value)
+        } else {
+            Ok(())
+        }
     }
 }
 

@@ -1,4 +1,4 @@
-//! Tests of names, handlers, loads, saves and commits, and of settings over each store.
+//! Tests of names and handlers, of loads, saves and commits, and of settings over each store.
 #![tactic(auto)]
 
 #[cfg(test)]

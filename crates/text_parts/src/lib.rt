@@ -1,4 +1,4 @@
-//! Text in parts, with a separator between two of them, and numbers in decimal.
+//! Text split at separators, and decimal numbers.
 #![tactic(auto)]
 
 ghost use Rattle.std.specs.Prelude.{◌≡◌, ◌≢◌, ◌<◌, ◌∷◌, [], length, IfSome, MatchOption, ◌==◌, position};

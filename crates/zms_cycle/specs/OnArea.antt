@@ -1,11 +1,15 @@
 -- What holds of a sector of an area on a flash, and what a call makes of it.
-use Rattle.std.specs.Prelude.{ℕ, ◌+◌, ◌/◌, ◌<◌, List, length, IsSome, IsTrue}
+use Rattle.std.specs.Prelude.{◌≡◌, ◌≢◌, ℕ, ◌+◌, ◌/◌, ◌%◌, ◌<◌, ◌≤◌, List, length, IsSome, IsTrue, Result, OnOk, OnErr}
 use Rattle.flash_sim.specs.Device.{Device}
 use Rattle.flash_map.specs.declared.area.Area.{Area}
 use Rattle.flash_sim.specs.declared.flash.Kind.{Kind}
-use Rattle.flash_map.specs.Area.{sector_bytes}
-use Rattle.zms_cycle.specs.Areas.{kind_on}
-use Rattle.zms_cycle.specs.Changes.{guard_units, emptying, first_guard, KeepsList, left_over, AddsPair, closing_most}
+use Rattle.flash_sim.specs.declared.flash.Kind.TheVariants.{Erasing, Rewritable}
+use Rattle.flash_map.specs.Area.{sector_size, sectors_of, sector_bytes}
+use Rattle.flash_map.specs.Pieces.{LosesWithin}
+use Rattle.flash_map.specs.Spending.{SpendsBetween}
+use Rattle.zms_cycle.specs.declared.reading.TheConstants.{SLOT}
+use Rattle.zms_cycle.specs.Areas.{IsZmsSector, CanPutAt, kind_on}
+use Rattle.zms_cycle.specs.Changes.{HasPart, guard_units, emptying, first_guard, KeepsList, left_over, AddsPair, closing_most}
 use Rattle.zms_cycle.specs.Sector.{cycle_of, valid_slots, entry_len, pair_at, cost, data_len, free, is_sound, can_close, fits}
 
 abbrev pub IsUsedOn : Device → Area → ℕ → Type 0
@@ -81,3 +85,52 @@ first_guard_units d area sector = first_guard (kind_on d area) (sector_bytes d a
 -- a close, at most
 abbrev pub closing_units : Device → Area → ℕ → ℕ
 closing_units d area sector = closing_most (kind_on d area) (free_on d area sector)
+
+-- ---- what a call asks for, and how it ends
+
+-- So many bytes can be programmed there.
+pub record HasPlace (d : Device) (on : Area) (sector at len : ℕ) : Type 0 where
+  pub fits : at + len ≤ sector_size d on
+  pub aligned : at % 16 ≡ 0
+  pub erased : CanPutAt d on sector at len
+
+-- An entry with a value, in the list of another sector, which is sound.
+pub record IsSource (d : Device) (on : Area) (sector from_sector from_slot : ℕ) : Type 0 where
+  pub from_zms : IsZmsSector d on from_sector
+  pub from_sound : IsSoundOn d on from_sector
+  pub other : from_sector ≢ sector
+  pub from : 2 ≤ from_slot
+  pub listed : IsListedOn d on from_sector from_slot
+  pub some : 0 < entry_len_on d on from_sector from_slot
+
+-- The units of one slot. A power loss changes no byte.
+pub record UnitEnds {X E : Type 0} (units : ℕ) (old new : Device) (on : Area) (result : Result X E) :
+    Type 0 where
+  pub lost : OnErr result (sectors_of new on ≡ sectors_of old on)
+  pub spends : OnOk result (SpendsBetween old new units units)
+  pub in_pieces : OnErr result (LosesWithin SLOT old new)
+  pub spends_lost : OnErr result (SpendsBetween old new 0 0)
+
+-- A slot is read on a bank that is never erased, and on no other.
+pub record ReadsGuard (kind : Kind) (before after : ℕ) : Type 0 where
+  pub step : kind ≡ Rewritable → after ≡ before + 1
+  pub no_step : kind ≡ Erasing → after ≡ before
+
+-- Bytes that are programmed piece by piece. A power loss leaves a part of them.
+pub record BytesEnd {X E : Type 0} (piece : ℕ) (old new : Device) (on : Area) (sector at len : ℕ)
+    (result : Result X E) : Type 0 where
+  pub lost : OnErr result (HasPart (sector_bytes old on sector) (sector_bytes new on sector) at len)
+  pub spends : OnOk result (SpendsBetween old new (len / 16) (len / 16))
+  pub in_pieces : OnErr result (LosesWithin piece old new)
+  pub spends_lost : OnErr result (SpendsBetween old new 0 (len / 16))
+
+-- An entry behind its value of this length, which is programmed piece by piece. A power loss keeps the list.
+pub record EntryEnds {X E : Type 0} (piece len : ℕ) (old new : Device) (on : Area) (sector : ℕ)
+    (result : Result X E) : Type 0 where
+  pub lost : OnErr result (KeepsBut len old new on sector)
+  pub spends : OnOk result (SpendsBetween old new (entry_units len) (entry_units len + 1))
+  pub guards : OnOk result
+      (SpendsBetween old new (entry_units len + next_guard old on sector)
+      (entry_units len + next_guard old on sector))
+  pub in_pieces : OnErr result (LosesWithin piece old new)
+  pub spends_lost : OnErr result (SpendsBetween old new 0 (entry_units len))

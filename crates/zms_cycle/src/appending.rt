@@ -10,7 +10,7 @@ ghost use Rattle.flash_map.specs.Touches.{Touches};
 ghost use Rattle.flash_map.specs.declared.pieces.TheConstants.{PIECE};
 ghost use Rattle.zms_cycle.specs.Areas.{IsZmsSector, HasSlot, CanPutAt};
 ghost use Rattle.zms_cycle.specs.Changes.{with_value, HasPart, MarksDone};
-ghost use Rattle.zms_cycle.specs.OnArea.{IsUsedOn, IsSoundOn, FitsOn, free_on, Makes, Keeps, KeepsBut, Adds, entry_units, next_guard};
+ghost use Rattle.zms_cycle.specs.OnArea.{IsUsedOn, IsSoundOn, FitsOn, free_on, Makes, Keeps, Adds, next_guard, HasPlace, BytesEnd, EntryEnds};
 ghost use Rattle.zms_cycle.specs.States.{IsOpenedOn};
 ghost use Rattle.zms_cycle.specs.Entries.{value_entry, done_entry};
 ghost use Rattle.zms_cycle.specs.declared.reading.TheConstants.{SLOT};
@@ -77,9 +77,7 @@ pub fn put_bytes<F: Flash>(
     bytes: &[u8],
 ) -> Result<(), PowerLost>
     requires zms { IsZmsSector (F.device flash.old) area.now sector }
-    requires fits { at + padded 16 (length bytes.now) ≤ sector_size (F.device flash.old) area.now }
-    requires aligned { at % 16 ≡ 0 }
-    requires erased { CanPutAt (F.device flash.old) area.now sector at
+    requires place { HasPlace (F.device flash.old) area.now sector at
         (padded 16 (length bytes.now)) }
 
     ensures touches { Touches (area.now ∷ []) (F.device flash.old) (F.device flash.new)
@@ -89,15 +87,8 @@ pub fn put_bytes<F: Flash>(
         (sector_bytes (F.device flash.new) area.now sector
         ≡ overwritten (sector_bytes (F.device flash.old) area.now sector) at
         (padded_bytes 16 bytes.now)) }
-    ensures lost { OnErr result
-        (HasPart (sector_bytes (F.device flash.old) area.now sector)
-        (sector_bytes (F.device flash.new) area.now sector) at (padded 16 (length bytes.now))) }
-    ensures spends { let units = padded 16 (length bytes.now) / 16 in
-        OnOk result (SpendsBetween (F.device flash.old) (F.device flash.new) units units) }
-    ensures in_pieces { OnErr result (LosesWithin PIECE (F.device flash.old) (F.device flash.new)) }
-    ensures spends_lost { OnErr result
-        (SpendsBetween (F.device flash.old) (F.device flash.new) 0
-        (padded 16 (length bytes.now) / 16)) }
+    ensures ends { let d = F.device flash.old in let e = F.device flash.new in
+        BytesEnd PIECE d e area.now sector at (padded 16 (length bytes.now)) result }
 {
     program_padded(flash, area, sector, at, bytes)
 }
@@ -111,9 +102,7 @@ fn put_value<F: Flash>(
     bytes: &[u8],
 ) -> Result<(), PowerLost>
     requires zms { IsZmsSector (F.device flash.old) area.now sector }
-    requires fits { at + data_len (length bytes.now) ≤ sector_size (F.device flash.old) area.now }
-    requires aligned { at % 16 ≡ 0 }
-    requires erased { CanPutAt (F.device flash.old) area.now sector at
+    requires place { HasPlace (F.device flash.old) area.now sector at
         (data_len (length bytes.now)) }
 
     ensures touches { Touches (area.now ∷ []) (F.device flash.old) (F.device flash.new)
@@ -122,15 +111,8 @@ fn put_value<F: Flash>(
     ensures ok { OnOk result
         (sector_bytes (F.device flash.new) area.now sector
         ≡ with_value (sector_bytes (F.device flash.old) area.now sector) at bytes.now) }
-    ensures lost { OnErr result
-        (HasPart (sector_bytes (F.device flash.old) area.now sector)
-        (sector_bytes (F.device flash.new) area.now sector) at (data_len (length bytes.now))) }
-    ensures spends { let units = data_len (length bytes.now) / 16 in
-        OnOk result (SpendsBetween (F.device flash.old) (F.device flash.new) units units) }
-    ensures in_pieces { OnErr result (LosesWithin PIECE (F.device flash.old) (F.device flash.new)) }
-    ensures spends_lost { OnErr result
-        (SpendsBetween (F.device flash.old) (F.device flash.new) 0
-        (data_len (length bytes.now) / 16)) }
+    ensures ends { let d = F.device flash.old in let e = F.device flash.new in
+        BytesEnd PIECE d e area.now sector at (data_len (length bytes.now)) result }
 {
     if bytes.len() <= TAIL as usize {
         return Ok(());
@@ -165,17 +147,8 @@ pub fn put_entry_at<F: Flash, L: Ledger>(
     ensures others { OthersStay (F.device flash.old) (F.device flash.new) area.now sector }
     ensures ok { OnOk result
         (Adds (F.device flash.old) (F.device flash.new) area.now sector id bytes.now) }
-    ensures lost { OnErr result
-        (KeepsBut (length bytes.now) (F.device flash.old) (F.device flash.new) area.now sector) }
-    ensures spends { let units = entry_units (length bytes.now) in
-        OnOk result (SpendsBetween (F.device flash.old) (F.device flash.new) units (units + 1)) }
-    ensures guards { let units =
-        entry_units (length bytes.now) + next_guard (F.device flash.old) area.now sector in
-        OnOk result (SpendsBetween (F.device flash.old) (F.device flash.new) units units) }
-    ensures in_pieces { OnErr result (LosesWithin PIECE (F.device flash.old) (F.device flash.new)) }
-    ensures spends_lost { OnErr result
-        (SpendsBetween (F.device flash.old) (F.device flash.new) 0
-        (entry_units (length bytes.now))) }
+    ensures ends { let d = F.device flash.old in let e = F.device flash.new in
+        EntryEnds PIECE (length bytes.now) d e area.now sector result }
 {
     let entry = value_entry(opened.cycle, id, bytes, opened.data_end);
     put_value(flash, area, sector, opened.data_end, bytes)?;
@@ -207,17 +180,8 @@ pub fn put_entry<F: Flash, L: Ledger>(
     ensures others { OthersStay (F.device flash.old) (F.device flash.new) area.now sector }
     ensures ok { OnOk result
         (Adds (F.device flash.old) (F.device flash.new) area.now sector id bytes.now) }
-    ensures lost { OnErr result
-        (KeepsBut (length bytes.now) (F.device flash.old) (F.device flash.new) area.now sector) }
-    ensures spends { let units = entry_units (length bytes.now) in
-        OnOk result (SpendsBetween (F.device flash.old) (F.device flash.new) units (units + 1)) }
-    ensures guards { let units =
-        entry_units (length bytes.now) + next_guard (F.device flash.old) area.now sector in
-        OnOk result (SpendsBetween (F.device flash.old) (F.device flash.new) units units) }
-    ensures in_pieces { OnErr result (LosesWithin PIECE (F.device flash.old) (F.device flash.new)) }
-    ensures spends_lost { OnErr result
-        (SpendsBetween (F.device flash.old) (F.device flash.new) 0
-        (entry_units (length bytes.now))) }
+    ensures ends { let d = F.device flash.old in let e = F.device flash.new in
+        EntryEnds PIECE (length bytes.now) d e area.now sector result }
 {
     let opened = opened_sector(flash, area, sector, steps);
     put_entry_at(flash, area, sector, &opened, id, bytes, steps)

@@ -10,7 +10,7 @@ ghost use Rattle.flash_map.specs.declared.copies.TheConstants.{COPY_PIECE};
 ghost use Rattle.flash_map.specs.Units.{padded, padded_bytes};
 ghost use Rattle.zms_cycle.specs.Areas.{IsZmsSector, HasSlot, CanPutAt};
 ghost use Rattle.zms_cycle.specs.Changes.{with_value, HasPart};
-ghost use Rattle.zms_cycle.specs.OnArea.{IsUsedOn, IsSoundOn, IsListedOn, entry_len_on, free_on, KeepsBut, Copies, entry_units, next_guard};
+ghost use Rattle.zms_cycle.specs.OnArea.{IsUsedOn, IsSoundOn, IsSource, HasPlace, BytesEnd, EntryEnds, entry_len_on, free_on, Copies};
 ghost use Rattle.zms_cycle.specs.States.{IsOpenedOn};
 ghost use Rattle.zms_cycle.specs.Entries.{moved_entry};
 ghost use Rattle.zms_cycle.specs.Sector.{slot_of, cycle_of, valid_slots, entry_in, entry_len, pair_at, value_of, data_len, cost, free, is_sound};
@@ -74,9 +74,7 @@ fn copy_bytes<F: Flash, L: Ledger>(
     requires from_zms { IsZmsSector (F.device flash.old) area.now from.sector }
     requires other { from.sector ≢ sector }
     requires from { from.offset + from.len ≤ sector_size (F.device flash.old) area.now }
-    requires fits { to + padded 16 from.len ≤ sector_size (F.device flash.old) area.now }
-    requires aligned { to % 16 ≡ 0 }
-    requires erased { CanPutAt (F.device flash.old) area.now sector to (padded 16 from.len) }
+    requires place { HasPlace (F.device flash.old) area.now sector to (padded 16 from.len) }
 
     ensures touches { Touches (area.now ∷ []) (F.device flash.old) (F.device flash.new)
         (is_err result) }
@@ -85,16 +83,8 @@ fn copy_bytes<F: Flash, L: Ledger>(
         (sector_bytes (F.device flash.new) area.now sector
         ≡ overwritten (sector_bytes (F.device flash.old) area.now sector) to
         (padded_bytes 16 (source (F.device flash.old) area.now from))) }
-    ensures lost { OnErr result
-        (HasPart (sector_bytes (F.device flash.old) area.now sector)
-        (sector_bytes (F.device flash.new) area.now sector) to (padded 16 from.len)) }
-    ensures spends { OnOk result
-        (SpendsBetween (F.device flash.old) (F.device flash.new) (padded 16 from.len / 16)
-        (padded 16 from.len / 16)) }
-    ensures in_pieces { OnErr result
-        (LosesWithin COPY_PIECE (F.device flash.old) (F.device flash.new)) }
-    ensures spends_lost { OnErr result
-        (SpendsBetween (F.device flash.old) (F.device flash.new) 0 (padded 16 from.len / 16)) }
+    ensures ends { let d = F.device flash.old in let e = F.device flash.new in
+        BytesEnd COPY_PIECE d e area.now sector to (padded 16 from.len) result }
 {
     copy_padded(flash, area, from, sector, to, steps)
 }
@@ -115,9 +105,7 @@ fn copy_value<F: Flash, L: Ledger>(
     requires len { length
         (value_of (sector_bytes (F.device flash.old) area.now from_sector) from.now)
         ≡ from.now.len }
-    requires fits { to + data_len from.now.len ≤ sector_size (F.device flash.old) area.now }
-    requires aligned { to % 16 ≡ 0 }
-    requires erased { CanPutAt (F.device flash.old) area.now sector to (data_len from.now.len) }
+    requires place { HasPlace (F.device flash.old) area.now sector to (data_len from.now.len) }
 
     ensures touches { Touches (area.now ∷ []) (F.device flash.old) (F.device flash.new)
         (is_err result) }
@@ -126,16 +114,8 @@ fn copy_value<F: Flash, L: Ledger>(
         (sector_bytes (F.device flash.new) area.now sector
         ≡ with_value (sector_bytes (F.device flash.old) area.now sector) to
         (value_of (sector_bytes (F.device flash.old) area.now from_sector) from.now)) }
-    ensures lost { OnErr result
-        (HasPart (sector_bytes (F.device flash.old) area.now sector)
-        (sector_bytes (F.device flash.new) area.now sector) to (data_len from.now.len)) }
-    ensures spends { OnOk result
-        (SpendsBetween (F.device flash.old) (F.device flash.new) (data_len from.now.len / 16)
-        (data_len from.now.len / 16)) }
-    ensures in_pieces { OnErr result
-        (LosesWithin COPY_PIECE (F.device flash.old) (F.device flash.new)) }
-    ensures spends_lost { OnErr result
-        (SpendsBetween (F.device flash.old) (F.device flash.new) 0 (data_len from.now.len / 16)) }
+    ensures ends { let d = F.device flash.old in let e = F.device flash.new in
+        BytesEnd COPY_PIECE d e area.now sector to (data_len from.now.len) result }
 {
     if from.len <= TAIL {
         return Ok(());
@@ -167,12 +147,7 @@ pub fn copy_entry_at<F: Flash, L: Ledger>(
     requires zms { IsZmsSector (F.device flash.old) area.now sector }
     requires opened { IsOpenedOn (F.device flash.old) area.now sector opened.now }
     requires sound { IsSoundOn (F.device flash.old) area.now sector }
-    requires from_zms { IsZmsSector (F.device flash.old) area.now from_sector }
-    requires from_sound { IsSoundOn (F.device flash.old) area.now from_sector }
-    requires other { from_sector ≢ sector }
-    requires from { 2 ≤ from_slot }
-    requires listed { IsListedOn (F.device flash.old) area.now from_sector from_slot }
-    requires some { 0 < entry_len_on (F.device flash.old) area.now from_sector from_slot }
+    requires source { IsSource (F.device flash.old) area.now sector from_sector from_slot }
     requires room { let d = F.device flash.old in
         cost (entry_len_on d area.now from_sector from_slot) + 48 ≤ free_on d area.now sector }
 
@@ -181,23 +156,9 @@ pub fn copy_entry_at<F: Flash, L: Ledger>(
     ensures others { OthersStay (F.device flash.old) (F.device flash.new) area.now sector }
     ensures ok { OnOk result
         (Copies (F.device flash.old) (F.device flash.new) area.now sector from_sector from_slot) }
-    ensures lost { let d = F.device flash.old in
-        OnErr result
-        (KeepsBut (entry_len_on d area.now from_sector from_slot) d (F.device flash.new) area.now
-        sector) }
-    ensures spends { let units =
-        entry_units (entry_len_on (F.device flash.old) area.now from_sector from_slot) in
-        OnOk result (SpendsBetween (F.device flash.old) (F.device flash.new) units (units + 1)) }
-    ensures guards { let d = F.device flash.old in
-        let units =
-        entry_units (entry_len_on d area.now from_sector from_slot)
-        + next_guard d area.now sector in
-        OnOk result (SpendsBetween (F.device flash.old) (F.device flash.new) units units) }
-    ensures in_pieces { OnErr result
-        (LosesWithin COPY_PIECE (F.device flash.old) (F.device flash.new)) }
-    ensures spends_lost { let units =
-        entry_units (entry_len_on (F.device flash.old) area.now from_sector from_slot) in
-        OnErr result (SpendsBetween (F.device flash.old) (F.device flash.new) 0 units) }
+    ensures ends { let d = F.device flash.old in let e = F.device flash.new in
+        EntryEnds COPY_PIECE (entry_len_on d area.now from_sector from_slot) d e area.now sector
+        result }
 {
     let from = ordinary_entry(flash, area, from_sector, from_slot, steps);
     let entry = moved_entry(opened.cycle, &from, opened.data_end);
@@ -230,12 +191,7 @@ pub fn copy_entry<F: Flash, L: Ledger>(
     requires zms { IsZmsSector (F.device flash.old) area.now sector }
     requires used { IsUsedOn (F.device flash.old) area.now sector }
     requires sound { IsSoundOn (F.device flash.old) area.now sector }
-    requires from_zms { IsZmsSector (F.device flash.old) area.now from_sector }
-    requires from_sound { IsSoundOn (F.device flash.old) area.now from_sector }
-    requires other { from_sector ≢ sector }
-    requires from { 2 ≤ from_slot }
-    requires listed { IsListedOn (F.device flash.old) area.now from_sector from_slot }
-    requires some { 0 < entry_len_on (F.device flash.old) area.now from_sector from_slot }
+    requires source { IsSource (F.device flash.old) area.now sector from_sector from_slot }
     requires room { let d = F.device flash.old in
         cost (entry_len_on d area.now from_sector from_slot) + 48 ≤ free_on d area.now sector }
 
@@ -244,23 +200,9 @@ pub fn copy_entry<F: Flash, L: Ledger>(
     ensures others { OthersStay (F.device flash.old) (F.device flash.new) area.now sector }
     ensures ok { OnOk result
         (Copies (F.device flash.old) (F.device flash.new) area.now sector from_sector from_slot) }
-    ensures lost { let d = F.device flash.old in
-        OnErr result
-        (KeepsBut (entry_len_on d area.now from_sector from_slot) d (F.device flash.new) area.now
-        sector) }
-    ensures spends { let units =
-        entry_units (entry_len_on (F.device flash.old) area.now from_sector from_slot) in
-        OnOk result (SpendsBetween (F.device flash.old) (F.device flash.new) units (units + 1)) }
-    ensures guards { let d = F.device flash.old in
-        let units =
-        entry_units (entry_len_on d area.now from_sector from_slot)
-        + next_guard d area.now sector in
-        OnOk result (SpendsBetween (F.device flash.old) (F.device flash.new) units units) }
-    ensures in_pieces { OnErr result
-        (LosesWithin COPY_PIECE (F.device flash.old) (F.device flash.new)) }
-    ensures spends_lost { let units =
-        entry_units (entry_len_on (F.device flash.old) area.now from_sector from_slot) in
-        OnErr result (SpendsBetween (F.device flash.old) (F.device flash.new) 0 units) }
+    ensures ends { let d = F.device flash.old in let e = F.device flash.new in
+        EntryEnds COPY_PIECE (entry_len_on d area.now from_sector from_slot) d e area.now sector
+        result }
 {
     let opened = opened_sector(flash, area, sector, steps);
     copy_entry_at(flash, area, sector, &opened, from_sector, from_slot, steps)

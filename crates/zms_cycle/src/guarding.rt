@@ -1,6 +1,6 @@
 // Single units of a sector: the guard, and an entry above its guard.
 ghost use Rattle.std.specs.Prelude.{◌≡◌, ◌⊎◌, ◌+◌, ◌-◌, ◌*◌, ◌<◌, ◌≤◌, ◌∷◌, [], false, length, is_err, Some, OnOk, OnErr};
-ghost use Rattle.flash_map.specs.Area.{IsLawfulArea, sector_size, sectors_of, sector_bytes, OthersStay};
+ghost use Rattle.flash_map.specs.Area.{IsLawfulArea, sector_size, sector_bytes, OthersStay};
 ghost use Rattle.flash_map.specs.Pieces.{LosesWithin};
 ghost use Rattle.flash_map.specs.Spending.{SpendsBetween};
 ghost use Rattle.flash_map.specs.Touches.{Touches};
@@ -8,6 +8,7 @@ ghost use Rattle.flash_sim.specs.declared.flash.Kind.TheVariants.{Erasing, Rewri
 ghost use Rattle.zms_cycle.specs.Areas.{IsZmsSector, HasSlot, CanPut, kind_on};
 ghost use Rattle.zms_cycle.specs.Changes.{with_slot, guarded, guard_units};
 ghost use Rattle.zms_cycle.specs.Entries.{encoded};
+ghost use Rattle.zms_cycle.specs.OnArea.{UnitEnds, ReadsGuard};
 ghost use Rattle.zms_cycle.specs.Sector.{slot_of, is_valid_under};
 ghost use Rattle.zms_cycle.specs.declared.reading.TheConstants.{SLOT};
 
@@ -45,12 +46,7 @@ pub fn put_unit<F: Flash>(
     ensures ok { OnOk result
         (sector_bytes (F.device flash.new) area.now sector
         ≡ with_slot (sector_bytes (F.device flash.old) area.now sector) slot bytes.now) }
-    ensures lost { OnErr result
-        (sectors_of (F.device flash.new) area.now ≡ sectors_of (F.device flash.old) area.now) }
-    ensures spends { OnOk result (SpendsBetween (F.device flash.old) (F.device flash.new) 1 1) }
-    ensures in_pieces { OnErr result (LosesWithin SLOT (F.device flash.old) (F.device flash.new)) }
-    ensures spends_lost { OnErr result
-        (SpendsBetween (F.device flash.old) (F.device flash.new) 0 0) }
+    ensures ends { UnitEnds 1 (F.device flash.old) (F.device flash.new) area.now result }
 {
     let start = slot_start(flash, area, slot);
     area_program(flash, area, sector, start, bytes)
@@ -85,18 +81,12 @@ pub fn guard<F: Flash, L: Ledger>(
         ≡ false) }
     ensures idle { kind_on (F.device flash.old) area.now ≡ Erasing
         → F.device flash.new ≡ F.device flash.old }
-    ensures lost { OnErr result
-        (sectors_of (F.device flash.new) area.now ≡ sectors_of (F.device flash.old) area.now) }
+    ensures ends { let d = F.device flash.old in
+        UnitEnds
+        (guard_units (kind_on d area.now) (Some cycle) slot (sector_bytes d area.now sector)) d
+        (F.device flash.new) area.now result }
     ensures rewritable_lost { OnErr result (kind_on (F.device flash.old) area.now ≡ Rewritable) }
-    ensures spends { let d = F.device flash.old in
-        let units =
-        guard_units (kind_on d area.now) (Some cycle) slot (sector_bytes d area.now sector) in
-        OnOk result (SpendsBetween d (F.device flash.new) units units) }
-    ensures in_pieces { OnErr result (LosesWithin SLOT (F.device flash.old) (F.device flash.new)) }
-    ensures spends_lost { OnErr result
-        (SpendsBetween (F.device flash.old) (F.device flash.new) 0 0) }
-    ensures step { kind_on (F.device flash.old) area.now ≡ Rewritable → steps.new ≡ steps.old + 1 }
-    ensures no_step { kind_on (F.device flash.old) area.now ≡ Erasing → steps.new ≡ steps.old }
+    ensures steps { ReadsGuard (kind_on (F.device flash.old) area.now) steps.old steps.new }
 {
     match geometry(flash, area).kind {
         Kind::Erasing => Ok(()),

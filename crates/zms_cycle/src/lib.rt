@@ -1,5 +1,5 @@
-//! One sector of a ZMS store: entries of sixteen bytes that hold under the sector's cycle, and the
-//! steps that change them.
+//! One ZMS sector: entries of sixteen bytes that are valid only under the sector's cycle, and the
+//! writes that change them.
 #![tactic(auto)]
 
 #[tactic(auto, using(flash_map::proofs::Touches::then))]

@@ -1,4 +1,4 @@
--- Areas that are read by the definitions, in sectors of 112 bytes. bench/zms_examples writes this file; the answers are those
+-- Areas that are read by the definitions, in sectors of 112 bytes. tools/zms_examples writes this file; the answers are those
 -- of another reading of the same rules, over the same bytes.
 use Rattle.std.proofs.Common.{◌≡◌, ℕ, List, [], ◌∷◌, ◌++◌, map, replicate, Option, Some, None, refl}
 use Rattle.crc8_entry.specs.Crc.{crc, extended, bits_of}

@@ -1,5 +1,5 @@
-//! How ZMS sectors read: marks, entries, damage, the scan of a mount; and that they are sectors as
-//! the one store of items asks for them.
+//! How ZMS sectors read, as `item_store` asks of a sector format: entries, marks, damage, the scan
+//! of a mount, and what each step costs.
 #![tactic(auto)]
 
 mod laws;
@@ -9,5 +9,4 @@ mod sector;
 
 pub use laws::{first_entry_is_known, parts_of_list};
 pub use mounting::scan;
-pub use places::marks_at;
 pub use sector::{Found, Marks, find_in, is_clean};

@@ -1,6 +1,5 @@
-//! A ZMS store: the one store of items over sectors of ZMS.
-//!
-//! The sectors of ZMS for one store of items.
+//! The ZMS store: items with ids of 32 bits, mounted, written and garbage collected by `item_store`
+//! over ZMS sectors.
 #![tactic(auto)]
 
 mod reading;
@@ -8,10 +7,8 @@ mod reading;
 mod sectors;
 mod store;
 mod writing;
-mod zms;
 
 pub use item_store::LastSlots;
 pub use sectors::ZmsOpen;
 pub use store::Zms;
-pub use zms::mount;
 pub use zms_format::Found;

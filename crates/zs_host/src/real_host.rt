@@ -4,15 +4,15 @@ ghost use Rattle.zs_host.specs.declared.host.HostFault.TheVariants.{Failed};
 ghost use Rattle.zs_host.specs.Outside.{Outside, counted_fault};
 
 use crate::streams::{read_to_end, write_all};
+use crate::writing::write_file;
 use crate::{Host, HostFault};
-use std::alloc::{AllocError, Global};
+use std::alloc::Global;
 use std::fs;
 use std::io::{self, ErrorKind};
 use std::rt::Files;
 
 /// Files of the system, and standard output. It tells nothing of what they hold. A file is written
-/// under its name with `.part` behind it and then renamed, so that a full disk does not cost what
-/// stood there.
+/// under a name that no file has, and then renamed, so that a failed write leaves what stood there.
 #[derive(Drop)]
 pub struct RealHost<'a, R> {
     rt: &'a R,
@@ -35,25 +35,6 @@ impl<'a, R: Files + Print> RealHost<'a, R> {
         self.faults = self.faults.saturating_add(1);
         HostFault::Failed
     }
-}
-
-// The name under which a file is written before it has its own.
-fn part_of(alloc: Global, name: &str) -> Result<String, AllocError> {
-    format!(in alloc; "{name}.part")
-}
-
-// Whether a file was written under the first name and then given the second. Where it was not, what
-// stood under the second name stands there still.
-fn store<R: Files>(rt: &R, part: &str, name: &str, bytes: &[u8]) -> bool {
-    let whole = match fs::create(rt, part) {
-        Ok(mut file) => write_all(&mut file, bytes),
-        Err(_) => return false,
-    };
-    if whole && fs::rename(rt, part, name).is_ok() {
-        return true;
-    }
-    let _ = fs::remove_file(rt, part);
-    false
 }
 
 impl<'a, R: Files + Print> Host for RealHost<'a, R> {
@@ -85,8 +66,7 @@ impl<'a, R: Files + Print> Host for RealHost<'a, R> {
 
     // A write that fails leaves the file as it was.
     fn write_whole(&mut self, alloc: Global, name: &str, bytes: &[u8]) -> Result<(), HostFault> {
-        let part = part_of(alloc, name)?;
-        if store(self.rt, part.as_str(), name, bytes) {
+        if write_file(self.rt, alloc, name, bytes)? {
             Ok(())
         } else {
             Err(self.failed())

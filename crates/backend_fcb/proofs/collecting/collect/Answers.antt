@@ -20,41 +20,14 @@ use Rattle.fcb_ring.proofs.ChanceLemmas.{header-chance, erase-chance}
 use Rattle.backend_fcb.proofs.Tearing.{lost-then}
 use Rattle.backend_fcb.proofs.collecting.collect.Goals as goal
 
-pub returns-in_err-begin_collect-clause-ready : goal.returns-in_err-begin_collect-clause-ready
-returns-in_err-begin_collect-clause-ready g c = not-ok _ c.from_residual.result c.from_residual.ensures.0
+pub returns-in_err-begin_collect-clause-collected : goal.returns-in_err-begin_collect-clause-collected
+returns-in_err-begin_collect-clause-collected g c = not-ok _ c.from_residual.result c.from_residual.ensures.0
 
-pub returns-in_err-begin_collect-clause-collects : goal.returns-in_err-begin_collect-clause-collects
-returns-in_err-begin_collect-clause-collects g c = not-ok _ c.from_residual.result c.from_residual.ensures.0
+pub returns-in_err-copy_live-clause-collected : goal.returns-in_err-copy_live-clause-collected
+returns-in_err-copy_live-clause-collected g c = not-ok _ c.from_residual-in_err-copy_live.result c.from_residual-in_err-copy_live.ensures.0
 
-pub returns-in_err-begin_collect-clause-used : goal.returns-in_err-begin_collect-clause-used
-returns-in_err-begin_collect-clause-used g c = not-ok _ c.from_residual.result c.from_residual.ensures.0
-
-pub returns-in_err-begin_collect-clause-reserve : goal.returns-in_err-begin_collect-clause-reserve
-returns-in_err-begin_collect-clause-reserve g c = not-ok _ c.from_residual.result c.from_residual.ensures.0
-
-pub returns-in_err-copy_live-clause-ready : goal.returns-in_err-copy_live-clause-ready
-returns-in_err-copy_live-clause-ready g c = not-ok _ c.from_residual-in_err-copy_live.result c.from_residual-in_err-copy_live.ensures.0
-
-pub returns-in_err-copy_live-clause-collects : goal.returns-in_err-copy_live-clause-collects
-returns-in_err-copy_live-clause-collects g c = not-ok _ c.from_residual-in_err-copy_live.result c.from_residual-in_err-copy_live.ensures.0
-
-pub returns-in_err-copy_live-clause-used : goal.returns-in_err-copy_live-clause-used
-returns-in_err-copy_live-clause-used g c = not-ok _ c.from_residual-in_err-copy_live.result c.from_residual-in_err-copy_live.ensures.0
-
-pub returns-in_err-copy_live-clause-reserve : goal.returns-in_err-copy_live-clause-reserve
-returns-in_err-copy_live-clause-reserve g c = not-ok _ c.from_residual-in_err-copy_live.result c.from_residual-in_err-copy_live.ensures.0
-
-pub returns-in_err-end_collect-clause-ready : goal.returns-in_err-end_collect-clause-ready
-returns-in_err-end_collect-clause-ready g c = not-ok _ c.from_residual-in_err-end_collect.result c.from_residual-in_err-end_collect.ensures.0
-
-pub returns-in_err-end_collect-clause-collects : goal.returns-in_err-end_collect-clause-collects
-returns-in_err-end_collect-clause-collects g c = not-ok _ c.from_residual-in_err-end_collect.result c.from_residual-in_err-end_collect.ensures.0
-
-pub returns-in_err-end_collect-clause-used : goal.returns-in_err-end_collect-clause-used
-returns-in_err-end_collect-clause-used g c = not-ok _ c.from_residual-in_err-end_collect.result c.from_residual-in_err-end_collect.ensures.0
-
-pub returns-in_err-end_collect-clause-reserve : goal.returns-in_err-end_collect-clause-reserve
-returns-in_err-end_collect-clause-reserve g c = not-ok _ c.from_residual-in_err-end_collect.result c.from_residual-in_err-end_collect.ensures.0
+pub returns-in_err-end_collect-clause-collected : goal.returns-in_err-end_collect-clause-collected
+returns-in_err-end_collect-clause-collected g c = not-ok _ c.from_residual-in_err-end_collect.result c.from_residual-in_err-end_collect.ensures.0
 
 pub returns-in_err-begin_collect-clause-touches : goal.returns-in_err-begin_collect-clause-touches
 returns-in_err-begin_collect-clause-touches g c =
@@ -69,11 +42,8 @@ returns-in_err-copy_live-clause-touches g c =
     is_err_by c.from_residual-in_err-copy_live.result (Touches (area ∷ []) a d) c.from_residual-in_err-copy_live.ensures.0
     (then c.in_ok-begin_collect.ensures.touches (subst (λ (x : Area). Touches (x ∷ []) b d true) c.in_ok-begin_collect.ensures.begun.area c.in_err-copy_live.ensures.touches))
 
-pub returns-clause-down : goal.returns-clause-down
-returns-clause-down g c = tt
-
-pub returns-clause-lost : goal.returns-clause-lost
-returns-clause-lost g c = tt
+pub returns-clause-stopped : goal.returns-clause-stopped
+returns-clause-stopped g c = tt
 
 pub returns-in_err-begin_collect-clause-settings : goal.returns-in_err-begin_collect-clause-settings
 returns-in_err-begin_collect-clause-settings g c =
@@ -109,25 +79,20 @@ copy_live-requires-clause-undamaged g c =
     let one = c.in_ok-begin_collect.ensures.begun in
     begun-undamaged a b before ring one lawful (g.met.F.Flash.is_lawful c.begin_collect.new.flash) c.requires.ready
 
-pub copy_live-requires-clause-no_copies : goal.copy_live-requires-clause-no_copies
-copy_live-requires-clause-no_copies g c =
+pub copy_live-requires-clause-scratch : goal.copy_live-requires-clause-scratch
+copy_live-requires-clause-scratch g c =
     let a : Device = g.F.Flash.device c.args.flash.now in
     let before : Ring = c.args.ring.now in
     let lawful = g.met.F.Flash.is_lawful c.args.flash.now in
     let b : Device = g.F.Flash.device c.begin_collect.new.flash in
     let ring : Ring = c.begin_collect.new.self in
     let one = c.in_ok-begin_collect.ensures.begun in
-    begun-fresh a b before ring one
-
-pub copy_live-requires-clause-end : goal.copy_live-requires-clause-end
-copy_live-requires-clause-end g c =
-    let a : Device = g.F.Flash.device c.args.flash.now in
-    let before : Ring = c.args.ring.now in
-    let lawful = g.met.F.Flash.is_lawful c.args.flash.now in
-    let b : Device = g.F.Flash.device c.begin_collect.new.flash in
-    let ring : Ring = c.begin_collect.new.self in
-    let one = c.in_ok-begin_collect.ensures.begun in
-    begun-end a b before ring one
+    record {
+      stands = one.stands;
+      collecting = one.stage;
+      no_copies = begun-fresh a b before ring one;
+      end = begun-end a b before ring one;
+    }
 
 pub returns-in_err-copy_live-clause-settings : goal.returns-in_err-copy_live-clause-settings
 returns-in_err-copy_live-clause-settings g c =
@@ -140,7 +105,7 @@ returns-in_err-copy_live-clause-settings g c =
     let d : Device = g.F.Flash.device c.copy_live.new.flash in
     let now : Ring = c.copy_live.new.ring in
     let two = c.in_err-copy_live.ensures in
-    let kept : KeepsEntries a d before.area = keeps-then a b d before.area one.list (subst (λ (x : Area). KeepsEntries b d x) one.area two.list) in
+    let kept : KeepsEntries a d before.area = keeps-then a b d before.area one.list (subst (λ (x : Area). KeepsEntries b d x) one.area two.only.list) in
     settings-kept a d before.area kept
 
 pub returns-in_err-copy_live-clause-undamaged : goal.returns-in_err-copy_live-clause-undamaged
@@ -154,7 +119,7 @@ returns-in_err-copy_live-clause-undamaged g c =
     let d : Device = g.F.Flash.device c.copy_live.new.flash in
     let now : Ring = c.copy_live.new.ring in
     let two = c.in_err-copy_live.ensures in
-    let kept : KeepsEntries a d before.area = keeps-then a b d before.area one.list (subst (λ (x : Area). KeepsEntries b d x) one.area two.list) in
+    let kept : KeepsEntries a d before.area = keeps-then a b d before.area one.list (subst (λ (x : Area). KeepsEntries b d x) one.area two.only.list) in
     undamaged-kept a d before.area lawful (g.met.F.Flash.is_lawful c.copy_live.new.flash) c.requires.ready.stands.area (two.touches.banks ∙ one.banks) kept c.requires.ready.undamaged
 
 pub returns-in_err-copy_live-clause-at_most : goal.returns-in_err-copy_live-clause-at_most
@@ -168,7 +133,7 @@ returns-in_err-copy_live-clause-at_most g c =
     let d : Device = g.F.Flash.device c.copy_live.new.flash in
     let now : Ring = c.copy_live.new.ring in
     let two = c.in_err-copy_live.ensures in
-    let kept : KeepsEntries a d before.area = keeps-then a b d before.area one.list (subst (λ (x : Area). KeepsEntries b d x) one.area two.list) in
+    let kept : KeepsEntries a d before.area = keeps-then a b d before.area one.list (subst (λ (x : Area). KeepsEntries b d x) one.area two.only.list) in
     stop-units a b before ring lawful c.requires.ready.stands one one.units d now two.stops
 
 pub end_collect-requires-clause-stands : goal.end_collect-requires-clause-stands
@@ -182,7 +147,7 @@ end_collect-requires-clause-stands g c =
     let d : Device = g.F.Flash.device c.copy_live.new.flash in
     let now : Ring = c.copy_live.new.ring in
     let two = c.in_ok-copy_live.ensures in
-    let copied : Copied b d ring now = record { banks = two.touches.banks; list = two.list; others = two.others; area = two.area; reserve = two.reserve; copies = two.copies } in
+    let copied : Copied b d ring now = record { banks = two.touches.banks; list = two.only.list; others = two.only.others; area = two.only.area; reserve = two.only.reserve; copies = two.copies } in
     let copies = copied-now b d ring now one.stands one.stage two.copies in
     copies.1.stands
 
@@ -197,7 +162,7 @@ end_collect-requires-clause-collecting g c =
     let d : Device = g.F.Flash.device c.copy_live.new.flash in
     let now : Ring = c.copy_live.new.ring in
     let two = c.in_ok-copy_live.ensures in
-    let copied : Copied b d ring now = record { banks = two.touches.banks; list = two.list; others = two.others; area = two.area; reserve = two.reserve; copies = two.copies } in
+    let copied : Copied b d ring now = record { banks = two.touches.banks; list = two.only.list; others = two.only.others; area = two.only.area; reserve = two.only.reserve; copies = two.copies } in
     let copies = copied-now b d ring now one.stands one.stage two.copies in
     copies.1.stage
 
@@ -212,13 +177,13 @@ returns-in_err-end_collect-clause-touches g c =
     let d : Device = g.F.Flash.device c.copy_live.new.flash in
     let now : Ring = c.copy_live.new.ring in
     let two = c.in_ok-copy_live.ensures in
-    let copied : Copied b d ring now = record { banks = two.touches.banks; list = two.list; others = two.others; area = two.area; reserve = two.reserve; copies = two.copies } in
+    let copied : Copied b d ring now = record { banks = two.touches.banks; list = two.only.list; others = two.only.others; area = two.only.area; reserve = two.only.reserve; copies = two.copies } in
     let copies = copied-now b d ring now one.stands one.stage two.copies in
     let e : Device = g.F.Flash.device c.end_collect.new.flash in
     let three = c.in_err-end_collect.ensures in
-    let kept : KeepsEntries a e before.area = keeps-then a d e before.area (keeps-then a b d before.area one.list (subst (λ (x : Area). KeepsEntries b d x) one.area two.list)) (subst (λ (x : Area). KeepsEntries d e x) (two.area ∙ one.area) three.list) in
+    let kept : KeepsEntries a e before.area = keeps-then a d e before.area (keeps-then a b d before.area one.list (subst (λ (x : Area). KeepsEntries b d x) one.area two.only.list)) (subst (λ (x : Area). KeepsEntries d e x) (two.only.area ∙ one.area) three.stopped.list) in
     is_err_by c.from_residual-in_err-end_collect.result (Touches (before.area ∷ []) a e) c.from_residual-in_err-end_collect.ensures.0
-    (then (then c.in_ok-begin_collect.ensures.touches (subst (λ (x : Area). Touches (x ∷ []) b d false) one.area two.touches)) (subst (λ (x : Area). Touches (x ∷ []) d e true) (two.area ∙ one.area) three.touches))
+    (then (then c.in_ok-begin_collect.ensures.touches (subst (λ (x : Area). Touches (x ∷ []) b d false) one.area two.touches)) (subst (λ (x : Area). Touches (x ∷ []) d e true) (two.only.area ∙ one.area) three.touches))
 
 pub returns-in_err-end_collect-clause-settings : goal.returns-in_err-end_collect-clause-settings
 returns-in_err-end_collect-clause-settings g c =
@@ -231,11 +196,11 @@ returns-in_err-end_collect-clause-settings g c =
     let d : Device = g.F.Flash.device c.copy_live.new.flash in
     let now : Ring = c.copy_live.new.ring in
     let two = c.in_ok-copy_live.ensures in
-    let copied : Copied b d ring now = record { banks = two.touches.banks; list = two.list; others = two.others; area = two.area; reserve = two.reserve; copies = two.copies } in
+    let copied : Copied b d ring now = record { banks = two.touches.banks; list = two.only.list; others = two.only.others; area = two.only.area; reserve = two.only.reserve; copies = two.copies } in
     let copies = copied-now b d ring now one.stands one.stage two.copies in
     let e : Device = g.F.Flash.device c.end_collect.new.flash in
     let three = c.in_err-end_collect.ensures in
-    let kept : KeepsEntries a e before.area = keeps-then a d e before.area (keeps-then a b d before.area one.list (subst (λ (x : Area). KeepsEntries b d x) one.area two.list)) (subst (λ (x : Area). KeepsEntries d e x) (two.area ∙ one.area) three.list) in
+    let kept : KeepsEntries a e before.area = keeps-then a d e before.area (keeps-then a b d before.area one.list (subst (λ (x : Area). KeepsEntries b d x) one.area two.only.list)) (subst (λ (x : Area). KeepsEntries d e x) (two.only.area ∙ one.area) three.stopped.list) in
     settings-kept a e before.area kept
 
 pub returns-in_err-end_collect-clause-undamaged : goal.returns-in_err-end_collect-clause-undamaged
@@ -249,11 +214,11 @@ returns-in_err-end_collect-clause-undamaged g c =
     let d : Device = g.F.Flash.device c.copy_live.new.flash in
     let now : Ring = c.copy_live.new.ring in
     let two = c.in_ok-copy_live.ensures in
-    let copied : Copied b d ring now = record { banks = two.touches.banks; list = two.list; others = two.others; area = two.area; reserve = two.reserve; copies = two.copies } in
+    let copied : Copied b d ring now = record { banks = two.touches.banks; list = two.only.list; others = two.only.others; area = two.only.area; reserve = two.only.reserve; copies = two.copies } in
     let copies = copied-now b d ring now one.stands one.stage two.copies in
     let e : Device = g.F.Flash.device c.end_collect.new.flash in
     let three = c.in_err-end_collect.ensures in
-    let kept : KeepsEntries a e before.area = keeps-then a d e before.area (keeps-then a b d before.area one.list (subst (λ (x : Area). KeepsEntries b d x) one.area two.list)) (subst (λ (x : Area). KeepsEntries d e x) (two.area ∙ one.area) three.list) in
+    let kept : KeepsEntries a e before.area = keeps-then a d e before.area (keeps-then a b d before.area one.list (subst (λ (x : Area). KeepsEntries b d x) one.area two.only.list)) (subst (λ (x : Area). KeepsEntries d e x) (two.only.area ∙ one.area) three.stopped.list) in
     undamaged-kept a e before.area lawful (g.met.F.Flash.is_lawful c.end_collect.new.flash) c.requires.ready.stands.area (three.touches.banks ∙ two.touches.banks ∙ one.banks) kept c.requires.ready.undamaged
 
 pub returns-in_err-end_collect-clause-at_most : goal.returns-in_err-end_collect-clause-at_most
@@ -267,12 +232,12 @@ returns-in_err-end_collect-clause-at_most g c =
     let d : Device = g.F.Flash.device c.copy_live.new.flash in
     let now : Ring = c.copy_live.new.ring in
     let two = c.in_ok-copy_live.ensures in
-    let copied : Copied b d ring now = record { banks = two.touches.banks; list = two.list; others = two.others; area = two.area; reserve = two.reserve; copies = two.copies } in
+    let copied : Copied b d ring now = record { banks = two.touches.banks; list = two.only.list; others = two.only.others; area = two.only.area; reserve = two.only.reserve; copies = two.copies } in
     let copies = copied-now b d ring now one.stands one.stage two.copies in
     let e : Device = g.F.Flash.device c.end_collect.new.flash in
     let three = c.in_err-end_collect.ensures in
-    let kept : KeepsEntries a e before.area = keeps-then a d e before.area (keeps-then a b d before.area one.list (subst (λ (x : Area). KeepsEntries b d x) one.area two.list)) (subst (λ (x : Area). KeepsEntries d e x) (two.area ∙ one.area) three.list) in
-    end-units a b before ring lawful c.requires.ready.stands one one.units d e now copies.0 (g.met.F.Flash.is_lawful c.copy_live.new.flash) two.touches.banks two.area copies.1 three.bound
+    let kept : KeepsEntries a e before.area = keeps-then a d e before.area (keeps-then a b d before.area one.list (subst (λ (x : Area). KeepsEntries b d x) one.area two.only.list)) (subst (λ (x : Area). KeepsEntries d e x) (two.only.area ∙ one.area) three.stopped.list) in
+    end-units a b before ring lawful c.requires.ready.stands one one.units d e now copies.0 (g.met.F.Flash.is_lawful c.copy_live.new.flash) two.touches.banks two.only.area copies.1 three.stopped.bound
 
 pub returns-clause-touches : goal.returns-clause-touches
 returns-clause-touches g c =
@@ -285,14 +250,14 @@ returns-clause-touches g c =
     let d : Device = g.F.Flash.device c.copy_live.new.flash in
     let now : Ring = c.copy_live.new.ring in
     let two = c.in_ok-copy_live.ensures in
-    let copied : Copied b d ring now = record { banks = two.touches.banks; list = two.list; others = two.others; area = two.area; reserve = two.reserve; copies = two.copies } in
+    let copied : Copied b d ring now = record { banks = two.touches.banks; list = two.only.list; others = two.only.others; area = two.only.area; reserve = two.only.reserve; copies = two.copies } in
     let copies = copied-now b d ring now one.stands one.stage two.copies in
     let e : Device = g.F.Flash.device c.end_collect.new.flash in
     let after : Ring = c.end_collect.new.self in
     let three = c.in_ok-end_collect.ensures in
-    let ended : Ended d e now after = record { banks = three.touches.banks; others = three.others; area = three.area; reserve = three.reserve; stands = three.stands; ready = three.ready; end = three.end; oldest = three.ends.oldest; used = three.ends.used } in
+    let ended : Ended d e now after = record { banks = three.touches.banks; others = three.others; area = three.ended.area; reserve = three.ended.reserve; stands = three.ended.stands; ready = three.ended.ready; end = three.ended.end; oldest = three.ended.ends.oldest; used = three.ended.ends.used } in
     let left : before.used + 1 ≡ before.area.sectors = eqb-true (before.used + 1) before.area.sectors c.requires.left in
-    then (then c.in_ok-begin_collect.ensures.touches (subst (λ (x : Area). Touches (x ∷ []) b d false) one.area two.touches)) (subst (λ (x : Area). Touches (x ∷ []) d e false) (two.area ∙ one.area) three.touches)
+    then (then c.in_ok-begin_collect.ensures.touches (subst (λ (x : Area). Touches (x ∷ []) b d false) one.area two.touches)) (subst (λ (x : Area). Touches (x ∷ []) d e false) (two.only.area ∙ one.area) three.touches)
 
 pub returns-clause-area : goal.returns-clause-area
 returns-clause-area g c =
@@ -305,14 +270,14 @@ returns-clause-area g c =
     let d : Device = g.F.Flash.device c.copy_live.new.flash in
     let now : Ring = c.copy_live.new.ring in
     let two = c.in_ok-copy_live.ensures in
-    let copied : Copied b d ring now = record { banks = two.touches.banks; list = two.list; others = two.others; area = two.area; reserve = two.reserve; copies = two.copies } in
+    let copied : Copied b d ring now = record { banks = two.touches.banks; list = two.only.list; others = two.only.others; area = two.only.area; reserve = two.only.reserve; copies = two.copies } in
     let copies = copied-now b d ring now one.stands one.stage two.copies in
     let e : Device = g.F.Flash.device c.end_collect.new.flash in
     let after : Ring = c.end_collect.new.self in
     let three = c.in_ok-end_collect.ensures in
-    let ended : Ended d e now after = record { banks = three.touches.banks; others = three.others; area = three.area; reserve = three.reserve; stands = three.stands; ready = three.ready; end = three.end; oldest = three.ends.oldest; used = three.ends.used } in
+    let ended : Ended d e now after = record { banks = three.touches.banks; others = three.others; area = three.ended.area; reserve = three.ended.reserve; stands = three.ended.stands; ready = three.ended.ready; end = three.ended.end; oldest = three.ended.ends.oldest; used = three.ended.ends.used } in
     let left : before.used + 1 ≡ before.area.sectors = eqb-true (before.used + 1) before.area.sectors c.requires.left in
-    three.area ∙ two.area ∙ one.area
+    three.ended.area ∙ two.only.area ∙ one.area
 
 pub returns-clause-settings : goal.returns-clause-settings
 returns-clause-settings g c =
@@ -325,12 +290,12 @@ returns-clause-settings g c =
     let d : Device = g.F.Flash.device c.copy_live.new.flash in
     let now : Ring = c.copy_live.new.ring in
     let two = c.in_ok-copy_live.ensures in
-    let copied : Copied b d ring now = record { banks = two.touches.banks; list = two.list; others = two.others; area = two.area; reserve = two.reserve; copies = two.copies } in
+    let copied : Copied b d ring now = record { banks = two.touches.banks; list = two.only.list; others = two.only.others; area = two.only.area; reserve = two.only.reserve; copies = two.copies } in
     let copies = copied-now b d ring now one.stands one.stage two.copies in
     let e : Device = g.F.Flash.device c.end_collect.new.flash in
     let after : Ring = c.end_collect.new.self in
     let three = c.in_ok-end_collect.ensures in
-    let ended : Ended d e now after = record { banks = three.touches.banks; others = three.others; area = three.area; reserve = three.reserve; stands = three.stands; ready = three.ready; end = three.end; oldest = three.ends.oldest; used = three.ends.used } in
+    let ended : Ended d e now after = record { banks = three.touches.banks; others = three.others; area = three.ended.area; reserve = three.ended.reserve; stands = three.ended.stands; ready = three.ended.ready; end = three.ended.end; oldest = three.ended.ends.oldest; used = three.ended.ends.used } in
     let left : before.used + 1 ≡ before.area.sectors = eqb-true (before.used + 1) before.area.sectors c.requires.left in
     collected-settings a b d e before ring now after c.requires.ready left lawful one copied ended
 
@@ -345,12 +310,12 @@ returns-clause-undamaged g c =
     let d : Device = g.F.Flash.device c.copy_live.new.flash in
     let now : Ring = c.copy_live.new.ring in
     let two = c.in_ok-copy_live.ensures in
-    let copied : Copied b d ring now = record { banks = two.touches.banks; list = two.list; others = two.others; area = two.area; reserve = two.reserve; copies = two.copies } in
+    let copied : Copied b d ring now = record { banks = two.touches.banks; list = two.only.list; others = two.only.others; area = two.only.area; reserve = two.only.reserve; copies = two.copies } in
     let copies = copied-now b d ring now one.stands one.stage two.copies in
     let e : Device = g.F.Flash.device c.end_collect.new.flash in
     let after : Ring = c.end_collect.new.self in
     let three = c.in_ok-end_collect.ensures in
-    let ended : Ended d e now after = record { banks = three.touches.banks; others = three.others; area = three.area; reserve = three.reserve; stands = three.stands; ready = three.ready; end = three.end; oldest = three.ends.oldest; used = three.ends.used } in
+    let ended : Ended d e now after = record { banks = three.touches.banks; others = three.others; area = three.ended.area; reserve = three.ended.reserve; stands = three.ended.stands; ready = three.ended.ready; end = three.ended.end; oldest = three.ended.ends.oldest; used = three.ended.ends.used } in
     let left : before.used + 1 ≡ before.area.sectors = eqb-true (before.used + 1) before.area.sectors c.requires.left in
     collected-undamaged a b d e before ring now after c.requires.ready left lawful one copied ended (g.met.F.Flash.is_lawful c.end_collect.new.flash)
 
@@ -365,17 +330,17 @@ returns-clause-at_most g c =
     let d : Device = g.F.Flash.device c.copy_live.new.flash in
     let now : Ring = c.copy_live.new.ring in
     let two = c.in_ok-copy_live.ensures in
-    let copied : Copied b d ring now = record { banks = two.touches.banks; list = two.list; others = two.others; area = two.area; reserve = two.reserve; copies = two.copies } in
+    let copied : Copied b d ring now = record { banks = two.touches.banks; list = two.only.list; others = two.only.others; area = two.only.area; reserve = two.only.reserve; copies = two.copies } in
     let copies = copied-now b d ring now one.stands one.stage two.copies in
     let e : Device = g.F.Flash.device c.end_collect.new.flash in
     let after : Ring = c.end_collect.new.self in
     let three = c.in_ok-end_collect.ensures in
-    let ended : Ended d e now after = record { banks = three.touches.banks; others = three.others; area = three.area; reserve = three.reserve; stands = three.stands; ready = three.ready; end = three.end; oldest = three.ends.oldest; used = three.ends.used } in
+    let ended : Ended d e now after = record { banks = three.touches.banks; others = three.others; area = three.ended.area; reserve = three.ended.reserve; stands = three.ended.stands; ready = three.ended.ready; end = three.ended.end; oldest = three.ended.ends.oldest; used = three.ended.ends.used } in
     let left : before.used + 1 ≡ before.area.sectors = eqb-true (before.used + 1) before.area.sectors c.requires.left in
-    end-units a b before ring lawful c.requires.ready.stands one one.units d e now copies.0 (g.met.F.Flash.is_lawful c.copy_live.new.flash) two.touches.banks two.area copies.1 (spends_most d e 1 three.units)
+    end-units a b before ring lawful c.requires.ready.stands one one.units d e now copies.0 (g.met.F.Flash.is_lawful c.copy_live.new.flash) two.touches.banks two.only.area copies.1 (spends_most d e 1 three.ended.units)
 
-pub returns-clause-ready : goal.returns-clause-ready
-returns-clause-ready g c =
+pub returns-clause-collected : goal.returns-clause-collected
+returns-clause-collected g c =
     let a : Device = g.F.Flash.device c.args.flash.now in
     let before : Ring = c.args.ring.now in
     let lawful = g.met.F.Flash.is_lawful c.args.flash.now in
@@ -385,67 +350,38 @@ returns-clause-ready g c =
     let d : Device = g.F.Flash.device c.copy_live.new.flash in
     let now : Ring = c.copy_live.new.ring in
     let two = c.in_ok-copy_live.ensures in
-    let copied : Copied b d ring now = record { banks = two.touches.banks; list = two.list; others = two.others; area = two.area; reserve = two.reserve; copies = two.copies } in
+    let copied : Copied b d ring now = record { banks = two.touches.banks; list = two.only.list; others = two.only.others; area = two.only.area; reserve = two.only.reserve; copies = two.copies } in
     let copies = copied-now b d ring now one.stands one.stage two.copies in
     let e : Device = g.F.Flash.device c.end_collect.new.flash in
     let after : Ring = c.end_collect.new.self in
     let three = c.in_ok-end_collect.ensures in
-    let ended : Ended d e now after = record { banks = three.touches.banks; others = three.others; area = three.area; reserve = three.reserve; stands = three.stands; ready = three.ready; end = three.end; oldest = three.ends.oldest; used = three.ends.used } in
+    let ended : Ended d e now after = record { banks = three.touches.banks; others = three.others; area = three.ended.area; reserve = three.ended.reserve; stands = three.ended.stands; ready = three.ended.ready; end = three.ended.end; oldest = three.ended.ends.oldest; used = three.ended.ends.used } in
     let left : before.used + 1 ≡ before.area.sectors = eqb-true (before.used + 1) before.area.sectors c.requires.left in
-    collected-ready a b d e before ring now after c.requires.ready left lawful one copied ended (g.met.F.Flash.is_lawful c.end_collect.new.flash)
+    record {
+      ready = collected-ready a b d e before ring now after c.requires.ready left lawful one copied ended (g.met.F.Flash.is_lawful c.end_collect.new.flash);
+      collects = collected a b d e before ring now after c.requires.ready left lawful one copied ended;
+      used = after-used a b d e before ring now after c.requires.ready left lawful one copied ended;
+      reserve = three.ended.reserve ∙ two.only.reserve ∙ one.reserve;
+    }
 
-pub returns-clause-collects : goal.returns-clause-collects
-returns-clause-collects g c =
-    let a : Device = g.F.Flash.device c.args.flash.now in
-    let before : Ring = c.args.ring.now in
-    let lawful = g.met.F.Flash.is_lawful c.args.flash.now in
+pub returns-in_err-begin_collect-clause-stopped : goal.returns-in_err-begin_collect-clause-stopped
+returns-in_err-begin_collect-clause-stopped g c =
     let b : Device = g.F.Flash.device c.begin_collect.new.flash in
-    let ring : Ring = c.begin_collect.new.self in
+    on_err c.from_residual.result (record {
+      down = c.in_err-begin_collect.ensures.stopped.down;
+      lost = λ on. header-chance b c.args.ring.now.area (g.met.F.Flash.is_lawful c.begin_collect.new.flash) (area_after (g.F.Flash.device c.args.flash.now) b c.args.ring.now.area c.in_err-begin_collect.ensures.touches.banks c.requires.ready.stands.area) (next_place c.args.ring.now) (c.in_err-begin_collect.ensures.stopped.lost on);
+    })
+
+pub returns-in_err-copy_live-clause-stopped : goal.returns-in_err-copy_live-clause-stopped
+returns-in_err-copy_live-clause-stopped g c =
     let one = c.in_ok-begin_collect.ensures.begun in
-    let d : Device = g.F.Flash.device c.copy_live.new.flash in
-    let now : Ring = c.copy_live.new.ring in
-    let two = c.in_ok-copy_live.ensures in
-    let copied : Copied b d ring now = record { banks = two.touches.banks; list = two.list; others = two.others; area = two.area; reserve = two.reserve; copies = two.copies } in
-    let copies = copied-now b d ring now one.stands one.stage two.copies in
-    let e : Device = g.F.Flash.device c.end_collect.new.flash in
-    let after : Ring = c.end_collect.new.self in
-    let three = c.in_ok-end_collect.ensures in
-    let ended : Ended d e now after = record { banks = three.touches.banks; others = three.others; area = three.area; reserve = three.reserve; stands = three.stands; ready = three.ready; end = three.end; oldest = three.ends.oldest; used = three.ends.used } in
-    let left : before.used + 1 ≡ before.area.sectors = eqb-true (before.used + 1) before.area.sectors c.requires.left in
-    collected a b d e before ring now after c.requires.ready left lawful one copied ended
+    on_err c.from_residual-in_err-copy_live.result (record {
+      down = c.in_err-copy_live.ensures.stops.down;
+      lost = lost-then (g.F.Flash.device c.args.flash.now) (g.F.Flash.device c.begin_collect.new.flash) (g.F.Flash.device c.copy_live.new.flash) c.args.ring.now.area c.begin_collect.new.self.area c.in_ok-begin_collect.ensures.touches one.area c.in_err-copy_live.ensures.lost;
+    })
 
-pub returns-clause-used : goal.returns-clause-used
-returns-clause-used g c =
-    let a : Device = g.F.Flash.device c.args.flash.now in
-    let before : Ring = c.args.ring.now in
-    let lawful = g.met.F.Flash.is_lawful c.args.flash.now in
-    let b : Device = g.F.Flash.device c.begin_collect.new.flash in
-    let ring : Ring = c.begin_collect.new.self in
-    let one = c.in_ok-begin_collect.ensures.begun in
-    let d : Device = g.F.Flash.device c.copy_live.new.flash in
-    let now : Ring = c.copy_live.new.ring in
-    let two = c.in_ok-copy_live.ensures in
-    let copied : Copied b d ring now = record { banks = two.touches.banks; list = two.list; others = two.others; area = two.area; reserve = two.reserve; copies = two.copies } in
-    let copies = copied-now b d ring now one.stands one.stage two.copies in
-    let e : Device = g.F.Flash.device c.end_collect.new.flash in
-    let after : Ring = c.end_collect.new.self in
-    let three = c.in_ok-end_collect.ensures in
-    let ended : Ended d e now after = record { banks = three.touches.banks; others = three.others; area = three.area; reserve = three.reserve; stands = three.stands; ready = three.ready; end = three.end; oldest = three.ends.oldest; used = three.ends.used } in
-    let left : before.used + 1 ≡ before.area.sectors = eqb-true (before.used + 1) before.area.sectors c.requires.left in
-    after-used a b d e before ring now after c.requires.ready left lawful one copied ended
-
-pub returns-in_err-begin_collect-clause-lost : goal.returns-in_err-begin_collect-clause-lost
-returns-in_err-begin_collect-clause-lost g c =
-    let b : Device = g.F.Flash.device c.begin_collect.new.flash in
-    on_err c.from_residual.result (λ on. header-chance b c.args.ring.now.area (g.met.F.Flash.is_lawful c.begin_collect.new.flash) (area_after (g.F.Flash.device c.args.flash.now) b c.args.ring.now.area c.in_err-begin_collect.ensures.touches.banks c.requires.ready.stands.area) (next_place c.args.ring.now) (c.in_err-begin_collect.ensures.stopped.lost on))
-
-pub returns-in_err-copy_live-clause-lost : goal.returns-in_err-copy_live-clause-lost
-returns-in_err-copy_live-clause-lost g c =
-    let one = c.in_ok-begin_collect.ensures.begun in
-    on_err c.from_residual-in_err-copy_live.result (lost-then (g.F.Flash.device c.args.flash.now) (g.F.Flash.device c.begin_collect.new.flash) (g.F.Flash.device c.copy_live.new.flash) c.args.ring.now.area c.begin_collect.new.self.area c.in_ok-begin_collect.ensures.touches one.area c.in_err-copy_live.ensures.lost)
-
-pub returns-in_err-end_collect-clause-lost : goal.returns-in_err-end_collect-clause-lost
-returns-in_err-end_collect-clause-lost g c =
+pub returns-in_err-end_collect-clause-stopped : goal.returns-in_err-end_collect-clause-stopped
+returns-in_err-end_collect-clause-stopped g c =
     let a : Device = g.F.Flash.device c.args.flash.now in
     let b : Device = g.F.Flash.device c.begin_collect.new.flash in
     let d : Device = g.F.Flash.device c.copy_live.new.flash in
@@ -455,5 +391,8 @@ returns-in_err-end_collect-clause-lost g c =
     let two = c.in_ok-copy_live.ensures in
     let three = c.in_err-end_collect.ensures in
     let touches : Touches (area ∷ []) a d false = then c.in_ok-begin_collect.ensures.touches (subst (λ (x : Area). Touches (x ∷ []) b d false) one.area two.touches) in
-    let erase : (on : d.is_on ≡ true) → HasNoChance e c.copy_live.new.ring.area = λ on. erase-chance e c.copy_live.new.ring.area (g.met.F.Flash.is_lawful c.end_collect.new.flash) (area_after d e c.copy_live.new.ring.area three.touches.banks (copied-now b d c.begin_collect.new.self c.copy_live.new.ring one.stands one.stage two.copies).1.stands.area) c.copy_live.new.ring.oldest (three.lost on) in
-    on_err c.from_residual-in_err-end_collect.result (lost-then a d e area c.copy_live.new.ring.area touches (two.area ∙ one.area) erase)
+    let erase : (on : d.is_on ≡ true) → HasNoChance e c.copy_live.new.ring.area = λ on. erase-chance e c.copy_live.new.ring.area (g.met.F.Flash.is_lawful c.end_collect.new.flash) (area_after d e c.copy_live.new.ring.area three.touches.banks (copied-now b d c.begin_collect.new.self c.copy_live.new.ring one.stands one.stage two.copies).1.stands.area) c.copy_live.new.ring.oldest (three.stopped.lost on) in
+    on_err c.from_residual-in_err-end_collect.result (record {
+      down = c.in_err-end_collect.ensures.stopped.ring.down;
+      lost = lost-then a d e area c.copy_live.new.ring.area touches (two.only.area ∙ one.area) erase;
+    })

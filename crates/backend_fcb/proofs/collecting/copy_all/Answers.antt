@@ -43,7 +43,7 @@ copy-requires-clause-listed g c =
     let now : Ring = c.loop-kept.ring in
     let lawful = g.met.F.Flash.is_lawful c.args.flash.now in
     let lawful-now = g.met.F.Flash.is_lawful c.loop-kept.flash in
-    table-listed a d before now c.args.live.now c.loop-kept.kept-index c.loop-kept.invariant lawful lawful-now c.requires.stands nothing c.loop-kept-test.true c.requires.kept
+    table-listed a d before now c.args.live.now c.loop-kept.kept-index c.loop-kept.invariant lawful lawful-now c.requires.stands nothing c.loop-kept-test.true c.requires.live.kept
 
 pub copy-requires-clause-of_oldest : goal.copy-requires-clause-of_oldest
 copy-requires-clause-of_oldest g c =
@@ -53,7 +53,7 @@ copy-requires-clause-of_oldest g c =
     let now : Ring = c.loop-kept.ring in
     let lawful = g.met.F.Flash.is_lawful c.args.flash.now in
     let lawful-now = g.met.F.Flash.is_lawful c.loop-kept.flash in
-    table-oldest a d before now c.args.live.now c.loop-kept.kept-index c.loop-kept.invariant lawful lawful-now c.requires.stands nothing c.loop-kept-test.true c.requires.kept c.requires.of_oldest
+    table-oldest a d before now c.args.live.now c.loop-kept.kept-index c.loop-kept.invariant lawful lawful-now c.requires.stands nothing c.loop-kept-test.true c.requires.live.kept c.requires.live.of_oldest
 
 pub copy-requires-clause-short : goal.copy-requires-clause-short
 copy-requires-clause-short g c =
@@ -63,7 +63,7 @@ copy-requires-clause-short g c =
     let now : Ring = c.loop-kept.ring in
     let lawful = g.met.F.Flash.is_lawful c.args.flash.now in
     let lawful-now = g.met.F.Flash.is_lawful c.loop-kept.flash in
-    table-short a d before now c.args.live.now c.loop-kept.kept-index c.loop-kept.invariant lawful lawful-now c.requires.stands nothing c.loop-kept-test.true c.requires.kept c.requires.short
+    table-short a d before now c.args.live.now c.loop-kept.kept-index c.loop-kept.invariant lawful lawful-now c.requires.stands nothing c.loop-kept-test.true c.requires.live.kept c.requires.live.short
 
 pub copy-requires-clause-fits : goal.copy-requires-clause-fits
 copy-requires-clause-fits g c =
@@ -73,7 +73,7 @@ copy-requires-clause-fits g c =
     let now : Ring = c.loop-kept.ring in
     let lawful = g.met.F.Flash.is_lawful c.args.flash.now in
     let lawful-now = g.met.F.Flash.is_lawful c.loop-kept.flash in
-    table-fits a d before now c.args.live.now c.loop-kept.kept-index c.loop-kept.invariant lawful lawful-now c.requires.stands nothing c.loop-kept-test.true c.requires.kept c.requires.fits
+    table-fits a d before now c.args.live.now c.loop-kept.kept-index c.loop-kept.invariant lawful lawful-now c.requires.stands nothing c.loop-kept-test.true c.requires.live.kept c.requires.live.fits
 
 pub loop-kept-preserved : goal.loop-kept-preserved
 loop-kept-preserved g c =
@@ -84,7 +84,7 @@ loop-kept-preserved g c =
     let lawful = g.met.F.Flash.is_lawful c.args.flash.now in
     let lawful-now = g.met.F.Flash.is_lawful c.loop-kept.flash in
     let e : Device = g.F.Flash.device c.copy.new.flash in
-    table-step a d before now c.args.live.now c.loop-kept.kept-index c.loop-kept.invariant lawful lawful-now c.requires.stands nothing c.loop-kept-test.true c.requires.kept e c.copy.new.self c.in_ok-copy.ensures.touches c.in_ok-copy.ensures.copied
+    table-step a d before now c.args.live.now c.loop-kept.kept-index c.loop-kept.invariant lawful lawful-now c.requires.stands nothing c.loop-kept-test.true c.requires.live.kept e c.copy.new.self c.in_ok-copy.ensures.touches c.in_ok-copy.ensures.copied
 
 pub returns-in_err-copy-clause-stops : goal.returns-in_err-copy-clause-stops
 returns-in_err-copy-clause-stops g c =
@@ -95,7 +95,7 @@ returns-in_err-copy-clause-stops g c =
     let lawful = g.met.F.Flash.is_lawful c.args.flash.now in
     let lawful-now = g.met.F.Flash.is_lawful c.loop-kept.flash in
     let e : Device = g.F.Flash.device c.copy.new.flash in
-    on_err c.from_residual.result (table-stops a d before now c.args.live.now c.loop-kept.kept-index c.loop-kept.invariant lawful lawful-now c.requires.stands nothing c.loop-kept-test.true c.requires.kept e c.copy.new.self c.requires.fits c.in_err-copy.ensures.stopped)
+    on_err c.from_residual.result (table-stops a d before now c.args.live.now c.loop-kept.kept-index c.loop-kept.invariant lawful lawful-now c.requires.stands nothing c.loop-kept-test.true c.requires.live.kept e c.copy.new.self c.requires.live.fits c.in_err-copy.ensures.stopped)
 
 pub returns-in_err-copy-clause-lost : goal.returns-in_err-copy-clause-lost
 returns-in_err-copy-clause-lost g c =
@@ -106,10 +106,10 @@ returns-in_err-copy-clause-lost g c =
     let lawful = g.met.F.Flash.is_lawful c.args.flash.now in
     let lawful-now = g.met.F.Flash.is_lawful c.loop-kept.flash in
     let e : Device = g.F.Flash.device c.copy.new.flash in
-    on_err c.from_residual.result (table-lost a d before now c.args.live.now c.loop-kept.kept-index c.loop-kept.invariant lawful lawful-now c.requires.stands nothing c.loop-kept-test.true c.requires.kept e c.copy.new.self c.in_err-copy.ensures.stopped)
+    on_err c.from_residual.result (table-lost a d before now c.args.live.now c.loop-kept.kept-index c.loop-kept.invariant lawful lawful-now c.requires.stands nothing c.loop-kept-test.true c.requires.live.kept e c.copy.new.self c.in_err-copy.ensures.stopped)
 
-pub returns-in_err-copy-clause-list : goal.returns-in_err-copy-clause-list
-returns-in_err-copy-clause-list g c =
+pub returns-in_err-copy-clause-only : goal.returns-in_err-copy-clause-only
+returns-in_err-copy-clause-only g c =
     let a : Device = g.F.Flash.device c.args.flash.now in
     let d : Device = g.F.Flash.device c.loop-kept.flash in
     let before : Ring = c.args.ring.now in
@@ -117,38 +117,12 @@ returns-in_err-copy-clause-list g c =
     let lawful = g.met.F.Flash.is_lawful c.args.flash.now in
     let lawful-now = g.met.F.Flash.is_lawful c.loop-kept.flash in
     let e : Device = g.F.Flash.device c.copy.new.flash in
-    table-kept a d before now c.args.live.now c.loop-kept.kept-index c.loop-kept.invariant lawful lawful-now c.requires.stands nothing c.loop-kept-test.true c.requires.kept e c.copy.new.self c.in_err-copy.ensures.stopped.list
-
-pub returns-in_err-copy-clause-others : goal.returns-in_err-copy-clause-others
-returns-in_err-copy-clause-others g c =
-    let a : Device = g.F.Flash.device c.args.flash.now in
-    let d : Device = g.F.Flash.device c.loop-kept.flash in
-    let before : Ring = c.args.ring.now in
-    let now : Ring = c.loop-kept.ring in
-    let lawful = g.met.F.Flash.is_lawful c.args.flash.now in
-    let lawful-now = g.met.F.Flash.is_lawful c.loop-kept.flash in
-    let e : Device = g.F.Flash.device c.copy.new.flash in
-    table-others a d before now c.args.live.now c.loop-kept.kept-index c.loop-kept.invariant lawful lawful-now c.requires.stands nothing c.loop-kept-test.true c.requires.kept e c.copy.new.self c.in_err-copy.ensures.stopped.others
-
-pub returns-in_err-copy-clause-area : goal.returns-in_err-copy-clause-area
-returns-in_err-copy-clause-area g c =
-    let a : Device = g.F.Flash.device c.args.flash.now in
-    let d : Device = g.F.Flash.device c.loop-kept.flash in
-    let before : Ring = c.args.ring.now in
-    let now : Ring = c.loop-kept.ring in
-    let lawful = g.met.F.Flash.is_lawful c.args.flash.now in
-    let lawful-now = g.met.F.Flash.is_lawful c.loop-kept.flash in
-    c.in_err-copy.ensures.stopped.area ∙ c.loop-kept.invariant.area
-
-pub returns-in_err-copy-clause-reserve : goal.returns-in_err-copy-clause-reserve
-returns-in_err-copy-clause-reserve g c =
-    let a : Device = g.F.Flash.device c.args.flash.now in
-    let d : Device = g.F.Flash.device c.loop-kept.flash in
-    let before : Ring = c.args.ring.now in
-    let now : Ring = c.loop-kept.ring in
-    let lawful = g.met.F.Flash.is_lawful c.args.flash.now in
-    let lawful-now = g.met.F.Flash.is_lawful c.loop-kept.flash in
-    c.in_err-copy.ensures.stopped.reserve ∙ c.loop-kept.invariant.reserve
+    record {
+      list = table-kept a d before now c.args.live.now c.loop-kept.kept-index c.loop-kept.invariant lawful lawful-now c.requires.stands nothing c.loop-kept-test.true c.requires.live.kept e c.copy.new.self c.in_err-copy.ensures.stopped.list;
+      others = table-others a d before now c.args.live.now c.loop-kept.kept-index c.loop-kept.invariant lawful lawful-now c.requires.stands nothing c.loop-kept-test.true c.requires.live.kept e c.copy.new.self c.in_err-copy.ensures.stopped.others;
+      area = c.in_err-copy.ensures.stopped.area ∙ c.loop-kept.invariant.area;
+      reserve = c.in_err-copy.ensures.stopped.reserve ∙ c.loop-kept.invariant.reserve;
+    }
 
 pub returns-clause-copies : goal.returns-clause-copies
 returns-clause-copies g c =
@@ -160,3 +134,8 @@ returns-clause-copies g c =
     let lawful-now = g.met.F.Flash.is_lawful c.loop-kept.flash in
     let all : take c.loop-kept.kept-index c.args.live.now ≡ c.args.live.now = take_all c.loop-kept.kept-index c.args.live.now (omega (arith, c.loop-kept-test.false)) in
     subst (λ (l : List Kept). Copies a d before now (bodies_at a before.area l)) all c.loop-kept.invariant.copies
+
+pub returns-clause-only : goal.returns-clause-only
+returns-clause-only g c =
+    let done = c.loop-kept.invariant in
+    record { list = done.list; others = done.others; area = done.area; reserve = done.reserve }

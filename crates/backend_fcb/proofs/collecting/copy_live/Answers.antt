@@ -7,15 +7,15 @@ use Rattle.flash_map.specs.declared.area.Area.{Area}
 use Rattle.flash_map.proofs.PieceLemmas.{on_err}
 use Rattle.fcb_ring.specs.declared.record.RecordAt.{RecordAt}
 use Rattle.fcb_ring.specs.declared.ring.Ring.{Ring}
-use Rattle.fcb_ring.specs.Standing.{IsListed, entries_on, record_places}
+use Rattle.fcb_ring.specs.Standing.{IsListed, KeepsEntries, entries_on, record_places}
 use Rattle.fcb_ring.specs.Entries.{bodies}
-use Rattle.backend_fcb.specs.Live.{live_bodies}
-use Rattle.backend_fcb.specs.Rounds.{bodies_cost}
+use Rattle.record_settings.specs.Live.{live_bodies}
+use Rattle.record_settings.specs.Rounds.{bodies_cost}
 use Rattle.flash_map.specs.Area.{value_limit}
 use Rattle.backend_fcb.specs.Changing.{Copies}
 use Rattle.backend_fcb.specs.Gathering.{AreKeptWithin, AreShort, IsKept, bodies_at, Gathers}
 use Rattle.backend_fcb.specs.declared.gathering.Kept.{Kept}
-use Rattle.backend_fcb.proofs.CopySteps.{IsCopying, copying-list, copying-others, copying-start, copying-step, copying-end, gathered, gathered-short, gathered-fits, stops-then, part-none, oldest-some}
+use Rattle.backend_fcb.proofs.CopySteps.{IsCopying, keeps-then, copying-list, copying-others, copying-start, copying-step, copying-end, gathered, gathered-short, gathered-fits, stops-then, part-none, oldest-some}
 use Rattle.backend_fcb.proofs.Ends.{not-ok}
 use Rattle.backend_fcb.proofs.GatherSteps.{gathers-smaller}
 use Rattle.backend_fcb.proofs.Tearing.{lost-then}
@@ -32,7 +32,7 @@ pub returns-clause-lost : goal.returns-clause-lost
 returns-clause-lost g c = tt
 
 pub loop-at-init : goal.loop-at-init
-loop-at-init g c = copying-start (g.F.Flash.device c.args.flash.now) c.args.ring.now (g.met.F.Flash.is_lawful c.args.flash.now) c.requires.stands c.requires.collecting c.next-at.result c.next-at.ensures.next c.next-at.ensures.listed
+loop-at-init g c = copying-start (g.F.Flash.device c.args.flash.now) c.args.ring.now (g.met.F.Flash.is_lawful c.args.flash.now) c.requires.scratch.stands c.requires.scratch.collecting c.next-at.result c.next-at.ensures.next c.next-at.ensures.listed
 
 pub gather_live-at-requires-clause-stands : goal.gather_live-at-requires-clause-stands
 gather_live-at-requires-clause-stands g c =
@@ -74,58 +74,30 @@ copy_all-requires-clause-collecting g c =
     subst (λ (o : Option RecordAt). IsCopying (g.F.Flash.device c.args.flash.now) (g.F.Flash.device c.loop-at.flash) c.args.ring.now c.loop-at.ring o) c.in-Some.is c.loop-at.invariant in
     so_far.copies.stage
 
-pub copy_all-requires-clause-kept : goal.copy_all-requires-clause-kept
-copy_all-requires-clause-kept g c = subst (λ (l : List Kept). All (IsKept (g.F.Flash.device c.loop-at.flash) c.loop-at.ring.area) l) (sym c.as_slice.ensures.value) c.gather_live-at.ensures.kept
-
-pub copy_all-requires-clause-of_oldest : goal.copy_all-requires-clause-of_oldest
-copy_all-requires-clause-of_oldest g c =
+pub copy_all-requires-clause-live : goal.copy_all-requires-clause-live
+copy_all-requires-clause-live g c =
     let a : Device = g.F.Flash.device c.args.flash.now in
     let d : Device = g.F.Flash.device c.loop-at.flash in
     let before : Ring = c.args.ring.now in
     let now : Ring = c.loop-at.ring in
     let so_far : IsCopying (g.F.Flash.device c.args.flash.now) (g.F.Flash.device c.loop-at.flash) c.args.ring.now c.loop-at.ring (Some c.in-Some.from) =
     subst (λ (o : Option RecordAt). IsCopying (g.F.Flash.device c.args.flash.now) (g.F.Flash.device c.loop-at.flash) c.args.ring.now c.loop-at.ring o) c.in-Some.is c.loop-at.invariant in
-    let part : c.oldest-oldest.result ≡ Some c.args.ring.now.oldest = oldest-some a before c.requires.stands c.requires.collecting c.oldest-oldest.result c.oldest-oldest.ensures in
+    let part : c.oldest-oldest.result ≡ Some c.args.ring.now.oldest = oldest-some a before c.requires.scratch.stands c.requires.scratch.collecting c.oldest-oldest.result c.oldest-oldest.ensures in
     let found : List Kept = c.gather_live-at.new.table.items in
     let next : Option RecordAt = c.gather_live-at.result in
     let got : Gathers (g.F.Flash.device c.loop-at.flash) c.loop-at.ring.area (Some c.args.ring.now.oldest) so_far.later c.gather_live-at.new.table.items c.gather_live-at.result =
     gathered a d before now c.in-Some.from so_far c.oldest-oldest.result part found next c.gather_live-at.ensures.gathers in
     let slice : c.as_slice.result.now ≡ c.gather_live-at.new.table.items = c.as_slice.ensures.value in
-    subst (λ (l : List Kept). AreKeptWithin (Some c.loop-at.ring.oldest) l) (sym slice)
-    (subst (λ (o : ℕ). AreKeptWithin (Some o) c.gather_live-at.new.table.items) (sym so_far.copies.oldest) (subst (λ (o : Option ℕ). AreKeptWithin o c.gather_live-at.new.table.items) part c.gather_live-at.ensures.within))
-
-pub copy_all-requires-clause-short : goal.copy_all-requires-clause-short
-copy_all-requires-clause-short g c =
-    let a : Device = g.F.Flash.device c.args.flash.now in
-    let d : Device = g.F.Flash.device c.loop-at.flash in
-    let before : Ring = c.args.ring.now in
-    let now : Ring = c.loop-at.ring in
-    let so_far : IsCopying (g.F.Flash.device c.args.flash.now) (g.F.Flash.device c.loop-at.flash) c.args.ring.now c.loop-at.ring (Some c.in-Some.from) =
-    subst (λ (o : Option RecordAt). IsCopying (g.F.Flash.device c.args.flash.now) (g.F.Flash.device c.loop-at.flash) c.args.ring.now c.loop-at.ring o) c.in-Some.is c.loop-at.invariant in
-    let part : c.oldest-oldest.result ≡ Some c.args.ring.now.oldest = oldest-some a before c.requires.stands c.requires.collecting c.oldest-oldest.result c.oldest-oldest.ensures in
-    let found : List Kept = c.gather_live-at.new.table.items in
-    let next : Option RecordAt = c.gather_live-at.result in
-    let got : Gathers (g.F.Flash.device c.loop-at.flash) c.loop-at.ring.area (Some c.args.ring.now.oldest) so_far.later c.gather_live-at.new.table.items c.gather_live-at.result =
-    gathered a d before now c.in-Some.from so_far c.oldest-oldest.result part found next c.gather_live-at.ensures.gathers in
-    let slice : c.as_slice.result.now ≡ c.gather_live-at.new.table.items = c.as_slice.ensures.value in
-    subst (λ (l : List Kept). AreShort (g.F.Flash.device c.loop-at.flash) c.loop-at.ring.area l) (sym slice) (gathered-short d now.area (Some before.oldest) so_far.later found next got)
-
-pub copy_all-requires-clause-fits : goal.copy_all-requires-clause-fits
-copy_all-requires-clause-fits g c =
-    let a : Device = g.F.Flash.device c.args.flash.now in
-    let d : Device = g.F.Flash.device c.loop-at.flash in
-    let before : Ring = c.args.ring.now in
-    let now : Ring = c.loop-at.ring in
-    let so_far : IsCopying (g.F.Flash.device c.args.flash.now) (g.F.Flash.device c.loop-at.flash) c.args.ring.now c.loop-at.ring (Some c.in-Some.from) =
-    subst (λ (o : Option RecordAt). IsCopying (g.F.Flash.device c.args.flash.now) (g.F.Flash.device c.loop-at.flash) c.args.ring.now c.loop-at.ring o) c.in-Some.is c.loop-at.invariant in
-    let part : c.oldest-oldest.result ≡ Some c.args.ring.now.oldest = oldest-some a before c.requires.stands c.requires.collecting c.oldest-oldest.result c.oldest-oldest.ensures in
-    let found : List Kept = c.gather_live-at.new.table.items in
-    let next : Option RecordAt = c.gather_live-at.result in
-    let got : Gathers (g.F.Flash.device c.loop-at.flash) c.loop-at.ring.area (Some c.args.ring.now.oldest) so_far.later c.gather_live-at.new.table.items c.gather_live-at.result =
-    gathered a d before now c.in-Some.from so_far c.oldest-oldest.result part found next c.gather_live-at.ensures.gathers in
-    let slice : c.as_slice.result.now ≡ c.gather_live-at.new.table.items = c.as_slice.ensures.value in
-    subst (λ (l : List Kept). now.end + bodies_cost (unit_of d now.area) (bodies_at d now.area l) ≤ sector_size d now.area) (sym slice)
-    (gathered-fits a d before now c.in-Some.from (g.met.F.Flash.is_lawful c.args.flash.now) c.requires.stands c.requires.collecting c.requires.undamaged c.requires.end so_far found next got)
+    record {
+      kept = subst (λ (l : List Kept). All (IsKept (g.F.Flash.device c.loop-at.flash) c.loop-at.ring.area) l) (sym c.as_slice.ensures.value) c.gather_live-at.ensures.kept;
+      of_oldest =
+          subst (λ (l : List Kept). AreKeptWithin (Some c.loop-at.ring.oldest) l) (sym slice)
+          (subst (λ (o : ℕ). AreKeptWithin (Some o) c.gather_live-at.new.table.items) (sym so_far.copies.oldest) (subst (λ (o : Option ℕ). AreKeptWithin o c.gather_live-at.new.table.items) part c.gather_live-at.ensures.within));
+      short = subst (λ (l : List Kept). AreShort (g.F.Flash.device c.loop-at.flash) c.loop-at.ring.area l) (sym slice) (gathered-short d now.area (Some before.oldest) so_far.later found next got);
+      fits =
+          subst (λ (l : List Kept). now.end + bodies_cost (unit_of d now.area) (bodies_at d now.area l) ≤ sector_size d now.area) (sym slice)
+          (gathered-fits a d before now c.in-Some.from (g.met.F.Flash.is_lawful c.args.flash.now) c.requires.scratch.stands c.requires.scratch.collecting c.requires.undamaged c.requires.scratch.end so_far found next got);
+    }
 
 pub returns-in_err-copy_all-clause-stops : goal.returns-in_err-copy_all-clause-stops
 returns-in_err-copy_all-clause-stops g c =
@@ -149,8 +121,8 @@ returns-in_err-copy_all-clause-lost g c =
     let e : Device = g.F.Flash.device c.copy_all.new.flash in
     on_err c.from_residual.result (lost-then a d e before.area now.area so_far.touches so_far.area c.in_err-copy_all.ensures.lost)
 
-pub returns-in_err-copy_all-clause-others : goal.returns-in_err-copy_all-clause-others
-returns-in_err-copy_all-clause-others g c =
+pub returns-in_err-copy_all-clause-only : goal.returns-in_err-copy_all-clause-only
+returns-in_err-copy_all-clause-only g c =
     let a : Device = g.F.Flash.device c.args.flash.now in
     let d : Device = g.F.Flash.device c.loop-at.flash in
     let before : Ring = c.args.ring.now in
@@ -158,7 +130,12 @@ returns-in_err-copy_all-clause-others g c =
     let so_far : IsCopying (g.F.Flash.device c.args.flash.now) (g.F.Flash.device c.loop-at.flash) c.args.ring.now c.loop-at.ring (Some c.in-Some.from) =
     subst (λ (o : Option RecordAt). IsCopying (g.F.Flash.device c.args.flash.now) (g.F.Flash.device c.loop-at.flash) c.args.ring.now c.loop-at.ring o) c.in-Some.is c.loop-at.invariant in
     let e : Device = g.F.Flash.device c.copy_all.new.flash in
-    copying-others a d e before now c.copy_all.new.ring c.in-Some.from so_far c.in_err-copy_all.ensures.list c.in_err-copy_all.ensures.others
+    record {
+      list = keeps-then a d e before.area so_far.list (subst (λ (x : Area). KeepsEntries d e x) so_far.area c.in_err-copy_all.ensures.only.list);
+      others = copying-others a d e before now c.copy_all.new.ring c.in-Some.from so_far c.in_err-copy_all.ensures.only.list c.in_err-copy_all.ensures.only.others;
+      area = c.in_err-copy_all.ensures.only.area ∙ so_far.area;
+      reserve = c.in_err-copy_all.ensures.only.reserve ∙ so_far.reserve;
+    }
 
 pub loop-at-smaller : goal.loop-at-smaller
 loop-at-smaller g c =
@@ -170,7 +147,7 @@ loop-at-smaller g c =
     subst (λ (o : Option RecordAt). IsCopying (g.F.Flash.device c.args.flash.now) (g.F.Flash.device c.loop-at.flash) c.args.ring.now c.loop-at.ring o) c.in-Some.is c.loop-at.invariant in
     let e : Device = g.F.Flash.device c.copy_all.new.flash in
     let did = c.in_ok-copy_all.ensures in
-    let list : entries_on e c.copy_all.new.ring.area ≡ entries_on d now.area = ap (λ (x : Area). entries_on e x) did.area ∙ did.list.are in
+    let list : entries_on e c.copy_all.new.ring.area ≡ entries_on d now.area = ap (λ (x : Area). entries_on e x) did.only.area ∙ did.only.list.are in
     let there : IsListed (g.F.Flash.device c.loop-at.flash) c.loop-at.ring.area c.in-Some.from = subst (λ (l : List Entry). Contains (record_places l) c.in-Some.from) (sym (copying-list a d before now (Some c.in-Some.from) so_far)) (so_far.listed c.in-Some.from refl) in
     subst (λ (l : List Entry). left_at (record_places l) c.gather_live-at.result < left_at (record_places (entries_on d now.area)) c.loop-at.at) (sym list)
     (subst (λ (o : Option RecordAt). left_at (record_places (entries_on d now.area)) c.gather_live-at.result < left_at (record_places (entries_on d now.area)) o) (sym c.in-Some.is)
@@ -184,7 +161,7 @@ loop-at-preserved g c =
     let now : Ring = c.loop-at.ring in
     let so_far : IsCopying (g.F.Flash.device c.args.flash.now) (g.F.Flash.device c.loop-at.flash) c.args.ring.now c.loop-at.ring (Some c.in-Some.from) =
     subst (λ (o : Option RecordAt). IsCopying (g.F.Flash.device c.args.flash.now) (g.F.Flash.device c.loop-at.flash) c.args.ring.now c.loop-at.ring o) c.in-Some.is c.loop-at.invariant in
-    let part : c.oldest-oldest.result ≡ Some c.args.ring.now.oldest = oldest-some a before c.requires.stands c.requires.collecting c.oldest-oldest.result c.oldest-oldest.ensures in
+    let part : c.oldest-oldest.result ≡ Some c.args.ring.now.oldest = oldest-some a before c.requires.scratch.stands c.requires.scratch.collecting c.oldest-oldest.result c.oldest-oldest.ensures in
     let found : List Kept = c.gather_live-at.new.table.items in
     let next : Option RecordAt = c.gather_live-at.result in
     let got : Gathers (g.F.Flash.device c.loop-at.flash) c.loop-at.ring.area (Some c.args.ring.now.oldest) so_far.later c.gather_live-at.new.table.items c.gather_live-at.result =
@@ -194,7 +171,7 @@ loop-at-preserved g c =
     let did = c.in_ok-copy_all.ensures in
     let copies : Copies (g.F.Flash.device c.loop-at.flash) (g.F.Flash.device c.copy_all.new.flash) c.loop-at.ring c.copy_all.new.ring (bodies_at (g.F.Flash.device c.loop-at.flash) c.loop-at.ring.area c.gather_live-at.new.table.items) =
     subst (λ (l : List Kept). Copies (g.F.Flash.device c.loop-at.flash) (g.F.Flash.device c.copy_all.new.flash) c.loop-at.ring c.copy_all.new.ring (bodies_at (g.F.Flash.device c.loop-at.flash) c.loop-at.ring.area l)) slice did.copies in
-    copying-step a d e before now c.copy_all.new.ring c.in-Some.from so_far did.list did.others did.touches did.area did.reserve found next got c.gather_live-at.ensures.listed copies
+    copying-step a d e before now c.copy_all.new.ring c.in-Some.from so_far did.only.list did.only.others did.touches did.only.area did.only.reserve found next got c.gather_live-at.ensures.listed copies
 
 pub returns-clause-copies : goal.returns-clause-copies
 returns-clause-copies g c =
@@ -204,4 +181,14 @@ returns-clause-copies g c =
     let now : Ring = c.loop-at.ring in
     let so_far : IsCopying (g.F.Flash.device c.args.flash.now) (g.F.Flash.device c.loop-at.flash) c.args.ring.now c.loop-at.ring None =
     subst (λ (o : Option RecordAt). IsCopying (g.F.Flash.device c.args.flash.now) (g.F.Flash.device c.loop-at.flash) c.args.ring.now c.loop-at.ring o) c.in_default.is c.loop-at.invariant in
-    copying-end a d before now None c.requires.stands c.requires.collecting so_far (part-none a d before now so_far)
+    copying-end a d before now None c.requires.scratch.stands c.requires.scratch.collecting so_far (part-none a d before now so_far)
+
+pub returns-clause-only : goal.returns-clause-only
+returns-clause-only g c =
+    let a : Device = g.F.Flash.device c.args.flash.now in
+    let d : Device = g.F.Flash.device c.loop-at.flash in
+    let before : Ring = c.args.ring.now in
+    let now : Ring = c.loop-at.ring in
+    let so_far : IsCopying (g.F.Flash.device c.args.flash.now) (g.F.Flash.device c.loop-at.flash) c.args.ring.now c.loop-at.ring None =
+    subst (λ (o : Option RecordAt). IsCopying (g.F.Flash.device c.args.flash.now) (g.F.Flash.device c.loop-at.flash) c.args.ring.now c.loop-at.ring o) c.in_default.is c.loop-at.invariant in
+    record { list = so_far.list; others = so_far.others; area = so_far.area; reserve = so_far.reserve }

@@ -3,8 +3,8 @@ use Rattle.std.specs.Prelude.{nat_eq}
 use Rattle.std.specs.List.{starts_with}
 use Rattle.flash_map.specs.Area.{value_limit}
 use Rattle.fcb_ring.specs.Changing.{body_at}
-use Rattle.backend_fcb.specs.Live.{has_name}
-use Rattle.backend_fcb.specs.Settings.{setting_of}
+use Rattle.record_settings.specs.Live.{has_name}
+use Rattle.record_settings.specs.Settings.{setting_of}
 use Rattle.backend_fcb.proofs.FrontNames.{other-name}
 use Rattle.backend_fcb.proofs.gathering.is_kept_of.Goals as goal
 

@@ -1,7 +1,7 @@
 use Rattle.std.proofs.Common.{List, sym, subst}
 use Rattle.std.specs.List.{All}
 use Rattle.flash_map.specs.Area.{value_limit}
-use Rattle.backend_fcb.proofs.BodyLemmas.{setting-says}
+use Rattle.record_settings.proofs.BodyLemmas.{setting-says}
 use Rattle.backend_fcb.specs.Gathering.{IsKept}
 use Rattle.backend_fcb.specs.declared.gathering.Kept.{Kept}
 use Rattle.backend_fcb.proofs.gathering.strike.Goals as goal

@@ -6,7 +6,7 @@ use Rattle.flash_map.specs.declared.area.Area.{Area}
 use Rattle.fcb_ring.specs.Changing.{body_at}
 use Rattle.fcb_ring.specs.Standing.{entries_on}
 use Rattle.fcb_ring.specs.declared.record.RecordAt.{RecordAt}
-use Rattle.backend_fcb.specs.Settings.{setting_of}
+use Rattle.record_settings.specs.Settings.{setting_of}
 use Rattle.backend_fcb.specs.Gathering.{IsKept}
 use Rattle.backend_fcb.specs.declared.gathering.Kept.{Kept}
 use Rattle.backend_fcb.proofs.GatherSteps.{StruckFrom, struck-step, struck-end, struck-all}

@@ -3,8 +3,8 @@ use Rattle.flash_map.specs.Area.{value_limit}
 use Rattle.std.specs.Option.{option_map, option_or}
 use Rattle.fcb_ring.specs.declared.record.RecordAt.{RecordAt}
 use Rattle.fcb_ring.specs.Standing.{entries_on, IsNextWith}
-use Rattle.backend_fcb.specs.Live.{value_for}
-use Rattle.backend_fcb.specs.Settings.{setting_of}
+use Rattle.record_settings.specs.Live.{value_for}
+use Rattle.record_settings.specs.Settings.{setting_of}
 use Rattle.backend_fcb.proofs.FrontWalk.{at-smaller-with}
 use Rattle.backend_fcb.proofs.WalkLemmas.{for-listed}
 use Rattle.backend_fcb.proofs.LookupSteps.{Finds, finds-start, finds-step, finds-end, finds-listed, map-or}

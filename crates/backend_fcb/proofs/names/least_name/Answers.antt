@@ -3,7 +3,7 @@ use Rattle.flash_map.specs.Area.{value_limit}
 use Rattle.std.specs.Option.{option_map}
 use Rattle.fcb_ring.specs.declared.record.RecordAt.{RecordAt}
 use Rattle.fcb_ring.specs.Standing.{entries_on}
-use Rattle.backend_fcb.specs.Settings.{setting_of}
+use Rattle.record_settings.specs.Settings.{setting_of}
 use Rattle.backend_fcb.specs.Walking.{name_between}
 use Rattle.backend_fcb.proofs.NameSteps.{Leasts, leasts-start, leasts-step, leasts-end}
 use Rattle.backend_fcb.proofs.WalkLemmas.{at-listed, for-listed, at-smaller}

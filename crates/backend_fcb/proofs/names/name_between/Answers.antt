@@ -2,7 +2,7 @@ use Rattle.std.proofs.Common.{Bool, cond, Some, None, sym, ap, ◌∙◌}
 use Rattle.flash_map.specs.Area.{value_limit}
 use Rattle.std.specs.Option.{option_map}
 use Rattle.backend_fcb.specs.Walking.{name_between}
-use Rattle.backend_fcb.proofs.BodyLemmas.{setting-says}
+use Rattle.record_settings.proofs.BodyLemmas.{setting-says}
 use Rattle.backend_fcb.proofs.NameSteps.{read-is}
 use Rattle.backend_fcb.proofs.names.name_between.Goals as goal
 

@@ -1,7 +1,7 @@
 use Rattle.std.proofs.Common.{sym, ◌∙◌}
 use Rattle.flash_map.specs.Area.{value_limit}
 use Rattle.std.specs.Option.{option_map}
-use Rattle.backend_fcb.proofs.SeekLemmas.{seeks-start, seeks-none, seeks-step, seeks-past, seeks-found, seeks-smaller}
+use Rattle.record_settings.proofs.SeekLemmas.{seeks-start, seeks-none, seeks-step, seeks-past, seeks-found, seeks-smaller}
 use Rattle.backend_fcb.specs.Standing.{bodies_on}
 use Rattle.backend_fcb.proofs.names.next_name.Goals as goal
 

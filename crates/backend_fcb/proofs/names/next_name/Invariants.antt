@@ -1,6 +1,6 @@
 use Rattle.std.specs.Option.{option_map}
 use Rattle.flash_map.specs.Area.{value_limit}
-use Rattle.backend_fcb.proofs.SeekLemmas.{Seeks, left_behind}
+use Rattle.record_settings.proofs.SeekLemmas.{Seeks, left_behind}
 use Rattle.backend_fcb.specs.Standing.{bodies_on}
 use Rattle.backend_fcb.proofs.names.next_name.Given as goal
 

@@ -1,7 +1,7 @@
 use Rattle.std.proofs.Common.{length, sym, arith}
 use Rattle.flash_map.specs.Area.{value_limit}
 use Rattle.backend_fcb.proofs.Limits.{limit-most, one-program}
-use Rattle.backend_fcb.proofs.BodyLemmas.{setting-says}
+use Rattle.record_settings.proofs.BodyLemmas.{setting-says}
 use Rattle.backend_fcb.proofs.record.put_cost.Goals as goal
 
 pub overflow_cast-body : goal.overflow_cast-body

@@ -185,8 +185,8 @@ returns-then-is_err-clause-ends g c =
     let failed = sym c.is_err.ensures.value ∙ c.if-is_err.true in
     let settings : settings_on f now.area ≡ settings_on d now.area = subst (λ (r : Ring). settings_on f r.area ≡ settings_on d r.area) full.1 (subst (λ (x : Device). settings_on f ring.area ≡ settings_on x ring.area) full.0 did.settings) in
     let undamaged : damage_on f now.area ≡ None = subst (λ (r : Ring). damage_on f r.area ≡ None) full.1 did.undamaged in
-    let lost : d.is_on ≡ true → HasNoChance f now.area = subst (λ (r : Ring). d.is_on ≡ true → HasNoChance f r.area) full.1 (subst (λ (x : Device). x.is_on ≡ true → HasNoChance f ring.area) full.0 (err-by c.collect.result did.lost failed)) in
-    searching-cut a d before now len kept c.loop-round._round so_far f c.collect.new.ring c.args.body.now refl full.2 (err-by c.collect.result did.down failed) undamaged settings lost
+    let lost : d.is_on ≡ true → HasNoChance f now.area = subst (λ (r : Ring). d.is_on ≡ true → HasNoChance f r.area) full.1 (subst (λ (x : Device). x.is_on ≡ true → HasNoChance f ring.area) full.0 (err-by c.collect.result did.stopped failed).lost) in
+    searching-cut a d before now len kept c.loop-round._round so_far f c.collect.new.ring c.args.body.now refl full.2 (err-by c.collect.result did.stopped failed).down undamaged settings lost
 
 pub loop-round-preserved : goal.loop-round-preserved
 loop-round-preserved g c =
@@ -208,14 +208,14 @@ loop-round-preserved g c =
     subst (λ (r : Ring). Touches (r.area ∷ []) d f false) full.1 (subst (λ (x : Device). Touches (ring.area ∷ []) x f false) full.0 (subst (λ (b : Bool). Touches (ring.area ∷ []) e f b) (sym c.is_err.ensures.value ∙ c.if-is_err.false) did.touches)) in
     let ok = sym c.is_err.ensures.value ∙ c.if-is_err.false in
     let settings : settings_on f now.area ≡ settings_on d now.area = subst (λ (r : Ring). settings_on f r.area ≡ settings_on d r.area) full.1 (subst (λ (x : Device). settings_on f ring.area ≡ settings_on x ring.area) full.0 did.settings) in
-    let used : c.collect.new.ring.used ≡ now.used = ok-by c.collect.result did.used ok ∙ ap (λ (r : Ring). r.used) full.1 in
-    let reserve : c.collect.new.ring.reserve ≡ now.reserve = ok-by c.collect.result did.reserve ok ∙ ap (λ (r : Ring). r.reserve) full.1 in
-    let collects : Collects d f now c.collect.new.ring = subst (λ (r : Ring). Collects d f r c.collect.new.ring) full.1 (subst (λ (x : Device). Collects x f ring c.collect.new.ring) full.0 (ok-by c.collect.result did.collects ok)) in
+    let used : c.collect.new.ring.used ≡ now.used = (ok-by c.collect.result did.collected ok).used ∙ ap (λ (r : Ring). r.used) full.1 in
+    let reserve : c.collect.new.ring.reserve ≡ now.reserve = (ok-by c.collect.result did.collected ok).reserve ∙ ap (λ (r : Ring). r.reserve) full.1 in
+    let collects : Collects d f now c.collect.new.ring = subst (λ (r : Ring). Collects d f r c.collect.new.ring) full.1 (subst (λ (x : Device). Collects x f ring c.collect.new.ring) full.0 (ok-by c.collect.result did.collected ok).collects) in
     let left : before.used + 1 ≡ before.area.sectors = omega (arith, full.3, so_far.used, ap (λ (x : Area). x.sectors) so_far.area) in
     let some : 0 < record_cost (unit_of a before.area) (length c.args.body.now) = omega (arith, c.requires.some, (padding (unit_of a before.area) (has_size a before.area (g.met.F.Flash.is_lawful c.args.flash.now) c.requires.ready.stands.area).is_unit).no_less (length c.args.body.now)) in
     record {
       within = omega arith;
-      so_far = searching-more a d before now len kept c.loop-round._round so_far f c.collect.new.ring some (omega (arith, c.requires.few)) full.2 touches (did.area ∙ ap (λ (r : Ring). r.area) full.1) settings most (ok-by c.collect.result did.ready ok) used reserve collects c.requires.ready;
+      so_far = searching-more a d before now len kept c.loop-round._round so_far f c.collect.new.ring some (omega (arith, c.requires.few)) full.2 touches (did.area ∙ ap (λ (r : Ring). r.area) full.1) settings most (ok-by c.collect.result did.collected ok).ready used reserve collects c.requires.ready;
     }
 
 pub returns-clause-touches : goal.returns-clause-touches

@@ -27,7 +27,7 @@ returns-clause-dropped g c =
     let e = g.F.Flash.device c.end_collect.new.flash in
     let ends = c.in_ok-end_collect.ensures in
     dropped-all d m c.args.ring.now c.begin_collect.new.self (g.met.F.Flash.is_lawful c.args.flash.now) (g.met.F.Flash.is_lawful c.begin_collect.new.flash) c.requires.mounted c.requires.left c.in_ok-begin_collect.ensures.begun
-    e c.end_collect.new.self (g.met.F.Flash.is_lawful c.end_collect.new.flash) ends.touches.banks ends.others ends.area ends.reserve ends.stands ends.ready ends.end ends.ends ends.units
+    e c.end_collect.new.self (g.met.F.Flash.is_lawful c.end_collect.new.flash) ends.touches.banks ends.others ends.ended.area ends.ended.reserve ends.ended.stands ends.ended.ready ends.ended.end ends.ended.ends ends.ended.units
 
 pub returns-in_err-end_collect-clause-stopped : goal.returns-in_err-end_collect-clause-stopped
 returns-in_err-end_collect-clause-stopped g c =
@@ -37,7 +37,7 @@ returns-in_err-end_collect-clause-stopped g c =
     let ends = c.in_err-end_collect.ensures in
     on_err c.from_residual-in_err-end_collect.result
     (dropped-not d m c.args.ring.now c.begin_collect.new.self (g.met.F.Flash.is_lawful c.args.flash.now) (g.met.F.Flash.is_lawful c.begin_collect.new.flash) c.requires.mounted c.requires.left c.in_ok-begin_collect.ensures.begun
-    e c.end_collect.new.self (g.met.F.Flash.is_lawful c.end_collect.new.flash) ends.touches.banks ends.same c.in_ok-begin_collect.ensures.touches.ends.on ends.list ends.down ends.lost ends.bound)
+    e c.end_collect.new.self (g.met.F.Flash.is_lawful c.end_collect.new.flash) ends.touches.banks ends.stopped.same c.in_ok-begin_collect.ensures.touches.ends.on ends.stopped.list ends.stopped.ring.down ends.stopped.lost ends.stopped.bound)
 
 pub returns-in_err-begin_collect-clause-stopped : goal.returns-in_err-begin_collect-clause-stopped
 returns-in_err-begin_collect-clause-stopped g c =

@@ -4,7 +4,7 @@ use Rattle.image_tool.proofs.top.serve.Goals as goal
 pub returns-in-Ok-Some-clause-ends : goal.returns-in-Ok-Some-clause-ends
 returns-in-Ok-Some-clause-ends g c =
     command_ends _ c.in-Ok-Some.field-0 _ c.in-Ok-Some.command c.in-Ok-Some.field-0-is c.in-Ok-Some.command-is c.in-Ok-Some.ensures
-    _ _ c.task_of-task.result _ _ _ _ c.carry_out.result c.task_of-task.ensures c.carry_out.ensures.ends
+    _ _ c.task_of-task.result _ _ c.carry_out.result c.task_of-task.ensures c.carry_out.ensures.ends
 
 pub returns-in-Ok-Some-clause-files : goal.returns-in-Ok-Some-clause-files
 returns-in-Ok-Some-clause-files g c =

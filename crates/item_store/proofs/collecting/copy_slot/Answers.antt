@@ -21,40 +21,44 @@ copy-requires-clause-source g c = record {
   listed =
       let d : Device = g.F.Flash.device c.args.flash.now in
       let k : Kind = g.T.SlotSectors.kind (geometry_of d c.args.area.now) in
-      let law : IsKind (g.T.SlotSectors.kind (geometry_of d c.args.area.now)) = g.met.T.SlotSectors.lawful (geometry_of d c.args.area.now) (unit_is d c.args.area.now (g.met.F.Flash.is_lawful c.args.flash.now) c.requires.area.lawful) in
-      let listed = c.requires.listed in
-      let l = live-bytes k law (sectors_of d c.args.area.now) c.args.victim c.args.slot c.in-Some.placed c.requires.within listed.0 listed.1 (sym c.live_in.ensures.entry ∙ c.in-Some.is) in
+      let law : IsKind (g.T.SlotSectors.kind (geometry_of d c.args.area.now)) = g.met.T.SlotSectors.lawful (geometry_of d c.args.area.now) (unit_is d c.args.area.now (g.met.F.Flash.is_lawful c.args.flash.now) c.requires.here.area.lawful) in
+      let listed = c.requires.victim.listed in
+      let l = live-bytes k law (sectors_of d c.args.area.now) c.args.victim c.args.slot c.in-Some.placed c.requires.victim.within listed.0 listed.1 (sym c.live_in.ensures.entry ∙ c.in-Some.is) in
       subst (λ (v : ℕ). (k.first ≤ c.in-Some.placed.slot) × (c.in-Some.placed.slot < k.first + k.count (sector_at (sectors_of d c.args.area.now) v))) (sym l.sector)
       (subst (λ (s : ℕ). (k.first ≤ s) × (s < k.first + k.count (sector_at (sectors_of d c.args.area.now) c.args.victim))) (sym l.slot_is) listed);
   there =
       let d : Device = g.F.Flash.device c.args.flash.now in
       let k : Kind = g.T.SlotSectors.kind (geometry_of d c.args.area.now) in
-      let law : IsKind (g.T.SlotSectors.kind (geometry_of d c.args.area.now)) = g.met.T.SlotSectors.lawful (geometry_of d c.args.area.now) (unit_is d c.args.area.now (g.met.F.Flash.is_lawful c.args.flash.now) c.requires.area.lawful) in
-      let listed = c.requires.listed in
-      let l = live-bytes k law (sectors_of d c.args.area.now) c.args.victim c.args.slot c.in-Some.placed c.requires.within listed.0 listed.1 (sym c.live_in.ensures.entry ∙ c.in-Some.is) in
+      let law : IsKind (g.T.SlotSectors.kind (geometry_of d c.args.area.now)) = g.met.T.SlotSectors.lawful (geometry_of d c.args.area.now) (unit_is d c.args.area.now (g.met.F.Flash.is_lawful c.args.flash.now) c.requires.here.area.lawful) in
+      let listed = c.requires.victim.listed in
+      let l = live-bytes k law (sectors_of d c.args.area.now) c.args.victim c.args.slot c.in-Some.placed c.requires.victim.within listed.0 listed.1 (sym c.live_in.ensures.entry ∙ c.in-Some.is) in
       subst (λ (v : ℕ). option_map (placed_at v) (k.in_slot (sector_at (sectors_of d c.args.area.now) v) c.in-Some.placed.slot) ≡ Some c.in-Some.placed) (sym l.sector)
       (subst (λ (s : ℕ). option_map (placed_at c.args.victim) (k.in_slot (sector_at (sectors_of d c.args.area.now) c.args.victim) s) ≡ Some c.in-Some.placed) (sym l.slot_is) l.read);
   some = search rules;
 }
 
-pub returns-in-Some-clause-spends : goal.returns-in-Some-clause-spends
-returns-in-Some-clause-spends g c =
-    let d : Device = g.F.Flash.device c.args.flash.now in
-    let e : Device = g.F.Flash.device c.copy.new.flash in
-    let k : Kind = g.T.SlotSectors.kind (geometry_of d c.args.area.now) in
-    let law : IsKind (g.T.SlotSectors.kind (geometry_of d c.args.area.now)) = g.met.T.SlotSectors.lawful (geometry_of d c.args.area.now) (unit_is d c.args.area.now (g.met.F.Flash.is_lawful c.args.flash.now) c.requires.area.lawful) in
-    let b : List ℕ = sector_at (sectors_of d c.args.area.now) c.args.current in
-    let len : ℕ = c.in-Some.placed.len in
-    subst (λ (o : Option Placed). OnOk c.copy.result (SpendsIn d e (copy_units k o))) (sym (sym c.live_in.ensures.entry ∙ c.in-Some.is))
-    (on_ok_weaker c.copy.result (λ s. within-in d e (k.units.copy b len) (k.units.any_copy len) (law.units.copy_in b len) s) c.copy.ensures.spends)
-
-pub returns-in-Some-clause-spends_lost : goal.returns-in-Some-clause-spends_lost
-returns-in-Some-clause-spends_lost g c =
-    let d : Device = g.F.Flash.device c.args.flash.now in
-    let e : Device = g.F.Flash.device c.copy.new.flash in
-    let k : Kind = g.T.SlotSectors.kind (geometry_of d c.args.area.now) in
-    let law : IsKind (g.T.SlotSectors.kind (geometry_of d c.args.area.now)) = g.met.T.SlotSectors.lawful (geometry_of d c.args.area.now) (unit_is d c.args.area.now (g.met.F.Flash.is_lawful c.args.flash.now) c.requires.area.lawful) in
-    let b : List ℕ = sector_at (sectors_of d c.args.area.now) c.args.current in
-    let len : ℕ = c.in-Some.placed.len in
-    subst (λ (o : Option Placed). OnErr c.copy.result (SpendsUpTo d e (copy_units k o))) (sym (sym c.live_in.ensures.entry ∙ c.in-Some.is))
-    (on_err_weaker c.copy.result (λ s. within-lost d e (k.units.copy b len) (k.units.any_copy len) (law.units.copy_in b len) s) c.copy.ensures.spends_lost)
+pub returns-in-Some-clause-ends : goal.returns-in-Some-clause-ends
+returns-in-Some-clause-ends g c = record {
+  copies = search rules;
+  kept = search rules;
+  only = search rules;
+  lost = search rules;
+  spends =
+      let d : Device = g.F.Flash.device c.args.flash.now in
+      let e : Device = g.F.Flash.device c.copy.new.flash in
+      let k : Kind = g.T.SlotSectors.kind (geometry_of d c.args.area.now) in
+      let law : IsKind (g.T.SlotSectors.kind (geometry_of d c.args.area.now)) = g.met.T.SlotSectors.lawful (geometry_of d c.args.area.now) (unit_is d c.args.area.now (g.met.F.Flash.is_lawful c.args.flash.now) c.requires.here.area.lawful) in
+      let b : List ℕ = sector_at (sectors_of d c.args.area.now) c.args.current in
+      let len : ℕ = c.in-Some.placed.len in
+      subst (λ (o : Option Placed). OnOk c.copy.result (SpendsIn d e (copy_units k o))) (sym (sym c.live_in.ensures.entry ∙ c.in-Some.is))
+      (on_ok_weaker c.copy.result (λ s. within-in d e (k.units.copy b len) (k.units.any_copy len) (law.units.copy_in b len) s) c.copy.ensures.spends);
+  spends_lost =
+      let d : Device = g.F.Flash.device c.args.flash.now in
+      let e : Device = g.F.Flash.device c.copy.new.flash in
+      let k : Kind = g.T.SlotSectors.kind (geometry_of d c.args.area.now) in
+      let law : IsKind (g.T.SlotSectors.kind (geometry_of d c.args.area.now)) = g.met.T.SlotSectors.lawful (geometry_of d c.args.area.now) (unit_is d c.args.area.now (g.met.F.Flash.is_lawful c.args.flash.now) c.requires.here.area.lawful) in
+      let b : List ℕ = sector_at (sectors_of d c.args.area.now) c.args.current in
+      let len : ℕ = c.in-Some.placed.len in
+      subst (λ (o : Option Placed). OnErr c.copy.result (SpendsUpTo d e (copy_units k o))) (sym (sym c.live_in.ensures.entry ∙ c.in-Some.is))
+      (on_err_weaker c.copy.result (λ s. within-lost d e (k.units.copy b len) (k.units.any_copy len) (law.units.copy_in b len) s) c.copy.ensures.spends_lost);
+}

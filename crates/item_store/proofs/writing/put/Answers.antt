@@ -38,7 +38,7 @@ returns-in_err-begin-clause-stops g c =
     let area : Area = c.args.area.now in
     let law : IsKind (g.T.SlotSectors.kind (geometry_of a area)) = g.met.T.SlotSectors.lawful (geometry_of a area) (unit_is a area (g.met.F.Flash.is_lawful c.args.flash.now) c.requires.stands.area.lawful) in
     let did = c.in_err-begin.ensures in
-    on_err c.from_residual.result (begin_stops g.T.SlotSectors.role g.T.SlotSectors.kind g.T.SlotSectors.kept a area c.args.current c.args.opened.now law (g.met.F.Flash.is_lawful c.args.flash.now) c.requires.stands (g.F.Flash.device c.begin.new.flash) c.args.id c.args.bytes.now did.only did.lost did.room_lost did.spends_lost)
+    on_err c.from_residual.result (begin_stops g.T.SlotSectors.role g.T.SlotSectors.kind g.T.SlotSectors.kept a area c.args.current c.args.opened.now law (g.met.F.Flash.is_lawful c.args.flash.now) c.requires.stands (g.F.Flash.device c.begin.new.flash) c.args.id c.args.bytes.now did.ends.only did.ends.lost did.ends.room_lost did.ends.spends_lost)
 
 pub put-requires-clause-here : goal.put-requires-clause-here
 put-requires-clause-here g c = record {
@@ -48,7 +48,7 @@ put-requires-clause-here g c = record {
       let law : IsKind (g.T.SlotSectors.kind (geometry_of a area)) = g.met.T.SlotSectors.lawful (geometry_of a area) (unit_is a area (g.met.F.Flash.is_lawful c.args.flash.now) c.requires.stands.area.lawful) in
       let b : Device = g.F.Flash.device c.begin.new.flash in
       let did = c.in_ok-begin.ensures in
-      put_area g.T.SlotSectors.role g.T.SlotSectors.kind g.T.SlotSectors.kept a area c.args.current c.args.opened.now law (g.met.F.Flash.is_lawful c.args.flash.now) c.requires.stands b did.touches.banks did.only did.begins;
+      put_area g.T.SlotSectors.role g.T.SlotSectors.kind g.T.SlotSectors.kept a area c.args.current c.args.opened.now law (g.met.F.Flash.is_lawful c.args.flash.now) c.requires.stands b did.touches.banks did.ends.only did.ends.begins;
   inside =
       let a : Device = g.F.Flash.device c.args.flash.now in
       let area : Area = c.args.area.now in
@@ -59,21 +59,21 @@ put-requires-clause-here g c = record {
       let law : IsKind (g.T.SlotSectors.kind (geometry_of a area)) = g.met.T.SlotSectors.lawful (geometry_of a area) (unit_is a area (g.met.F.Flash.is_lawful c.args.flash.now) c.requires.stands.area.lawful) in
       let b : Device = g.F.Flash.device c.begin.new.flash in
       let did = c.in_ok-begin.ensures in
-      put_kept g.T.SlotSectors.role g.T.SlotSectors.kind g.T.SlotSectors.kept a area c.args.current c.args.opened.now law (g.met.F.Flash.is_lawful c.args.flash.now) c.requires.stands b did.touches.banks did.only did.begins c.begin.new.self did.kept;
+      put_kept g.T.SlotSectors.role g.T.SlotSectors.kind g.T.SlotSectors.kept a area c.args.current c.args.opened.now law (g.met.F.Flash.is_lawful c.args.flash.now) c.requires.stands b did.touches.banks did.ends.only did.ends.begins c.begin.new.self did.ends.kept;
   ready =
       let a : Device = g.F.Flash.device c.args.flash.now in
       let area : Area = c.args.area.now in
       let law : IsKind (g.T.SlotSectors.kind (geometry_of a area)) = g.met.T.SlotSectors.lawful (geometry_of a area) (unit_is a area (g.met.F.Flash.is_lawful c.args.flash.now) c.requires.stands.area.lawful) in
       let b : Device = g.F.Flash.device c.begin.new.flash in
       let did = c.in_ok-begin.ensures in
-      put_ready g.T.SlotSectors.role g.T.SlotSectors.kind g.T.SlotSectors.kept a area c.args.current c.args.opened.now law (g.met.F.Flash.is_lawful c.args.flash.now) c.requires.stands b did.touches.banks did.only did.begins;
+      put_ready g.T.SlotSectors.role g.T.SlotSectors.kind g.T.SlotSectors.kept a area c.args.current c.args.opened.now law (g.met.F.Flash.is_lawful c.args.flash.now) c.requires.stands b did.touches.banks did.ends.only did.ends.begins;
   opened =
       let a : Device = g.F.Flash.device c.args.flash.now in
       let area : Area = c.args.area.now in
       let law : IsKind (g.T.SlotSectors.kind (geometry_of a area)) = g.met.T.SlotSectors.lawful (geometry_of a area) (unit_is a area (g.met.F.Flash.is_lawful c.args.flash.now) c.requires.stands.area.lawful) in
       let b : Device = g.F.Flash.device c.begin.new.flash in
       let did = c.in_ok-begin.ensures in
-      put_opened g.T.SlotSectors.role g.T.SlotSectors.kind g.T.SlotSectors.kept a area c.args.current c.args.opened.now law (g.met.F.Flash.is_lawful c.args.flash.now) c.requires.stands b did.touches.banks did.only did.begins;
+      put_opened g.T.SlotSectors.role g.T.SlotSectors.kind g.T.SlotSectors.kept a area c.args.current c.args.opened.now law (g.met.F.Flash.is_lawful c.args.flash.now) c.requires.stands b did.touches.banks did.ends.only did.ends.begins;
 }
 
 pub put-requires-clause-rested : goal.put-requires-clause-rested
@@ -83,7 +83,7 @@ put-requires-clause-rested g c =
     let law : IsKind (g.T.SlotSectors.kind (geometry_of a area)) = g.met.T.SlotSectors.lawful (geometry_of a area) (unit_is a area (g.met.F.Flash.is_lawful c.args.flash.now) c.requires.stands.area.lawful) in
     let b : Device = g.F.Flash.device c.begin.new.flash in
     let did = c.in_ok-begin.ensures in
-    put_rested g.T.SlotSectors.role g.T.SlotSectors.kind g.T.SlotSectors.kept a area c.args.current c.args.opened.now law (g.met.F.Flash.is_lawful c.args.flash.now) c.requires.stands b did.touches.banks did.only did.begins
+    put_rested g.T.SlotSectors.role g.T.SlotSectors.kind g.T.SlotSectors.kept a area c.args.current c.args.opened.now law (g.met.F.Flash.is_lawful c.args.flash.now) c.requires.stands b did.touches.banks did.ends.only did.ends.begins
 
 pub put-requires-clause-ordinary : goal.put-requires-clause-ordinary
 put-requires-clause-ordinary g c =
@@ -92,7 +92,7 @@ put-requires-clause-ordinary g c =
     let law : IsKind (g.T.SlotSectors.kind (geometry_of a area)) = g.met.T.SlotSectors.lawful (geometry_of a area) (unit_is a area (g.met.F.Flash.is_lawful c.args.flash.now) c.requires.stands.area.lawful) in
     let b : Device = g.F.Flash.device c.begin.new.flash in
     let did = c.in_ok-begin.ensures in
-    put_ordinary g.T.SlotSectors.role g.T.SlotSectors.kind g.T.SlotSectors.kept a area c.args.current c.args.opened.now law (g.met.F.Flash.is_lawful c.args.flash.now) c.requires.stands b did.touches.banks did.only did.begins c.args.id c.requires.ordinary
+    put_ordinary g.T.SlotSectors.role g.T.SlotSectors.kind g.T.SlotSectors.kept a area c.args.current c.args.opened.now law (g.met.F.Flash.is_lawful c.args.flash.now) c.requires.stands b did.touches.banks did.ends.only did.ends.begins c.args.id c.requires.ordinary
 
 pub put-requires-clause-fits : goal.put-requires-clause-fits
 put-requires-clause-fits g c =
@@ -101,7 +101,7 @@ put-requires-clause-fits g c =
     let law : IsKind (g.T.SlotSectors.kind (geometry_of a area)) = g.met.T.SlotSectors.lawful (geometry_of a area) (unit_is a area (g.met.F.Flash.is_lawful c.args.flash.now) c.requires.stands.area.lawful) in
     let b : Device = g.F.Flash.device c.begin.new.flash in
     let did = c.in_ok-begin.ensures in
-    put_fits g.T.SlotSectors.role g.T.SlotSectors.kind g.T.SlotSectors.kept a area c.args.current c.args.opened.now law (g.met.F.Flash.is_lawful c.args.flash.now) c.requires.stands b did.touches.banks did.only did.begins (length c.args.bytes.now) c.requires.room
+    put_fits g.T.SlotSectors.role g.T.SlotSectors.kind g.T.SlotSectors.kept a area c.args.current c.args.opened.now law (g.met.F.Flash.is_lawful c.args.flash.now) c.requires.stands b did.touches.banks did.ends.only did.ends.begins (length c.args.bytes.now) c.requires.room
 
 pub returns-clause-touches : goal.returns-clause-touches
 returns-clause-touches g c =
@@ -118,7 +118,7 @@ returns-clause-stands g c =
     let did = c.in_ok-begin.ensures in
     let e : Device = g.F.Flash.device c.put.new.flash in
     let then_did = c.put.ensures.ends in
-    put_ends_stands g.T.SlotSectors.role g.T.SlotSectors.kind g.T.SlotSectors.kept a area c.args.current c.args.opened.now law (g.met.F.Flash.is_lawful c.args.flash.now) c.requires.stands b did.touches.banks did.only did.begins e then_did.only c.args.id c.args.bytes.now then_did.sound did.spends c.put.result c.put.new.self c.put.ensures.touches.banks then_did.adds then_did.kept
+    put_ends_stands g.T.SlotSectors.role g.T.SlotSectors.kind g.T.SlotSectors.kept a area c.args.current c.args.opened.now law (g.met.F.Flash.is_lawful c.args.flash.now) c.requires.stands b did.touches.banks did.ends.only did.ends.begins e then_did.only c.args.id c.args.bytes.now then_did.sound did.ends.spends c.put.result c.put.new.self c.put.ensures.touches.banks then_did.adds then_did.kept
 
 pub returns-clause-puts : goal.returns-clause-puts
 returns-clause-puts g c =
@@ -129,7 +129,7 @@ returns-clause-puts g c =
     let did = c.in_ok-begin.ensures in
     let e : Device = g.F.Flash.device c.put.new.flash in
     let then_did = c.put.ensures.ends in
-    put_ends_puts g.T.SlotSectors.role g.T.SlotSectors.kind g.T.SlotSectors.kept a area c.args.current c.args.opened.now law (g.met.F.Flash.is_lawful c.args.flash.now) c.requires.stands b did.touches.banks did.only did.begins e then_did.only c.args.id c.args.bytes.now then_did.sound did.spends c.put.result then_did.adds then_did.spends
+    put_ends_puts g.T.SlotSectors.role g.T.SlotSectors.kind g.T.SlotSectors.kept a area c.args.current c.args.opened.now law (g.met.F.Flash.is_lawful c.args.flash.now) c.requires.stands b did.touches.banks did.ends.only did.ends.begins e then_did.only c.args.id c.args.bytes.now then_did.sound did.ends.spends c.put.result then_did.adds then_did.spends
 
 pub returns-clause-stops : goal.returns-clause-stops
 returns-clause-stops g c =
@@ -140,7 +140,7 @@ returns-clause-stops g c =
     let did = c.in_ok-begin.ensures in
     let e : Device = g.F.Flash.device c.put.new.flash in
     let then_did = c.put.ensures.ends in
-    put_ends_stops g.T.SlotSectors.role g.T.SlotSectors.kind g.T.SlotSectors.kept a area c.args.current c.args.opened.now law (g.met.F.Flash.is_lawful c.args.flash.now) c.requires.stands b did.touches.banks did.only did.begins e then_did.only c.args.id c.args.bytes.now then_did.sound did.spends c.put.result then_did.lost then_did.room_lost then_did.spends_lost
+    put_ends_stops g.T.SlotSectors.role g.T.SlotSectors.kind g.T.SlotSectors.kept a area c.args.current c.args.opened.now law (g.met.F.Flash.is_lawful c.args.flash.now) c.requires.stands b did.touches.banks did.ends.only did.ends.begins e then_did.only c.args.id c.args.bytes.now then_did.sound did.ends.spends c.put.result then_did.lost then_did.room_lost then_did.spends_lost
 
 pub returns-in_err-begin-clause-written : goal.returns-in_err-begin-clause-written
 returns-in_err-begin-clause-written g c =
@@ -148,7 +148,7 @@ returns-in_err-begin-clause-written g c =
     let area : Area = c.args.area.now in
     let law : IsKind (g.T.SlotSectors.kind (geometry_of a area)) = g.met.T.SlotSectors.lawful (geometry_of a area) (unit_is a area (g.met.F.Flash.is_lawful c.args.flash.now) c.requires.stands.area.lawful) in
     let did = c.in_err-begin.ensures in
-    keeps-written (g.T.SlotSectors.kind (geometry_of a area)) law (sectors_of a area) (sectors_of (g.F.Flash.device c.begin.new.flash) area) c.args.current did.only did.lost
+    keeps-written (g.T.SlotSectors.kind (geometry_of a area)) law (sectors_of a area) (sectors_of (g.F.Flash.device c.begin.new.flash) area) c.args.current did.ends.only did.ends.lost
 
 pub returns-clause-written : goal.returns-clause-written
 returns-clause-written g c =
@@ -159,7 +159,7 @@ returns-clause-written g c =
     let did = c.in_ok-begin.ensures in
     let e : Device = g.F.Flash.device c.put.new.flash in
     let then_did = c.put.ensures.ends in
-    λ written. put-written g.T.SlotSectors.kind a area c.args.current law b did.touches.banks did.only did.begins written e then_did.only c.args.id c.args.bytes.now c.put.result then_did.adds then_did.lost
+    λ written. put-written g.T.SlotSectors.kind a area c.args.current law b did.touches.banks did.ends.only did.ends.begins written e then_did.only c.args.id c.args.bytes.now c.put.result then_did.adds then_did.lost
 
 pub returns-clause-entry : goal.returns-clause-entry
 returns-clause-entry g c =
@@ -170,4 +170,4 @@ returns-clause-entry g c =
     let did = c.in_ok-begin.ensures in
     let e : Device = g.F.Flash.device c.put.new.flash in
     let then_did = c.put.ensures.ends in
-    put_ends_entry g.T.SlotSectors.role g.T.SlotSectors.kind g.T.SlotSectors.kept a area c.args.current c.args.opened.now law (g.met.F.Flash.is_lawful c.args.flash.now) c.requires.stands b did.touches.banks did.only did.begins e then_did.only c.args.id c.args.bytes.now then_did.sound did.spends c.put.result then_did.adds
+    put_ends_entry g.T.SlotSectors.role g.T.SlotSectors.kind g.T.SlotSectors.kept a area c.args.current c.args.opened.now law (g.met.F.Flash.is_lawful c.args.flash.now) c.requires.stands b did.touches.banks did.ends.only did.ends.begins e then_did.only c.args.id c.args.bytes.now then_did.sound did.ends.spends c.put.result then_did.adds

@@ -1,5 +1,5 @@
 use Rattle.migrator.proofs.Spent.{put_units}
-use Rattle.std.proofs.Common.{◌*◌, None}
+use Rattle.std.proofs.Common.{◌*◌}
 use Rattle.backend_api.specs.Room.{most_units}
 use Rattle.std.specs.FinMap as maps
 use Rattle.flash_map.proofs.SpendingLemmas.{most_weaker}
@@ -26,7 +26,7 @@ lawful-still a d area banks lawful = subst (λ (b : List Bank). IsLawfulFor b ar
 
 pub loop-at-init : goal.loop-at-init
 loop-at-init g c =
-    copying-start g.K.Backend.mounted_on g.K.Backend.stands g.K.Backend.contents g.K.Backend.room (g.F.Flash.device c.args.flash.now) c.args.from.now c.args.to.now c.next_name-at.result c.requires.stands_to c.requires.empty c.next_name-at.ensures
+    copying-start g.K.Backend.mounted_on g.K.Backend.stands g.K.Backend.contents g.K.Backend.room (g.F.Flash.device c.args.flash.now) c.args.from.now c.args.to.now c.next_name-at.result c.requires.stores.stands_to c.requires.empty c.next_name-at.ensures
 
 pub loop-at-preserved : goal.loop-at-preserved
 loop-at-preserved g c =
@@ -81,30 +81,22 @@ returns-clause-at_most g c =
     most_weaker a (g.F.Flash.device c.loop-at.flash) (put_units m c.loop-at.at (geometry_of a area)) (maps.len m * most_units (geometry_of a area)) (put-all m c.loop-at.at (geometry_of a area)) c.loop-at.invariant.units
 
 pub next_name-at-requires-clause-lawful : goal.next_name-at-requires-clause-lawful
-next_name-at-requires-clause-lawful g c = c.requires.lawful_from
+next_name-at-requires-clause-lawful g c = c.requires.stores.lawful_from
 
 pub next_name-at-requires-clause-stands : goal.next_name-at-requires-clause-stands
-next_name-at-requires-clause-stands g c = c.requires.stands_from
+next_name-at-requires-clause-stands g c = c.requires.stores.stands_from
 
-pub copy_one-requires-clause-lawful_from : goal.copy_one-requires-clause-lawful_from
-copy_one-requires-clause-lawful_from g c = lawful-still (g.F.Flash.device c.args.flash.now) (g.F.Flash.device c.loop-at.flash) (g.K.Backend.mounted_on c.args.from.now) c.loop-at.invariant.touches.banks c.requires.lawful_from
-
-pub copy_one-requires-clause-stands_from : goal.copy_one-requires-clause-stands_from
-copy_one-requires-clause-stands_from g c = source-stands g.K.Backend.mounted_on g.K.Backend.stands g.K.Backend.contents g.K.Backend.room (g.F.Flash.device c.args.flash.now) (g.F.Flash.device c.loop-at.flash) c.args.from.now c.args.to.now c.loop-at.to c.loop-at.at c.requires.stands_from c.loop-at.invariant
-
-pub copy_one-requires-clause-lawful_to : goal.copy_one-requires-clause-lawful_to
-copy_one-requires-clause-lawful_to g c =
-    subst (λ (x : Area). IsLawfulFor (g.F.Flash.device c.loop-at.flash).banks x) (sym c.loop-at.invariant.area)
-    (lawful-still (g.F.Flash.device c.args.flash.now) (g.F.Flash.device c.loop-at.flash) (g.K.Backend.mounted_on c.args.to.now) c.loop-at.invariant.touches.banks c.requires.lawful_to)
-
-pub copy_one-requires-clause-stands_to : goal.copy_one-requires-clause-stands_to
-copy_one-requires-clause-stands_to g c = c.loop-at.invariant.stand
-
-pub copy_one-requires-clause-apart : goal.copy_one-requires-clause-apart
-copy_one-requires-clause-apart g c = subst (λ (x : Area). AreApart x (g.K.Backend.mounted_on c.args.from.now)) (sym c.loop-at.invariant.area) c.requires.apart
-
-pub copy_one-requires-clause-version : goal.copy_one-requires-clause-version
-copy_one-requires-clause-version g c = ap (λ (x : Area). x.version) c.loop-at.invariant.area ∙ c.requires.version
+pub copy_one-requires-clause-stores : goal.copy_one-requires-clause-stores
+copy_one-requires-clause-stores g c = record {
+  lawful_from = lawful-still (g.F.Flash.device c.args.flash.now) (g.F.Flash.device c.loop-at.flash) (g.K.Backend.mounted_on c.args.from.now) c.loop-at.invariant.touches.banks c.requires.stores.lawful_from;
+  stands_from = source-stands g.K.Backend.mounted_on g.K.Backend.stands g.K.Backend.contents g.K.Backend.room (g.F.Flash.device c.args.flash.now) (g.F.Flash.device c.loop-at.flash) c.args.from.now c.args.to.now c.loop-at.to c.loop-at.at c.requires.stores.stands_from c.loop-at.invariant;
+  lawful_to =
+      subst (λ (x : Area). IsLawfulFor (g.F.Flash.device c.loop-at.flash).banks x) (sym c.loop-at.invariant.area)
+      (lawful-still (g.F.Flash.device c.args.flash.now) (g.F.Flash.device c.loop-at.flash) (g.K.Backend.mounted_on c.args.to.now) c.loop-at.invariant.touches.banks c.requires.stores.lawful_to);
+  stands_to = c.loop-at.invariant.stand;
+  apart = subst (λ (x : Area). AreApart x (g.K.Backend.mounted_on c.args.from.now)) (sym c.loop-at.invariant.area) c.requires.stores.apart;
+  version = ap (λ (x : Area). x.version) c.loop-at.invariant.area ∙ c.requires.stores.version;
+}
 
 pub returns-clause-touches : goal.returns-clause-touches
 returns-clause-touches g c = c.loop-at.invariant.touches
@@ -134,9 +126,9 @@ returns-in-Err-clause-touches g c =
 
 pub next_name-at-requires-in-Some-clause-lawful : goal.next_name-at-requires-in-Some-clause-lawful
 next_name-at-requires-in-Some-clause-lawful g c =
-    lawful-still (g.F.Flash.device c.args.flash.now) (g.F.Flash.device c.copy_one.new.flash) (g.K.Backend.mounted_on c.args.from.now) (c.copy_one.ensures.touches.banks ∙ c.loop-at.invariant.touches.banks) c.requires.lawful_from
+    lawful-still (g.F.Flash.device c.args.flash.now) (g.F.Flash.device c.copy_one.new.flash) (g.K.Backend.mounted_on c.args.from.now) (c.copy_one.ensures.touches.banks ∙ c.loop-at.invariant.touches.banks) c.requires.stores.lawful_from
 
 pub next_name-at-requires-in-Some-clause-stands : goal.next_name-at-requires-in-Some-clause-stands
 next_name-at-requires-in-Some-clause-stands g c =
     stands-still g.K.Backend.mounted_on g.K.Backend.stands g.K.Backend.contents g.K.Backend.room (g.F.Flash.device c.args.flash.now) (g.F.Flash.device c.copy_one.new.flash) c.args.from.now (c.copy_one.ensures.touches.banks ∙ c.loop-at.invariant.touches.banks)
-    (c.copy_one.ensures.source ∙ c.loop-at.invariant.source) c.requires.stands_from
+    (c.copy_one.ensures.source ∙ c.loop-at.invariant.source) c.requires.stores.stands_from

@@ -1,4 +1,9 @@
-use Rattle.std.proofs.Common.{◌∙◌}
+use Rattle.std.proofs.Common.{◌≡◌, ◌∙◌, List, sym, ap, subst}
+use Rattle.flash_sim.specs.Device.{Device}
+use Rattle.flash_sim.specs.declared.flash.Bank.{Bank}
+use Rattle.flash_map.specs.Area.{AreApart}
+use Rattle.flash_map.specs.Lawful.{IsLawfulFor}
+use Rattle.flash_map.specs.declared.area.Area.{Area}
 use Rattle.flash_map.proofs.Apart.{same_apart}
 use Rattle.flash_map.specs.On.{on}
 use Rattle.migrator.proofs.Copies.{contents-still, stands-still}
@@ -9,11 +14,6 @@ use Rattle.migrator.proofs.migrating.fill.Goals as goal
 pub returns-in-Err-clause-source : goal.returns-in-Err-clause-source
 returns-in-Err-clause-source g c =
     same_apart (g.met.F.Flash.is_lawful c.args.flash.now) (g.met.F.Flash.is_lawful c.open_blank-opened.new.flash) c.requires.lawful_from.in_bank c.requires.apart c.open_blank-opened.ensures.touches
-
-pub copy_all-copied-requires-clause-stands_from : goal.copy_all-copied-requires-clause-stands_from
-copy_all-copied-requires-clause-stands_from g c =
-    stands-still g.K.Backend.mounted_on g.K.Backend.stands g.K.Backend.contents g.K.Backend.room (g.F.Flash.device c.args.flash.now) (g.F.Flash.device c.open_blank-opened.new.flash) c.args.from.now c.open_blank-opened.ensures.touches.banks
-    (same_apart (g.met.F.Flash.is_lawful c.args.flash.now) (g.met.F.Flash.is_lawful c.open_blank-opened.new.flash) c.requires.lawful_from.in_bank c.requires.apart c.open_blank-opened.ensures.touches) c.requires.stands_from
 
 pub returns-clause-touches : goal.returns-clause-touches
 returns-clause-touches g c =
@@ -44,3 +44,19 @@ returns-clause-at_most g c =
     let same = same_apart (g.met.F.Flash.is_lawful c.args.flash.now) (g.met.F.Flash.is_lawful c.open_blank-opened.new.flash) c.requires.lawful_from.in_bank c.requires.apart c.open_blank-opened.ensures.touches in
     filled-most a b (g.F.Flash.device c.copy_all-copied.new.flash) c.args.area (g.K.Backend.mounted_on c.in-Ok.to) (on g.K.Backend.contents a source) (on g.K.Backend.contents b source) c.open_blank-opened.ensures.touches.banks c.in-Ok.ensures.on
     (contents-still g.K.Backend.mounted_on g.K.Backend.stands g.K.Backend.contents g.K.Backend.room a b source c.open_blank-opened.ensures.touches.banks same) c.open_blank-opened.ensures.at_most c.copy_all-copied.ensures.at_most
+
+pub copy_all-copied-requires-clause-stores : goal.copy_all-copied-requires-clause-stores
+copy_all-copied-requires-clause-stores g c =
+    let a : Device = g.F.Flash.device c.args.flash.now in
+    let b : Device = g.F.Flash.device c.open_blank-opened.new.flash in
+    let from : Area = g.K.Backend.mounted_on c.args.from.now in
+    let banks : b.banks ≡ a.banks = c.open_blank-opened.ensures.touches.banks in
+    let there : g.K.Backend.mounted_on c.in-Ok.to ≡ c.args.area = c.in-Ok.ensures.on in
+    record {
+      lawful_from = subst (λ (l : List Bank). IsLawfulFor l from) (sym banks) c.requires.lawful_from;
+      stands_from = stands-still g.K.Backend.mounted_on g.K.Backend.stands g.K.Backend.contents g.K.Backend.room (g.F.Flash.device c.args.flash.now) (g.F.Flash.device c.open_blank-opened.new.flash) c.args.from.now c.open_blank-opened.ensures.touches.banks (same_apart (g.met.F.Flash.is_lawful c.args.flash.now) (g.met.F.Flash.is_lawful c.open_blank-opened.new.flash) c.requires.lawful_from.in_bank c.requires.apart c.open_blank-opened.ensures.touches) c.requires.stands_from;
+      lawful_to = subst (λ (x : Area). IsLawfulFor b.banks x) (sym there) (subst (λ (l : List Bank). IsLawfulFor l c.args.area) (sym banks) c.requires.lawful);
+      stands_to = c.in-Ok.ensures.stands;
+      apart = subst (λ (x : Area). AreApart x from) (sym there) c.requires.apart;
+      version = ap (λ (x : Area). x.version) there ∙ c.requires.version;
+    }

@@ -14,23 +14,24 @@ use Rattle.migrator.proofs.Copies.{stands-still}
 use Rattle.migrator.proofs.Spent.{most_none}
 use Rattle.migrator.proofs.migrating.migrate.Goals as goal
 
-pub move_to-requires-clause-lawful : goal.move_to-requires-clause-lawful
-move_to-requires-clause-lawful g c = c.requires.lawful.each c.in-Some.index c.area_at-area.result c.area_at-area.ensures
-
-pub move_to-requires-clause-apart_selector : goal.move_to-requires-clause-apart_selector
-move_to-requires-clause-apart_selector g c =
-    (selector-apart (g.F.Flash.device c.args.flash.now).banks c.args.map.now c.args.selector.now.ring.area c.area_at-area.result c.in-Some.index c.requires.lawful c.requires.selected c.area_at-area.ensures c.in-Some.ensures.store).1
-
-pub move_to-requires-clause-selector_source : goal.move_to-requires-clause-selector_source
-move_to-requires-clause-selector_source g c =
+pub move_to-requires-clause-moves : goal.move_to-requires-clause-moves
+move_to-requires-clause-moves g c =
     let store = active-store c.args.map.now (g.F.Flash.device c.args.flash.now) c.args.selector.now.ring.area c.in-Some.index c.in-Some.ensures.store in
-    (selector-apart (g.F.Flash.device c.args.flash.now).banks c.args.map.now c.args.selector.now.ring.area (g.K.Backend.mounted_on c.args.from.now) c.args.active c.requires.lawful c.requires.selected c.requires.there
-    (subst (λ (i : ℕ). is_store_at c.args.map.now i ≡ true)
-    (sym (c.requires.is_active ∙ active-on c.args.map.now (g.F.Flash.device c.args.flash.now) c.args.selector.now.ring.area c.requires.selected)) store)).0
-
-pub move_to-requires-clause-selector_target : goal.move_to-requires-clause-selector_target
-move_to-requires-clause-selector_target g c =
-    (selector-apart (g.F.Flash.device c.args.flash.now).banks c.args.map.now c.args.selector.now.ring.area c.area_at-area.result c.in-Some.index c.requires.lawful c.requires.selected c.area_at-area.ensures c.in-Some.ensures.store).0
+    record {
+      lawful_from = c.requires.lawful.each c.args.active (g.K.Backend.mounted_on c.args.from.now) c.requires.there;
+      stands_from = c.requires.up;
+      lawful = c.requires.lawful.each c.in-Some.index c.area_at-area.result c.area_at-area.ensures;
+      served = c.requires.served c.in-Some.index c.area_at-area.result c.area_at-area.ensures (store-of c.args.map.now c.in-Some.index c.area_at-area.result c.area_at-area.ensures c.in-Some.ensures.store);
+      version = c.requires.lawful.versions c.in-Some.index c.args.active c.area_at-area.result (g.K.Backend.mounted_on c.args.from.now) c.area_at-area.ensures c.requires.there;
+      mounted = c.requires.open_ring;
+      apart_source = c.requires.lawful.apart c.in-Some.index c.args.active c.area_at-area.result (g.K.Backend.mounted_on c.args.from.now) c.area_at-area.ensures c.requires.there c.in-Some.ensures.other;
+      apart_selector = (selector-apart (g.F.Flash.device c.args.flash.now).banks c.args.map.now c.args.selector.now.ring.area c.area_at-area.result c.in-Some.index c.requires.lawful c.requires.selected c.area_at-area.ensures c.in-Some.ensures.store).1;
+      selector_source =
+          (selector-apart (g.F.Flash.device c.args.flash.now).banks c.args.map.now c.args.selector.now.ring.area (g.K.Backend.mounted_on c.args.from.now) c.args.active c.requires.lawful c.requires.selected c.requires.there
+          (subst (λ (i : ℕ). is_store_at c.args.map.now i ≡ true)
+          (sym (c.requires.is_active ∙ active-on c.args.map.now (g.F.Flash.device c.args.flash.now) c.args.selector.now.ring.area c.requires.selected)) store)).0;
+      selector_target = (selector-apart (g.F.Flash.device c.args.flash.now).banks c.args.map.now c.args.selector.now.ring.area c.area_at-area.result c.in-Some.index c.requires.lawful c.requires.selected c.area_at-area.ensures c.in-Some.ensures.store).0;
+    }
 
 pub returns-in-Some-clause-touches : goal.returns-in-Some-clause-touches
 returns-in-Some-clause-touches g c =
@@ -45,7 +46,7 @@ returns-in-Some-clause-map g c =
     let undamaged = g.met.K.Backend.stands_reads c.args.from.now (geometry_of a source) (sectors_of a source) c.requires.up in
     let banks = c.move_to.ensures.touches.banks in
     reads-through g.K.Backend.mounted_on g.K.Backend.damage g.K.Backend.contents g.K.Backend.room c.args.map.now c.args.selector.now.ring.area (g.K.Backend.mounted_on c.args.from.now) c.area_at-area.result c.args.active c.in-Some.index
-    (on g.K.Backend.contents a (g.K.Backend.mounted_on c.args.from.now)) a e c.move_to.result c.requires.selected c.requires.there c.requires.is_active c.area_at-area.ensures c.move_to.ensures.sound
+    (on g.K.Backend.contents a (g.K.Backend.mounted_on c.args.from.now)) a e c.move_to.result c.requires.selected c.requires.there c.requires.is_active c.area_at-area.ensures c.move_to.ensures.selector.sound
     (still g.K.Backend.damage a e (g.K.Backend.mounted_on c.args.from.now) banks c.move_to.ensures.source ∙ undamaged)
     (still g.K.Backend.contents a e (g.K.Backend.mounted_on c.args.from.now) banks c.move_to.ensures.source) c.move_to.ensures.ends
 
@@ -56,19 +57,12 @@ returns-in-None-clause-map g c =
     reads-still g.K.Backend.mounted_on g.K.Backend.damage g.K.Backend.contents g.K.Backend.room c.args.map.now a c.args.selector.now.ring.area (g.K.Backend.mounted_on c.args.from.now) c.args.active c.requires.selected c.requires.there c.requires.is_active
     (open-sound a c.args.selector.now.ring (g.met.F.Flash.is_lawful c.args.flash.now) c.requires.open_ring) (g.met.K.Backend.stands_reads c.args.from.now (geometry_of a source) (sectors_of a source) c.requires.up)
 
-pub move_to-requires-clause-serves : goal.move_to-requires-clause-serves
-move_to-requires-clause-serves g c =
-    c.requires.served c.in-Some.index c.area_at-area.result c.area_at-area.ensures (store-of c.args.map.now c.in-Some.index c.area_at-area.result c.area_at-area.ensures c.in-Some.ensures.store)
-
-pub move_to-requires-clause-version : goal.move_to-requires-clause-version
-move_to-requires-clause-version g c = c.requires.lawful.versions c.in-Some.index c.args.active c.area_at-area.result (g.K.Backend.mounted_on c.args.from.now) c.area_at-area.ensures c.requires.there
-
 pub returns-in-Some-clause-goes_on : goal.returns-in-Some-clause-goes_on
 returns-in-Some-clause-goes_on g c =
     let a : Device = g.F.Flash.device c.args.flash.now in
     moved-served g.K.Backend.serves g.K.Backend.mounted_on g.K.Backend.stands g.K.Backend.damage g.K.Backend.contents g.K.Backend.room c.args.map.now c.area_at-area.result c.args.active c.in-Some.index
     (on g.K.Backend.contents a (g.K.Backend.mounted_on c.args.from.now)) a (g.F.Flash.device c.move_to.new.flash) c.args.selector.now.ring c.move_to.new.selector.ring c.args.from.now c.move_to.result c.requires
-    c.move_to.ensures.touches.banks c.move_to.ensures.area c.area_at-area.ensures c.move_to.ensures.open_ring c.move_to.ensures.stands c.move_to.ensures.ends
+    c.move_to.ensures.touches.banks c.move_to.ensures.selector.area c.area_at-area.ensures c.move_to.ensures.selector.open_ring c.move_to.ensures.stands c.move_to.ensures.ends
 
 pub returns-in-Some-clause-stays : goal.returns-in-Some-clause-stays
 returns-in-Some-clause-stays g c refused =
@@ -76,26 +70,14 @@ returns-in-Some-clause-stays g c refused =
     let e : Device = g.F.Flash.device c.move_to.new.flash in
     refused-served g.K.Backend.serves g.K.Backend.mounted_on g.K.Backend.stands g.K.Backend.damage g.K.Backend.contents g.K.Backend.room c.args.map.now c.area_at-area.result c.args.active c.in-Some.index
     (on g.K.Backend.contents a (g.K.Backend.mounted_on c.args.from.now)) a e c.args.selector.now.ring c.move_to.new.selector.ring c.args.from.now c.move_to.result c.requires
-    c.move_to.ensures.touches.banks c.move_to.ensures.area c.move_to.ensures.open_ring
+    c.move_to.ensures.touches.banks c.move_to.ensures.selector.area c.move_to.ensures.selector.open_ring
     (stands-still g.K.Backend.mounted_on g.K.Backend.stands g.K.Backend.contents g.K.Backend.room a e c.args.from.now c.move_to.ensures.touches.banks c.move_to.ensures.source c.requires.up) c.move_to.ensures.ends refused
 
 pub returns-in-Some-clause-lost : goal.returns-in-Some-clause-lost
-returns-in-Some-clause-lost g c lost = c.move_to.ensures.lost lost
+returns-in-Some-clause-lost g c lost = c.move_to.ensures.selector.lost lost
 
 pub returns-in-None-clause-lost : goal.returns-in-None-clause-lost
 returns-in-None-clause-lost g c lost = absurd (false≢true lost)
-
-pub move_to-requires-clause-lawful_from : goal.move_to-requires-clause-lawful_from
-move_to-requires-clause-lawful_from g c = c.requires.lawful.each c.args.active (g.K.Backend.mounted_on c.args.from.now) c.requires.there
-
-pub move_to-requires-clause-stands_from : goal.move_to-requires-clause-stands_from
-move_to-requires-clause-stands_from g c = c.requires.up
-
-pub move_to-requires-clause-mounted : goal.move_to-requires-clause-mounted
-move_to-requires-clause-mounted g c = c.requires.open_ring
-
-pub move_to-requires-clause-apart_source : goal.move_to-requires-clause-apart_source
-move_to-requires-clause-apart_source g c = c.requires.lawful.apart c.in-Some.index c.args.active c.area_at-area.result (g.K.Backend.mounted_on c.args.from.now) c.area_at-area.ensures c.requires.there c.in-Some.ensures.other
 
 pub returns-in-Some-clause-source : goal.returns-in-Some-clause-source
 returns-in-Some-clause-source g c = c.move_to.ensures.source
@@ -107,7 +89,7 @@ returns-in-Some-clause-from g c =
     stands-still g.K.Backend.mounted_on g.K.Backend.stands g.K.Backend.contents g.K.Backend.room a e c.args.from.now c.move_to.ensures.touches.banks c.move_to.ensures.source c.requires.up
 
 pub returns-in-Some-clause-area : goal.returns-in-Some-clause-area
-returns-in-Some-clause-area g c = c.move_to.ensures.area
+returns-in-Some-clause-area g c = c.move_to.ensures.selector.area
 
 pub returns-in-None-clause-source : goal.returns-in-None-clause-source
 returns-in-None-clause-source g c = refl

@@ -18,35 +18,36 @@ pub returns-in-Err-clause-touches : goal.returns-in-Err-clause-touches
 returns-in-Err-clause-touches g c =
     subst (λ (lost : Bool). Touches (c.args.area ∷ c.args.selector.now.ring.area ∷ []) (g.F.Flash.device c.args.flash.now) (g.F.Flash.device c.fill-filled.new.flash) lost) (fault-lost g.row.K.Denot (g.row.K.Denot × ℕ) c.in-Err.fault) (first_of_two c.in-Err.ensures.touches)
 
-pub returns-in-Err-clause-sound : goal.returns-in-Err-clause-sound
-returns-in-Err-clause-sound g c =
+pub returns-in-Err-clause-selector : goal.returns-in-Err-clause-selector
+returns-in-Err-clause-selector g c =
     let a : Device = g.F.Flash.device c.args.flash.now in
     let b : Device = g.F.Flash.device c.fill-filled.new.flash in
-    let same = same_apart (g.met.F.Flash.is_lawful c.args.flash.now) (g.met.F.Flash.is_lawful c.fill-filled.new.flash) c.requires.mounted.stands.area.lawful.in_bank c.requires.apart_selector c.fill-filled.ensures.touches in
-    open-sound b c.args.selector.now.ring (g.met.F.Flash.is_lawful c.fill-filled.new.flash) (open-still a b c.args.selector.now.ring c.fill-filled.ensures.touches.banks same c.requires.mounted)
-
-pub returns-in-Err-clause-open_ring : goal.returns-in-Err-clause-open_ring
-returns-in-Err-clause-open_ring g c kept =
-    let same = same_apart (g.met.F.Flash.is_lawful c.args.flash.now) (g.met.F.Flash.is_lawful c.fill-filled.new.flash) c.requires.mounted.stands.area.lawful.in_bank c.requires.apart_selector c.fill-filled.ensures.touches in
-    open-still (g.F.Flash.device c.args.flash.now) (g.F.Flash.device c.fill-filled.new.flash) c.args.selector.now.ring c.fill-filled.ensures.touches.banks same c.requires.mounted
-
-pub returns-in-Err-clause-lost : goal.returns-in-Err-clause-lost
-returns-in-Err-clause-lost g c lost =
-    let same = same_apart (g.met.F.Flash.is_lawful c.args.flash.now) (g.met.F.Flash.is_lawful c.fill-filled.new.flash) c.requires.mounted.stands.area.lawful.in_bank c.requires.apart_selector c.fill-filled.ensures.touches in
-    inr (open-still (g.F.Flash.device c.args.flash.now) (g.F.Flash.device c.fill-filled.new.flash) c.args.selector.now.ring c.fill-filled.ensures.touches.banks same c.requires.mounted)
+    let same = same_apart (g.met.F.Flash.is_lawful c.args.flash.now) (g.met.F.Flash.is_lawful c.fill-filled.new.flash) c.requires.moves.mounted.stands.area.lawful.in_bank c.requires.moves.apart_selector c.fill-filled.ensures.touches in
+    record {
+      area = refl;
+      sound = open-sound b c.args.selector.now.ring (g.met.F.Flash.is_lawful c.fill-filled.new.flash) (open-still a b c.args.selector.now.ring c.fill-filled.ensures.touches.banks same c.requires.moves.mounted);
+      open_ring =
+          λ kept.
+          let same = same_apart (g.met.F.Flash.is_lawful c.args.flash.now) (g.met.F.Flash.is_lawful c.fill-filled.new.flash) c.requires.moves.mounted.stands.area.lawful.in_bank c.requires.moves.apart_selector c.fill-filled.ensures.touches in
+          open-still (g.F.Flash.device c.args.flash.now) (g.F.Flash.device c.fill-filled.new.flash) c.args.selector.now.ring c.fill-filled.ensures.touches.banks same c.requires.moves.mounted;
+      lost =
+          λ lost.
+          let same = same_apart (g.met.F.Flash.is_lawful c.args.flash.now) (g.met.F.Flash.is_lawful c.fill-filled.new.flash) c.requires.moves.mounted.stands.area.lawful.in_bank c.requires.moves.apart_selector c.fill-filled.ensures.touches in
+          inr (open-still (g.F.Flash.device c.args.flash.now) (g.F.Flash.device c.fill-filled.new.flash) c.args.selector.now.ring c.fill-filled.ensures.touches.banks same c.requires.moves.mounted);
+    }
 
 pub returns-in-Err-clause-ends : goal.returns-in-Err-clause-ends
 returns-in-Err-clause-ends g c =
     let a : Device = g.F.Flash.device c.args.flash.now in
     let b : Device = g.F.Flash.device c.fill-filled.new.flash in
-    let same = same_apart (g.met.F.Flash.is_lawful c.args.flash.now) (g.met.F.Flash.is_lawful c.fill-filled.new.flash) c.requires.mounted.stands.area.lawful.in_bank c.requires.apart_selector c.fill-filled.ensures.touches in
+    let same = same_apart (g.met.F.Flash.is_lawful c.args.flash.now) (g.met.F.Flash.is_lawful c.fill-filled.new.flash) c.requires.moves.mounted.stands.area.lawful.in_bank c.requires.moves.apart_selector c.fill-filled.ensures.touches in
     refused-ends g.K.Backend.mounted_on g.K.Backend.stands g.K.Backend.damage g.K.Backend.contents g.row.K.Denot (g.K.Backend.room c.args.area (geometry_of a c.args.area)) c.args.map.now c.args.selector.now.ring.area c.args.area c.args.index
     (on g.K.Backend.contents a (g.K.Backend.mounted_on c.args.from.now)) (on g.K.Backend.contents b c.args.area) a b c.in-Err.fault (active-still c.args.map.now a b c.args.selector.now.ring.area c.fill-filled.ensures.touches.banks same) c.in-Err.ensures.ends
 
 pub choose-chosen-requires-clause-mounted : goal.choose-chosen-requires-clause-mounted
 choose-chosen-requires-clause-mounted g c =
-    let same = same_apart (g.met.F.Flash.is_lawful c.args.flash.now) (g.met.F.Flash.is_lawful c.fill-filled.new.flash) c.requires.mounted.stands.area.lawful.in_bank c.requires.apart_selector c.fill-filled.ensures.touches in
-    open-still (g.F.Flash.device c.args.flash.now) (g.F.Flash.device c.fill-filled.new.flash) c.args.selector.now.ring c.fill-filled.ensures.touches.banks same c.requires.mounted
+    let same = same_apart (g.met.F.Flash.is_lawful c.args.flash.now) (g.met.F.Flash.is_lawful c.fill-filled.new.flash) c.requires.moves.mounted.stands.area.lawful.in_bank c.requires.moves.apart_selector c.fill-filled.ensures.touches in
+    open-still (g.F.Flash.device c.args.flash.now) (g.F.Flash.device c.fill-filled.new.flash) c.args.selector.now.ring c.fill-filled.ensures.touches.banks same c.requires.moves.mounted
 
 pub returns-clause-touches : goal.returns-clause-touches
 returns-clause-touches g c =
@@ -58,32 +59,33 @@ returns-clause-touches g c =
 pub returns-clause-source : goal.returns-clause-source
 returns-clause-source g c =
     same_apart (g.met.F.Flash.is_lawful c.fill-filled.new.flash) (g.met.F.Flash.is_lawful c.choose-chosen.new.flash)
-    (subst (λ (banks : List Bank). IsLawfulArea banks (g.K.Backend.mounted_on c.args.from.now)) (sym c.fill-filled.ensures.touches.banks) c.requires.lawful_from.in_bank) c.requires.selector_source c.choose-chosen.ensures.touches
+    (subst (λ (banks : List Bank). IsLawfulArea banks (g.K.Backend.mounted_on c.args.from.now)) (sym c.fill-filled.ensures.touches.banks) c.requires.moves.lawful_from.in_bank) c.requires.moves.selector_source c.choose-chosen.ensures.touches
     ∙ c.fill-filled.ensures.source
 
-pub returns-clause-sound : goal.returns-clause-sound
-returns-clause-sound g c =
-    chosen-sound c.args.map.now (g.F.Flash.device c.fill-filled.new.flash) (g.F.Flash.device c.choose-chosen.new.flash) c.args.selector.now.ring c.choose-chosen.new.self.ring c.args.index c.choose-chosen.result
-    (g.met.F.Flash.is_lawful c.choose-chosen.new.flash) c.choose-chosen.ensures.area c.choose-chosen.ensures.ends
-
-pub returns-clause-open_ring : goal.returns-clause-open_ring
-returns-clause-open_ring g c kept =
-    chosen-open c.args.map.now (g.F.Flash.device c.fill-filled.new.flash) (g.F.Flash.device c.choose-chosen.new.flash) c.args.selector.now.ring c.choose-chosen.new.self.ring c.args.index (c.in-Ok.to, c.args.index) c.choose-chosen.result c.moved_as.result
-    c.choose-chosen.ensures.ends c.moved_as.ensures kept
-
-pub returns-clause-lost : goal.returns-clause-lost
-returns-clause-lost g c lost =
-    inl (chosen-down c.args.map.now (g.F.Flash.device c.fill-filled.new.flash) (g.F.Flash.device c.choose-chosen.new.flash) c.args.selector.now.ring c.choose-chosen.new.self.ring c.args.index (c.in-Ok.to, c.args.index) c.choose-chosen.result c.moved_as.result
-    c.choose-chosen.ensures.ends c.moved_as.ensures lost)
+pub returns-clause-selector : goal.returns-clause-selector
+returns-clause-selector g c = record {
+  area = c.choose-chosen.ensures.area;
+  sound =
+      chosen-sound c.args.map.now (g.F.Flash.device c.fill-filled.new.flash) (g.F.Flash.device c.choose-chosen.new.flash) c.args.selector.now.ring c.choose-chosen.new.self.ring c.args.index c.choose-chosen.result
+      (g.met.F.Flash.is_lawful c.choose-chosen.new.flash) c.choose-chosen.ensures.area c.choose-chosen.ensures.ends;
+  open_ring =
+      λ kept.
+      chosen-open c.args.map.now (g.F.Flash.device c.fill-filled.new.flash) (g.F.Flash.device c.choose-chosen.new.flash) c.args.selector.now.ring c.choose-chosen.new.self.ring c.args.index (c.in-Ok.to, c.args.index) c.choose-chosen.result c.moved_as.result
+      c.choose-chosen.ensures.ends c.moved_as.ensures kept;
+  lost =
+      λ lost.
+      inl (chosen-down c.args.map.now (g.F.Flash.device c.fill-filled.new.flash) (g.F.Flash.device c.choose-chosen.new.flash) c.args.selector.now.ring c.choose-chosen.new.self.ring c.args.index (c.in-Ok.to, c.args.index) c.choose-chosen.result c.moved_as.result
+      c.choose-chosen.ensures.ends c.moved_as.ensures lost);
+}
 
 pub returns-clause-ends : goal.returns-clause-ends
 returns-clause-ends g c =
     let a : Device = g.F.Flash.device c.args.flash.now in
     let b : Device = g.F.Flash.device c.fill-filled.new.flash in
     let e : Device = g.F.Flash.device c.choose-chosen.new.flash in
-    let selector = same_apart (g.met.F.Flash.is_lawful c.args.flash.now) (g.met.F.Flash.is_lawful c.fill-filled.new.flash) c.requires.mounted.stands.area.lawful.in_bank c.requires.apart_selector c.fill-filled.ensures.touches in
+    let selector = same_apart (g.met.F.Flash.is_lawful c.args.flash.now) (g.met.F.Flash.is_lawful c.fill-filled.new.flash) c.requires.moves.mounted.stands.area.lawful.in_bank c.requires.moves.apart_selector c.fill-filled.ensures.touches in
     let target = same_apart (g.met.F.Flash.is_lawful c.fill-filled.new.flash) (g.met.F.Flash.is_lawful c.choose-chosen.new.flash)
-    (subst (λ (banks : List Bank). IsLawfulArea banks c.args.area) (sym c.fill-filled.ensures.touches.banks) c.requires.lawful.in_bank) c.requires.selector_target c.choose-chosen.ensures.touches in
+    (subst (λ (banks : List Bank). IsLawfulArea banks c.args.area) (sym c.fill-filled.ensures.touches.banks) c.requires.moves.lawful.in_bank) c.requires.moves.selector_target c.choose-chosen.ensures.touches in
     let banks = c.choose-chosen.ensures.touches.banks in
     let undamaged = g.met.K.Backend.stands_reads c.in-Ok.to (geometry_of b (g.K.Backend.mounted_on c.in-Ok.to)) (sectors_of b (g.K.Backend.mounted_on c.in-Ok.to)) c.in-Ok.ensures.stands in
     chosen-ends g.K.Backend.mounted_on g.K.Backend.stands g.K.Backend.damage g.K.Backend.contents (g.K.Backend.room c.args.area (geometry_of a c.args.area)) c.args.map.now c.args.area c.args.index
@@ -98,7 +100,7 @@ returns-clause-stands g c =
     let b : Device = g.F.Flash.device c.fill-filled.new.flash in
     let e : Device = g.F.Flash.device c.choose-chosen.new.flash in
     let target = same_apart (g.met.F.Flash.is_lawful c.fill-filled.new.flash) (g.met.F.Flash.is_lawful c.choose-chosen.new.flash)
-    (subst (λ (banks : List Bank). IsLawfulArea banks c.args.area) (sym c.fill-filled.ensures.touches.banks) c.requires.lawful.in_bank) c.requires.selector_target c.choose-chosen.ensures.touches in
+    (subst (λ (banks : List Bank). IsLawfulArea banks c.args.area) (sym c.fill-filled.ensures.touches.banks) c.requires.moves.lawful.in_bank) c.requires.moves.selector_target c.choose-chosen.ensures.touches in
     chosen-stands g.K.Backend.mounted_on g.K.Backend.stands g.K.Backend.damage g.K.Backend.contents e c.args.index c.in-Ok.to c.choose-chosen.result c.moved_as.result
     (stands-still g.K.Backend.mounted_on g.K.Backend.stands g.K.Backend.contents g.K.Backend.room b e c.in-Ok.to c.choose-chosen.ensures.touches.banks (subst (λ (x : Area). sectors_of e x ≡ sectors_of b x) (sym c.in-Ok.ensures.on) target) c.in-Ok.ensures.stands) c.moved_as.ensures
 
@@ -112,3 +114,21 @@ returns-clause-at_most g c =
     let a : Device = g.F.Flash.device c.args.flash.now in
     moved-most a (g.F.Flash.device c.fill-filled.new.flash) (g.F.Flash.device c.choose-chosen.new.flash) c.args.area c.args.selector.now.ring.area (finite.len (on g.K.Backend.contents a (g.K.Backend.mounted_on c.args.from.now)))
     c.fill-filled.ensures.touches.banks c.fill-filled.ensures.at_most c.choose-chosen.ensures.at_most
+
+pub fill-filled-requires-clause-lawful_from : goal.fill-filled-requires-clause-lawful_from
+fill-filled-requires-clause-lawful_from g c = c.requires.moves.lawful_from
+
+pub fill-filled-requires-clause-stands_from : goal.fill-filled-requires-clause-stands_from
+fill-filled-requires-clause-stands_from g c = c.requires.moves.stands_from
+
+pub fill-filled-requires-clause-lawful : goal.fill-filled-requires-clause-lawful
+fill-filled-requires-clause-lawful g c = c.requires.moves.lawful
+
+pub fill-filled-requires-clause-serves : goal.fill-filled-requires-clause-serves
+fill-filled-requires-clause-serves g c = c.requires.moves.served
+
+pub fill-filled-requires-clause-apart : goal.fill-filled-requires-clause-apart
+fill-filled-requires-clause-apart g c = c.requires.moves.apart_source
+
+pub fill-filled-requires-clause-version : goal.fill-filled-requires-clause-version
+fill-filled-requires-clause-version g c = c.requires.moves.version

@@ -1,32 +1,36 @@
 use Rattle.migrator.proofs.Spent.{copied-most, most_none}
 use Rattle.fcb_ring.specs.Changing.{record_units}
 use Rattle.std.proofs.Common.{refl}
-use Rattle.migrator.proofs.Collecting.{copy-short, copy-fits, no-copy, others-stay, kept-itself}
+use Rattle.migrator.proofs.Collecting.{only-scratch, copy-short, copy-fits, no-copy, others-stay, kept-itself}
 use Rattle.migrator.proofs.selecting.copy_last.Goals as goal
 
 pub copy-requires-clause-short : goal.copy-requires-clause-short
-copy-requires-clause-short g c = copy-short (g.F.Flash.device c.args.flash.now) c.args.ring.now c.args.last c.in-Some.record (g.met.F.Flash.is_lawful c.args.flash.now) c.requires.stands c.requires.short c.in-Some.is
+copy-requires-clause-short g c = copy-short (g.F.Flash.device c.args.flash.now) c.args.ring.now c.args.last c.in-Some.record (g.met.F.Flash.is_lawful c.args.flash.now) c.requires.scratch.stands c.requires.short c.in-Some.is
 
 pub copy-requires-clause-fits : goal.copy-requires-clause-fits
-copy-requires-clause-fits g c = copy-fits (g.F.Flash.device c.args.flash.now) c.args.ring.now c.args.last c.in-Some.record (g.met.F.Flash.is_lawful c.args.flash.now) c.requires.stands c.requires.short c.in-Some.is c.requires.end
+copy-requires-clause-fits g c = copy-fits (g.F.Flash.device c.args.flash.now) c.args.ring.now c.args.last c.in-Some.record (g.met.F.Flash.is_lawful c.args.flash.now) c.requires.scratch.stands c.requires.short c.in-Some.is c.requires.scratch.end
 
-pub returns-in_default-clause-list : goal.returns-in_default-clause-list
-returns-in_default-clause-list g c = kept-itself (g.F.Flash.device c.args.flash.now) c.args.ring.now (g.met.F.Flash.is_lawful c.args.flash.now) c.requires.stands
+pub returns-in_default-clause-only : goal.returns-in_default-clause-only
+returns-in_default-clause-only g c = record {
+  list = kept-itself (g.F.Flash.device c.args.flash.now) c.args.ring.now (g.met.F.Flash.is_lawful c.args.flash.now) c.requires.scratch.stands;
+  others = others-stay (g.F.Flash.device c.args.flash.now) c.args.ring.now;
+  area = refl;
+  reserve = refl;
+}
 
-pub returns-in_default-2-clause-list : goal.returns-in_default-2-clause-list
-returns-in_default-2-clause-list g c = kept-itself (g.F.Flash.device c.args.flash.now) c.args.ring.now (g.met.F.Flash.is_lawful c.args.flash.now) c.requires.stands
-
-pub returns-in_default-clause-others : goal.returns-in_default-clause-others
-returns-in_default-clause-others g c = others-stay (g.F.Flash.device c.args.flash.now) c.args.ring.now
-
-pub returns-in_default-2-clause-others : goal.returns-in_default-2-clause-others
-returns-in_default-2-clause-others g c = others-stay (g.F.Flash.device c.args.flash.now) c.args.ring.now
+pub returns-in_default-2-clause-only : goal.returns-in_default-2-clause-only
+returns-in_default-2-clause-only g c = record {
+  list = kept-itself (g.F.Flash.device c.args.flash.now) c.args.ring.now (g.met.F.Flash.is_lawful c.args.flash.now) c.requires.scratch.stands;
+  others = others-stay (g.F.Flash.device c.args.flash.now) c.args.ring.now;
+  area = refl;
+  reserve = refl;
+}
 
 pub returns-in_default-clause-units : goal.returns-in_default-clause-units
-returns-in_default-clause-units g c = no-copy (g.F.Flash.device c.args.flash.now) c.args.ring.now c.requires.no_copies
+returns-in_default-clause-units g c = no-copy (g.F.Flash.device c.args.flash.now) c.args.ring.now c.requires.scratch.no_copies
 
 pub returns-in_default-2-clause-units : goal.returns-in_default-2-clause-units
-returns-in_default-2-clause-units g c = no-copy (g.F.Flash.device c.args.flash.now) c.args.ring.now c.requires.no_copies
+returns-in_default-2-clause-units g c = no-copy (g.F.Flash.device c.args.flash.now) c.args.ring.now c.requires.scratch.no_copies
 
 pub returns-in-Some-clause-at_most : goal.returns-in-Some-clause-at_most
 returns-in-Some-clause-at_most g c =
@@ -37,3 +41,7 @@ returns-in_default-clause-at_most g c = let d = g.F.Flash.device c.args.flash.no
 
 pub returns-in_default-2-clause-at_most : goal.returns-in_default-2-clause-at_most
 returns-in_default-2-clause-at_most g c = let d = g.F.Flash.device c.args.flash.now in most_none d d (record_units d c.args.ring.now.area 2) refl
+
+pub returns-in-Some-clause-only : goal.returns-in-Some-clause-only
+returns-in-Some-clause-only g c =
+    only-scratch (g.F.Flash.device c.args.flash.now) (g.F.Flash.device c.copy.new.flash) c.args.ring.now c.copy.new.self c.in-Some.record c.copy.result c.copy.ensures.copied c.copy.ensures.stopped

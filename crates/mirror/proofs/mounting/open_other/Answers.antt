@@ -3,7 +3,8 @@ use Rattle.std.specs.FinMap as maps
 use Rattle.flash_sim.specs.Device.{Device}
 use Rattle.flash_map.proofs.Touches.{then}
 use Rattle.flash_map.specs.declared.area.Area.{Area}
-use Rattle.flash_map.specs.Area.{geometry_of}
+use Rattle.flash_map.specs.Area.{geometry_of, AreApart}
+use Rattle.flash_map.specs.Lawful.{IsLawfulFor}
 use Rattle.flash_map.specs.On.{on, HoldsOn}
 use Rattle.flash_map.specs.Spending.{SpendsAtMost}
 use Rattle.flash_map.specs.Touches.{Touches}
@@ -71,3 +72,27 @@ returns-in-Ok-None-clause-at_most g c =
     let source = g.K.Backend.mounted_on c.args.trusted.now in
     opened-then d m (g.F.Flash.device c.repair.new.flash) c.copy-own.result c.args.area (on g.K.Backend.contents d source) (on g.K.Backend.contents m source) c.in-Ok-None.ensures.touches.banks c.copy-own.ensures
     (still g.K.Backend.contents d m source c.in-Ok-None.ensures.touches.banks c.mount_other-mounted.ensures.trusted) c.mount_other-mounted.ensures.at_most c.repair.ensures.at_most
+
+pub mount_other-mounted-requires-clause-lawful_trusted : goal.mount_other-mounted-requires-clause-lawful_trusted
+mount_other-mounted-requires-clause-lawful_trusted g c = c.requires.other.lawful_trusted
+
+pub mount_other-mounted-requires-clause-stands_trusted : goal.mount_other-mounted-requires-clause-stands_trusted
+mount_other-mounted-requires-clause-stands_trusted g c = c.requires.other.stands_trusted
+
+pub mount_other-mounted-requires-clause-lawful : goal.mount_other-mounted-requires-clause-lawful
+mount_other-mounted-requires-clause-lawful g c =
+    subst (λ (x : Area). IsLawfulFor (g.F.Flash.device c.args.flash.now).banks x) (sym c.copy-own.ensures) c.requires.other.lawful
+
+pub mount_other-mounted-requires-clause-serves : goal.mount_other-mounted-requires-clause-serves
+mount_other-mounted-requires-clause-serves g c =
+    subst (λ (x : Area). g.K.Backend.serves x (geometry_of (g.F.Flash.device c.args.flash.now) x)) (sym c.copy-own.ensures) c.requires.other.served
+
+pub mount_other-mounted-requires-clause-apart : goal.mount_other-mounted-requires-clause-apart
+mount_other-mounted-requires-clause-apart g c =
+    subst (λ (x : Area). AreApart x (g.K.Backend.mounted_on c.args.trusted.now)) (sym c.copy-own.ensures) c.requires.other.apart
+
+pub repair-requires : goal.repair-requires
+repair-requires g c =
+    may-copy-still g.K.Backend.serves g.K.Backend.mounted_on g.K.Backend.stands g.K.Backend.contents g.K.Backend.room g.K.Priced.prices
+    (g.F.Flash.device c.args.flash.now) (g.F.Flash.device c.mount_other-mounted.new.flash) c.args.trusted.now c.args.area
+    c.in-Ok-None.ensures.touches.banks c.mount_other-mounted.ensures.trusted c.requires.other

@@ -16,10 +16,10 @@ repaired_as-requires g c =
     let area = c.args.area in
     let source = g.K.Backend.mounted_on c.args.trusted.now in
     let settings = on g.K.Backend.contents d source in
-    let lawful = g.met.K.Backend.reads_settings d source (g.met.F.Flash.is_lawful c.args.flash.now) c.requires.lawful_trusted
-    (g.met.K.Backend.stands_serves c.args.trusted.now (geometry_of d source) (sectors_of d source) c.requires.stands_trusted) (g.met.K.Backend.stands_reads c.args.trusted.now (geometry_of d source) (sectors_of d source) c.requires.stands_trusted) in
-    not-refused (room_on g.K.Backend.room d area) (prices_on g.K.Priced.prices d area) (g.met.K.Priced.is_room area (geometry_of d area) c.requires.role) area.sectors (value_limit area) settings c.requires.fits
-    (subst (λ (limit : ℕ). IsSettings limit settings) (sym (limit-same area source c.requires.version)) lawful)
+    let lawful = g.met.K.Backend.reads_settings d source (g.met.F.Flash.is_lawful c.args.flash.now) c.requires.other.lawful_trusted
+    (g.met.K.Backend.stands_serves c.args.trusted.now (geometry_of d source) (sectors_of d source) c.requires.other.stands_trusted) (g.met.K.Backend.stands_reads c.args.trusted.now (geometry_of d source) (sectors_of d source) c.requires.other.stands_trusted) in
+    not-refused (room_on g.K.Backend.room d area) (prices_on g.K.Priced.prices d area) (g.met.K.Priced.is_room area (geometry_of d area) c.requires.other.role) area.sectors (value_limit area) settings c.requires.other.fits
+    (subst (λ (limit : ℕ). IsSettings limit settings) (sym (limit-same area source c.requires.other.version)) lawful)
     (on g.K.Backend.contents (g.F.Flash.device c.fill-filled.new.flash) area) c.fill-filled.result c.fill-filled.ensures.ends
 
 pub returns-clause-touches : goal.returns-clause-touches
@@ -32,3 +32,21 @@ returns-clause-ends g c =
     let e : Device = g.F.Flash.device c.fill-filled.new.flash in
     repair-ends g.K.Backend.mounted_on g.K.Backend.stands (room_on g.K.Backend.room d c.args.area) c.args.area.sectors (on g.K.Backend.contents d (g.K.Backend.mounted_on c.args.trusted.now)) (on g.K.Backend.contents e c.args.area) e c.args.area c.fill-filled.result c.repaired_as.result
     c.fill-filled.ensures.ends c.repaired_as.ensures c.fill-filled.ensures.on c.fill-filled.ensures.stands
+
+pub fill-filled-requires-clause-lawful_from : goal.fill-filled-requires-clause-lawful_from
+fill-filled-requires-clause-lawful_from g c = c.requires.other.lawful_trusted
+
+pub fill-filled-requires-clause-stands_from : goal.fill-filled-requires-clause-stands_from
+fill-filled-requires-clause-stands_from g c = c.requires.other.stands_trusted
+
+pub fill-filled-requires-clause-lawful : goal.fill-filled-requires-clause-lawful
+fill-filled-requires-clause-lawful g c = c.requires.other.lawful
+
+pub fill-filled-requires-clause-serves : goal.fill-filled-requires-clause-serves
+fill-filled-requires-clause-serves g c = c.requires.other.served
+
+pub fill-filled-requires-clause-apart : goal.fill-filled-requires-clause-apart
+fill-filled-requires-clause-apart g c = c.requires.other.apart
+
+pub fill-filled-requires-clause-version : goal.fill-filled-requires-clause-version
+fill-filled-requires-clause-version g c = c.requires.other.version

@@ -11,33 +11,11 @@ use Rattle.flash_map.specs.On.{on}
 use Rattle.item_laws.specs.Items.{Items}
 use Rattle.backend_api.specs.Room.{removal_units}
 use Rattle.backend_api.specs.Written.{StaysWritten}
-use Rattle.named_items.specs.Strays.{KeepsEach, OnlyRemoves}
+use Rattle.named_items.specs.Strays.{KeepsSettings}
 use Rattle.named_items.proofs.RemovalUnits.{store-mounted, all-removed}
 use Rattle.named_items.proofs.SpendSteps.{geometry-stays}
-use Rattle.named_items.specs.Pairs.{HasNoStrays}
+use Rattle.named_items.specs.Pairs.{settings_in, HasNoStrays}
 use Rattle.named_items.proofs.mounting.mount_store.Goals as goal
-
-pub returns-in-Ok-remove_strays-clause-kept : goal.returns-in-Ok-remove_strays-clause-kept
-returns-in-Ok-remove_strays-clause-kept g c = λ none.
-    let d : Device = g.F.Flash.device c.args.flash.now in
-    let e : Device = g.F.Flash.device c.mount.new.flash in
-    let f : Device = g.F.Flash.device c.remove_strays.new.flash in
-    let own : Area = c.args.area in
-    let on_it : g.S.ItemStore.mounted_on c.in-Ok.store ≡ own = c.in-Ok.ensures.on in
-    let keeps : on g.S.ItemStore.contents e own ≡ on g.S.ItemStore.contents d own = c.in-Ok.ensures.keeps none in
-    subst (λ (m : Items). KeepsEach (g.N.Numbers.numbers own) m (on g.S.ItemStore.contents f own)) keeps
-    (subst (λ (x : Area). KeepsEach (g.N.Numbers.numbers x) (on g.S.ItemStore.contents e x) (on g.S.ItemStore.contents f x)) on_it c.remove_strays.ensures.kept)
-
-pub returns-in-Err-remove_strays-clause-kept : goal.returns-in-Err-remove_strays-clause-kept
-returns-in-Err-remove_strays-clause-kept g c = λ none.
-    let d : Device = g.F.Flash.device c.args.flash.now in
-    let e : Device = g.F.Flash.device c.mount.new.flash in
-    let f : Device = g.F.Flash.device c.remove_strays.new.flash in
-    let own : Area = c.args.area in
-    let on_it : g.S.ItemStore.mounted_on c.in-Ok.store ≡ own = c.in-Ok.ensures.on in
-    let keeps : on g.S.ItemStore.contents e own ≡ on g.S.ItemStore.contents d own = c.in-Ok.ensures.keeps none in
-    subst (λ (m : Items). KeepsEach (g.N.Numbers.numbers own) m (on g.S.ItemStore.contents f own)) keeps
-    (subst (λ (x : Area). KeepsEach (g.N.Numbers.numbers x) (on g.S.ItemStore.contents e x) (on g.S.ItemStore.contents f x)) on_it c.remove_strays.ensures.kept)
 
 pub returns-in-Ok-remove_strays-clause-rests : goal.returns-in-Ok-remove_strays-clause-rests
 returns-in-Ok-remove_strays-clause-rests g c = λ rest none.
@@ -47,15 +25,6 @@ returns-in-Ok-remove_strays-clause-rests g c = λ rest none.
     let on_it : g.S.ItemStore.mounted_on c.in-Ok.store ≡ own = c.in-Ok.ensures.on in
     let idle : e ≡ d = c.in-Ok.ensures.rests rest in
     c.remove_strays.ensures.rests (subst (λ (x : Area). HasNoStrays (g.N.Numbers.numbers x) (on g.S.ItemStore.contents e x)) (sym on_it) (subst (λ (y : Device). HasNoStrays (g.N.Numbers.numbers own) (on g.S.ItemStore.contents y own)) (sym idle) none)) ∙ idle
-
-pub returns-in-Ok-remove_strays-clause-clean : goal.returns-in-Ok-remove_strays-clause-clean
-returns-in-Ok-remove_strays-clause-clean g c =
-    let d : Device = g.F.Flash.device c.args.flash.now in
-    let e : Device = g.F.Flash.device c.mount.new.flash in
-    let own : Area = c.args.area in
-    let on_it : g.S.ItemStore.mounted_on c.in-Ok.store ≡ own = c.in-Ok.ensures.on in
-    let f : Device = g.F.Flash.device c.remove_strays.new.flash in
-    subst (λ (x : Area). HasNoStrays (g.N.Numbers.numbers x) (on g.S.ItemStore.contents f x)) on_it (c.in-Ok-remove_strays.ensures.clean refl)
 
 pub returns-in-Err-remove_strays-clause-touches : goal.returns-in-Err-remove_strays-clause-touches
 returns-in-Err-remove_strays-clause-touches g c =
@@ -74,9 +43,6 @@ returns-in-Err-remove_strays-clause-rests g c = λ rest none.
     let on_it : g.S.ItemStore.mounted_on c.in-Ok.store ≡ own = c.in-Ok.ensures.on in
     let idle : e ≡ d = c.in-Ok.ensures.rests rest in
     c.remove_strays.ensures.rests (subst (λ (x : Area). HasNoStrays (g.N.Numbers.numbers x) (on g.S.ItemStore.contents e x)) (sym on_it) (subst (λ (y : Device). HasNoStrays (g.N.Numbers.numbers own) (on g.S.ItemStore.contents y own)) (sym idle) none)) ∙ idle
-
-pub returns-in-Err-clause-kept : goal.returns-in-Err-clause-kept
-returns-in-Err-clause-kept g c = λ none id is. ap (λ (m : Items). get m id) (c.in-Err.ensures.keeps none)
 
 pub returns-in-Ok-remove_strays-clause-at_most : goal.returns-in-Ok-remove_strays-clause-at_most
 returns-in-Ok-remove_strays-clause-at_most g c =
@@ -111,31 +77,6 @@ returns-in-Err-remove_strays-clause-at_most g c =
 pub returns-in-Err-clause-at_most : goal.returns-in-Err-clause-at_most
 returns-in-Err-clause-at_most g c = store-mounted (geometry_of (g.F.Flash.device c.args.flash.now) c.args.area) (g.F.Flash.device c.args.flash.now) (g.F.Flash.device c.mount.new.flash) c.in-Err.ensures.at_most
 
-pub returns-in-Ok-remove_strays-clause-gone : goal.returns-in-Ok-remove_strays-clause-gone
-returns-in-Ok-remove_strays-clause-gone g c = λ none.
-    let d : Device = g.F.Flash.device c.args.flash.now in
-    let e : Device = g.F.Flash.device c.mount.new.flash in
-    let f : Device = g.F.Flash.device c.remove_strays.new.flash in
-    let own : Area = c.args.area in
-    let on_it : g.S.ItemStore.mounted_on c.in-Ok.store ≡ own = c.in-Ok.ensures.on in
-    let keeps : on g.S.ItemStore.contents e own ≡ on g.S.ItemStore.contents d own = c.in-Ok.ensures.keeps none in
-    subst (λ (m : Items). OnlyRemoves m (on g.S.ItemStore.contents f own)) keeps
-    (subst (λ (x : Area). OnlyRemoves (on g.S.ItemStore.contents e x) (on g.S.ItemStore.contents f x)) on_it c.remove_strays.ensures.gone)
-
-pub returns-in-Err-remove_strays-clause-gone : goal.returns-in-Err-remove_strays-clause-gone
-returns-in-Err-remove_strays-clause-gone g c = λ none.
-    let d : Device = g.F.Flash.device c.args.flash.now in
-    let e : Device = g.F.Flash.device c.mount.new.flash in
-    let f : Device = g.F.Flash.device c.remove_strays.new.flash in
-    let own : Area = c.args.area in
-    let on_it : g.S.ItemStore.mounted_on c.in-Ok.store ≡ own = c.in-Ok.ensures.on in
-    let keeps : on g.S.ItemStore.contents e own ≡ on g.S.ItemStore.contents d own = c.in-Ok.ensures.keeps none in
-    subst (λ (m : Items). OnlyRemoves m (on g.S.ItemStore.contents f own)) keeps
-    (subst (λ (x : Area). OnlyRemoves (on g.S.ItemStore.contents e x) (on g.S.ItemStore.contents f x)) on_it c.remove_strays.ensures.gone)
-
-pub returns-in-Err-clause-gone : goal.returns-in-Err-clause-gone
-returns-in-Err-clause-gone g c = λ none id. inr (ap (λ (m : Items). get m id) (c.in-Err.ensures.keeps none))
-
 pub returns-in-Ok-remove_strays-clause-written : goal.returns-in-Ok-remove_strays-clause-written
 returns-in-Ok-remove_strays-clause-written g c = λ blank.
     let e : Device = g.F.Flash.device c.mount.new.flash in
@@ -149,3 +90,54 @@ returns-in-Err-remove_strays-clause-written g c = λ blank.
     let f : Device = g.F.Flash.device c.remove_strays.new.flash in
     let on_it : g.S.ItemStore.mounted_on c.in-Ok.store ≡ c.args.area = c.in-Ok.ensures.on in
     c.in-Ok.ensures.written (subst (λ (x : Area). StaysWritten e f x) on_it c.remove_strays.ensures.written blank)
+
+pub returns-in-Ok-remove_strays-clause-keeps : goal.returns-in-Ok-remove_strays-clause-keeps
+returns-in-Ok-remove_strays-clause-keeps g c = λ none.
+    let d : Device = g.F.Flash.device c.args.flash.now in
+    let e : Device = g.F.Flash.device c.mount.new.flash in
+    let f : Device = g.F.Flash.device c.remove_strays.new.flash in
+    let own : Area = c.args.area in
+    let on_it : g.S.ItemStore.mounted_on c.in-Ok.store ≡ own = c.in-Ok.ensures.on in
+    let keeps : on g.S.ItemStore.contents e own ≡ on g.S.ItemStore.contents d own = c.in-Ok.ensures.keeps none in
+    let step = subst (λ (x : Area). KeepsSettings (g.N.Numbers.numbers x) (on g.S.ItemStore.contents e x) (on g.S.ItemStore.contents f x)) on_it c.remove_strays.ensures.keeps in
+    subst (λ (m : Items). KeepsSettings (g.N.Numbers.numbers own) m (on g.S.ItemStore.contents f own)) keeps step
+
+pub returns-in-Ok-remove_strays-clause-sound : goal.returns-in-Ok-remove_strays-clause-sound
+returns-in-Ok-remove_strays-clause-sound g c = λ none.
+    let f : Device = g.F.Flash.device c.remove_strays.new.flash in
+    subst (λ (x : Area). on g.S.ItemStore.damage f x ≡ None) c.in-Ok.ensures.on c.remove_strays.ensures.store.sound
+
+pub returns-in-Err-remove_strays-clause-keeps : goal.returns-in-Err-remove_strays-clause-keeps
+returns-in-Err-remove_strays-clause-keeps g c = λ none.
+    let d : Device = g.F.Flash.device c.args.flash.now in
+    let e : Device = g.F.Flash.device c.mount.new.flash in
+    let f : Device = g.F.Flash.device c.remove_strays.new.flash in
+    let own : Area = c.args.area in
+    let on_it : g.S.ItemStore.mounted_on c.in-Ok.store ≡ own = c.in-Ok.ensures.on in
+    let keeps : on g.S.ItemStore.contents e own ≡ on g.S.ItemStore.contents d own = c.in-Ok.ensures.keeps none in
+    let step = subst (λ (x : Area). KeepsSettings (g.N.Numbers.numbers x) (on g.S.ItemStore.contents e x) (on g.S.ItemStore.contents f x)) on_it c.remove_strays.ensures.keeps in
+    subst (λ (m : Items). KeepsSettings (g.N.Numbers.numbers own) m (on g.S.ItemStore.contents f own)) keeps step
+
+pub returns-in-Err-remove_strays-clause-sound : goal.returns-in-Err-remove_strays-clause-sound
+returns-in-Err-remove_strays-clause-sound g c = λ none.
+    let f : Device = g.F.Flash.device c.remove_strays.new.flash in
+    subst (λ (x : Area). on g.S.ItemStore.damage f x ≡ None) c.in-Ok.ensures.on c.remove_strays.ensures.store.sound
+
+pub returns-in-Err-clause-keeps : goal.returns-in-Err-clause-keeps
+returns-in-Err-clause-keeps g c = λ none. record {
+  settings = ap (settings_in (g.N.Numbers.numbers c.args.area)) (c.in-Err.ensures.keeps none);
+  kept = λ id is. ap (λ (m : Items). get m id) (c.in-Err.ensures.keeps none);
+  gone = λ id. inr (ap (λ (m : Items). get m id) (c.in-Err.ensures.keeps none));
+}
+
+pub returns-in-Ok-remove_strays-clause-store : goal.returns-in-Ok-remove_strays-clause-store
+returns-in-Ok-remove_strays-clause-store g c =
+    let e : Device = g.F.Flash.device c.mount.new.flash in
+    let own : Area = c.args.area in
+    let on_it : g.S.ItemStore.mounted_on c.in-Ok.store ≡ own = c.in-Ok.ensures.on in
+    let f : Device = g.F.Flash.device c.remove_strays.new.flash in
+    record {
+      on_it = c.remove_strays.ensures.store.area ∙ on_it;
+      up = c.in-Ok-remove_strays.ensures.store.up refl;
+      clean = subst (λ (x : Area). HasNoStrays (g.N.Numbers.numbers x) (on g.S.ItemStore.contents f x)) on_it c.in-Ok-remove_strays.ensures.ends;
+    }

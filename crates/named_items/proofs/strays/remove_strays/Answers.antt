@@ -2,11 +2,12 @@
 use Rattle.std.proofs.Common.{◌≡◌, ℕ, ◌<◌, ◌∷◌, [], Bool, false, true, Option, Some, None, refl, sym, ap, subst, ◌∙◌, inr}
 use Rattle.std.specs.Prelude.{IfSome}
 use Rattle.std.specs.FinMap.{get}
+use Rattle.std.proofs.lemmas.Bool.{false≢true}
 use Rattle.std.proofs.lemmas.Option.{IfSome_then}
 use Rattle.flash_sim.specs.Device.{Device}
 use Rattle.flash_map.specs.declared.area.Area.{Area}
 use Rattle.flash_map.specs.declared.area.Geometry.{Geometry}
-use Rattle.flash_map.specs.Area.{geometry_of}
+use Rattle.flash_map.specs.Area.{geometry_of, sectors_of}
 use Rattle.flash_map.specs.Spending.{SpendsAtMost}
 use Rattle.flash_map.specs.Touches.{Touches}
 use Rattle.flash_map.proofs.Touches.{then, untouched}
@@ -17,7 +18,7 @@ use Rattle.backend_api.specs.Room.{removal_units}
 use Rattle.backend_api.specs.Written.{StaysWritten}
 use Rattle.named_items.specs.Strays.{KeepsEach, OnlyRemoves, Removes, SpendsPerItem, StaysKept, StopsAt}
 use Rattle.named_items.proofs.RemovalUnits.{per-none, per-most, per-then, per-cut}
-use Rattle.named_items.proofs.RemovedSteps.{StaysAhead, gone-then, ahead-start, ahead-step, stops-at}
+use Rattle.named_items.proofs.RemovedSteps.{StaysAhead, gone-then, ahead-start, ahead-step, stops-at, removal-cut}
 use Rattle.named_items.proofs.SpendSteps.{geometry-stays}
 use Rattle.named_items.proofs.SoFar.{HasNoneBefore, ids_left}
 use Rattle.named_items.proofs.StraySteps.{kept-more, stays-more, strays-start, strays-step, strays-end, left-smaller}
@@ -32,7 +33,7 @@ loop-at-init g c =
       area = refl;
       stands = c.requires.stands;
       tells = c.tell.ensures;
-      sound = c.requires.sound;
+      sound = g.met.S.ItemStore.stands_reads c.args.store.now (geometry_of a own) (sectors_of a own) c.requires.stands;
       keeps = refl;
       kept = λ id is. (is, refl);
       gone = λ id. inr refl;
@@ -55,36 +56,36 @@ loop-at-preserved g c =
     let own : Area = g.S.ItemStore.mounted_on c.args.store.now in
     let kept = c.loop-at.invariant in
     let step = c.in_ok-remove_if_stray.ensures in
-    let area : g.S.ItemStore.mounted_on c.remove_if_stray.new.store ≡ own = step.area ∙ kept.area in
+    let area : g.S.ItemStore.mounted_on c.remove_if_stray.new.store ≡ own = step.store.area ∙ kept.area in
     record {
       touches = then kept.touches (subst (λ (x : Area). Touches (x ∷ []) b e false) kept.area step.touches);
       area = area;
-      stands = step.stands refl;
+      stands = step.store.up refl;
       tells = step.tells refl;
-      sound = subst (λ (x : Area). on g.S.ItemStore.damage e x ≡ None) kept.area step.sound;
-      keeps = subst (λ (x : Area). settings_in (g.N.Numbers.numbers x) (on g.S.ItemStore.contents e x) ≡ settings_in (g.N.Numbers.numbers x) (on g.S.ItemStore.contents b x)) kept.area step.keeps ∙ kept.keeps;
+      sound = subst (λ (x : Area). on g.S.ItemStore.damage e x ≡ None) kept.area step.store.sound;
+      keeps = subst (λ (x : Area). settings_in (g.N.Numbers.numbers x) (on g.S.ItemStore.contents e x) ≡ settings_in (g.N.Numbers.numbers x) (on g.S.ItemStore.contents b x)) kept.area step.keeps.settings ∙ kept.keeps;
       kept = stays-more (g.N.Numbers.numbers own) (on g.S.ItemStore.contents a own) (on g.S.ItemStore.contents b own) (on g.S.ItemStore.contents e own) kept.kept c.in-Some.id
-          (subst (λ (x : Area). Removes (g.N.Numbers.numbers x) (on g.S.ItemStore.contents b x) (on g.S.ItemStore.contents e x) c.in-Some.id) kept.area (step.removes refl))
-          (subst (λ (x : Area). KeepsEach (g.N.Numbers.numbers x) (on g.S.ItemStore.contents b x) (on g.S.ItemStore.contents e x)) kept.area step.kept)
-          (λ is. ap (λ (d : Device). on g.S.ItemStore.contents d own) (step.idle (subst (λ (x : Area). IsKept (g.N.Numbers.numbers x) (on g.S.ItemStore.contents b x) c.in-Some.id) (sym kept.area) is)));
+          (subst (λ (x : Area). Removes (g.N.Numbers.numbers x) (on g.S.ItemStore.contents b x) (on g.S.ItemStore.contents e x) c.in-Some.id) kept.area (step.ends.removes refl))
+          (subst (λ (x : Area). KeepsEach (g.N.Numbers.numbers x) (on g.S.ItemStore.contents b x) (on g.S.ItemStore.contents e x)) kept.area step.keeps.kept)
+          (λ is. ap (λ (d : Device). on g.S.ItemStore.contents d own) (step.ends.idle (subst (λ (x : Area). IsKept (g.N.Numbers.numbers x) (on g.S.ItemStore.contents b x) c.in-Some.id) (sym kept.area) is)));
       gone = gone-then (on g.S.ItemStore.contents a own) (on g.S.ItemStore.contents b own) (on g.S.ItemStore.contents e own) kept.gone
-          (subst (λ (x : Area). OnlyRemoves (on g.S.ItemStore.contents b x) (on g.S.ItemStore.contents e x)) kept.area step.gone);
+          (subst (λ (x : Area). OnlyRemoves (on g.S.ItemStore.contents b x) (on g.S.ItemStore.contents e x)) kept.area step.keeps.gone);
       ahead = ahead-step (on g.S.ItemStore.contents a own) (on g.S.ItemStore.contents b own) (on g.S.ItemStore.contents e own) c.in-Some.id
-          (subst (λ (x : Area). AltersOnly (on g.S.ItemStore.contents b x) (on g.S.ItemStore.contents e x) c.in-Some.id) kept.area step.others)
+          (subst (λ (x : Area). AltersOnly (on g.S.ItemStore.contents b x) (on g.S.ItemStore.contents e x) c.in-Some.id) kept.area step.ends.others)
           (subst (λ (o : Option ℕ). StaysAhead (on g.S.ItemStore.contents a own) (on g.S.ItemStore.contents b own) o) c.in-Some.is kept.ahead)
           c.next_by-at-in-Some.result
           (subst (λ (x : Area). IsNextId (on g.S.ItemStore.contents e x) (Some c.in-Some.id) c.next_by-at-in-Some.result) area c.next_by-at-in-Some.ensures.next);
       same = λ clean.
           let same = kept.same clean in
-          step.rests (subst (λ (x : Area). HasNoStrays (g.N.Numbers.numbers x) (on g.S.ItemStore.contents b x)) (sym kept.area) (subst (λ (d : Device). HasNoStrays (g.N.Numbers.numbers own) (on g.S.ItemStore.contents d own)) (sym same) clean)) ∙ same;
+          step.ends.rests (subst (λ (x : Area). HasNoStrays (g.N.Numbers.numbers x) (on g.S.ItemStore.contents b x)) (sym kept.area) (subst (λ (d : Device). HasNoStrays (g.N.Numbers.numbers own) (on g.S.ItemStore.contents d own)) (sym same) clean)) ∙ same;
       written = λ blank. kept.written (subst (λ (x : Area). StaysWritten b e x) kept.area step.written blank);
       so_far = strays-step (g.N.Numbers.numbers own) (on g.S.ItemStore.contents b own) (on g.S.ItemStore.contents e own) c.in-Some.id c.next_by-at-in-Some.result
-          (subst (λ (x : Area). Removes (g.N.Numbers.numbers x) (on g.S.ItemStore.contents b x) (on g.S.ItemStore.contents e x) c.in-Some.id) kept.area (step.removes refl))
+          (subst (λ (x : Area). Removes (g.N.Numbers.numbers x) (on g.S.ItemStore.contents b x) (on g.S.ItemStore.contents e x) c.in-Some.id) kept.area (step.ends.removes refl))
           (subst (λ (x : Area). IsNextId (on g.S.ItemStore.contents e x) (Some c.in-Some.id) c.next_by-at-in-Some.result) area c.next_by-at-in-Some.ensures.next)
           (subst (λ (o : Option ℕ). HasNoneBefore (g.N.Numbers.numbers own) (on g.S.ItemStore.contents b own) o) c.in-Some.is kept.so_far);
       per_item = per-then (removal_units (geometry_of a own)) a b e (on g.S.ItemStore.contents a own) (on g.S.ItemStore.contents b own) kept.per_item (on g.S.ItemStore.contents e own)
           (subst (λ (k : Geometry). SpendsPerItem (removal_units k) b e (on g.S.ItemStore.contents b own) (on g.S.ItemStore.contents e own)) (geometry-stays a b own kept.touches.banks)
-          (subst (λ (x : Area). SpendsPerItem (removal_units (geometry_of b x)) b e (on g.S.ItemStore.contents b x) (on g.S.ItemStore.contents e x)) kept.area (step.per_item refl)));
+          (subst (λ (x : Area). SpendsPerItem (removal_units (geometry_of b x)) b e (on g.S.ItemStore.contents b x) (on g.S.ItemStore.contents e x)) kept.area (step.units.per_item refl)));
       known = IfSome_then c.next_by-at-in-Some.result c.next_by-at-in-Some.ensures.known (λ id is. c.requires.ids.only id is);
     }
 
@@ -109,26 +110,7 @@ returns-in_err-remove_if_stray-clause-rests g c = λ clean.
     let own : Area = g.S.ItemStore.mounted_on c.args.store.now in
     let kept = c.loop-at.invariant in
     let same = kept.same clean in
-    c.in_err-remove_if_stray.ensures.rests (subst (λ (x : Area). HasNoStrays (g.N.Numbers.numbers x) (on g.S.ItemStore.contents b x)) (sym kept.area) (subst (λ (d : Device). HasNoStrays (g.N.Numbers.numbers own) (on g.S.ItemStore.contents d own)) (sym same) clean)) ∙ same
-
-pub returns-in_err-remove_if_stray-clause-kept : goal.returns-in_err-remove_if_stray-clause-kept
-returns-in_err-remove_if_stray-clause-kept g c =
-    let a : Device = g.F.Flash.device c.args.flash.now in
-    let b : Device = g.F.Flash.device c.loop-at.flash in
-    let e : Device = g.F.Flash.device c.remove_if_stray.new.flash in
-    let own : Area = g.S.ItemStore.mounted_on c.args.store.now in
-    let kept = c.loop-at.invariant in
-    kept-more (g.N.Numbers.numbers own) (on g.S.ItemStore.contents a own) (on g.S.ItemStore.contents b own) (on g.S.ItemStore.contents e own) kept.kept
-    (subst (λ (x : Area). KeepsEach (g.N.Numbers.numbers x) (on g.S.ItemStore.contents b x) (on g.S.ItemStore.contents e x)) kept.area c.in_err-remove_if_stray.ensures.kept)
-
-pub returns-clause-kept : goal.returns-clause-kept
-returns-clause-kept g c = λ id is. (c.loop-at.invariant.kept id is).1
-
-pub returns-clause-clean : goal.returns-clause-clean
-returns-clause-clean g c = λ ok.
-    let b : Device = g.F.Flash.device c.loop-at.flash in
-    let own : Area = g.S.ItemStore.mounted_on c.args.store.now in
-    strays-end (g.N.Numbers.numbers own) (on g.S.ItemStore.contents b own) (subst (λ (o : Option ℕ). HasNoneBefore (g.N.Numbers.numbers own) (on g.S.ItemStore.contents b own) o) c.in_default.is c.loop-at.invariant.so_far)
+    c.in_err-remove_if_stray.ensures.ends.rests (subst (λ (x : Area). HasNoStrays (g.N.Numbers.numbers x) (on g.S.ItemStore.contents b x)) (sym kept.area) (subst (λ (d : Device). HasNoStrays (g.N.Numbers.numbers own) (on g.S.ItemStore.contents d own)) (sym same) clean)) ∙ same
 
 pub returns-clause-at_most : goal.returns-clause-at_most
 returns-clause-at_most g c =
@@ -145,22 +127,43 @@ returns-in_err-remove_if_stray-clause-at_most g c =
     let own : Area = g.S.ItemStore.mounted_on c.args.store.now in
     let kept = c.loop-at.invariant in
     per-cut (removal_units (geometry_of a own)) a b e (on g.S.ItemStore.contents a own) (on g.S.ItemStore.contents b own) kept.per_item c.in-Some.id
-    (subst (λ (x : Area). ¬ (get (on g.S.ItemStore.contents b x) c.in-Some.id ≡ None)) kept.area (c.in_err-remove_if_stray.ensures.present refl))
+    (subst (λ (x : Area). ¬ (get (on g.S.ItemStore.contents b x) c.in-Some.id ≡ None)) kept.area (c.in_err-remove_if_stray.ensures.ends.present refl))
     (subst (λ (k : Geometry). SpendsAtMost b e (removal_units k)) (geometry-stays a b own kept.touches.banks)
-    (subst (λ (x : Area). SpendsAtMost b e (removal_units (geometry_of b x))) kept.area c.in_err-remove_if_stray.ensures.at_most))
+    (subst (λ (x : Area). SpendsAtMost b e (removal_units (geometry_of b x))) kept.area c.in_err-remove_if_stray.ensures.units.at_most))
 
-pub returns-in_err-remove_if_stray-clause-gone : goal.returns-in_err-remove_if_stray-clause-gone
-returns-in_err-remove_if_stray-clause-gone g c =
+pub returns-in_err-remove_if_stray-clause-written : goal.returns-in_err-remove_if_stray-clause-written
+returns-in_err-remove_if_stray-clause-written g c = λ blank.
+    let b : Device = g.F.Flash.device c.loop-at.flash in
+    let e : Device = g.F.Flash.device c.remove_if_stray.new.flash in
+    c.loop-at.invariant.written (subst (λ (x : Area). StaysWritten b e x) c.loop-at.invariant.area c.in_err-remove_if_stray.ensures.written blank)
+
+pub returns-in_err-remove_if_stray-clause-store : goal.returns-in_err-remove_if_stray-clause-store
+returns-in_err-remove_if_stray-clause-store g c =
+    let e : Device = g.F.Flash.device c.remove_if_stray.new.flash in
+    let step = c.in_err-remove_if_stray.ensures in
+    record {
+      area = step.store.area ∙ c.loop-at.invariant.area;
+      sound = subst (λ (x : Area). on g.S.ItemStore.damage e x ≡ None) c.loop-at.invariant.area step.store.sound;
+      up = λ kept. absurd (false≢true (sym kept ∙ c.from_residual.ensures.0));
+      down = λ lost. step.store.down refl;
+    }
+
+pub returns-in_err-remove_if_stray-clause-keeps : goal.returns-in_err-remove_if_stray-clause-keeps
+returns-in_err-remove_if_stray-clause-keeps g c =
     let a : Device = g.F.Flash.device c.args.flash.now in
     let b : Device = g.F.Flash.device c.loop-at.flash in
     let e : Device = g.F.Flash.device c.remove_if_stray.new.flash in
     let own : Area = g.S.ItemStore.mounted_on c.args.store.now in
     let kept = c.loop-at.invariant in
-    gone-then (on g.S.ItemStore.contents a own) (on g.S.ItemStore.contents b own) (on g.S.ItemStore.contents e own) kept.gone
-    (subst (λ (x : Area). OnlyRemoves (on g.S.ItemStore.contents b x) (on g.S.ItemStore.contents e x)) kept.area c.in_err-remove_if_stray.ensures.gone)
+    let step = c.in_err-remove_if_stray.ensures in
+    record {
+      settings = subst (λ (x : Area). settings_in (g.N.Numbers.numbers x) (on g.S.ItemStore.contents e x) ≡ settings_in (g.N.Numbers.numbers x) (on g.S.ItemStore.contents b x)) kept.area step.keeps.settings ∙ kept.keeps;
+      kept = kept-more (g.N.Numbers.numbers own) (on g.S.ItemStore.contents a own) (on g.S.ItemStore.contents b own) (on g.S.ItemStore.contents e own) kept.kept (subst (λ (x : Area). KeepsEach (g.N.Numbers.numbers x) (on g.S.ItemStore.contents b x) (on g.S.ItemStore.contents e x)) kept.area c.in_err-remove_if_stray.ensures.keeps.kept);
+      gone = gone-then (on g.S.ItemStore.contents a own) (on g.S.ItemStore.contents b own) (on g.S.ItemStore.contents e own) kept.gone (subst (λ (x : Area). OnlyRemoves (on g.S.ItemStore.contents b x) (on g.S.ItemStore.contents e x)) kept.area c.in_err-remove_if_stray.ensures.keeps.gone);
+    }
 
-pub returns-in_err-remove_if_stray-clause-order : goal.returns-in_err-remove_if_stray-clause-order
-returns-in_err-remove_if_stray-clause-order g c = λ lost.
+pub returns-in_err-remove_if_stray-clause-ends : goal.returns-in_err-remove_if_stray-clause-ends
+returns-in_err-remove_if_stray-clause-ends g c =
     let a : Device = g.F.Flash.device c.args.flash.now in
     let b : Device = g.F.Flash.device c.loop-at.flash in
     let e : Device = g.F.Flash.device c.remove_if_stray.new.flash in
@@ -169,15 +172,30 @@ returns-in_err-remove_if_stray-clause-order g c = λ lost.
     let n = g.N.Numbers.numbers own in
     let stops : StopsAt n (on g.S.ItemStore.contents a own) (on g.S.ItemStore.contents e own) c.in-Some.id =
     stops-at (on g.S.ItemStore.contents a own) (on g.S.ItemStore.contents b own) (on g.S.ItemStore.contents e own) c.in-Some.id
-    (subst (λ (x : Area). AltersOnly (on g.S.ItemStore.contents b x) (on g.S.ItemStore.contents e x) c.in-Some.id) kept.area c.in_err-remove_if_stray.ensures.others)
+    (subst (λ (x : Area). AltersOnly (on g.S.ItemStore.contents b x) (on g.S.ItemStore.contents e x) c.in-Some.id) kept.area c.in_err-remove_if_stray.ensures.ends.others)
     (subst (λ (o : Option ℕ). StaysAhead (on g.S.ItemStore.contents a own) (on g.S.ItemStore.contents b own) o) c.in-Some.is kept.ahead)
     n
-    (subst (λ (x : Area). StaysKept (g.N.Numbers.numbers x) (on g.S.ItemStore.contents b x) (on g.S.ItemStore.contents e x)) kept.area c.in_err-remove_if_stray.ensures.still)
+    (subst (λ (x : Area). StaysKept (g.N.Numbers.numbers x) (on g.S.ItemStore.contents b x) (on g.S.ItemStore.contents e x)) kept.area c.in_err-remove_if_stray.ensures.ends.still)
     (subst (λ (o : Option ℕ). HasNoneBefore n (on g.S.ItemStore.contents b own) o) c.in-Some.is kept.so_far) in
-    (c.in-Some.id, stops)
+    removal-cut n (on g.S.ItemStore.contents a own) (on g.S.ItemStore.contents e own) c.from_residual.result c.from_residual.ensures.0 (c.in-Some.id, stops)
 
-pub returns-in_err-remove_if_stray-clause-written : goal.returns-in_err-remove_if_stray-clause-written
-returns-in_err-remove_if_stray-clause-written g c = λ blank.
+pub returns-clause-store : goal.returns-clause-store
+returns-clause-store g c = record {
+  area = c.loop-at.invariant.area;
+  sound = c.loop-at.invariant.sound;
+  up = λ kept. c.loop-at.invariant.stands;
+  down = λ lost. absurd (false≢true lost);
+}
+
+pub returns-clause-keeps : goal.returns-clause-keeps
+returns-clause-keeps g c = record {
+  settings = c.loop-at.invariant.keeps;
+  kept = λ id is. (c.loop-at.invariant.kept id is).1;
+  gone = c.loop-at.invariant.gone;
+}
+
+pub returns-clause-ends : goal.returns-clause-ends
+returns-clause-ends g c =
     let b : Device = g.F.Flash.device c.loop-at.flash in
-    let e : Device = g.F.Flash.device c.remove_if_stray.new.flash in
-    c.loop-at.invariant.written (subst (λ (x : Area). StaysWritten b e x) c.loop-at.invariant.area c.in_err-remove_if_stray.ensures.written blank)
+    let own : Area = g.S.ItemStore.mounted_on c.args.store.now in
+    strays-end (g.N.Numbers.numbers own) (on g.S.ItemStore.contents b own) (subst (λ (o : Option ℕ). HasNoneBefore (g.N.Numbers.numbers own) (on g.S.ItemStore.contents b own) o) c.in_default.is c.loop-at.invariant.so_far)

@@ -1,7 +1,9 @@
 use Rattle.std.proofs.Common.{◌≡◌, ℕ, ◌+◌, ◌∷◌, [], refl, sym, ap, subst}
 use Rattle.std.specs.Prelude.{is_err}
+use Rattle.std.proofs.lemmas.Bool.{false≢true}
 use Rattle.flash_sim.specs.Device.{Device}
 use Rattle.flash_map.specs.declared.area.Area.{Area}
+use Rattle.flash_map.specs.Area.{geometry_of, sectors_of}
 use Rattle.flash_map.specs.On.{on}
 use Rattle.item_laws.specs.Items.{Items}
 use Rattle.named_items.specs.Numbering.{Numbering}
@@ -19,28 +21,33 @@ returns-in-Some-clause-ends g c =
     let e : Device = g.F.Flash.device c.delete_pair.new.flash in
     let area : Area = g.S.ItemStore.mounted_on c.args.store.now in
     let n : Numbering = g.N.Numbers.numbers area in
-    delete-ends n (g.met.N.Numbers.is_numbering area) (on g.S.ItemStore.contents d area) c.requires.clean c.args.name.now c.in-Some.place c.in-Some.ensures d e (on g.S.ItemStore.contents e area) c.delete_pair.result
-    (λ changed. spends-some g.S.ItemStore.contents d e area (area ∷ []) (is_err c.delete_pair.result) c.delete_pair.ensures.touches (λ same. changed (ap (settings_in n) same))) (subst (λ (k : ℕ). DeletesPair (on g.S.ItemStore.contents d area) (on g.S.ItemStore.contents e area) c.in-Some.place (c.in-Some.place + k) c.delete_pair.result) (sym (c.step.ensures area)) c.delete_pair.ensures.ends)
-
-pub returns-in-Some-clause-cut : goal.returns-in-Some-clause-cut
-returns-in-Some-clause-cut g c = λ lost.
-    let d : Device = g.F.Flash.device c.args.flash.now in
-    let e : Device = g.F.Flash.device c.delete_pair.new.flash in
-    let area : Area = g.S.ItemStore.mounted_on c.args.store.now in
-    delete-cut (g.N.Numbers.numbers area) (g.met.N.Numbers.is_numbering area) (on g.S.ItemStore.contents d area) c.requires.clean c.args.name.now c.in-Some.place c.in-Some.ensures (on g.S.ItemStore.contents e area) c.delete_pair.result lost (subst (λ (k : ℕ). DeletesPair (on g.S.ItemStore.contents d area) (on g.S.ItemStore.contents e area) c.in-Some.place (c.in-Some.place + k) c.delete_pair.result) (sym (c.step.ensures area)) c.delete_pair.ensures.ends)
-
-pub returns-in-Some-clause-clean : goal.returns-in-Some-clause-clean
-returns-in-Some-clause-clean g c = λ kept.
-    let d : Device = g.F.Flash.device c.args.flash.now in
-    let e : Device = g.F.Flash.device c.delete_pair.new.flash in
-    let area : Area = g.S.ItemStore.mounted_on c.args.store.now in
-    delete-clean (g.N.Numbers.numbers area) (g.met.N.Numbers.is_numbering area) (on g.S.ItemStore.contents d area) c.requires.clean c.args.name.now c.in-Some.place c.in-Some.ensures (on g.S.ItemStore.contents e area) c.delete_pair.result kept (subst (λ (k : ℕ). DeletesPair (on g.S.ItemStore.contents d area) (on g.S.ItemStore.contents e area) c.in-Some.place (c.in-Some.place + k) c.delete_pair.result) (sym (c.step.ensures area)) c.delete_pair.ensures.ends)
+    record {
+      ends = delete-ends n (g.met.N.Numbers.is_numbering area) (on g.S.ItemStore.contents d area) c.requires.here.clean c.args.name.now c.in-Some.place c.in-Some.ensures d e (on g.S.ItemStore.contents e area) c.delete_pair.result
+          (λ changed. spends-some g.S.ItemStore.contents d e area (area ∷ []) (is_err c.delete_pair.result) c.delete_pair.ensures.touches (λ same. changed (ap (settings_in n) same))) (subst (λ (k : ℕ). DeletesPair (on g.S.ItemStore.contents d area) (on g.S.ItemStore.contents e area) c.in-Some.place (c.in-Some.place + k) c.delete_pair.result) (sym (c.step.ensures area)) c.delete_pair.ensures.ends);
+      cut = λ lost. delete-cut n (g.met.N.Numbers.is_numbering area) (on g.S.ItemStore.contents d area) c.requires.here.clean c.args.name.now c.in-Some.place c.in-Some.ensures (on g.S.ItemStore.contents e area) c.delete_pair.result lost (subst (λ (k : ℕ). DeletesPair (on g.S.ItemStore.contents d area) (on g.S.ItemStore.contents e area) c.in-Some.place (c.in-Some.place + k) c.delete_pair.result) (sym (c.step.ensures area)) c.delete_pair.ensures.ends);
+      clean = λ kept. delete-clean n (g.met.N.Numbers.is_numbering area) (on g.S.ItemStore.contents d area) c.requires.here.clean c.args.name.now c.in-Some.place c.in-Some.ensures (on g.S.ItemStore.contents e area) c.delete_pair.result kept (subst (λ (k : ℕ). DeletesPair (on g.S.ItemStore.contents d area) (on g.S.ItemStore.contents e area) c.in-Some.place (c.in-Some.place + k) c.delete_pair.result) (sym (c.step.ensures area)) c.delete_pair.ensures.ends);
+    }
 
 pub returns-in-None-clause-ends : goal.returns-in-None-clause-ends
 returns-in-None-clause-ends g c =
     let d : Device = g.F.Flash.device c.args.flash.now in
     let area : Area = g.S.ItemStore.mounted_on c.args.store.now in
-    delete-absent d (g.N.Numbers.numbers area) (on g.S.ItemStore.contents d area) c.args.name.now c.in-None.ensures
+    record {
+      ends = delete-absent d (g.N.Numbers.numbers area) (on g.S.ItemStore.contents d area) c.args.name.now c.in-None.ensures;
+      cut = λ lost. absurd (false≢true lost);
+      clean = λ kept. c.requires.here.clean;
+    }
+
+pub returns-in-None-clause-store : goal.returns-in-None-clause-store
+returns-in-None-clause-store g c =
+    let d : Device = g.F.Flash.device c.args.flash.now in
+    let area : Area = g.S.ItemStore.mounted_on c.args.store.now in
+    record {
+      area = refl;
+      sound = g.met.S.ItemStore.stands_reads c.args.store.now (geometry_of d area) (sectors_of d area) c.requires.here.up;
+      up = λ kept. c.requires.here.up;
+      down = λ lost. absurd (false≢true lost);
+    }
 
 pub returns-in-Some-clause-others : goal.returns-in-Some-clause-others
 returns-in-Some-clause-others g c = λ place at.
@@ -56,3 +63,12 @@ returns-in-Some-clause-others g c = λ place at.
 
 pub returns-in-None-clause-others : goal.returns-in-None-clause-others
 returns-in-None-clause-others g c = λ place at id one two. refl
+
+pub standing_place-requires-clause-lawful : goal.standing_place-requires-clause-lawful
+standing_place-requires-clause-lawful g c = c.requires.here.lawful
+
+pub standing_place-requires-clause-stands : goal.standing_place-requires-clause-stands
+standing_place-requires-clause-stands g c = c.requires.here.up
+
+pub standing_place-requires-clause-clean : goal.standing_place-requires-clause-clean
+standing_place-requires-clause-clean g c = c.requires.here.clean

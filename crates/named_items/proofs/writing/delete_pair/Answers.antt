@@ -1,4 +1,8 @@
-use Rattle.std.proofs.Common.{arith}
+use Rattle.std.proofs.Common.{◌≡◌, refl, sym, subst, ◌∙◌, arith}
+use Rattle.std.specs.Prelude.{None}
+use Rattle.std.proofs.lemmas.Bool.{false≢true}
+use Rattle.flash_map.specs.declared.area.Area.{Area}
+use Rattle.flash_map.specs.On.{on}
 use Rattle.flash_sim.specs.Device.{Device}
 use Rattle.flash_map.specs.Area.{geometry_of}
 use Rattle.named_items.specs.StoreEnds as items
@@ -14,3 +18,21 @@ returns-clause-at_most g c =
     calls-within a e 2 (geometry_of a (g.S.ItemStore.mounted_on c.args.store.now)) (omega arith)
     (spends-calls a b e (g.S.ItemStore.mounted_on c.args.store.now) (g.S.ItemStore.mounted_on c.delete.new.self) 1 c.delete.ensures.touches.banks c.delete.ensures.area
     (one-call a b (items.most_units (geometry_of a (g.S.ItemStore.mounted_on c.args.store.now))) c.delete.ensures.at_most) c.delete-2.ensures.at_most)
+
+pub returns-clause-store : goal.returns-clause-store
+returns-clause-store g c =
+    let e : Device = g.F.Flash.device c.delete-2.new.flash in
+    record {
+      area = c.delete-2.ensures.area ∙ c.delete.ensures.area;
+      sound = subst (λ (x : Area). on g.S.ItemStore.damage e x ≡ None) c.delete.ensures.area c.delete-2.ensures.sound;
+      up = λ kept. c.delete-2.ensures.stands kept;
+      down = λ lost. c.delete-2.ensures.down lost;
+    }
+
+pub returns-in_err-delete-clause-store : goal.returns-in_err-delete-clause-store
+returns-in_err-delete-clause-store g c = record {
+  area = c.delete.ensures.area;
+  sound = c.delete.ensures.sound;
+  up = λ kept. absurd (false≢true (sym kept ∙ c.from_residual.ensures.0));
+  down = λ lost. c.in_err-delete.ensures.down refl;
+}

@@ -1,6 +1,7 @@
 -- Each path is a write of the value, mostly a write of the name, and in the last four goals the delete that undoes the first.
-use Rattle.std.proofs.Common.{◌≡◌, ℕ, ◌∷◌, [], false, true, List, Ok, Err, ap, subst, ◌∙◌, inr, arith}
+use Rattle.std.proofs.Common.{◌≡◌, ℕ, ◌∷◌, [], false, true, List, None, Ok, Err, refl, sym, ap, subst, ◌∙◌, inr, arith}
 use Rattle.std.specs.FinMap.{insert}
+use Rattle.std.proofs.lemmas.Bool.{false≢true}
 use Rattle.flash_sim.specs.Device.{Device}
 use Rattle.flash_map.specs.declared.area.Area.{Area}
 use Rattle.flash_map.specs.declared.area.Geometry.{Geometry}
@@ -201,3 +202,61 @@ returns-in-Err-delete-2-clause-at_most g c =
     let two = spends-calls a b e own (g.S.ItemStore.mounted_on c.write.new.self) 1 c.write.ensures.touches.banks c.write.ensures.area one c.write-2.ensures.at_most in
     let f : Device = g.F.Flash.device c.delete-in-Err-NoSpace.new.flash in
     spends-calls a e f own (g.S.ItemStore.mounted_on c.write-2.new.self) 2 (c.write-2.ensures.touches.banks ∙ c.write.ensures.touches.banks) (c.write-2.ensures.area ∙ c.write.ensures.area) two c.delete-in-Err-NoSpace.ensures.at_most
+
+-- ---- the store
+
+pub returns-in-Err-clause-store : goal.returns-in-Err-clause-store
+returns-in-Err-clause-store g c = record {
+  area = c.in-Err.ensures.area;
+  sound = c.in-Err.ensures.sound;
+  up = λ kept. c.in-Err.ensures.stands kept;
+  down = λ lost. c.in-Err.ensures.down lost;
+}
+
+pub returns-in-Ok-write-clause-store : goal.returns-in-Ok-write-clause-store
+returns-in-Ok-write-clause-store g c = record {
+  area = c.write-2.ensures.area ∙ c.write.ensures.area;
+  sound = subst (λ (x : Area). on g.S.ItemStore.damage (g.F.Flash.device c.write-2.new.flash) x ≡ None) (c.write.ensures.area) c.write-2.ensures.sound;
+  up = λ kept. c.in-Ok-write.ensures.stands kept;
+  down = λ lost. absurd (false≢true lost);
+}
+
+pub returns-in-Err-PowerLost-clause-store : goal.returns-in-Err-PowerLost-clause-store
+returns-in-Err-PowerLost-clause-store g c = record {
+  area = c.write-2.ensures.area ∙ c.write.ensures.area;
+  sound = subst (λ (x : Area). on g.S.ItemStore.damage (g.F.Flash.device c.write-2.new.flash) x ≡ None) (c.write.ensures.area) c.write-2.ensures.sound;
+  up = λ kept. absurd (false≢true (sym kept));
+  down = λ lost. c.in-Err-PowerLost.ensures.down (ap (λ (w : WriteFault). write_lost {T = Unit {0}} (Err w)) c.in-Err-PowerLost.field-0-is);
+}
+
+pub returns-in-Ok-delete-clause-store : goal.returns-in-Ok-delete-clause-store
+returns-in-Ok-delete-clause-store g c = record {
+  area = c.delete.ensures.area ∙ c.write-2.ensures.area ∙ c.write.ensures.area;
+  sound = subst (λ (x : Area). on g.S.ItemStore.damage (g.F.Flash.device c.delete.new.flash) x ≡ None) (c.write-2.ensures.area ∙ c.write.ensures.area) c.delete.ensures.sound;
+  up = λ kept. c.in-Ok-delete.ensures.stands refl;
+  down = λ lost. absurd (false≢true lost);
+}
+
+pub returns-in-Err-delete-clause-store : goal.returns-in-Err-delete-clause-store
+returns-in-Err-delete-clause-store g c = record {
+  area = c.delete.ensures.area ∙ c.write-2.ensures.area ∙ c.write.ensures.area;
+  sound = subst (λ (x : Area). on g.S.ItemStore.damage (g.F.Flash.device c.delete.new.flash) x ≡ None) (c.write-2.ensures.area ∙ c.write.ensures.area) c.delete.ensures.sound;
+  up = λ kept. absurd (false≢true (sym kept));
+  down = λ lost. c.in-Err-delete.ensures.down refl;
+}
+
+pub returns-in-Ok-delete-2-clause-store : goal.returns-in-Ok-delete-2-clause-store
+returns-in-Ok-delete-2-clause-store g c = record {
+  area = c.delete-in-Err-NoSpace.ensures.area ∙ c.write-2.ensures.area ∙ c.write.ensures.area;
+  sound = subst (λ (x : Area). on g.S.ItemStore.damage (g.F.Flash.device c.delete-in-Err-NoSpace.new.flash) x ≡ None) (c.write-2.ensures.area ∙ c.write.ensures.area) c.delete-in-Err-NoSpace.ensures.sound;
+  up = λ kept. c.in-Ok-delete-2.ensures.stands refl;
+  down = λ lost. absurd (false≢true lost);
+}
+
+pub returns-in-Err-delete-2-clause-store : goal.returns-in-Err-delete-2-clause-store
+returns-in-Err-delete-2-clause-store g c = record {
+  area = c.delete-in-Err-NoSpace.ensures.area ∙ c.write-2.ensures.area ∙ c.write.ensures.area;
+  sound = subst (λ (x : Area). on g.S.ItemStore.damage (g.F.Flash.device c.delete-in-Err-NoSpace.new.flash) x ≡ None) (c.write-2.ensures.area ∙ c.write.ensures.area) c.delete-in-Err-NoSpace.ensures.sound;
+  up = λ kept. absurd (false≢true (sym kept));
+  down = λ lost. c.in-Err-delete-2.ensures.down refl;
+}

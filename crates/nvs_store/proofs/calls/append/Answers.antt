@@ -16,49 +16,54 @@ use Rattle.nvs_store.proofs.calls.append.Goals as goal
 
 pub overflow_cast-entry : goal.overflow_cast-entry
 overflow_cast-entry g c =
-    let is = ready (g.F.Flash.device c.args.flash.now) c.args.area.now c.args.scan.now (length c.args.bytes.now) (g.met.F.Flash.is_lawful c.args.flash.now) c.requires.lawful c.requires.scan c.requires.fits in
+    let is = ready (g.F.Flash.device c.args.flash.now) c.args.area.now c.args.scan.now (length c.args.bytes.now) (g.met.F.Flash.is_lawful c.args.flash.now) c.requires.scanned.lawful c.requires.scanned.scan c.requires.fits in
     let inside = short (g.F.Flash.device c.args.flash.now) c.args.area.now c.args.scan.now (length c.args.bytes.now) is in
     omega arith
 
 pub overflow_cast-entry-2 : goal.overflow_cast-entry-2
 overflow_cast-entry-2 g c =
-    let is = ready (g.F.Flash.device c.args.flash.now) c.args.area.now c.args.scan.now (length c.args.bytes.now) (g.met.F.Flash.is_lawful c.args.flash.now) c.requires.lawful c.requires.scan c.requires.fits in
+    let is = ready (g.F.Flash.device c.args.flash.now) c.args.area.now c.args.scan.now (length c.args.bytes.now) (g.met.F.Flash.is_lawful c.args.flash.now) c.requires.scanned.lawful c.requires.scanned.scan c.requires.fits in
     let inside = short (g.F.Flash.device c.args.flash.now) c.args.area.now c.args.scan.now (length c.args.bytes.now) is in
     omega arith
 
 pub program_padded-requires-clause-can : goal.program_padded-requires-clause-can
 program_padded-requires-clause-can g c =
     let a : Device = g.F.Flash.device c.args.flash.now in
-    let is = ready a c.args.area.now c.args.scan.now (length c.args.bytes.now) (g.met.F.Flash.is_lawful c.args.flash.now) c.requires.lawful c.requires.scan c.requires.fits in
+    let is = ready a c.args.area.now c.args.scan.now (length c.args.bytes.now) (g.met.F.Flash.is_lawful c.args.flash.now) c.requires.scanned.lawful c.requires.scanned.scan c.requires.fits in
     can_first a c.args.area.now c.args.scan.now c.args.bytes.now is
 
-pub returns-in_err-program_padded-clause-lost : goal.returns-in_err-program_padded-clause-lost
-returns-in_err-program_padded-clause-lost g c =
-    let a : Device = g.F.Flash.device c.args.flash.now in
-    let m : Device = g.F.Flash.device c.program_padded.new.flash in
-    let is = ready a c.args.area.now c.args.scan.now (length c.args.bytes.now) (g.met.F.Flash.is_lawful c.args.flash.now) c.requires.lawful c.requires.scan c.requires.fits in
-    on_err c.from_residual.result (data_lost a c.args.area.now c.args.scan.now c.args.bytes.now is m c.args.id c.in_err-program_padded.ensures.lost)
+pub returns-in_err-program_padded-clause-ends : goal.returns-in_err-program_padded-clause-ends
+returns-in_err-program_padded-clause-ends g c = record {
+  ok = not_ok _ c.from_residual.result c.from_residual.ensures.0;
+  image = not_ok _ c.from_residual.result c.from_residual.ensures.0;
+  scan = not_ok _ c.from_residual.result c.from_residual.ensures.0;
+  spent = not_ok _ c.from_residual.result c.from_residual.ensures.0;
+  lost =
+      let a : Device = g.F.Flash.device c.args.flash.now in
+      let m : Device = g.F.Flash.device c.program_padded.new.flash in
+      let is = ready a c.args.area.now c.args.scan.now (length c.args.bytes.now) (g.met.F.Flash.is_lawful c.args.flash.now) c.requires.scanned.lawful c.requires.scanned.scan c.requires.fits in
+      on_err c.from_residual.result (data_lost a c.args.area.now c.args.scan.now c.args.bytes.now is m c.args.id c.in_err-program_padded.ensures.lost);
+  in_pieces = on_err c.from_residual.result c.in_err-program_padded.ensures.in_pieces;
+  spent_at_most =
+      let a : Device = g.F.Flash.device c.args.flash.now in
+      let m : Device = g.F.Flash.device c.program_padded.new.flash in
+      let is = ready a c.args.area.now c.args.scan.now (length c.args.bytes.now) (g.met.F.Flash.is_lawful c.args.flash.now) c.requires.scanned.lawful c.requires.scanned.scan c.requires.fits in
+      on_err c.from_residual.result (data_spent a c.args.area.now c.args.scan.now c.args.bytes.now is m c.in_err-program_padded.ensures.spent_at_most);
+}
 
 pub returns-in_err-program_padded-clause-list_lost : goal.returns-in_err-program_padded-clause-list_lost
 returns-in_err-program_padded-clause-list_lost g c =
     let a : Device = g.F.Flash.device c.args.flash.now in
     let m : Device = g.F.Flash.device c.program_padded.new.flash in
-    let is = ready a c.args.area.now c.args.scan.now (length c.args.bytes.now) (g.met.F.Flash.is_lawful c.args.flash.now) c.requires.lawful c.requires.scan c.requires.fits in
+    let is = ready a c.args.area.now c.args.scan.now (length c.args.bytes.now) (g.met.F.Flash.is_lawful c.args.flash.now) c.requires.scanned.lawful c.requires.scanned.scan c.requires.fits in
     let stops = data_lost a c.args.area.now c.args.scan.now c.args.bytes.now is m c.args.id c.in_err-program_padded.ensures.lost in
     on_err c.from_residual.result (stops_list a c.args.area.now c.args.scan.now c.args.bytes.now is m c.args.id stops c.requires.redo)
-
-pub returns-in_err-program_padded-clause-spent_at_most : goal.returns-in_err-program_padded-clause-spent_at_most
-returns-in_err-program_padded-clause-spent_at_most g c =
-    let a : Device = g.F.Flash.device c.args.flash.now in
-    let m : Device = g.F.Flash.device c.program_padded.new.flash in
-    let is = ready a c.args.area.now c.args.scan.now (length c.args.bytes.now) (g.met.F.Flash.is_lawful c.args.flash.now) c.requires.lawful c.requires.scan c.requires.fits in
-    on_err c.from_residual.result (data_spent a c.args.area.now c.args.scan.now c.args.bytes.now is m c.in_err-program_padded.ensures.spent_at_most)
 
 pub returns-in_err-program_padded-clause-sound : goal.returns-in_err-program_padded-clause-sound
 returns-in_err-program_padded-clause-sound g c =
     let a : Device = g.F.Flash.device c.args.flash.now in
     let m : Device = g.F.Flash.device c.program_padded.new.flash in
-    let is = ready a c.args.area.now c.args.scan.now (length c.args.bytes.now) (g.met.F.Flash.is_lawful c.args.flash.now) c.requires.lawful c.requires.scan c.requires.fits in
+    let is = ready a c.args.area.now c.args.scan.now (length c.args.bytes.now) (g.met.F.Flash.is_lawful c.args.flash.now) c.requires.scanned.lawful c.requires.scanned.scan c.requires.fits in
     let stops = data_lost a c.args.area.now c.args.scan.now c.args.bytes.now is m c.args.id c.in_err-program_padded.ensures.lost in
     stops_stay a c.args.area.now c.args.scan.now c.args.bytes.now is m c.args.id stops
 
@@ -66,7 +71,7 @@ pub returns-in_err-program_padded-clause-undamaged : goal.returns-in_err-program
 returns-in_err-program_padded-clause-undamaged g c =
     let a : Device = g.F.Flash.device c.args.flash.now in
     let m : Device = g.F.Flash.device c.program_padded.new.flash in
-    let is = ready a c.args.area.now c.args.scan.now (length c.args.bytes.now) (g.met.F.Flash.is_lawful c.args.flash.now) c.requires.lawful c.requires.scan c.requires.fits in
+    let is = ready a c.args.area.now c.args.scan.now (length c.args.bytes.now) (g.met.F.Flash.is_lawful c.args.flash.now) c.requires.scanned.lawful c.requires.scanned.scan c.requires.fits in
     let stops = data_lost a c.args.area.now c.args.scan.now c.args.bytes.now is m c.args.id c.in_err-program_padded.ensures.lost in
     stops_undamaged a c.args.area.now c.args.scan.now c.args.bytes.now is m c.args.id stops c.requires.redo
 
@@ -74,53 +79,55 @@ pub program_padded-requires-2-clause-can : goal.program_padded-requires-2-clause
 program_padded-requires-2-clause-can g c =
     let a : Device = g.F.Flash.device c.args.flash.now in
     let m : Device = g.F.Flash.device c.program_padded.new.flash in
-    let is = ready a c.args.area.now c.args.scan.now (length c.args.bytes.now) (g.met.F.Flash.is_lawful c.args.flash.now) c.requires.lawful c.requires.scan c.requires.fits in
+    let is = ready a c.args.area.now c.args.scan.now (length c.args.bytes.now) (g.met.F.Flash.is_lawful c.args.flash.now) c.requires.scanned.lawful c.requires.scanned.scan c.requires.fits in
     let width : c.slot_size.result ≡ slot_size (unit_of a c.args.area.now) = c.slot_size.ensures.size ∙ ap (λ (x : Geometry). slot_size x.unit) c.geometry-unit.ensures in
     let one = c.in_ok-program_padded.ensures in
     can_second a c.args.area.now c.args.scan.now c.args.bytes.now is m c.args.id c.slot_size.result c.encode_entry.result c.requires.ordinary width one.touches.banks one.ok c.encode_entry.ensures
 
-pub returns-in_err-program_padded-2-clause-lost : goal.returns-in_err-program_padded-2-clause-lost
-returns-in_err-program_padded-2-clause-lost g c =
-    let a : Device = g.F.Flash.device c.args.flash.now in
-    let m : Device = g.F.Flash.device c.program_padded.new.flash in
-    let last : Device = g.F.Flash.device c.program_padded-2.new.flash in
-    let is = ready a c.args.area.now c.args.scan.now (length c.args.bytes.now) (g.met.F.Flash.is_lawful c.args.flash.now) c.requires.lawful c.requires.scan c.requires.fits in
-    let width : c.slot_size.result ≡ slot_size (unit_of a c.args.area.now) = c.slot_size.ensures.size ∙ ap (λ (x : Geometry). slot_size x.unit) c.geometry-unit.ensures in
-    let one = c.in_ok-program_padded.ensures in
-    on_err c.from_residual-in_err-program_padded-2.result
-    (entry_lost a c.args.area.now c.args.scan.now c.args.bytes.now is m c.args.id c.slot_size.result c.encode_entry.result c.requires.ordinary width one.touches.banks one.ok c.encode_entry.ensures last c.in_err-program_padded-2.ensures.lost)
+pub returns-in_err-program_padded-2-clause-ends : goal.returns-in_err-program_padded-2-clause-ends
+returns-in_err-program_padded-2-clause-ends g c = record {
+  ok = not_ok _ c.from_residual-in_err-program_padded-2.result c.from_residual-in_err-program_padded-2.ensures.0;
+  image = not_ok _ c.from_residual-in_err-program_padded-2.result c.from_residual-in_err-program_padded-2.ensures.0;
+  scan = not_ok _ c.from_residual-in_err-program_padded-2.result c.from_residual-in_err-program_padded-2.ensures.0;
+  spent = not_ok _ c.from_residual-in_err-program_padded-2.result c.from_residual-in_err-program_padded-2.ensures.0;
+  lost =
+      let a : Device = g.F.Flash.device c.args.flash.now in
+      let m : Device = g.F.Flash.device c.program_padded.new.flash in
+      let last : Device = g.F.Flash.device c.program_padded-2.new.flash in
+      let is = ready a c.args.area.now c.args.scan.now (length c.args.bytes.now) (g.met.F.Flash.is_lawful c.args.flash.now) c.requires.scanned.lawful c.requires.scanned.scan c.requires.fits in
+      let width : c.slot_size.result ≡ slot_size (unit_of a c.args.area.now) = c.slot_size.ensures.size ∙ ap (λ (x : Geometry). slot_size x.unit) c.geometry-unit.ensures in
+      let one = c.in_ok-program_padded.ensures in
+      on_err c.from_residual-in_err-program_padded-2.result
+      (entry_lost a c.args.area.now c.args.scan.now c.args.bytes.now is m c.args.id c.slot_size.result c.encode_entry.result c.requires.ordinary width one.touches.banks one.ok c.encode_entry.ensures last c.in_err-program_padded-2.ensures.lost);
+  in_pieces = on_err c.from_residual-in_err-program_padded-2.result (within_then PIECE (g.F.Flash.device c.args.flash.now) (g.F.Flash.device c.program_padded.new.flash) (g.F.Flash.device c.program_padded-2.new.flash) (c.args.area.now ∷ []) c.in_ok-program_padded.ensures.touches c.in_err-program_padded-2.ensures.in_pieces);
+  spent_at_most =
+      let a : Device = g.F.Flash.device c.args.flash.now in
+      let m : Device = g.F.Flash.device c.program_padded.new.flash in
+      let last : Device = g.F.Flash.device c.program_padded-2.new.flash in
+      let is = ready a c.args.area.now c.args.scan.now (length c.args.bytes.now) (g.met.F.Flash.is_lawful c.args.flash.now) c.requires.scanned.lawful c.requires.scanned.scan c.requires.fits in
+      let width : c.slot_size.result ≡ slot_size (unit_of a c.args.area.now) = c.slot_size.ensures.size ∙ ap (λ (x : Geometry). slot_size x.unit) c.geometry-unit.ensures in
+      let one = c.in_ok-program_padded.ensures in
+      on_err c.from_residual-in_err-program_padded-2.result
+      (entry_most a c.args.area.now c.args.scan.now c.args.bytes.now is m c.args.id c.slot_size.result c.encode_entry.result c.requires.ordinary width one.touches.banks one.ok c.encode_entry.ensures last one.spent c.in_err-program_padded-2.ensures.spent_at_most);
+}
 
 pub returns-in_err-program_padded-2-clause-list_lost : goal.returns-in_err-program_padded-2-clause-list_lost
 returns-in_err-program_padded-2-clause-list_lost g c =
     let a : Device = g.F.Flash.device c.args.flash.now in
     let m : Device = g.F.Flash.device c.program_padded.new.flash in
     let last : Device = g.F.Flash.device c.program_padded-2.new.flash in
-    let is = ready a c.args.area.now c.args.scan.now (length c.args.bytes.now) (g.met.F.Flash.is_lawful c.args.flash.now) c.requires.lawful c.requires.scan c.requires.fits in
+    let is = ready a c.args.area.now c.args.scan.now (length c.args.bytes.now) (g.met.F.Flash.is_lawful c.args.flash.now) c.requires.scanned.lawful c.requires.scanned.scan c.requires.fits in
     let width : c.slot_size.result ≡ slot_size (unit_of a c.args.area.now) = c.slot_size.ensures.size ∙ ap (λ (x : Geometry). slot_size x.unit) c.geometry-unit.ensures in
     let one = c.in_ok-program_padded.ensures in
     let stops = entry_lost a c.args.area.now c.args.scan.now c.args.bytes.now is m c.args.id c.slot_size.result c.encode_entry.result c.requires.ordinary width one.touches.banks one.ok c.encode_entry.ensures last c.in_err-program_padded-2.ensures.lost in
     on_err c.from_residual-in_err-program_padded-2.result (stops_list a c.args.area.now c.args.scan.now c.args.bytes.now is last c.args.id stops c.requires.redo)
-
-pub returns-in_err-program_padded-2-clause-spent_at_most : goal.returns-in_err-program_padded-2-clause-spent_at_most
-returns-in_err-program_padded-2-clause-spent_at_most g c =
-    let a : Device = g.F.Flash.device c.args.flash.now in
-    let m : Device = g.F.Flash.device c.program_padded.new.flash in
-    let last : Device = g.F.Flash.device c.program_padded-2.new.flash in
-    let is = ready a c.args.area.now c.args.scan.now (length c.args.bytes.now) (g.met.F.Flash.is_lawful c.args.flash.now) c.requires.lawful c.requires.scan c.requires.fits in
-    let width : c.slot_size.result ≡ slot_size (unit_of a c.args.area.now) = c.slot_size.ensures.size ∙ ap (λ (x : Geometry). slot_size x.unit) c.geometry-unit.ensures in
-    let one = c.in_ok-program_padded.ensures in
-    on_err c.from_residual-in_err-program_padded-2.result
-    (entry_most a c.args.area.now c.args.scan.now c.args.bytes.now is m c.args.id c.slot_size.result c.encode_entry.result c.requires.ordinary width one.touches.banks one.ok c.encode_entry.ensures last one.spent c.in_err-program_padded-2.ensures.spent_at_most)
-
-pub returns-in_err-program_padded-2-clause-in_pieces : goal.returns-in_err-program_padded-2-clause-in_pieces
-returns-in_err-program_padded-2-clause-in_pieces g c = on_err c.from_residual-in_err-program_padded-2.result (within_then PIECE (g.F.Flash.device c.args.flash.now) (g.F.Flash.device c.program_padded.new.flash) (g.F.Flash.device c.program_padded-2.new.flash) (c.args.area.now ∷ []) c.in_ok-program_padded.ensures.touches c.in_err-program_padded-2.ensures.in_pieces)
 
 pub returns-in_err-program_padded-2-clause-sound : goal.returns-in_err-program_padded-2-clause-sound
 returns-in_err-program_padded-2-clause-sound g c =
     let a : Device = g.F.Flash.device c.args.flash.now in
     let m : Device = g.F.Flash.device c.program_padded.new.flash in
     let last : Device = g.F.Flash.device c.program_padded-2.new.flash in
-    let is = ready a c.args.area.now c.args.scan.now (length c.args.bytes.now) (g.met.F.Flash.is_lawful c.args.flash.now) c.requires.lawful c.requires.scan c.requires.fits in
+    let is = ready a c.args.area.now c.args.scan.now (length c.args.bytes.now) (g.met.F.Flash.is_lawful c.args.flash.now) c.requires.scanned.lawful c.requires.scanned.scan c.requires.fits in
     let width : c.slot_size.result ≡ slot_size (unit_of a c.args.area.now) = c.slot_size.ensures.size ∙ ap (λ (x : Geometry). slot_size x.unit) c.geometry-unit.ensures in
     let one = c.in_ok-program_padded.ensures in
     let stops = entry_lost a c.args.area.now c.args.scan.now c.args.bytes.now is m c.args.id c.slot_size.result c.encode_entry.result c.requires.ordinary width one.touches.banks one.ok c.encode_entry.ensures last c.in_err-program_padded-2.ensures.lost in
@@ -131,7 +138,7 @@ returns-in_err-program_padded-2-clause-undamaged g c =
     let a : Device = g.F.Flash.device c.args.flash.now in
     let m : Device = g.F.Flash.device c.program_padded.new.flash in
     let last : Device = g.F.Flash.device c.program_padded-2.new.flash in
-    let is = ready a c.args.area.now c.args.scan.now (length c.args.bytes.now) (g.met.F.Flash.is_lawful c.args.flash.now) c.requires.lawful c.requires.scan c.requires.fits in
+    let is = ready a c.args.area.now c.args.scan.now (length c.args.bytes.now) (g.met.F.Flash.is_lawful c.args.flash.now) c.requires.scanned.lawful c.requires.scanned.scan c.requires.fits in
     let width : c.slot_size.result ≡ slot_size (unit_of a c.args.area.now) = c.slot_size.ensures.size ∙ ap (λ (x : Geometry). slot_size x.unit) c.geometry-unit.ensures in
     let one = c.in_ok-program_padded.ensures in
     let stops = entry_lost a c.args.area.now c.args.scan.now c.args.bytes.now is m c.args.id c.slot_size.result c.encode_entry.result c.requires.ordinary width one.touches.banks one.ok c.encode_entry.ensures last c.in_err-program_padded-2.ensures.lost in
@@ -139,65 +146,74 @@ returns-in_err-program_padded-2-clause-undamaged g c =
 
 pub overflow_cast-bytes : goal.overflow_cast-bytes
 overflow_cast-bytes g c =
-    let is = ready (g.F.Flash.device c.args.flash.now) c.args.area.now c.args.scan.now (length c.args.bytes.now) (g.met.F.Flash.is_lawful c.args.flash.now) c.requires.lawful c.requires.scan c.requires.fits in
+    let is = ready (g.F.Flash.device c.args.flash.now) c.args.area.now c.args.scan.now (length c.args.bytes.now) (g.met.F.Flash.is_lawful c.args.flash.now) c.requires.scanned.lawful c.requires.scanned.scan c.requires.fits in
     let inside = short (g.F.Flash.device c.args.flash.now) c.args.area.now c.args.scan.now (length c.args.bytes.now) is in
     omega arith
 
 pub padded-requires-clause-len : goal.padded-requires-clause-len
 padded-requires-clause-len g c =
-    let is = ready (g.F.Flash.device c.args.flash.now) c.args.area.now c.args.scan.now (length c.args.bytes.now) (g.met.F.Flash.is_lawful c.args.flash.now) c.requires.lawful c.requires.scan c.requires.fits in
+    let is = ready (g.F.Flash.device c.args.flash.now) c.args.area.now c.args.scan.now (length c.args.bytes.now) (g.met.F.Flash.is_lawful c.args.flash.now) c.requires.scanned.lawful c.requires.scanned.scan c.requires.fits in
     let inside = short (g.F.Flash.device c.args.flash.now) c.args.area.now c.args.scan.now (length c.args.bytes.now) is in
     omega arith
 
-pub returns-clause-ok : goal.returns-clause-ok
-returns-clause-ok g c =
-    let a : Device = g.F.Flash.device c.args.flash.now in
-    let m : Device = g.F.Flash.device c.program_padded.new.flash in
-    let last : Device = g.F.Flash.device c.program_padded-2.new.flash in
-    let is = ready a c.args.area.now c.args.scan.now (length c.args.bytes.now) (g.met.F.Flash.is_lawful c.args.flash.now) c.requires.lawful c.requires.scan c.requires.fits in
-    let width : c.slot_size.result ≡ slot_size (unit_of a c.args.area.now) = c.slot_size.ensures.size ∙ ap (λ (x : Geometry). slot_size x.unit) c.geometry-unit.ensures in
-    let one = c.in_ok-program_padded.ensures in
-    entry_put a c.args.area.now c.args.scan.now c.args.bytes.now is m c.args.id c.slot_size.result c.encode_entry.result c.requires.ordinary width one.touches.banks one.ok c.encode_entry.ensures last c.in_ok-program_padded-2.ensures.ok
+pub returns-clause-ends : goal.returns-clause-ends
+returns-clause-ends g c = record {
+  ok =
+      let a : Device = g.F.Flash.device c.args.flash.now in
+      let m : Device = g.F.Flash.device c.program_padded.new.flash in
+      let last : Device = g.F.Flash.device c.program_padded-2.new.flash in
+      let is = ready a c.args.area.now c.args.scan.now (length c.args.bytes.now) (g.met.F.Flash.is_lawful c.args.flash.now) c.requires.scanned.lawful c.requires.scanned.scan c.requires.fits in
+      let width : c.slot_size.result ≡ slot_size (unit_of a c.args.area.now) = c.slot_size.ensures.size ∙ ap (λ (x : Geometry). slot_size x.unit) c.geometry-unit.ensures in
+      let one = c.in_ok-program_padded.ensures in
+      entry_put a c.args.area.now c.args.scan.now c.args.bytes.now is m c.args.id c.slot_size.result c.encode_entry.result c.requires.ordinary width one.touches.banks one.ok c.encode_entry.ensures last c.in_ok-program_padded-2.ensures.ok;
+  image =
+      let a : Device = g.F.Flash.device c.args.flash.now in
+      let m : Device = g.F.Flash.device c.program_padded.new.flash in
+      let last : Device = g.F.Flash.device c.program_padded-2.new.flash in
+      let is = ready a c.args.area.now c.args.scan.now (length c.args.bytes.now) (g.met.F.Flash.is_lawful c.args.flash.now) c.requires.scanned.lawful c.requires.scanned.scan c.requires.fits in
+      let width : c.slot_size.result ≡ slot_size (unit_of a c.args.area.now) = c.slot_size.ensures.size ∙ ap (λ (x : Geometry). slot_size x.unit) c.geometry-unit.ensures in
+      let one = c.in_ok-program_padded.ensures in
+      entry_bytes a c.args.area.now c.args.scan.now c.args.bytes.now is m c.args.id c.slot_size.result c.encode_entry.result c.requires.ordinary width one.touches.banks one.ok c.encode_entry.ensures last c.in_ok-program_padded-2.ensures.ok;
+  scan =
+      let a : Device = g.F.Flash.device c.args.flash.now in
+      let m : Device = g.F.Flash.device c.program_padded.new.flash in
+      let last : Device = g.F.Flash.device c.program_padded-2.new.flash in
+      let is = ready a c.args.area.now c.args.scan.now (length c.args.bytes.now) (g.met.F.Flash.is_lawful c.args.flash.now) c.requires.scanned.lawful c.requires.scanned.scan c.requires.fits in
+      let width : c.slot_size.result ≡ slot_size (unit_of a c.args.area.now) = c.slot_size.ensures.size ∙ ap (λ (x : Geometry). slot_size x.unit) c.geometry-unit.ensures in
+      let one = c.in_ok-program_padded.ensures in
+      let put = entry_put a c.args.area.now c.args.scan.now c.args.bytes.now is m c.args.id c.slot_size.result c.encode_entry.result c.requires.ordinary width one.touches.banks one.ok c.encode_entry.ensures last c.in_ok-program_padded-2.ensures.ok in
+      let rounded : c.padded.result ≡ padded (unit_of a c.args.area.now) (length c.args.bytes.now) = c.padded.ensures.value ∙ ap (λ (x : Geometry). padded x.unit (length c.args.bytes.now)) c.geometry-unit.ensures in
+      put_scan a c.args.area.now c.args.scan.now c.args.bytes.now is last c.args.id put c.slot_size.result c.padded.result width rounded (c.in_ok-program_padded-2.ensures.touches.banks ∙ one.touches.banks);
+  spent =
+      let a : Device = g.F.Flash.device c.args.flash.now in
+      let m : Device = g.F.Flash.device c.program_padded.new.flash in
+      let last : Device = g.F.Flash.device c.program_padded-2.new.flash in
+      let is = ready a c.args.area.now c.args.scan.now (length c.args.bytes.now) (g.met.F.Flash.is_lawful c.args.flash.now) c.requires.scanned.lawful c.requires.scanned.scan c.requires.fits in
+      let width : c.slot_size.result ≡ slot_size (unit_of a c.args.area.now) = c.slot_size.ensures.size ∙ ap (λ (x : Geometry). slot_size x.unit) c.geometry-unit.ensures in
+      let one = c.in_ok-program_padded.ensures in
+      entry_spent a c.args.area.now c.args.scan.now c.args.bytes.now is m c.args.id c.slot_size.result c.encode_entry.result c.requires.ordinary width one.touches.banks one.ok c.encode_entry.ensures last one.spent c.in_ok-program_padded-2.ensures.spent;
+  lost = tt;
+  in_pieces = tt;
+  spent_at_most = tt;
+}
 
 pub returns-clause-list : goal.returns-clause-list
 returns-clause-list g c =
     let a : Device = g.F.Flash.device c.args.flash.now in
     let m : Device = g.F.Flash.device c.program_padded.new.flash in
     let last : Device = g.F.Flash.device c.program_padded-2.new.flash in
-    let is = ready a c.args.area.now c.args.scan.now (length c.args.bytes.now) (g.met.F.Flash.is_lawful c.args.flash.now) c.requires.lawful c.requires.scan c.requires.fits in
+    let is = ready a c.args.area.now c.args.scan.now (length c.args.bytes.now) (g.met.F.Flash.is_lawful c.args.flash.now) c.requires.scanned.lawful c.requires.scanned.scan c.requires.fits in
     let width : c.slot_size.result ≡ slot_size (unit_of a c.args.area.now) = c.slot_size.ensures.size ∙ ap (λ (x : Geometry). slot_size x.unit) c.geometry-unit.ensures in
     let one = c.in_ok-program_padded.ensures in
     let put = entry_put a c.args.area.now c.args.scan.now c.args.bytes.now is m c.args.id c.slot_size.result c.encode_entry.result c.requires.ordinary width one.touches.banks one.ok c.encode_entry.ensures last c.in_ok-program_padded-2.ensures.ok in
     put_list a c.args.area.now c.args.scan.now c.args.bytes.now is last c.args.id put c.requires.redo
-
-pub returns-clause-scan : goal.returns-clause-scan
-returns-clause-scan g c =
-    let a : Device = g.F.Flash.device c.args.flash.now in
-    let m : Device = g.F.Flash.device c.program_padded.new.flash in
-    let last : Device = g.F.Flash.device c.program_padded-2.new.flash in
-    let is = ready a c.args.area.now c.args.scan.now (length c.args.bytes.now) (g.met.F.Flash.is_lawful c.args.flash.now) c.requires.lawful c.requires.scan c.requires.fits in
-    let width : c.slot_size.result ≡ slot_size (unit_of a c.args.area.now) = c.slot_size.ensures.size ∙ ap (λ (x : Geometry). slot_size x.unit) c.geometry-unit.ensures in
-    let one = c.in_ok-program_padded.ensures in
-    let put = entry_put a c.args.area.now c.args.scan.now c.args.bytes.now is m c.args.id c.slot_size.result c.encode_entry.result c.requires.ordinary width one.touches.banks one.ok c.encode_entry.ensures last c.in_ok-program_padded-2.ensures.ok in
-    let rounded : c.padded.result ≡ padded (unit_of a c.args.area.now) (length c.args.bytes.now) = c.padded.ensures.value ∙ ap (λ (x : Geometry). padded x.unit (length c.args.bytes.now)) c.geometry-unit.ensures in
-    put_scan a c.args.area.now c.args.scan.now c.args.bytes.now is last c.args.id put c.slot_size.result c.padded.result width rounded (c.in_ok-program_padded-2.ensures.touches.banks ∙ one.touches.banks)
-
-pub returns-clause-spent : goal.returns-clause-spent
-returns-clause-spent g c =
-    let a : Device = g.F.Flash.device c.args.flash.now in
-    let m : Device = g.F.Flash.device c.program_padded.new.flash in
-    let last : Device = g.F.Flash.device c.program_padded-2.new.flash in
-    let is = ready a c.args.area.now c.args.scan.now (length c.args.bytes.now) (g.met.F.Flash.is_lawful c.args.flash.now) c.requires.lawful c.requires.scan c.requires.fits in
-    let width : c.slot_size.result ≡ slot_size (unit_of a c.args.area.now) = c.slot_size.ensures.size ∙ ap (λ (x : Geometry). slot_size x.unit) c.geometry-unit.ensures in
-    let one = c.in_ok-program_padded.ensures in
-    entry_spent a c.args.area.now c.args.scan.now c.args.bytes.now is m c.args.id c.slot_size.result c.encode_entry.result c.requires.ordinary width one.touches.banks one.ok c.encode_entry.ensures last one.spent c.in_ok-program_padded-2.ensures.spent
 
 pub returns-clause-sound : goal.returns-clause-sound
 returns-clause-sound g c =
     let a : Device = g.F.Flash.device c.args.flash.now in
     let m : Device = g.F.Flash.device c.program_padded.new.flash in
     let last : Device = g.F.Flash.device c.program_padded-2.new.flash in
-    let is = ready a c.args.area.now c.args.scan.now (length c.args.bytes.now) (g.met.F.Flash.is_lawful c.args.flash.now) c.requires.lawful c.requires.scan c.requires.fits in
+    let is = ready a c.args.area.now c.args.scan.now (length c.args.bytes.now) (g.met.F.Flash.is_lawful c.args.flash.now) c.requires.scanned.lawful c.requires.scanned.scan c.requires.fits in
     let width : c.slot_size.result ≡ slot_size (unit_of a c.args.area.now) = c.slot_size.ensures.size ∙ ap (λ (x : Geometry). slot_size x.unit) c.geometry-unit.ensures in
     let one = c.in_ok-program_padded.ensures in
     let put = entry_put a c.args.area.now c.args.scan.now c.args.bytes.now is m c.args.id c.slot_size.result c.encode_entry.result c.requires.ordinary width one.touches.banks one.ok c.encode_entry.ensures last c.in_ok-program_padded-2.ensures.ok in
@@ -208,33 +224,23 @@ returns-clause-undamaged g c =
     let a : Device = g.F.Flash.device c.args.flash.now in
     let m : Device = g.F.Flash.device c.program_padded.new.flash in
     let last : Device = g.F.Flash.device c.program_padded-2.new.flash in
-    let is = ready a c.args.area.now c.args.scan.now (length c.args.bytes.now) (g.met.F.Flash.is_lawful c.args.flash.now) c.requires.lawful c.requires.scan c.requires.fits in
+    let is = ready a c.args.area.now c.args.scan.now (length c.args.bytes.now) (g.met.F.Flash.is_lawful c.args.flash.now) c.requires.scanned.lawful c.requires.scanned.scan c.requires.fits in
     let width : c.slot_size.result ≡ slot_size (unit_of a c.args.area.now) = c.slot_size.ensures.size ∙ ap (λ (x : Geometry). slot_size x.unit) c.geometry-unit.ensures in
     let one = c.in_ok-program_padded.ensures in
     let put = entry_put a c.args.area.now c.args.scan.now c.args.bytes.now is m c.args.id c.slot_size.result c.encode_entry.result c.requires.ordinary width one.touches.banks one.ok c.encode_entry.ensures last c.in_ok-program_padded-2.ensures.ok in
     put_undamaged a c.args.area.now c.args.scan.now c.args.bytes.now is last c.args.id put c.requires.redo
 
-pub returns-clause-image : goal.returns-clause-image
-returns-clause-image g c =
-    let a : Device = g.F.Flash.device c.args.flash.now in
-    let m : Device = g.F.Flash.device c.program_padded.new.flash in
-    let last : Device = g.F.Flash.device c.program_padded-2.new.flash in
-    let is = ready a c.args.area.now c.args.scan.now (length c.args.bytes.now) (g.met.F.Flash.is_lawful c.args.flash.now) c.requires.lawful c.requires.scan c.requires.fits in
-    let width : c.slot_size.result ≡ slot_size (unit_of a c.args.area.now) = c.slot_size.ensures.size ∙ ap (λ (x : Geometry). slot_size x.unit) c.geometry-unit.ensures in
-    let one = c.in_ok-program_padded.ensures in
-    entry_bytes a c.args.area.now c.args.scan.now c.args.bytes.now is m c.args.id c.slot_size.result c.encode_entry.result c.requires.ordinary width one.touches.banks one.ok c.encode_entry.ensures last c.in_ok-program_padded-2.ensures.ok
-
 pub overflow_sub-slot : goal.overflow_sub-slot
 overflow_sub-slot g c =
     let a : Device = g.F.Flash.device c.args.flash.now in
-    let is = ready a c.args.area.now c.args.scan.now (length c.args.bytes.now) (g.met.F.Flash.is_lawful c.args.flash.now) c.requires.lawful c.requires.scan c.requires.fits in
+    let is = ready a c.args.area.now c.args.scan.now (length c.args.bytes.now) (g.met.F.Flash.is_lawful c.args.flash.now) c.requires.scanned.lawful c.requires.scanned.scan c.requires.fits in
     let width : c.slot_size.result ≡ slot_size (unit_of a c.args.area.now) = c.slot_size.ensures.size ∙ ap (λ (x : Geometry). slot_size x.unit) c.geometry-unit.ensures in
     slot-in (unit_of a c.args.area.now) (sector_bytes a c.args.area.now c.args.scan.now.current) (length c.args.bytes.now) c.args.scan.now.low c.slot_size.result is.room is.lowest width
 
 pub overflow_add-scan : goal.overflow_add-scan
 overflow_add-scan g c =
     let a : Device = g.F.Flash.device c.args.flash.now in
-    let is = ready a c.args.area.now c.args.scan.now (length c.args.bytes.now) (g.met.F.Flash.is_lawful c.args.flash.now) c.requires.lawful c.requires.scan c.requires.fits in
+    let is = ready a c.args.area.now c.args.scan.now (length c.args.bytes.now) (g.met.F.Flash.is_lawful c.args.flash.now) c.requires.scanned.lawful c.requires.scanned.scan c.requires.fits in
     let rounded : c.padded.result ≡ padded (unit_of a c.args.area.now) (length c.args.bytes.now) = c.padded.ensures.value ∙ ap (λ (x : Geometry). padded x.unit (length c.args.bytes.now)) c.geometry-unit.ensures in
     let below : c.args.scan.now.data_end + c.padded.result < 2 ^ 32 =
     data-in (unit_of a c.args.area.now) (sector_bytes a c.args.area.now c.args.scan.now.current) (length c.args.bytes.now) c.args.scan.now.data_end c.padded.result is.room is.end rounded in
@@ -243,14 +249,11 @@ overflow_add-scan g c =
 pub padded-requires-clause-unit : goal.padded-requires-clause-unit
 padded-requires-clause-unit g c =
     subst (λ (x : Geometry). IsUnit x.unit) (sym c.geometry-unit.ensures)
-    (unit_is (g.F.Flash.device c.args.flash.now) c.args.area.now (g.met.F.Flash.is_lawful c.args.flash.now) c.requires.lawful.in_bank)
+    (unit_is (g.F.Flash.device c.args.flash.now) c.args.area.now (g.met.F.Flash.is_lawful c.args.flash.now) c.requires.scanned.lawful.in_bank)
 
 pub program_padded-requires-2-clause-lawful : goal.program_padded-requires-2-clause-lawful
 program_padded-requires-2-clause-lawful g c =
-    subst (λ (banks : List Bank). IsLawfulArea banks c.args.area.now) (sym c.in_ok-program_padded.ensures.touches.banks) c.requires.lawful.in_bank
-
-pub returns-in_err-program_padded-clause-in_pieces : goal.returns-in_err-program_padded-clause-in_pieces
-returns-in_err-program_padded-clause-in_pieces g c = on_err c.from_residual.result c.in_err-program_padded.ensures.in_pieces
+    subst (λ (banks : List Bank). IsLawfulArea banks c.args.area.now) (sym c.in_ok-program_padded.ensures.touches.banks) c.requires.scanned.lawful.in_bank
 
 pub returns-clause-touches : goal.returns-clause-touches
 returns-clause-touches g c = then c.in_ok-program_padded.ensures.touches c.in_ok-program_padded-2.ensures.touches
@@ -260,37 +263,13 @@ returns-in_err-program_padded-clause-touches g c =
     subst (λ (lost : Bool). Touches (c.args.area.now ∷ []) (g.F.Flash.device c.args.flash.now) (g.F.Flash.device c.program_padded.new.flash) lost) (sym c.from_residual.ensures.0)
     c.in_err-program_padded.ensures.touches
 
-pub returns-in_err-program_padded-clause-ok : goal.returns-in_err-program_padded-clause-ok
-returns-in_err-program_padded-clause-ok g c = not_ok _ c.from_residual.result c.from_residual.ensures.0
-
-pub returns-in_err-program_padded-clause-image : goal.returns-in_err-program_padded-clause-image
-returns-in_err-program_padded-clause-image g c = not_ok _ c.from_residual.result c.from_residual.ensures.0
-
 pub returns-in_err-program_padded-clause-list : goal.returns-in_err-program_padded-clause-list
 returns-in_err-program_padded-clause-list g c = not_ok _ c.from_residual.result c.from_residual.ensures.0
-
-pub returns-in_err-program_padded-clause-scan : goal.returns-in_err-program_padded-clause-scan
-returns-in_err-program_padded-clause-scan g c = not_ok _ c.from_residual.result c.from_residual.ensures.0
-
-pub returns-in_err-program_padded-clause-spent : goal.returns-in_err-program_padded-clause-spent
-returns-in_err-program_padded-clause-spent g c = not_ok _ c.from_residual.result c.from_residual.ensures.0
 
 pub returns-in_err-program_padded-2-clause-touches : goal.returns-in_err-program_padded-2-clause-touches
 returns-in_err-program_padded-2-clause-touches g c =
     subst (λ (lost : Bool). Touches (c.args.area.now ∷ []) (g.F.Flash.device c.args.flash.now) (g.F.Flash.device c.program_padded-2.new.flash) lost) (sym c.from_residual-in_err-program_padded-2.ensures.0)
     (then c.in_ok-program_padded.ensures.touches c.in_err-program_padded-2.ensures.touches)
 
-pub returns-in_err-program_padded-2-clause-ok : goal.returns-in_err-program_padded-2-clause-ok
-returns-in_err-program_padded-2-clause-ok g c = not_ok _ c.from_residual-in_err-program_padded-2.result c.from_residual-in_err-program_padded-2.ensures.0
-
-pub returns-in_err-program_padded-2-clause-image : goal.returns-in_err-program_padded-2-clause-image
-returns-in_err-program_padded-2-clause-image g c = not_ok _ c.from_residual-in_err-program_padded-2.result c.from_residual-in_err-program_padded-2.ensures.0
-
 pub returns-in_err-program_padded-2-clause-list : goal.returns-in_err-program_padded-2-clause-list
 returns-in_err-program_padded-2-clause-list g c = not_ok _ c.from_residual-in_err-program_padded-2.result c.from_residual-in_err-program_padded-2.ensures.0
-
-pub returns-in_err-program_padded-2-clause-scan : goal.returns-in_err-program_padded-2-clause-scan
-returns-in_err-program_padded-2-clause-scan g c = not_ok _ c.from_residual-in_err-program_padded-2.result c.from_residual-in_err-program_padded-2.ensures.0
-
-pub returns-in_err-program_padded-2-clause-spent : goal.returns-in_err-program_padded-2-clause-spent
-returns-in_err-program_padded-2-clause-spent g c = not_ok _ c.from_residual-in_err-program_padded-2.result c.from_residual-in_err-program_padded-2.ensures.0

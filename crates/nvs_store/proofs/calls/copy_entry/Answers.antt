@@ -37,26 +37,26 @@ overflow_cast-entry g c =
     let a : Device = g.F.Flash.device c.args.flash.now in
     let area : Area = c.args.area.now in
     let lawful = g.met.F.Flash.is_lawful c.args.flash.now in
-    let is_area = c.requires.lawful.in_bank in
+    let is_area = c.requires.scanned.lawful.in_bank in
     let unit : ℕ = unit_of a area in
     let place : ℕ = c.args.scan.now.current in
     let old : List (List ℕ) = sectors_of a area in
     let bytes : List ℕ = placed_bytes old c.args.from.now in
     let b : List ℕ = sector_bytes a area place in
     let count : length old ≡ area.sectors = length-sectors a area in
-    let is : open_sector (reading unit) old ≡ place = open_is unit old c.args.scan.now c.requires.scan in
-    let inside : open_sector (reading unit) old < length old = open_within (reading unit) old (omega (arith, c.requires.lawful.several)) in
+    let is : open_sector (reading unit) old ≡ place = open_is unit old c.args.scan.now c.requires.scanned.scan in
+    let inside : open_sector (reading unit) old < length old = open_within (reading unit) old (omega (arith, c.requires.scanned.lawful.several)) in
     let within : place < length old = omega arith in
     let has_sector : place < area.sectors = omega arith in
-    let scanned : c.args.scan.now ≡ scan_at unit old place = scan_there unit old c.args.scan.now c.requires.scan in
+    let scanned : c.args.scan.now ≡ scan_at unit old place = scan_there unit old c.args.scan.now c.requires.scanned.scan in
     let lowest : c.args.scan.now.low ≡ low unit b = ap (λ (s : Scan). s.low) scanned in
     let end : c.args.scan.now.data_end ≡ data_end unit b = ap (λ (s : Scan). s.data_end) scanned in
     let is-unit : IsUnit unit = unit_is a area lawful is_area in
     let long : length b ≡ sector_size a area = length-sector a area lawful is_area place has_sector in
-    let source_long : length (sector_bytes a area c.args.from.now.sector) ≡ sector_size a area = length-sector a area lawful is_area c.args.from.now.sector c.requires.has_source in
-    let len : length bytes ≡ c.args.from.now.entry.len = length-source a area (record { sector = c.args.from.now.sector; offset = c.args.from.now.entry.offset; len = c.args.from.now.entry.len }) (subst (λ (n : ℕ). c.args.from.now.entry.offset + c.args.from.now.entry.len ≤ n) (sym source_long) c.requires.inside) in
+    let source_long : length (sector_bytes a area c.args.from.now.sector) ≡ sector_size a area = length-sector a area lawful is_area c.args.from.now.sector c.requires.source.has_source in
+    let len : length bytes ≡ c.args.from.now.entry.len = length-source a area (record { sector = c.args.from.now.sector; offset = c.args.from.now.entry.offset; len = c.args.from.now.entry.len }) (subst (λ (n : ℕ). c.args.from.now.entry.offset + c.args.from.now.entry.len ≤ n) (sym source_long) c.requires.source.inside) in
     let rounded : padded unit (length bytes) ≡ padded unit c.args.from.now.entry.len = ap (padded unit) len in
-    let room : HasRoom unit b (length bytes) = room-in unit b (length bytes) c.args.from.now.entry.len (sector_size a area) c.args.scan.now.low c.args.scan.now.data_end is-unit long c.requires.lawful.at_most lowest end len c.requires.free in
+    let room : HasRoom unit b (length bytes) = room-in unit b (length bytes) c.args.from.now.entry.len (sector_size a area) c.args.scan.now.low c.args.scan.now.data_end is-unit long c.requires.scanned.lawful.at_most lowest end len c.requires.free in
     let fits_in = room.room in
     omega arith
 
@@ -65,118 +65,119 @@ copy_padded-requires-clause-can g c =
     let a : Device = g.F.Flash.device c.args.flash.now in
     let area : Area = c.args.area.now in
     let lawful = g.met.F.Flash.is_lawful c.args.flash.now in
-    let is_area = c.requires.lawful.in_bank in
+    let is_area = c.requires.scanned.lawful.in_bank in
     let unit : ℕ = unit_of a area in
     let place : ℕ = c.args.scan.now.current in
     let old : List (List ℕ) = sectors_of a area in
     let bytes : List ℕ = placed_bytes old c.args.from.now in
     let b : List ℕ = sector_bytes a area place in
     let count : length old ≡ area.sectors = length-sectors a area in
-    let is : open_sector (reading unit) old ≡ place = open_is unit old c.args.scan.now c.requires.scan in
-    let inside : open_sector (reading unit) old < length old = open_within (reading unit) old (omega (arith, c.requires.lawful.several)) in
+    let is : open_sector (reading unit) old ≡ place = open_is unit old c.args.scan.now c.requires.scanned.scan in
+    let inside : open_sector (reading unit) old < length old = open_within (reading unit) old (omega (arith, c.requires.scanned.lawful.several)) in
     let within : place < length old = omega arith in
     let has_sector : place < area.sectors = omega arith in
-    let scanned : c.args.scan.now ≡ scan_at unit old place = scan_there unit old c.args.scan.now c.requires.scan in
+    let scanned : c.args.scan.now ≡ scan_at unit old place = scan_there unit old c.args.scan.now c.requires.scanned.scan in
     let lowest : c.args.scan.now.low ≡ low unit b = ap (λ (s : Scan). s.low) scanned in
     let end : c.args.scan.now.data_end ≡ data_end unit b = ap (λ (s : Scan). s.data_end) scanned in
     let is-unit : IsUnit unit = unit_is a area lawful is_area in
     let long : length b ≡ sector_size a area = length-sector a area lawful is_area place has_sector in
-    let source_long : length (sector_bytes a area c.args.from.now.sector) ≡ sector_size a area = length-sector a area lawful is_area c.args.from.now.sector c.requires.has_source in
-    let len : length bytes ≡ c.args.from.now.entry.len = length-source a area (record { sector = c.args.from.now.sector; offset = c.args.from.now.entry.offset; len = c.args.from.now.entry.len }) (subst (λ (n : ℕ). c.args.from.now.entry.offset + c.args.from.now.entry.len ≤ n) (sym source_long) c.requires.inside) in
+    let source_long : length (sector_bytes a area c.args.from.now.sector) ≡ sector_size a area = length-sector a area lawful is_area c.args.from.now.sector c.requires.source.has_source in
+    let len : length bytes ≡ c.args.from.now.entry.len = length-source a area (record { sector = c.args.from.now.sector; offset = c.args.from.now.entry.offset; len = c.args.from.now.entry.len }) (subst (λ (n : ℕ). c.args.from.now.entry.offset + c.args.from.now.entry.len ≤ n) (sym source_long) c.requires.source.inside) in
     let rounded : padded unit (length bytes) ≡ padded unit c.args.from.now.entry.len = ap (padded unit) len in
-    let room : HasRoom unit b (length bytes) = room-in unit b (length bytes) c.args.from.now.entry.len (sector_size a area) c.args.scan.now.low c.args.scan.now.data_end is-unit long c.requires.lawful.at_most lowest end len c.requires.free in
+    let room : HasRoom unit b (length bytes) = room-in unit b (length bytes) c.args.from.now.entry.len (sector_size a area) c.args.scan.now.low c.args.scan.now.data_end is-unit long c.requires.scanned.lawful.at_most lowest end len c.requires.free in
     subst (λ (offset : ℕ). CanProgramAll a area place offset (padded_bytes unit bytes)) (sym end) (can_data a area lawful is_area place has_sector bytes room)
 
-pub returns-in_err-copy_padded-clause-lost : goal.returns-in_err-copy_padded-clause-lost
-returns-in_err-copy_padded-clause-lost g c =
-    let a : Device = g.F.Flash.device c.args.flash.now in
-    let area : Area = c.args.area.now in
-    let lawful = g.met.F.Flash.is_lawful c.args.flash.now in
-    let is_area = c.requires.lawful.in_bank in
-    let unit : ℕ = unit_of a area in
-    let place : ℕ = c.args.scan.now.current in
-    let old : List (List ℕ) = sectors_of a area in
-    let bytes : List ℕ = placed_bytes old c.args.from.now in
-    let b : List ℕ = sector_bytes a area place in
-    let count : length old ≡ area.sectors = length-sectors a area in
-    let is : open_sector (reading unit) old ≡ place = open_is unit old c.args.scan.now c.requires.scan in
-    let inside : open_sector (reading unit) old < length old = open_within (reading unit) old (omega (arith, c.requires.lawful.several)) in
-    let within : place < length old = omega arith in
-    let has_sector : place < area.sectors = omega arith in
-    let scanned : c.args.scan.now ≡ scan_at unit old place = scan_there unit old c.args.scan.now c.requires.scan in
-    let lowest : c.args.scan.now.low ≡ low unit b = ap (λ (s : Scan). s.low) scanned in
-    let end : c.args.scan.now.data_end ≡ data_end unit b = ap (λ (s : Scan). s.data_end) scanned in
-    let is-unit : IsUnit unit = unit_is a area lawful is_area in
-    let long : length b ≡ sector_size a area = length-sector a area lawful is_area place has_sector in
-    let source_long : length (sector_bytes a area c.args.from.now.sector) ≡ sector_size a area = length-sector a area lawful is_area c.args.from.now.sector c.requires.has_source in
-    let len : length bytes ≡ c.args.from.now.entry.len = length-source a area (record { sector = c.args.from.now.sector; offset = c.args.from.now.entry.offset; len = c.args.from.now.entry.len }) (subst (λ (n : ℕ). c.args.from.now.entry.offset + c.args.from.now.entry.len ≤ n) (sym source_long) c.requires.inside) in
-    let rounded : padded unit (length bytes) ≡ padded unit c.args.from.now.entry.len = ap (padded unit) len in
-    let room : HasRoom unit b (length bytes) = room-in unit b (length bytes) c.args.from.now.entry.len (sector_size a area) c.args.scan.now.low c.args.scan.now.data_end is-unit long c.requires.lawful.at_most lowest end len c.requires.free in
-    let m : Device = g.F.Flash.device c.copy_padded.new.flash in
-    on_err c.from_residual.result
-    (data_cut a area lawful is_area place has_sector m c.args.from.now.entry.id bytes room (subst (λ (offset : ℕ). WritesPart a m area place offset (padded_bytes unit bytes)) end c.in_err-copy_padded.ensures.lost))
-
-pub returns-in_err-copy_padded-clause-in_pieces : goal.returns-in_err-copy_padded-clause-in_pieces
-returns-in_err-copy_padded-clause-in_pieces g c =
-    on_err c.from_residual.result (within_most COPY_PIECE PIECE (g.F.Flash.device c.args.flash.now) (g.F.Flash.device c.copy_padded.new.flash) (omega arith) c.in_err-copy_padded.ensures.in_pieces)
-
-pub returns-in_err-copy_padded-clause-spent_at_most : goal.returns-in_err-copy_padded-clause-spent_at_most
-returns-in_err-copy_padded-clause-spent_at_most g c =
-    let a : Device = g.F.Flash.device c.args.flash.now in
-    let area : Area = c.args.area.now in
-    let lawful = g.met.F.Flash.is_lawful c.args.flash.now in
-    let is_area = c.requires.lawful.in_bank in
-    let unit : ℕ = unit_of a area in
-    let place : ℕ = c.args.scan.now.current in
-    let old : List (List ℕ) = sectors_of a area in
-    let bytes : List ℕ = placed_bytes old c.args.from.now in
-    let b : List ℕ = sector_bytes a area place in
-    let count : length old ≡ area.sectors = length-sectors a area in
-    let is : open_sector (reading unit) old ≡ place = open_is unit old c.args.scan.now c.requires.scan in
-    let inside : open_sector (reading unit) old < length old = open_within (reading unit) old (omega (arith, c.requires.lawful.several)) in
-    let within : place < length old = omega arith in
-    let has_sector : place < area.sectors = omega arith in
-    let scanned : c.args.scan.now ≡ scan_at unit old place = scan_there unit old c.args.scan.now c.requires.scan in
-    let lowest : c.args.scan.now.low ≡ low unit b = ap (λ (s : Scan). s.low) scanned in
-    let end : c.args.scan.now.data_end ≡ data_end unit b = ap (λ (s : Scan). s.data_end) scanned in
-    let is-unit : IsUnit unit = unit_is a area lawful is_area in
-    let long : length b ≡ sector_size a area = length-sector a area lawful is_area place has_sector in
-    let source_long : length (sector_bytes a area c.args.from.now.sector) ≡ sector_size a area = length-sector a area lawful is_area c.args.from.now.sector c.requires.has_source in
-    let len : length bytes ≡ c.args.from.now.entry.len = length-source a area (record { sector = c.args.from.now.sector; offset = c.args.from.now.entry.offset; len = c.args.from.now.entry.len }) (subst (λ (n : ℕ). c.args.from.now.entry.offset + c.args.from.now.entry.len ≤ n) (sym source_long) c.requires.inside) in
-    let rounded : padded unit (length bytes) ≡ padded unit c.args.from.now.entry.len = ap (padded unit) len in
-    let room : HasRoom unit b (length bytes) = room-in unit b (length bytes) c.args.from.now.entry.len (sector_size a area) c.args.scan.now.low c.args.scan.now.data_end is-unit long c.requires.lawful.at_most lowest end len c.requires.free in
-    let m : Device = g.F.Flash.device c.copy_padded.new.flash in
-    let costs : cost unit (length bytes) / unit ≡ cost unit c.args.from.now.entry.len / unit = ap (λ (n : ℕ). cost unit n / unit) len in
-    on_err c.from_residual.result
-    (subst (λ (n : ℕ). SpendsAtMost a m n) costs (data_most a area lawful is_area place has_sector m bytes (subst (λ (n : ℕ). SpendsAtMost a m (n / unit)) (sym rounded) c.in_err-copy_padded.ensures.spent_at_most)))
+pub returns-in_err-copy_padded-clause-ends : goal.returns-in_err-copy_padded-clause-ends
+returns-in_err-copy_padded-clause-ends g c = record {
+  ok = not_ok _ c.from_residual.result c.from_residual.ensures.0;
+  image = not_ok _ c.from_residual.result c.from_residual.ensures.0;
+  scan = not_ok _ c.from_residual.result c.from_residual.ensures.0;
+  spent = not_ok _ c.from_residual.result c.from_residual.ensures.0;
+  lost =
+      let a : Device = g.F.Flash.device c.args.flash.now in
+      let area : Area = c.args.area.now in
+      let lawful = g.met.F.Flash.is_lawful c.args.flash.now in
+      let is_area = c.requires.scanned.lawful.in_bank in
+      let unit : ℕ = unit_of a area in
+      let place : ℕ = c.args.scan.now.current in
+      let old : List (List ℕ) = sectors_of a area in
+      let bytes : List ℕ = placed_bytes old c.args.from.now in
+      let b : List ℕ = sector_bytes a area place in
+      let count : length old ≡ area.sectors = length-sectors a area in
+      let is : open_sector (reading unit) old ≡ place = open_is unit old c.args.scan.now c.requires.scanned.scan in
+      let inside : open_sector (reading unit) old < length old = open_within (reading unit) old (omega (arith, c.requires.scanned.lawful.several)) in
+      let within : place < length old = omega arith in
+      let has_sector : place < area.sectors = omega arith in
+      let scanned : c.args.scan.now ≡ scan_at unit old place = scan_there unit old c.args.scan.now c.requires.scanned.scan in
+      let lowest : c.args.scan.now.low ≡ low unit b = ap (λ (s : Scan). s.low) scanned in
+      let end : c.args.scan.now.data_end ≡ data_end unit b = ap (λ (s : Scan). s.data_end) scanned in
+      let is-unit : IsUnit unit = unit_is a area lawful is_area in
+      let long : length b ≡ sector_size a area = length-sector a area lawful is_area place has_sector in
+      let source_long : length (sector_bytes a area c.args.from.now.sector) ≡ sector_size a area = length-sector a area lawful is_area c.args.from.now.sector c.requires.source.has_source in
+      let len : length bytes ≡ c.args.from.now.entry.len = length-source a area (record { sector = c.args.from.now.sector; offset = c.args.from.now.entry.offset; len = c.args.from.now.entry.len }) (subst (λ (n : ℕ). c.args.from.now.entry.offset + c.args.from.now.entry.len ≤ n) (sym source_long) c.requires.source.inside) in
+      let rounded : padded unit (length bytes) ≡ padded unit c.args.from.now.entry.len = ap (padded unit) len in
+      let room : HasRoom unit b (length bytes) = room-in unit b (length bytes) c.args.from.now.entry.len (sector_size a area) c.args.scan.now.low c.args.scan.now.data_end is-unit long c.requires.scanned.lawful.at_most lowest end len c.requires.free in
+      let m : Device = g.F.Flash.device c.copy_padded.new.flash in
+      on_err c.from_residual.result
+      (data_cut a area lawful is_area place has_sector m c.args.from.now.entry.id bytes room (subst (λ (offset : ℕ). WritesPart a m area place offset (padded_bytes unit bytes)) end c.in_err-copy_padded.ensures.lost));
+  in_pieces = on_err c.from_residual.result (within_most COPY_PIECE PIECE (g.F.Flash.device c.args.flash.now) (g.F.Flash.device c.copy_padded.new.flash) (omega arith) c.in_err-copy_padded.ensures.in_pieces);
+  spent_at_most =
+      let a : Device = g.F.Flash.device c.args.flash.now in
+      let area : Area = c.args.area.now in
+      let lawful = g.met.F.Flash.is_lawful c.args.flash.now in
+      let is_area = c.requires.scanned.lawful.in_bank in
+      let unit : ℕ = unit_of a area in
+      let place : ℕ = c.args.scan.now.current in
+      let old : List (List ℕ) = sectors_of a area in
+      let bytes : List ℕ = placed_bytes old c.args.from.now in
+      let b : List ℕ = sector_bytes a area place in
+      let count : length old ≡ area.sectors = length-sectors a area in
+      let is : open_sector (reading unit) old ≡ place = open_is unit old c.args.scan.now c.requires.scanned.scan in
+      let inside : open_sector (reading unit) old < length old = open_within (reading unit) old (omega (arith, c.requires.scanned.lawful.several)) in
+      let within : place < length old = omega arith in
+      let has_sector : place < area.sectors = omega arith in
+      let scanned : c.args.scan.now ≡ scan_at unit old place = scan_there unit old c.args.scan.now c.requires.scanned.scan in
+      let lowest : c.args.scan.now.low ≡ low unit b = ap (λ (s : Scan). s.low) scanned in
+      let end : c.args.scan.now.data_end ≡ data_end unit b = ap (λ (s : Scan). s.data_end) scanned in
+      let is-unit : IsUnit unit = unit_is a area lawful is_area in
+      let long : length b ≡ sector_size a area = length-sector a area lawful is_area place has_sector in
+      let source_long : length (sector_bytes a area c.args.from.now.sector) ≡ sector_size a area = length-sector a area lawful is_area c.args.from.now.sector c.requires.source.has_source in
+      let len : length bytes ≡ c.args.from.now.entry.len = length-source a area (record { sector = c.args.from.now.sector; offset = c.args.from.now.entry.offset; len = c.args.from.now.entry.len }) (subst (λ (n : ℕ). c.args.from.now.entry.offset + c.args.from.now.entry.len ≤ n) (sym source_long) c.requires.source.inside) in
+      let rounded : padded unit (length bytes) ≡ padded unit c.args.from.now.entry.len = ap (padded unit) len in
+      let room : HasRoom unit b (length bytes) = room-in unit b (length bytes) c.args.from.now.entry.len (sector_size a area) c.args.scan.now.low c.args.scan.now.data_end is-unit long c.requires.scanned.lawful.at_most lowest end len c.requires.free in
+      let m : Device = g.F.Flash.device c.copy_padded.new.flash in
+      let costs : cost unit (length bytes) / unit ≡ cost unit c.args.from.now.entry.len / unit = ap (λ (n : ℕ). cost unit n / unit) len in
+      on_err c.from_residual.result
+      (subst (λ (n : ℕ). SpendsAtMost a m n) costs (data_most a area lawful is_area place has_sector m bytes (subst (λ (n : ℕ). SpendsAtMost a m (n / unit)) (sym rounded) c.in_err-copy_padded.ensures.spent_at_most)));
+}
 
 pub program_padded-requires-clause-can : goal.program_padded-requires-clause-can
 program_padded-requires-clause-can g c =
     let a : Device = g.F.Flash.device c.args.flash.now in
     let area : Area = c.args.area.now in
     let lawful = g.met.F.Flash.is_lawful c.args.flash.now in
-    let is_area = c.requires.lawful.in_bank in
+    let is_area = c.requires.scanned.lawful.in_bank in
     let unit : ℕ = unit_of a area in
     let place : ℕ = c.args.scan.now.current in
     let old : List (List ℕ) = sectors_of a area in
     let bytes : List ℕ = placed_bytes old c.args.from.now in
     let b : List ℕ = sector_bytes a area place in
     let count : length old ≡ area.sectors = length-sectors a area in
-    let is : open_sector (reading unit) old ≡ place = open_is unit old c.args.scan.now c.requires.scan in
-    let inside : open_sector (reading unit) old < length old = open_within (reading unit) old (omega (arith, c.requires.lawful.several)) in
+    let is : open_sector (reading unit) old ≡ place = open_is unit old c.args.scan.now c.requires.scanned.scan in
+    let inside : open_sector (reading unit) old < length old = open_within (reading unit) old (omega (arith, c.requires.scanned.lawful.several)) in
     let within : place < length old = omega arith in
     let has_sector : place < area.sectors = omega arith in
-    let scanned : c.args.scan.now ≡ scan_at unit old place = scan_there unit old c.args.scan.now c.requires.scan in
+    let scanned : c.args.scan.now ≡ scan_at unit old place = scan_there unit old c.args.scan.now c.requires.scanned.scan in
     let lowest : c.args.scan.now.low ≡ low unit b = ap (λ (s : Scan). s.low) scanned in
     let end : c.args.scan.now.data_end ≡ data_end unit b = ap (λ (s : Scan). s.data_end) scanned in
     let is-unit : IsUnit unit = unit_is a area lawful is_area in
     let long : length b ≡ sector_size a area = length-sector a area lawful is_area place has_sector in
-    let source_long : length (sector_bytes a area c.args.from.now.sector) ≡ sector_size a area = length-sector a area lawful is_area c.args.from.now.sector c.requires.has_source in
-    let len : length bytes ≡ c.args.from.now.entry.len = length-source a area (record { sector = c.args.from.now.sector; offset = c.args.from.now.entry.offset; len = c.args.from.now.entry.len }) (subst (λ (n : ℕ). c.args.from.now.entry.offset + c.args.from.now.entry.len ≤ n) (sym source_long) c.requires.inside) in
+    let source_long : length (sector_bytes a area c.args.from.now.sector) ≡ sector_size a area = length-sector a area lawful is_area c.args.from.now.sector c.requires.source.has_source in
+    let len : length bytes ≡ c.args.from.now.entry.len = length-source a area (record { sector = c.args.from.now.sector; offset = c.args.from.now.entry.offset; len = c.args.from.now.entry.len }) (subst (λ (n : ℕ). c.args.from.now.entry.offset + c.args.from.now.entry.len ≤ n) (sym source_long) c.requires.source.inside) in
     let rounded : padded unit (length bytes) ≡ padded unit c.args.from.now.entry.len = ap (padded unit) len in
-    let room : HasRoom unit b (length bytes) = room-in unit b (length bytes) c.args.from.now.entry.len (sector_size a area) c.args.scan.now.low c.args.scan.now.data_end is-unit long c.requires.lawful.at_most lowest end len c.requires.free in
+    let room : HasRoom unit b (length bytes) = room-in unit b (length bytes) c.args.from.now.entry.len (sector_size a area) c.args.scan.now.low c.args.scan.now.data_end is-unit long c.requires.scanned.lawful.at_most lowest end len c.requires.free in
     let e : Entry = record { id = c.args.from.now.entry.id; offset = c.args.scan.now.data_end; len = c.args.from.now.entry.len; part = 255 } in
-    let follows : IsNext unit b e bytes = record { ordinary = c.requires.ordinary; place = end; long = sym len } in
+    let follows : IsNext unit b e bytes = record { ordinary = c.requires.source.ordinary; place = end; long = sym len } in
     let width : c.slot_size.result ≡ slot_size unit = c.slot_size.ensures.size ∙ ap (λ (x : Geometry). slot_size x.unit) c.geometry-unit.ensures in
     let at : c.args.scan.now.low - c.slot_size.result ≡ low unit b - slot_size unit = omega arith in
     let m : Device = g.F.Flash.device c.copy_padded.new.flash in
@@ -186,244 +187,244 @@ program_padded-requires-clause-can g c =
     subst (λ (offset : ℕ). CanProgramAll m area place offset (padded_bytes (unit_of m area) c.encode_entry-bytes.result)) (sym at)
     (subst (λ (xs : List ℕ). CanProgramAll m area place (low unit b - slot_size unit) (padded_bytes (unit_of m area) xs)) (sym c.encode_entry-bytes.ensures) (can_entry_after a area lawful is_area place has_sector m bytes room one.touches.banks first_part e))
 
-pub returns-in_err-program_padded-clause-lost : goal.returns-in_err-program_padded-clause-lost
-returns-in_err-program_padded-clause-lost g c =
-    let a : Device = g.F.Flash.device c.args.flash.now in
-    let area : Area = c.args.area.now in
-    let lawful = g.met.F.Flash.is_lawful c.args.flash.now in
-    let is_area = c.requires.lawful.in_bank in
-    let unit : ℕ = unit_of a area in
-    let place : ℕ = c.args.scan.now.current in
-    let old : List (List ℕ) = sectors_of a area in
-    let bytes : List ℕ = placed_bytes old c.args.from.now in
-    let b : List ℕ = sector_bytes a area place in
-    let count : length old ≡ area.sectors = length-sectors a area in
-    let is : open_sector (reading unit) old ≡ place = open_is unit old c.args.scan.now c.requires.scan in
-    let inside : open_sector (reading unit) old < length old = open_within (reading unit) old (omega (arith, c.requires.lawful.several)) in
-    let within : place < length old = omega arith in
-    let has_sector : place < area.sectors = omega arith in
-    let scanned : c.args.scan.now ≡ scan_at unit old place = scan_there unit old c.args.scan.now c.requires.scan in
-    let lowest : c.args.scan.now.low ≡ low unit b = ap (λ (s : Scan). s.low) scanned in
-    let end : c.args.scan.now.data_end ≡ data_end unit b = ap (λ (s : Scan). s.data_end) scanned in
-    let is-unit : IsUnit unit = unit_is a area lawful is_area in
-    let long : length b ≡ sector_size a area = length-sector a area lawful is_area place has_sector in
-    let source_long : length (sector_bytes a area c.args.from.now.sector) ≡ sector_size a area = length-sector a area lawful is_area c.args.from.now.sector c.requires.has_source in
-    let len : length bytes ≡ c.args.from.now.entry.len = length-source a area (record { sector = c.args.from.now.sector; offset = c.args.from.now.entry.offset; len = c.args.from.now.entry.len }) (subst (λ (n : ℕ). c.args.from.now.entry.offset + c.args.from.now.entry.len ≤ n) (sym source_long) c.requires.inside) in
-    let rounded : padded unit (length bytes) ≡ padded unit c.args.from.now.entry.len = ap (padded unit) len in
-    let room : HasRoom unit b (length bytes) = room-in unit b (length bytes) c.args.from.now.entry.len (sector_size a area) c.args.scan.now.low c.args.scan.now.data_end is-unit long c.requires.lawful.at_most lowest end len c.requires.free in
-    let e : Entry = record { id = c.args.from.now.entry.id; offset = c.args.scan.now.data_end; len = c.args.from.now.entry.len; part = 255 } in
-    let follows : IsNext unit b e bytes = record { ordinary = c.requires.ordinary; place = end; long = sym len } in
-    let width : c.slot_size.result ≡ slot_size unit = c.slot_size.ensures.size ∙ ap (λ (x : Geometry). slot_size x.unit) c.geometry-unit.ensures in
-    let at : c.args.scan.now.low - c.slot_size.result ≡ low unit b - slot_size unit = omega arith in
-    let m : Device = g.F.Flash.device c.copy_padded.new.flash in
-    let one = c.in_ok-copy_padded.ensures in
-    let first_part : Writes a m area place (data_end unit b) (padded_bytes unit bytes) = subst (λ (offset : ℕ). Writes a m area place offset (padded_bytes unit bytes)) end one.ok in
-    let first_spent : Spends a m (padded unit (length bytes) / unit) = subst (λ (n : ℕ). Spends a m (n / unit)) (sym rounded) one.spent in
-    let last : Device = g.F.Flash.device c.program_padded.new.flash in
-    let part : WritesPart m last area place (low unit b - slot_size unit) (padded_bytes (unit_of m area) (encoded e)) =
-    subst (λ (offset : ℕ). WritesPart m last area place offset (padded_bytes (unit_of m area) (encoded e))) at (subst (λ (xs : List ℕ). WritesPart m last area place (c.args.scan.now.low - c.slot_size.result) (padded_bytes (unit_of m area) xs)) c.encode_entry-bytes.ensures c.in_err-program_padded.ensures.lost) in
-    on_err c.from_residual-in_err-program_padded.result (entry_cut a area lawful is_area place has_sector m bytes room one.touches.banks first_part last e follows part)
+pub returns-in_err-program_padded-clause-ends : goal.returns-in_err-program_padded-clause-ends
+returns-in_err-program_padded-clause-ends g c = record {
+  ok = not_ok _ c.from_residual-in_err-program_padded.result c.from_residual-in_err-program_padded.ensures.0;
+  image = not_ok _ c.from_residual-in_err-program_padded.result c.from_residual-in_err-program_padded.ensures.0;
+  scan = not_ok _ c.from_residual-in_err-program_padded.result c.from_residual-in_err-program_padded.ensures.0;
+  spent = not_ok _ c.from_residual-in_err-program_padded.result c.from_residual-in_err-program_padded.ensures.0;
+  lost =
+      let a : Device = g.F.Flash.device c.args.flash.now in
+      let area : Area = c.args.area.now in
+      let lawful = g.met.F.Flash.is_lawful c.args.flash.now in
+      let is_area = c.requires.scanned.lawful.in_bank in
+      let unit : ℕ = unit_of a area in
+      let place : ℕ = c.args.scan.now.current in
+      let old : List (List ℕ) = sectors_of a area in
+      let bytes : List ℕ = placed_bytes old c.args.from.now in
+      let b : List ℕ = sector_bytes a area place in
+      let count : length old ≡ area.sectors = length-sectors a area in
+      let is : open_sector (reading unit) old ≡ place = open_is unit old c.args.scan.now c.requires.scanned.scan in
+      let inside : open_sector (reading unit) old < length old = open_within (reading unit) old (omega (arith, c.requires.scanned.lawful.several)) in
+      let within : place < length old = omega arith in
+      let has_sector : place < area.sectors = omega arith in
+      let scanned : c.args.scan.now ≡ scan_at unit old place = scan_there unit old c.args.scan.now c.requires.scanned.scan in
+      let lowest : c.args.scan.now.low ≡ low unit b = ap (λ (s : Scan). s.low) scanned in
+      let end : c.args.scan.now.data_end ≡ data_end unit b = ap (λ (s : Scan). s.data_end) scanned in
+      let is-unit : IsUnit unit = unit_is a area lawful is_area in
+      let long : length b ≡ sector_size a area = length-sector a area lawful is_area place has_sector in
+      let source_long : length (sector_bytes a area c.args.from.now.sector) ≡ sector_size a area = length-sector a area lawful is_area c.args.from.now.sector c.requires.source.has_source in
+      let len : length bytes ≡ c.args.from.now.entry.len = length-source a area (record { sector = c.args.from.now.sector; offset = c.args.from.now.entry.offset; len = c.args.from.now.entry.len }) (subst (λ (n : ℕ). c.args.from.now.entry.offset + c.args.from.now.entry.len ≤ n) (sym source_long) c.requires.source.inside) in
+      let rounded : padded unit (length bytes) ≡ padded unit c.args.from.now.entry.len = ap (padded unit) len in
+      let room : HasRoom unit b (length bytes) = room-in unit b (length bytes) c.args.from.now.entry.len (sector_size a area) c.args.scan.now.low c.args.scan.now.data_end is-unit long c.requires.scanned.lawful.at_most lowest end len c.requires.free in
+      let e : Entry = record { id = c.args.from.now.entry.id; offset = c.args.scan.now.data_end; len = c.args.from.now.entry.len; part = 255 } in
+      let follows : IsNext unit b e bytes = record { ordinary = c.requires.source.ordinary; place = end; long = sym len } in
+      let width : c.slot_size.result ≡ slot_size unit = c.slot_size.ensures.size ∙ ap (λ (x : Geometry). slot_size x.unit) c.geometry-unit.ensures in
+      let at : c.args.scan.now.low - c.slot_size.result ≡ low unit b - slot_size unit = omega arith in
+      let m : Device = g.F.Flash.device c.copy_padded.new.flash in
+      let one = c.in_ok-copy_padded.ensures in
+      let first_part : Writes a m area place (data_end unit b) (padded_bytes unit bytes) = subst (λ (offset : ℕ). Writes a m area place offset (padded_bytes unit bytes)) end one.ok in
+      let first_spent : Spends a m (padded unit (length bytes) / unit) = subst (λ (n : ℕ). Spends a m (n / unit)) (sym rounded) one.spent in
+      let last : Device = g.F.Flash.device c.program_padded.new.flash in
+      let part : WritesPart m last area place (low unit b - slot_size unit) (padded_bytes (unit_of m area) (encoded e)) =
+      subst (λ (offset : ℕ). WritesPart m last area place offset (padded_bytes (unit_of m area) (encoded e))) at (subst (λ (xs : List ℕ). WritesPart m last area place (c.args.scan.now.low - c.slot_size.result) (padded_bytes (unit_of m area) xs)) c.encode_entry-bytes.ensures c.in_err-program_padded.ensures.lost) in
+      on_err c.from_residual-in_err-program_padded.result (entry_cut a area lawful is_area place has_sector m bytes room one.touches.banks first_part last e follows part);
+  in_pieces = on_err c.from_residual-in_err-program_padded.result (within_then PIECE (g.F.Flash.device c.args.flash.now) (g.F.Flash.device c.copy_padded.new.flash) (g.F.Flash.device c.program_padded.new.flash) (c.args.area.now ∷ []) c.in_ok-copy_padded.ensures.touches c.in_err-program_padded.ensures.in_pieces);
+  spent_at_most =
+      let a : Device = g.F.Flash.device c.args.flash.now in
+      let area : Area = c.args.area.now in
+      let lawful = g.met.F.Flash.is_lawful c.args.flash.now in
+      let is_area = c.requires.scanned.lawful.in_bank in
+      let unit : ℕ = unit_of a area in
+      let place : ℕ = c.args.scan.now.current in
+      let old : List (List ℕ) = sectors_of a area in
+      let bytes : List ℕ = placed_bytes old c.args.from.now in
+      let b : List ℕ = sector_bytes a area place in
+      let count : length old ≡ area.sectors = length-sectors a area in
+      let is : open_sector (reading unit) old ≡ place = open_is unit old c.args.scan.now c.requires.scanned.scan in
+      let inside : open_sector (reading unit) old < length old = open_within (reading unit) old (omega (arith, c.requires.scanned.lawful.several)) in
+      let within : place < length old = omega arith in
+      let has_sector : place < area.sectors = omega arith in
+      let scanned : c.args.scan.now ≡ scan_at unit old place = scan_there unit old c.args.scan.now c.requires.scanned.scan in
+      let lowest : c.args.scan.now.low ≡ low unit b = ap (λ (s : Scan). s.low) scanned in
+      let end : c.args.scan.now.data_end ≡ data_end unit b = ap (λ (s : Scan). s.data_end) scanned in
+      let is-unit : IsUnit unit = unit_is a area lawful is_area in
+      let long : length b ≡ sector_size a area = length-sector a area lawful is_area place has_sector in
+      let source_long : length (sector_bytes a area c.args.from.now.sector) ≡ sector_size a area = length-sector a area lawful is_area c.args.from.now.sector c.requires.source.has_source in
+      let len : length bytes ≡ c.args.from.now.entry.len = length-source a area (record { sector = c.args.from.now.sector; offset = c.args.from.now.entry.offset; len = c.args.from.now.entry.len }) (subst (λ (n : ℕ). c.args.from.now.entry.offset + c.args.from.now.entry.len ≤ n) (sym source_long) c.requires.source.inside) in
+      let rounded : padded unit (length bytes) ≡ padded unit c.args.from.now.entry.len = ap (padded unit) len in
+      let room : HasRoom unit b (length bytes) = room-in unit b (length bytes) c.args.from.now.entry.len (sector_size a area) c.args.scan.now.low c.args.scan.now.data_end is-unit long c.requires.scanned.lawful.at_most lowest end len c.requires.free in
+      let e : Entry = record { id = c.args.from.now.entry.id; offset = c.args.scan.now.data_end; len = c.args.from.now.entry.len; part = 255 } in
+      let follows : IsNext unit b e bytes = record { ordinary = c.requires.source.ordinary; place = end; long = sym len } in
+      let m : Device = g.F.Flash.device c.copy_padded.new.flash in
+      let one = c.in_ok-copy_padded.ensures in
+      let first_part : Writes a m area place (data_end unit b) (padded_bytes unit bytes) = subst (λ (offset : ℕ). Writes a m area place offset (padded_bytes unit bytes)) end one.ok in
+      let first_spent : Spends a m (padded unit (length bytes) / unit) = subst (λ (n : ℕ). Spends a m (n / unit)) (sym rounded) one.spent in
+      let last : Device = g.F.Flash.device c.program_padded.new.flash in
+      let costs : cost unit (length bytes) / unit ≡ cost unit c.args.from.now.entry.len / unit = ap (λ (n : ℕ). cost unit n / unit) len in
+      on_err c.from_residual-in_err-program_padded.result
+      (subst (λ (n : ℕ). SpendsAtMost a last n) costs (pair_most a area lawful is_area place has_sector m bytes room one.touches.banks first_part last e first_spent
+      (subst (λ (xs : List ℕ). SpendsAtMost m last (padded (unit_of m area) (length xs) / unit_of m area)) c.encode_entry-bytes.ensures c.in_err-program_padded.ensures.spent_at_most)));
+}
 
-pub returns-in_err-program_padded-clause-in_pieces : goal.returns-in_err-program_padded-clause-in_pieces
-returns-in_err-program_padded-clause-in_pieces g c =
-    on_err c.from_residual-in_err-program_padded.result (within_then PIECE (g.F.Flash.device c.args.flash.now) (g.F.Flash.device c.copy_padded.new.flash) (g.F.Flash.device c.program_padded.new.flash) (c.args.area.now ∷ []) c.in_ok-copy_padded.ensures.touches c.in_err-program_padded.ensures.in_pieces)
-
-pub returns-in_err-program_padded-clause-spent_at_most : goal.returns-in_err-program_padded-clause-spent_at_most
-returns-in_err-program_padded-clause-spent_at_most g c =
-    let a : Device = g.F.Flash.device c.args.flash.now in
-    let area : Area = c.args.area.now in
-    let lawful = g.met.F.Flash.is_lawful c.args.flash.now in
-    let is_area = c.requires.lawful.in_bank in
-    let unit : ℕ = unit_of a area in
-    let place : ℕ = c.args.scan.now.current in
-    let old : List (List ℕ) = sectors_of a area in
-    let bytes : List ℕ = placed_bytes old c.args.from.now in
-    let b : List ℕ = sector_bytes a area place in
-    let count : length old ≡ area.sectors = length-sectors a area in
-    let is : open_sector (reading unit) old ≡ place = open_is unit old c.args.scan.now c.requires.scan in
-    let inside : open_sector (reading unit) old < length old = open_within (reading unit) old (omega (arith, c.requires.lawful.several)) in
-    let within : place < length old = omega arith in
-    let has_sector : place < area.sectors = omega arith in
-    let scanned : c.args.scan.now ≡ scan_at unit old place = scan_there unit old c.args.scan.now c.requires.scan in
-    let lowest : c.args.scan.now.low ≡ low unit b = ap (λ (s : Scan). s.low) scanned in
-    let end : c.args.scan.now.data_end ≡ data_end unit b = ap (λ (s : Scan). s.data_end) scanned in
-    let is-unit : IsUnit unit = unit_is a area lawful is_area in
-    let long : length b ≡ sector_size a area = length-sector a area lawful is_area place has_sector in
-    let source_long : length (sector_bytes a area c.args.from.now.sector) ≡ sector_size a area = length-sector a area lawful is_area c.args.from.now.sector c.requires.has_source in
-    let len : length bytes ≡ c.args.from.now.entry.len = length-source a area (record { sector = c.args.from.now.sector; offset = c.args.from.now.entry.offset; len = c.args.from.now.entry.len }) (subst (λ (n : ℕ). c.args.from.now.entry.offset + c.args.from.now.entry.len ≤ n) (sym source_long) c.requires.inside) in
-    let rounded : padded unit (length bytes) ≡ padded unit c.args.from.now.entry.len = ap (padded unit) len in
-    let room : HasRoom unit b (length bytes) = room-in unit b (length bytes) c.args.from.now.entry.len (sector_size a area) c.args.scan.now.low c.args.scan.now.data_end is-unit long c.requires.lawful.at_most lowest end len c.requires.free in
-    let e : Entry = record { id = c.args.from.now.entry.id; offset = c.args.scan.now.data_end; len = c.args.from.now.entry.len; part = 255 } in
-    let follows : IsNext unit b e bytes = record { ordinary = c.requires.ordinary; place = end; long = sym len } in
-    let m : Device = g.F.Flash.device c.copy_padded.new.flash in
-    let one = c.in_ok-copy_padded.ensures in
-    let first_part : Writes a m area place (data_end unit b) (padded_bytes unit bytes) = subst (λ (offset : ℕ). Writes a m area place offset (padded_bytes unit bytes)) end one.ok in
-    let first_spent : Spends a m (padded unit (length bytes) / unit) = subst (λ (n : ℕ). Spends a m (n / unit)) (sym rounded) one.spent in
-    let last : Device = g.F.Flash.device c.program_padded.new.flash in
-    let costs : cost unit (length bytes) / unit ≡ cost unit c.args.from.now.entry.len / unit = ap (λ (n : ℕ). cost unit n / unit) len in
-    on_err c.from_residual-in_err-program_padded.result
-    (subst (λ (n : ℕ). SpendsAtMost a last n) costs (pair_most a area lawful is_area place has_sector m bytes room one.touches.banks first_part last e first_spent
-    (subst (λ (xs : List ℕ). SpendsAtMost m last (padded (unit_of m area) (length xs) / unit_of m area)) c.encode_entry-bytes.ensures c.in_err-program_padded.ensures.spent_at_most)))
-
-pub returns-clause-ok : goal.returns-clause-ok
-returns-clause-ok g c =
-    let a : Device = g.F.Flash.device c.args.flash.now in
-    let area : Area = c.args.area.now in
-    let lawful = g.met.F.Flash.is_lawful c.args.flash.now in
-    let is_area = c.requires.lawful.in_bank in
-    let unit : ℕ = unit_of a area in
-    let place : ℕ = c.args.scan.now.current in
-    let old : List (List ℕ) = sectors_of a area in
-    let bytes : List ℕ = placed_bytes old c.args.from.now in
-    let b : List ℕ = sector_bytes a area place in
-    let count : length old ≡ area.sectors = length-sectors a area in
-    let is : open_sector (reading unit) old ≡ place = open_is unit old c.args.scan.now c.requires.scan in
-    let inside : open_sector (reading unit) old < length old = open_within (reading unit) old (omega (arith, c.requires.lawful.several)) in
-    let within : place < length old = omega arith in
-    let has_sector : place < area.sectors = omega arith in
-    let scanned : c.args.scan.now ≡ scan_at unit old place = scan_there unit old c.args.scan.now c.requires.scan in
-    let lowest : c.args.scan.now.low ≡ low unit b = ap (λ (s : Scan). s.low) scanned in
-    let end : c.args.scan.now.data_end ≡ data_end unit b = ap (λ (s : Scan). s.data_end) scanned in
-    let is-unit : IsUnit unit = unit_is a area lawful is_area in
-    let long : length b ≡ sector_size a area = length-sector a area lawful is_area place has_sector in
-    let source_long : length (sector_bytes a area c.args.from.now.sector) ≡ sector_size a area = length-sector a area lawful is_area c.args.from.now.sector c.requires.has_source in
-    let len : length bytes ≡ c.args.from.now.entry.len = length-source a area (record { sector = c.args.from.now.sector; offset = c.args.from.now.entry.offset; len = c.args.from.now.entry.len }) (subst (λ (n : ℕ). c.args.from.now.entry.offset + c.args.from.now.entry.len ≤ n) (sym source_long) c.requires.inside) in
-    let rounded : padded unit (length bytes) ≡ padded unit c.args.from.now.entry.len = ap (padded unit) len in
-    let room : HasRoom unit b (length bytes) = room-in unit b (length bytes) c.args.from.now.entry.len (sector_size a area) c.args.scan.now.low c.args.scan.now.data_end is-unit long c.requires.lawful.at_most lowest end len c.requires.free in
-    let e : Entry = record { id = c.args.from.now.entry.id; offset = c.args.scan.now.data_end; len = c.args.from.now.entry.len; part = 255 } in
-    let follows : IsNext unit b e bytes = record { ordinary = c.requires.ordinary; place = end; long = sym len } in
-    let width : c.slot_size.result ≡ slot_size unit = c.slot_size.ensures.size ∙ ap (λ (x : Geometry). slot_size x.unit) c.geometry-unit.ensures in
-    let at : c.args.scan.now.low - c.slot_size.result ≡ low unit b - slot_size unit = omega arith in
-    let m : Device = g.F.Flash.device c.copy_padded.new.flash in
-    let one = c.in_ok-copy_padded.ensures in
-    let first_part : Writes a m area place (data_end unit b) (padded_bytes unit bytes) = subst (λ (offset : ℕ). Writes a m area place offset (padded_bytes unit bytes)) end one.ok in
-    let first_spent : Spends a m (padded unit (length bytes) / unit) = subst (λ (n : ℕ). Spends a m (n / unit)) (sym rounded) one.spent in
-    let last : Device = g.F.Flash.device c.program_padded.new.flash in
-    let written : Writes m last area place (low unit b - slot_size unit) (padded_bytes (unit_of m area) (encoded e)) =
-    subst (λ (offset : ℕ). Writes m last area place offset (padded_bytes (unit_of m area) (encoded e))) at (subst (λ (xs : List ℕ). Writes m last area place (c.args.scan.now.low - c.slot_size.result) (padded_bytes (unit_of m area) xs)) c.encode_entry-bytes.ensures c.in_ok-program_padded.ensures.ok) in
-    let put : AddsPairAt unit old (sectors_of last area) place c.args.from.now.entry.id bytes = pair_put a area lawful is_area place has_sector m bytes room one.touches.banks first_part last e follows written in
-    let now : List ℕ = sector_at (sectors_of last area) place in
-    let full = pair_used unit place b now c.args.from.now.entry.id bytes room put.adds in
-    put
-
-pub returns-clause-scan : goal.returns-clause-scan
-returns-clause-scan g c =
-    let a : Device = g.F.Flash.device c.args.flash.now in
-    let area : Area = c.args.area.now in
-    let lawful = g.met.F.Flash.is_lawful c.args.flash.now in
-    let is_area = c.requires.lawful.in_bank in
-    let unit : ℕ = unit_of a area in
-    let place : ℕ = c.args.scan.now.current in
-    let old : List (List ℕ) = sectors_of a area in
-    let bytes : List ℕ = placed_bytes old c.args.from.now in
-    let b : List ℕ = sector_bytes a area place in
-    let count : length old ≡ area.sectors = length-sectors a area in
-    let is : open_sector (reading unit) old ≡ place = open_is unit old c.args.scan.now c.requires.scan in
-    let inside : open_sector (reading unit) old < length old = open_within (reading unit) old (omega (arith, c.requires.lawful.several)) in
-    let within : place < length old = omega arith in
-    let has_sector : place < area.sectors = omega arith in
-    let scanned : c.args.scan.now ≡ scan_at unit old place = scan_there unit old c.args.scan.now c.requires.scan in
-    let lowest : c.args.scan.now.low ≡ low unit b = ap (λ (s : Scan). s.low) scanned in
-    let end : c.args.scan.now.data_end ≡ data_end unit b = ap (λ (s : Scan). s.data_end) scanned in
-    let is-unit : IsUnit unit = unit_is a area lawful is_area in
-    let long : length b ≡ sector_size a area = length-sector a area lawful is_area place has_sector in
-    let source_long : length (sector_bytes a area c.args.from.now.sector) ≡ sector_size a area = length-sector a area lawful is_area c.args.from.now.sector c.requires.has_source in
-    let len : length bytes ≡ c.args.from.now.entry.len = length-source a area (record { sector = c.args.from.now.sector; offset = c.args.from.now.entry.offset; len = c.args.from.now.entry.len }) (subst (λ (n : ℕ). c.args.from.now.entry.offset + c.args.from.now.entry.len ≤ n) (sym source_long) c.requires.inside) in
-    let rounded : padded unit (length bytes) ≡ padded unit c.args.from.now.entry.len = ap (padded unit) len in
-    let room : HasRoom unit b (length bytes) = room-in unit b (length bytes) c.args.from.now.entry.len (sector_size a area) c.args.scan.now.low c.args.scan.now.data_end is-unit long c.requires.lawful.at_most lowest end len c.requires.free in
-    let e : Entry = record { id = c.args.from.now.entry.id; offset = c.args.scan.now.data_end; len = c.args.from.now.entry.len; part = 255 } in
-    let follows : IsNext unit b e bytes = record { ordinary = c.requires.ordinary; place = end; long = sym len } in
-    let width : c.slot_size.result ≡ slot_size unit = c.slot_size.ensures.size ∙ ap (λ (x : Geometry). slot_size x.unit) c.geometry-unit.ensures in
-    let at : c.args.scan.now.low - c.slot_size.result ≡ low unit b - slot_size unit = omega arith in
-    let m : Device = g.F.Flash.device c.copy_padded.new.flash in
-    let one = c.in_ok-copy_padded.ensures in
-    let first_part : Writes a m area place (data_end unit b) (padded_bytes unit bytes) = subst (λ (offset : ℕ). Writes a m area place offset (padded_bytes unit bytes)) end one.ok in
-    let first_spent : Spends a m (padded unit (length bytes) / unit) = subst (λ (n : ℕ). Spends a m (n / unit)) (sym rounded) one.spent in
-    let last : Device = g.F.Flash.device c.program_padded.new.flash in
-    let written : Writes m last area place (low unit b - slot_size unit) (padded_bytes (unit_of m area) (encoded e)) =
-    subst (λ (offset : ℕ). Writes m last area place offset (padded_bytes (unit_of m area) (encoded e))) at (subst (λ (xs : List ℕ). Writes m last area place (c.args.scan.now.low - c.slot_size.result) (padded_bytes (unit_of m area) xs)) c.encode_entry-bytes.ensures c.in_ok-program_padded.ensures.ok) in
-    let put : AddsPairAt unit old (sectors_of last area) place c.args.from.now.entry.id bytes = pair_put a area lawful is_area place has_sector m bytes room one.touches.banks first_part last e follows written in
-    let now : List ℕ = sector_at (sectors_of last area) place in
-    let full = pair_used unit place b now c.args.from.now.entry.id bytes room put.adds in
-    let size : c.padded.result ≡ padded unit (length bytes) = c.padded.ensures.value ∙ ap (λ (x : Geometry). padded x.unit c.args.from.now.entry.len) c.geometry-unit.ensures ∙ sym rounded in
-    let banks : last.banks ≡ a.banks = c.in_ok-program_padded.ensures.touches.banks ∙ one.touches.banks in
-    let same : unit ≡ unit_of last area = sym (ap (λ (l : List Bank). (bank_at l area.bank).unit) banks) in
-    scan_added unit old (sectors_of last area) c.args.from.now.entry.id bytes c.args.scan.now c.slot_size.result c.padded.result within c.requires.scan put full width size
-    ∙ ap (λ (u : ℕ). scan_of u (sectors_of last area)) same
-
-pub returns-clause-spent : goal.returns-clause-spent
-returns-clause-spent g c =
-    let a : Device = g.F.Flash.device c.args.flash.now in
-    let area : Area = c.args.area.now in
-    let lawful = g.met.F.Flash.is_lawful c.args.flash.now in
-    let is_area = c.requires.lawful.in_bank in
-    let unit : ℕ = unit_of a area in
-    let place : ℕ = c.args.scan.now.current in
-    let old : List (List ℕ) = sectors_of a area in
-    let bytes : List ℕ = placed_bytes old c.args.from.now in
-    let b : List ℕ = sector_bytes a area place in
-    let count : length old ≡ area.sectors = length-sectors a area in
-    let is : open_sector (reading unit) old ≡ place = open_is unit old c.args.scan.now c.requires.scan in
-    let inside : open_sector (reading unit) old < length old = open_within (reading unit) old (omega (arith, c.requires.lawful.several)) in
-    let within : place < length old = omega arith in
-    let has_sector : place < area.sectors = omega arith in
-    let scanned : c.args.scan.now ≡ scan_at unit old place = scan_there unit old c.args.scan.now c.requires.scan in
-    let lowest : c.args.scan.now.low ≡ low unit b = ap (λ (s : Scan). s.low) scanned in
-    let end : c.args.scan.now.data_end ≡ data_end unit b = ap (λ (s : Scan). s.data_end) scanned in
-    let is-unit : IsUnit unit = unit_is a area lawful is_area in
-    let long : length b ≡ sector_size a area = length-sector a area lawful is_area place has_sector in
-    let source_long : length (sector_bytes a area c.args.from.now.sector) ≡ sector_size a area = length-sector a area lawful is_area c.args.from.now.sector c.requires.has_source in
-    let len : length bytes ≡ c.args.from.now.entry.len = length-source a area (record { sector = c.args.from.now.sector; offset = c.args.from.now.entry.offset; len = c.args.from.now.entry.len }) (subst (λ (n : ℕ). c.args.from.now.entry.offset + c.args.from.now.entry.len ≤ n) (sym source_long) c.requires.inside) in
-    let rounded : padded unit (length bytes) ≡ padded unit c.args.from.now.entry.len = ap (padded unit) len in
-    let room : HasRoom unit b (length bytes) = room-in unit b (length bytes) c.args.from.now.entry.len (sector_size a area) c.args.scan.now.low c.args.scan.now.data_end is-unit long c.requires.lawful.at_most lowest end len c.requires.free in
-    let e : Entry = record { id = c.args.from.now.entry.id; offset = c.args.scan.now.data_end; len = c.args.from.now.entry.len; part = 255 } in
-    let follows : IsNext unit b e bytes = record { ordinary = c.requires.ordinary; place = end; long = sym len } in
-    let m : Device = g.F.Flash.device c.copy_padded.new.flash in
-    let one = c.in_ok-copy_padded.ensures in
-    let first_part : Writes a m area place (data_end unit b) (padded_bytes unit bytes) = subst (λ (offset : ℕ). Writes a m area place offset (padded_bytes unit bytes)) end one.ok in
-    let first_spent : Spends a m (padded unit (length bytes) / unit) = subst (λ (n : ℕ). Spends a m (n / unit)) (sym rounded) one.spent in
-    let last : Device = g.F.Flash.device c.program_padded.new.flash in
-    let costs : cost unit (length bytes) / unit ≡ cost unit c.args.from.now.entry.len / unit = ap (λ (n : ℕ). cost unit n / unit) len in
-    subst (λ (n : ℕ). Spends a last n) costs
-    (pair_spent a area lawful is_area place has_sector m bytes room one.touches.banks first_part last e first_spent
-    (subst (λ (xs : List ℕ). Spends m last (padded (unit_of m area) (length xs) / unit_of m area)) c.encode_entry-bytes.ensures c.in_ok-program_padded.ensures.spent))
-
-pub returns-clause-image : goal.returns-clause-image
-returns-clause-image g c =
-    let a : Device = g.F.Flash.device c.args.flash.now in
-    let area : Area = c.args.area.now in
-    let lawful = g.met.F.Flash.is_lawful c.args.flash.now in
-    let is_area = c.requires.lawful.in_bank in
-    let unit : ℕ = unit_of a area in
-    let place : ℕ = c.args.scan.now.current in
-    let old : List (List ℕ) = sectors_of a area in
-    let bytes : List ℕ = placed_bytes old c.args.from.now in
-    let b : List ℕ = sector_bytes a area place in
-    let count : length old ≡ area.sectors = length-sectors a area in
-    let is : open_sector (reading unit) old ≡ place = open_is unit old c.args.scan.now c.requires.scan in
-    let inside : open_sector (reading unit) old < length old = open_within (reading unit) old (omega (arith, c.requires.lawful.several)) in
-    let within : place < length old = omega arith in
-    let has_sector : place < area.sectors = omega arith in
-    let scanned : c.args.scan.now ≡ scan_at unit old place = scan_there unit old c.args.scan.now c.requires.scan in
-    let lowest : c.args.scan.now.low ≡ low unit b = ap (λ (s : Scan). s.low) scanned in
-    let end : c.args.scan.now.data_end ≡ data_end unit b = ap (λ (s : Scan). s.data_end) scanned in
-    let is-unit : IsUnit unit = unit_is a area lawful is_area in
-    let long : length b ≡ sector_size a area = length-sector a area lawful is_area place has_sector in
-    let source_long : length (sector_bytes a area c.args.from.now.sector) ≡ sector_size a area = length-sector a area lawful is_area c.args.from.now.sector c.requires.has_source in
-    let len : length bytes ≡ c.args.from.now.entry.len = length-source a area (record { sector = c.args.from.now.sector; offset = c.args.from.now.entry.offset; len = c.args.from.now.entry.len }) (subst (λ (n : ℕ). c.args.from.now.entry.offset + c.args.from.now.entry.len ≤ n) (sym source_long) c.requires.inside) in
-    let rounded : padded unit (length bytes) ≡ padded unit c.args.from.now.entry.len = ap (padded unit) len in
-    let room : HasRoom unit b (length bytes) = room-in unit b (length bytes) c.args.from.now.entry.len (sector_size a area) c.args.scan.now.low c.args.scan.now.data_end is-unit long c.requires.lawful.at_most lowest end len c.requires.free in
-    let e : Entry = record { id = c.args.from.now.entry.id; offset = c.args.scan.now.data_end; len = c.args.from.now.entry.len; part = 255 } in
-    let width : c.slot_size.result ≡ slot_size unit = c.slot_size.ensures.size ∙ ap (λ (x : Geometry). slot_size x.unit) c.geometry-unit.ensures in
-    let at : c.args.scan.now.low - c.slot_size.result ≡ low unit b - slot_size unit = omega arith in
-    let m : Device = g.F.Flash.device c.copy_padded.new.flash in
-    let one = c.in_ok-copy_padded.ensures in
-    let first_part : Writes a m area place (data_end unit b) (padded_bytes unit bytes) = subst (λ (offset : ℕ). Writes a m area place offset (padded_bytes unit bytes)) end one.ok in
-    let first_spent : Spends a m (padded unit (length bytes) / unit) = subst (λ (n : ℕ). Spends a m (n / unit)) (sym rounded) one.spent in
-    let last : Device = g.F.Flash.device c.program_padded.new.flash in
-    let written : Writes m last area place (low unit b - slot_size unit) (padded_bytes (unit_of m area) (encoded e)) =
-    subst (λ (offset : ℕ). Writes m last area place offset (padded_bytes (unit_of m area) (encoded e))) at (subst (λ (xs : List ℕ). Writes m last area place (c.args.scan.now.low - c.slot_size.result) (padded_bytes (unit_of m area) xs)) c.encode_entry-bytes.ensures c.in_ok-program_padded.ensures.ok) in
-    pair_image a area lawful is_area place has_sector m bytes room one.touches.banks first_part last c.args.from.now.entry.id c.args.scan.now.data_end c.args.from.now.entry.len end (sym len) written
+pub returns-clause-ends : goal.returns-clause-ends
+returns-clause-ends g c = record {
+  ok =
+      let a : Device = g.F.Flash.device c.args.flash.now in
+      let area : Area = c.args.area.now in
+      let lawful = g.met.F.Flash.is_lawful c.args.flash.now in
+      let is_area = c.requires.scanned.lawful.in_bank in
+      let unit : ℕ = unit_of a area in
+      let place : ℕ = c.args.scan.now.current in
+      let old : List (List ℕ) = sectors_of a area in
+      let bytes : List ℕ = placed_bytes old c.args.from.now in
+      let b : List ℕ = sector_bytes a area place in
+      let count : length old ≡ area.sectors = length-sectors a area in
+      let is : open_sector (reading unit) old ≡ place = open_is unit old c.args.scan.now c.requires.scanned.scan in
+      let inside : open_sector (reading unit) old < length old = open_within (reading unit) old (omega (arith, c.requires.scanned.lawful.several)) in
+      let within : place < length old = omega arith in
+      let has_sector : place < area.sectors = omega arith in
+      let scanned : c.args.scan.now ≡ scan_at unit old place = scan_there unit old c.args.scan.now c.requires.scanned.scan in
+      let lowest : c.args.scan.now.low ≡ low unit b = ap (λ (s : Scan). s.low) scanned in
+      let end : c.args.scan.now.data_end ≡ data_end unit b = ap (λ (s : Scan). s.data_end) scanned in
+      let is-unit : IsUnit unit = unit_is a area lawful is_area in
+      let long : length b ≡ sector_size a area = length-sector a area lawful is_area place has_sector in
+      let source_long : length (sector_bytes a area c.args.from.now.sector) ≡ sector_size a area = length-sector a area lawful is_area c.args.from.now.sector c.requires.source.has_source in
+      let len : length bytes ≡ c.args.from.now.entry.len = length-source a area (record { sector = c.args.from.now.sector; offset = c.args.from.now.entry.offset; len = c.args.from.now.entry.len }) (subst (λ (n : ℕ). c.args.from.now.entry.offset + c.args.from.now.entry.len ≤ n) (sym source_long) c.requires.source.inside) in
+      let rounded : padded unit (length bytes) ≡ padded unit c.args.from.now.entry.len = ap (padded unit) len in
+      let room : HasRoom unit b (length bytes) = room-in unit b (length bytes) c.args.from.now.entry.len (sector_size a area) c.args.scan.now.low c.args.scan.now.data_end is-unit long c.requires.scanned.lawful.at_most lowest end len c.requires.free in
+      let e : Entry = record { id = c.args.from.now.entry.id; offset = c.args.scan.now.data_end; len = c.args.from.now.entry.len; part = 255 } in
+      let follows : IsNext unit b e bytes = record { ordinary = c.requires.source.ordinary; place = end; long = sym len } in
+      let width : c.slot_size.result ≡ slot_size unit = c.slot_size.ensures.size ∙ ap (λ (x : Geometry). slot_size x.unit) c.geometry-unit.ensures in
+      let at : c.args.scan.now.low - c.slot_size.result ≡ low unit b - slot_size unit = omega arith in
+      let m : Device = g.F.Flash.device c.copy_padded.new.flash in
+      let one = c.in_ok-copy_padded.ensures in
+      let first_part : Writes a m area place (data_end unit b) (padded_bytes unit bytes) = subst (λ (offset : ℕ). Writes a m area place offset (padded_bytes unit bytes)) end one.ok in
+      let first_spent : Spends a m (padded unit (length bytes) / unit) = subst (λ (n : ℕ). Spends a m (n / unit)) (sym rounded) one.spent in
+      let last : Device = g.F.Flash.device c.program_padded.new.flash in
+      let written : Writes m last area place (low unit b - slot_size unit) (padded_bytes (unit_of m area) (encoded e)) =
+      subst (λ (offset : ℕ). Writes m last area place offset (padded_bytes (unit_of m area) (encoded e))) at (subst (λ (xs : List ℕ). Writes m last area place (c.args.scan.now.low - c.slot_size.result) (padded_bytes (unit_of m area) xs)) c.encode_entry-bytes.ensures c.in_ok-program_padded.ensures.ok) in
+      let put : AddsPairAt unit old (sectors_of last area) place c.args.from.now.entry.id bytes = pair_put a area lawful is_area place has_sector m bytes room one.touches.banks first_part last e follows written in
+      let now : List ℕ = sector_at (sectors_of last area) place in
+      let full = pair_used unit place b now c.args.from.now.entry.id bytes room put.adds in
+      put;
+  image =
+      let a : Device = g.F.Flash.device c.args.flash.now in
+      let area : Area = c.args.area.now in
+      let lawful = g.met.F.Flash.is_lawful c.args.flash.now in
+      let is_area = c.requires.scanned.lawful.in_bank in
+      let unit : ℕ = unit_of a area in
+      let place : ℕ = c.args.scan.now.current in
+      let old : List (List ℕ) = sectors_of a area in
+      let bytes : List ℕ = placed_bytes old c.args.from.now in
+      let b : List ℕ = sector_bytes a area place in
+      let count : length old ≡ area.sectors = length-sectors a area in
+      let is : open_sector (reading unit) old ≡ place = open_is unit old c.args.scan.now c.requires.scanned.scan in
+      let inside : open_sector (reading unit) old < length old = open_within (reading unit) old (omega (arith, c.requires.scanned.lawful.several)) in
+      let within : place < length old = omega arith in
+      let has_sector : place < area.sectors = omega arith in
+      let scanned : c.args.scan.now ≡ scan_at unit old place = scan_there unit old c.args.scan.now c.requires.scanned.scan in
+      let lowest : c.args.scan.now.low ≡ low unit b = ap (λ (s : Scan). s.low) scanned in
+      let end : c.args.scan.now.data_end ≡ data_end unit b = ap (λ (s : Scan). s.data_end) scanned in
+      let is-unit : IsUnit unit = unit_is a area lawful is_area in
+      let long : length b ≡ sector_size a area = length-sector a area lawful is_area place has_sector in
+      let source_long : length (sector_bytes a area c.args.from.now.sector) ≡ sector_size a area = length-sector a area lawful is_area c.args.from.now.sector c.requires.source.has_source in
+      let len : length bytes ≡ c.args.from.now.entry.len = length-source a area (record { sector = c.args.from.now.sector; offset = c.args.from.now.entry.offset; len = c.args.from.now.entry.len }) (subst (λ (n : ℕ). c.args.from.now.entry.offset + c.args.from.now.entry.len ≤ n) (sym source_long) c.requires.source.inside) in
+      let rounded : padded unit (length bytes) ≡ padded unit c.args.from.now.entry.len = ap (padded unit) len in
+      let room : HasRoom unit b (length bytes) = room-in unit b (length bytes) c.args.from.now.entry.len (sector_size a area) c.args.scan.now.low c.args.scan.now.data_end is-unit long c.requires.scanned.lawful.at_most lowest end len c.requires.free in
+      let e : Entry = record { id = c.args.from.now.entry.id; offset = c.args.scan.now.data_end; len = c.args.from.now.entry.len; part = 255 } in
+      let width : c.slot_size.result ≡ slot_size unit = c.slot_size.ensures.size ∙ ap (λ (x : Geometry). slot_size x.unit) c.geometry-unit.ensures in
+      let at : c.args.scan.now.low - c.slot_size.result ≡ low unit b - slot_size unit = omega arith in
+      let m : Device = g.F.Flash.device c.copy_padded.new.flash in
+      let one = c.in_ok-copy_padded.ensures in
+      let first_part : Writes a m area place (data_end unit b) (padded_bytes unit bytes) = subst (λ (offset : ℕ). Writes a m area place offset (padded_bytes unit bytes)) end one.ok in
+      let first_spent : Spends a m (padded unit (length bytes) / unit) = subst (λ (n : ℕ). Spends a m (n / unit)) (sym rounded) one.spent in
+      let last : Device = g.F.Flash.device c.program_padded.new.flash in
+      let written : Writes m last area place (low unit b - slot_size unit) (padded_bytes (unit_of m area) (encoded e)) =
+      subst (λ (offset : ℕ). Writes m last area place offset (padded_bytes (unit_of m area) (encoded e))) at (subst (λ (xs : List ℕ). Writes m last area place (c.args.scan.now.low - c.slot_size.result) (padded_bytes (unit_of m area) xs)) c.encode_entry-bytes.ensures c.in_ok-program_padded.ensures.ok) in
+      pair_image a area lawful is_area place has_sector m bytes room one.touches.banks first_part last c.args.from.now.entry.id c.args.scan.now.data_end c.args.from.now.entry.len end (sym len) written;
+  scan =
+      let a : Device = g.F.Flash.device c.args.flash.now in
+      let area : Area = c.args.area.now in
+      let lawful = g.met.F.Flash.is_lawful c.args.flash.now in
+      let is_area = c.requires.scanned.lawful.in_bank in
+      let unit : ℕ = unit_of a area in
+      let place : ℕ = c.args.scan.now.current in
+      let old : List (List ℕ) = sectors_of a area in
+      let bytes : List ℕ = placed_bytes old c.args.from.now in
+      let b : List ℕ = sector_bytes a area place in
+      let count : length old ≡ area.sectors = length-sectors a area in
+      let is : open_sector (reading unit) old ≡ place = open_is unit old c.args.scan.now c.requires.scanned.scan in
+      let inside : open_sector (reading unit) old < length old = open_within (reading unit) old (omega (arith, c.requires.scanned.lawful.several)) in
+      let within : place < length old = omega arith in
+      let has_sector : place < area.sectors = omega arith in
+      let scanned : c.args.scan.now ≡ scan_at unit old place = scan_there unit old c.args.scan.now c.requires.scanned.scan in
+      let lowest : c.args.scan.now.low ≡ low unit b = ap (λ (s : Scan). s.low) scanned in
+      let end : c.args.scan.now.data_end ≡ data_end unit b = ap (λ (s : Scan). s.data_end) scanned in
+      let is-unit : IsUnit unit = unit_is a area lawful is_area in
+      let long : length b ≡ sector_size a area = length-sector a area lawful is_area place has_sector in
+      let source_long : length (sector_bytes a area c.args.from.now.sector) ≡ sector_size a area = length-sector a area lawful is_area c.args.from.now.sector c.requires.source.has_source in
+      let len : length bytes ≡ c.args.from.now.entry.len = length-source a area (record { sector = c.args.from.now.sector; offset = c.args.from.now.entry.offset; len = c.args.from.now.entry.len }) (subst (λ (n : ℕ). c.args.from.now.entry.offset + c.args.from.now.entry.len ≤ n) (sym source_long) c.requires.source.inside) in
+      let rounded : padded unit (length bytes) ≡ padded unit c.args.from.now.entry.len = ap (padded unit) len in
+      let room : HasRoom unit b (length bytes) = room-in unit b (length bytes) c.args.from.now.entry.len (sector_size a area) c.args.scan.now.low c.args.scan.now.data_end is-unit long c.requires.scanned.lawful.at_most lowest end len c.requires.free in
+      let e : Entry = record { id = c.args.from.now.entry.id; offset = c.args.scan.now.data_end; len = c.args.from.now.entry.len; part = 255 } in
+      let follows : IsNext unit b e bytes = record { ordinary = c.requires.source.ordinary; place = end; long = sym len } in
+      let width : c.slot_size.result ≡ slot_size unit = c.slot_size.ensures.size ∙ ap (λ (x : Geometry). slot_size x.unit) c.geometry-unit.ensures in
+      let at : c.args.scan.now.low - c.slot_size.result ≡ low unit b - slot_size unit = omega arith in
+      let m : Device = g.F.Flash.device c.copy_padded.new.flash in
+      let one = c.in_ok-copy_padded.ensures in
+      let first_part : Writes a m area place (data_end unit b) (padded_bytes unit bytes) = subst (λ (offset : ℕ). Writes a m area place offset (padded_bytes unit bytes)) end one.ok in
+      let first_spent : Spends a m (padded unit (length bytes) / unit) = subst (λ (n : ℕ). Spends a m (n / unit)) (sym rounded) one.spent in
+      let last : Device = g.F.Flash.device c.program_padded.new.flash in
+      let written : Writes m last area place (low unit b - slot_size unit) (padded_bytes (unit_of m area) (encoded e)) =
+      subst (λ (offset : ℕ). Writes m last area place offset (padded_bytes (unit_of m area) (encoded e))) at (subst (λ (xs : List ℕ). Writes m last area place (c.args.scan.now.low - c.slot_size.result) (padded_bytes (unit_of m area) xs)) c.encode_entry-bytes.ensures c.in_ok-program_padded.ensures.ok) in
+      let put : AddsPairAt unit old (sectors_of last area) place c.args.from.now.entry.id bytes = pair_put a area lawful is_area place has_sector m bytes room one.touches.banks first_part last e follows written in
+      let now : List ℕ = sector_at (sectors_of last area) place in
+      let full = pair_used unit place b now c.args.from.now.entry.id bytes room put.adds in
+      let size : c.padded.result ≡ padded unit (length bytes) = c.padded.ensures.value ∙ ap (λ (x : Geometry). padded x.unit c.args.from.now.entry.len) c.geometry-unit.ensures ∙ sym rounded in
+      let banks : last.banks ≡ a.banks = c.in_ok-program_padded.ensures.touches.banks ∙ one.touches.banks in
+      let same : unit ≡ unit_of last area = sym (ap (λ (l : List Bank). (bank_at l area.bank).unit) banks) in
+      scan_added unit old (sectors_of last area) c.args.from.now.entry.id bytes c.args.scan.now c.slot_size.result c.padded.result within c.requires.scanned.scan put full width size
+      ∙ ap (λ (u : ℕ). scan_of u (sectors_of last area)) same;
+  spent =
+      let a : Device = g.F.Flash.device c.args.flash.now in
+      let area : Area = c.args.area.now in
+      let lawful = g.met.F.Flash.is_lawful c.args.flash.now in
+      let is_area = c.requires.scanned.lawful.in_bank in
+      let unit : ℕ = unit_of a area in
+      let place : ℕ = c.args.scan.now.current in
+      let old : List (List ℕ) = sectors_of a area in
+      let bytes : List ℕ = placed_bytes old c.args.from.now in
+      let b : List ℕ = sector_bytes a area place in
+      let count : length old ≡ area.sectors = length-sectors a area in
+      let is : open_sector (reading unit) old ≡ place = open_is unit old c.args.scan.now c.requires.scanned.scan in
+      let inside : open_sector (reading unit) old < length old = open_within (reading unit) old (omega (arith, c.requires.scanned.lawful.several)) in
+      let within : place < length old = omega arith in
+      let has_sector : place < area.sectors = omega arith in
+      let scanned : c.args.scan.now ≡ scan_at unit old place = scan_there unit old c.args.scan.now c.requires.scanned.scan in
+      let lowest : c.args.scan.now.low ≡ low unit b = ap (λ (s : Scan). s.low) scanned in
+      let end : c.args.scan.now.data_end ≡ data_end unit b = ap (λ (s : Scan). s.data_end) scanned in
+      let is-unit : IsUnit unit = unit_is a area lawful is_area in
+      let long : length b ≡ sector_size a area = length-sector a area lawful is_area place has_sector in
+      let source_long : length (sector_bytes a area c.args.from.now.sector) ≡ sector_size a area = length-sector a area lawful is_area c.args.from.now.sector c.requires.source.has_source in
+      let len : length bytes ≡ c.args.from.now.entry.len = length-source a area (record { sector = c.args.from.now.sector; offset = c.args.from.now.entry.offset; len = c.args.from.now.entry.len }) (subst (λ (n : ℕ). c.args.from.now.entry.offset + c.args.from.now.entry.len ≤ n) (sym source_long) c.requires.source.inside) in
+      let rounded : padded unit (length bytes) ≡ padded unit c.args.from.now.entry.len = ap (padded unit) len in
+      let room : HasRoom unit b (length bytes) = room-in unit b (length bytes) c.args.from.now.entry.len (sector_size a area) c.args.scan.now.low c.args.scan.now.data_end is-unit long c.requires.scanned.lawful.at_most lowest end len c.requires.free in
+      let e : Entry = record { id = c.args.from.now.entry.id; offset = c.args.scan.now.data_end; len = c.args.from.now.entry.len; part = 255 } in
+      let follows : IsNext unit b e bytes = record { ordinary = c.requires.source.ordinary; place = end; long = sym len } in
+      let m : Device = g.F.Flash.device c.copy_padded.new.flash in
+      let one = c.in_ok-copy_padded.ensures in
+      let first_part : Writes a m area place (data_end unit b) (padded_bytes unit bytes) = subst (λ (offset : ℕ). Writes a m area place offset (padded_bytes unit bytes)) end one.ok in
+      let first_spent : Spends a m (padded unit (length bytes) / unit) = subst (λ (n : ℕ). Spends a m (n / unit)) (sym rounded) one.spent in
+      let last : Device = g.F.Flash.device c.program_padded.new.flash in
+      let costs : cost unit (length bytes) / unit ≡ cost unit c.args.from.now.entry.len / unit = ap (λ (n : ℕ). cost unit n / unit) len in
+      subst (λ (n : ℕ). Spends a last n) costs
+      (pair_spent a area lawful is_area place has_sector m bytes room one.touches.banks first_part last e first_spent
+      (subst (λ (xs : List ℕ). Spends m last (padded (unit_of m area) (length xs) / unit_of m area)) c.encode_entry-bytes.ensures c.in_ok-program_padded.ensures.spent));
+  lost = tt;
+  in_pieces = tt;
+  spent_at_most = tt;
+}
 
 pub overflow_sub-slot : goal.overflow_sub-slot
 overflow_sub-slot g c =
@@ -433,54 +434,30 @@ overflow_sub-slot g c =
 
 pub copy_padded-requires-clause-short : goal.copy_padded-requires-clause-short
 copy_padded-requires-clause-short g c =
-    (short-in c.args.from.now.entry.offset c.args.from.now.entry.len (sector_size (g.F.Flash.device c.args.flash.now) c.args.area.now) c.requires.inside c.requires.lawful.at_most).0
+    (short-in c.args.from.now.entry.offset c.args.from.now.entry.len (sector_size (g.F.Flash.device c.args.flash.now) c.args.area.now) c.requires.source.inside c.requires.scanned.lawful.at_most).0
 
 pub returns-in_err-copy_padded-clause-touches : goal.returns-in_err-copy_padded-clause-touches
 returns-in_err-copy_padded-clause-touches g c =
     subst (λ (lost : Bool). Touches (c.args.area.now ∷ []) (g.F.Flash.device c.args.flash.now) (g.F.Flash.device c.copy_padded.new.flash) lost) (sym c.from_residual.ensures.0)
     c.in_err-copy_padded.ensures.touches
 
-pub returns-in_err-copy_padded-clause-ok : goal.returns-in_err-copy_padded-clause-ok
-returns-in_err-copy_padded-clause-ok g c = not_ok _ c.from_residual.result c.from_residual.ensures.0
-
-pub returns-in_err-copy_padded-clause-image : goal.returns-in_err-copy_padded-clause-image
-returns-in_err-copy_padded-clause-image g c = not_ok _ c.from_residual.result c.from_residual.ensures.0
-
-pub returns-in_err-copy_padded-clause-scan : goal.returns-in_err-copy_padded-clause-scan
-returns-in_err-copy_padded-clause-scan g c = not_ok _ c.from_residual.result c.from_residual.ensures.0
-
-pub returns-in_err-copy_padded-clause-spent : goal.returns-in_err-copy_padded-clause-spent
-returns-in_err-copy_padded-clause-spent g c = not_ok _ c.from_residual.result c.from_residual.ensures.0
-
 pub returns-in_err-program_padded-clause-touches : goal.returns-in_err-program_padded-clause-touches
 returns-in_err-program_padded-clause-touches g c =
     subst (λ (lost : Bool). Touches (c.args.area.now ∷ []) (g.F.Flash.device c.args.flash.now) (g.F.Flash.device c.program_padded.new.flash) lost) (sym c.from_residual-in_err-program_padded.ensures.0)
     (then c.in_ok-copy_padded.ensures.touches c.in_err-program_padded.ensures.touches)
 
-pub returns-in_err-program_padded-clause-ok : goal.returns-in_err-program_padded-clause-ok
-returns-in_err-program_padded-clause-ok g c = not_ok _ c.from_residual-in_err-program_padded.result c.from_residual-in_err-program_padded.ensures.0
-
-pub returns-in_err-program_padded-clause-image : goal.returns-in_err-program_padded-clause-image
-returns-in_err-program_padded-clause-image g c = not_ok _ c.from_residual-in_err-program_padded.result c.from_residual-in_err-program_padded.ensures.0
-
-pub returns-in_err-program_padded-clause-scan : goal.returns-in_err-program_padded-clause-scan
-returns-in_err-program_padded-clause-scan g c = not_ok _ c.from_residual-in_err-program_padded.result c.from_residual-in_err-program_padded.ensures.0
-
-pub returns-in_err-program_padded-clause-spent : goal.returns-in_err-program_padded-clause-spent
-returns-in_err-program_padded-clause-spent g c = not_ok _ c.from_residual-in_err-program_padded.result c.from_residual-in_err-program_padded.ensures.0
-
 pub program_padded-requires-clause-lawful : goal.program_padded-requires-clause-lawful
 program_padded-requires-clause-lawful g c =
-    subst (λ (banks : List Bank). IsLawfulArea banks c.args.area.now) (sym c.in_ok-copy_padded.ensures.touches.banks) c.requires.lawful.in_bank
+    subst (λ (banks : List Bank). IsLawfulArea banks c.args.area.now) (sym c.in_ok-copy_padded.ensures.touches.banks) c.requires.scanned.lawful.in_bank
 
 pub padded-requires-clause-unit : goal.padded-requires-clause-unit
 padded-requires-clause-unit g c =
     subst (λ (x : Geometry). IsUnit x.unit) (sym c.geometry-unit.ensures)
-    (unit_is (g.F.Flash.device c.args.flash.now) c.args.area.now (g.met.F.Flash.is_lawful c.args.flash.now) c.requires.lawful.in_bank)
+    (unit_is (g.F.Flash.device c.args.flash.now) c.args.area.now (g.met.F.Flash.is_lawful c.args.flash.now) c.requires.scanned.lawful.in_bank)
 
 pub padded-requires-clause-len : goal.padded-requires-clause-len
 padded-requires-clause-len g c =
-    (short-in c.args.from.now.entry.offset c.args.from.now.entry.len (sector_size (g.F.Flash.device c.args.flash.now) c.args.area.now) c.requires.inside c.requires.lawful.at_most).1
+    (short-in c.args.from.now.entry.offset c.args.from.now.entry.len (sector_size (g.F.Flash.device c.args.flash.now) c.args.area.now) c.requires.source.inside c.requires.scanned.lawful.at_most).1
 
 pub overflow_add-scan : goal.overflow_add-scan
 overflow_add-scan g c =

@@ -30,40 +30,40 @@ special-requires g c =
     let a : Device = g.F.Flash.device c.args.flash.now in
     let area : Area = c.args.area.now in
     let lawful = g.met.F.Flash.is_lawful c.args.flash.now in
-    let is_area = c.requires.lawful.in_bank in
+    let is_area = c.requires.scanned.lawful.in_bank in
     let unit : ℕ = unit_of a area in
     let place : ℕ = c.args.scan.now.current in
     let old : List (List ℕ) = sectors_of a area in
     let b : List ℕ = sector_bytes a area place in
     let count : length old ≡ area.sectors = length-sectors a area in
-    let is : open_sector (reading unit) old ≡ place = open_is unit old c.args.scan.now c.requires.scan in
-    let inside : open_sector (reading unit) old < length old = open_within (reading unit) old (omega (arith, c.requires.lawful.several)) in
+    let is : open_sector (reading unit) old ≡ place = open_is unit old c.args.scan.now c.requires.scanned.scan in
+    let inside : open_sector (reading unit) old < length old = open_within (reading unit) old (omega (arith, c.requires.scanned.lawful.several)) in
     let within : place < length old = omega arith in
     let has_sector : place < area.sectors = omega arith in
-    let scanned : c.args.scan.now ≡ scan_at unit old place = scan_there unit old c.args.scan.now c.requires.scan in
+    let scanned : c.args.scan.now ≡ scan_at unit old place = scan_there unit old c.args.scan.now c.requires.scanned.scan in
     let lowest : c.args.scan.now.low ≡ low unit b = ap (λ (s : Scan). s.low) scanned in
     let end : c.args.scan.now.data_end ≡ data_end unit b = ap (λ (s : Scan). s.data_end) scanned in
     let is-unit : IsUnit unit = unit_is a area lawful is_area in
     let widths = slot_widths unit is-unit in
     let long : length b ≡ sector_size a area = length-sector a area lawful is_area place has_sector in
-    omega (arith, long, c.requires.lawful.at_most)
+    omega (arith, long, c.requires.scanned.lawful.at_most)
 
 pub program_padded-requires-clause-can : goal.program_padded-requires-clause-can
 program_padded-requires-clause-can g c =
     let a : Device = g.F.Flash.device c.args.flash.now in
     let area : Area = c.args.area.now in
     let lawful = g.met.F.Flash.is_lawful c.args.flash.now in
-    let is_area = c.requires.lawful.in_bank in
+    let is_area = c.requires.scanned.lawful.in_bank in
     let unit : ℕ = unit_of a area in
     let place : ℕ = c.args.scan.now.current in
     let old : List (List ℕ) = sectors_of a area in
     let b : List ℕ = sector_bytes a area place in
     let count : length old ≡ area.sectors = length-sectors a area in
-    let is : open_sector (reading unit) old ≡ place = open_is unit old c.args.scan.now c.requires.scan in
-    let inside : open_sector (reading unit) old < length old = open_within (reading unit) old (omega (arith, c.requires.lawful.several)) in
+    let is : open_sector (reading unit) old ≡ place = open_is unit old c.args.scan.now c.requires.scanned.scan in
+    let inside : open_sector (reading unit) old < length old = open_within (reading unit) old (omega (arith, c.requires.scanned.lawful.several)) in
     let within : place < length old = omega arith in
     let has_sector : place < area.sectors = omega arith in
-    let scanned : c.args.scan.now ≡ scan_at unit old place = scan_there unit old c.args.scan.now c.requires.scan in
+    let scanned : c.args.scan.now ≡ scan_at unit old place = scan_there unit old c.args.scan.now c.requires.scanned.scan in
     let lowest : c.args.scan.now.low ≡ low unit b = ap (λ (s : Scan). s.low) scanned in
     let end : c.args.scan.now.data_end ≡ data_end unit b = ap (λ (s : Scan). s.data_end) scanned in
     let is-unit : IsUnit unit = unit_is a area lawful is_area in
@@ -75,24 +75,24 @@ program_padded-requires-clause-can g c =
     let size : c.geometry-g.result.sector ≡ sector_size a area = ap (λ (x : Geometry). x.sector) c.geometry-g.ensures in
     let at : c.geometry-g.result.sector - c.slot_size.result ≡ length b - slot_size unit = omega arith in
     subst (λ (offset : ℕ). CanProgramAll a area place offset (padded_bytes unit c.encode_entry-bytes.result)) (sym at)
-    (subst (λ (xs : List ℕ). CanProgramAll a area place (length b - slot_size unit) (padded_bytes unit xs)) (sym encoded_is) (can_close a area lawful is_area place has_sector a c.requires.not_closed c.requires.lawful.at_least (omega (arith, c.requires.lawful.at_most)) e))
+    (subst (λ (xs : List ℕ). CanProgramAll a area place (length b - slot_size unit) (padded_bytes unit xs)) (sym encoded_is) (can_close a area lawful is_area place has_sector a c.requires.not_closed c.requires.scanned.lawful.at_least (omega (arith, c.requires.scanned.lawful.at_most)) e))
 
 pub returns-clause-ok : goal.returns-clause-ok
 returns-clause-ok g c =
     let a : Device = g.F.Flash.device c.args.flash.now in
     let area : Area = c.args.area.now in
     let lawful = g.met.F.Flash.is_lawful c.args.flash.now in
-    let is_area = c.requires.lawful.in_bank in
+    let is_area = c.requires.scanned.lawful.in_bank in
     let unit : ℕ = unit_of a area in
     let place : ℕ = c.args.scan.now.current in
     let old : List (List ℕ) = sectors_of a area in
     let b : List ℕ = sector_bytes a area place in
     let count : length old ≡ area.sectors = length-sectors a area in
-    let is : open_sector (reading unit) old ≡ place = open_is unit old c.args.scan.now c.requires.scan in
-    let inside : open_sector (reading unit) old < length old = open_within (reading unit) old (omega (arith, c.requires.lawful.several)) in
+    let is : open_sector (reading unit) old ≡ place = open_is unit old c.args.scan.now c.requires.scanned.scan in
+    let inside : open_sector (reading unit) old < length old = open_within (reading unit) old (omega (arith, c.requires.scanned.lawful.several)) in
     let within : place < length old = omega arith in
     let has_sector : place < area.sectors = omega arith in
-    let scanned : c.args.scan.now ≡ scan_at unit old place = scan_there unit old c.args.scan.now c.requires.scan in
+    let scanned : c.args.scan.now ≡ scan_at unit old place = scan_there unit old c.args.scan.now c.requires.scanned.scan in
     let lowest : c.args.scan.now.low ≡ low unit b = ap (λ (s : Scan). s.low) scanned in
     let end : c.args.scan.now.data_end ≡ data_end unit b = ap (λ (s : Scan). s.data_end) scanned in
     let is-unit : IsUnit unit = unit_is a area lawful is_area in
@@ -104,24 +104,24 @@ returns-clause-ok g c =
     let size : c.geometry-g.result.sector ≡ sector_size a area = ap (λ (x : Geometry). x.sector) c.geometry-g.ensures in
     let at : c.geometry-g.result.sector - c.slot_size.result ≡ length b - slot_size unit = omega arith in
     let last : Device = g.F.Flash.device c.program_padded.new.flash in
-    on_ok_weaker c.program_padded.result (λ writes. close_put a area lawful is_area place has_sector last c.requires.not_closed c.requires.lawful.at_least (omega (arith, c.requires.lawful.at_most)) (subst (λ (offset : ℕ). Writes a last area place offset (padded_bytes unit (encoded e))) at (subst (λ (xs : List ℕ). Writes a last area place (c.geometry-g.result.sector - c.slot_size.result) (padded_bytes unit xs)) encoded_is writes))) c.program_padded.ensures.ok
+    on_ok_weaker c.program_padded.result (λ writes. close_put a area lawful is_area place has_sector last c.requires.not_closed c.requires.scanned.lawful.at_least (omega (arith, c.requires.scanned.lawful.at_most)) (subst (λ (offset : ℕ). Writes a last area place offset (padded_bytes unit (encoded e))) at (subst (λ (xs : List ℕ). Writes a last area place (c.geometry-g.result.sector - c.slot_size.result) (padded_bytes unit xs)) encoded_is writes))) c.program_padded.ensures.ok
 
 pub returns-clause-lost : goal.returns-clause-lost
 returns-clause-lost g c =
     let a : Device = g.F.Flash.device c.args.flash.now in
     let area : Area = c.args.area.now in
     let lawful = g.met.F.Flash.is_lawful c.args.flash.now in
-    let is_area = c.requires.lawful.in_bank in
+    let is_area = c.requires.scanned.lawful.in_bank in
     let unit : ℕ = unit_of a area in
     let place : ℕ = c.args.scan.now.current in
     let old : List (List ℕ) = sectors_of a area in
     let b : List ℕ = sector_bytes a area place in
     let count : length old ≡ area.sectors = length-sectors a area in
-    let is : open_sector (reading unit) old ≡ place = open_is unit old c.args.scan.now c.requires.scan in
-    let inside : open_sector (reading unit) old < length old = open_within (reading unit) old (omega (arith, c.requires.lawful.several)) in
+    let is : open_sector (reading unit) old ≡ place = open_is unit old c.args.scan.now c.requires.scanned.scan in
+    let inside : open_sector (reading unit) old < length old = open_within (reading unit) old (omega (arith, c.requires.scanned.lawful.several)) in
     let within : place < length old = omega arith in
     let has_sector : place < area.sectors = omega arith in
-    let scanned : c.args.scan.now ≡ scan_at unit old place = scan_there unit old c.args.scan.now c.requires.scan in
+    let scanned : c.args.scan.now ≡ scan_at unit old place = scan_there unit old c.args.scan.now c.requires.scanned.scan in
     let lowest : c.args.scan.now.low ≡ low unit b = ap (λ (s : Scan). s.low) scanned in
     let end : c.args.scan.now.data_end ≡ data_end unit b = ap (λ (s : Scan). s.data_end) scanned in
     let is-unit : IsUnit unit = unit_is a area lawful is_area in
@@ -133,24 +133,24 @@ returns-clause-lost g c =
     let size : c.geometry-g.result.sector ≡ sector_size a area = ap (λ (x : Geometry). x.sector) c.geometry-g.ensures in
     let at : c.geometry-g.result.sector - c.slot_size.result ≡ length b - slot_size unit = omega arith in
     let last : Device = g.F.Flash.device c.program_padded.new.flash in
-    on_err_weaker c.program_padded.result (λ part. close_cut a area lawful is_area place has_sector last c.requires.not_closed c.requires.lawful.at_least (omega (arith, c.requires.lawful.at_most)) (subst (λ (offset : ℕ). WritesPart a last area place offset (padded_bytes unit (encoded e))) at (subst (λ (xs : List ℕ). WritesPart a last area place (c.geometry-g.result.sector - c.slot_size.result) (padded_bytes unit xs)) encoded_is part))) c.program_padded.ensures.lost
+    on_err_weaker c.program_padded.result (λ part. close_cut a area lawful is_area place has_sector last c.requires.not_closed c.requires.scanned.lawful.at_least (omega (arith, c.requires.scanned.lawful.at_most)) (subst (λ (offset : ℕ). WritesPart a last area place offset (padded_bytes unit (encoded e))) at (subst (λ (xs : List ℕ). WritesPart a last area place (c.geometry-g.result.sector - c.slot_size.result) (padded_bytes unit xs)) encoded_is part))) c.program_padded.ensures.lost
 
 pub returns-clause-spent : goal.returns-clause-spent
 returns-clause-spent g c =
     let a : Device = g.F.Flash.device c.args.flash.now in
     let area : Area = c.args.area.now in
     let lawful = g.met.F.Flash.is_lawful c.args.flash.now in
-    let is_area = c.requires.lawful.in_bank in
+    let is_area = c.requires.scanned.lawful.in_bank in
     let unit : ℕ = unit_of a area in
     let place : ℕ = c.args.scan.now.current in
     let old : List (List ℕ) = sectors_of a area in
     let b : List ℕ = sector_bytes a area place in
     let count : length old ≡ area.sectors = length-sectors a area in
-    let is : open_sector (reading unit) old ≡ place = open_is unit old c.args.scan.now c.requires.scan in
-    let inside : open_sector (reading unit) old < length old = open_within (reading unit) old (omega (arith, c.requires.lawful.several)) in
+    let is : open_sector (reading unit) old ≡ place = open_is unit old c.args.scan.now c.requires.scanned.scan in
+    let inside : open_sector (reading unit) old < length old = open_within (reading unit) old (omega (arith, c.requires.scanned.lawful.several)) in
     let within : place < length old = omega arith in
     let has_sector : place < area.sectors = omega arith in
-    let scanned : c.args.scan.now ≡ scan_at unit old place = scan_there unit old c.args.scan.now c.requires.scan in
+    let scanned : c.args.scan.now ≡ scan_at unit old place = scan_there unit old c.args.scan.now c.requires.scanned.scan in
     let lowest : c.args.scan.now.low ≡ low unit b = ap (λ (s : Scan). s.low) scanned in
     let end : c.args.scan.now.data_end ≡ data_end unit b = ap (λ (s : Scan). s.data_end) scanned in
     let is-unit : IsUnit unit = unit_is a area lawful is_area in
@@ -167,17 +167,17 @@ returns-clause-spent_at_most g c =
     let a : Device = g.F.Flash.device c.args.flash.now in
     let area : Area = c.args.area.now in
     let lawful = g.met.F.Flash.is_lawful c.args.flash.now in
-    let is_area = c.requires.lawful.in_bank in
+    let is_area = c.requires.scanned.lawful.in_bank in
     let unit : ℕ = unit_of a area in
     let place : ℕ = c.args.scan.now.current in
     let old : List (List ℕ) = sectors_of a area in
     let b : List ℕ = sector_bytes a area place in
     let count : length old ≡ area.sectors = length-sectors a area in
-    let is : open_sector (reading unit) old ≡ place = open_is unit old c.args.scan.now c.requires.scan in
-    let inside : open_sector (reading unit) old < length old = open_within (reading unit) old (omega (arith, c.requires.lawful.several)) in
+    let is : open_sector (reading unit) old ≡ place = open_is unit old c.args.scan.now c.requires.scanned.scan in
+    let inside : open_sector (reading unit) old < length old = open_within (reading unit) old (omega (arith, c.requires.scanned.lawful.several)) in
     let within : place < length old = omega arith in
     let has_sector : place < area.sectors = omega arith in
-    let scanned : c.args.scan.now ≡ scan_at unit old place = scan_there unit old c.args.scan.now c.requires.scan in
+    let scanned : c.args.scan.now ≡ scan_at unit old place = scan_there unit old c.args.scan.now c.requires.scanned.scan in
     let lowest : c.args.scan.now.low ≡ low unit b = ap (λ (s : Scan). s.low) scanned in
     let end : c.args.scan.now.data_end ≡ data_end unit b = ap (λ (s : Scan). s.data_end) scanned in
     let is-unit : IsUnit unit = unit_is a area lawful is_area in
@@ -194,17 +194,17 @@ returns-clause-image g c =
     let a : Device = g.F.Flash.device c.args.flash.now in
     let area : Area = c.args.area.now in
     let lawful = g.met.F.Flash.is_lawful c.args.flash.now in
-    let is_area = c.requires.lawful.in_bank in
+    let is_area = c.requires.scanned.lawful.in_bank in
     let unit : ℕ = unit_of a area in
     let place : ℕ = c.args.scan.now.current in
     let old : List (List ℕ) = sectors_of a area in
     let b : List ℕ = sector_bytes a area place in
     let count : length old ≡ area.sectors = length-sectors a area in
-    let is : open_sector (reading unit) old ≡ place = open_is unit old c.args.scan.now c.requires.scan in
-    let inside : open_sector (reading unit) old < length old = open_within (reading unit) old (omega (arith, c.requires.lawful.several)) in
+    let is : open_sector (reading unit) old ≡ place = open_is unit old c.args.scan.now c.requires.scanned.scan in
+    let inside : open_sector (reading unit) old < length old = open_within (reading unit) old (omega (arith, c.requires.scanned.lawful.several)) in
     let within : place < length old = omega arith in
     let has_sector : place < area.sectors = omega arith in
-    let scanned : c.args.scan.now ≡ scan_at unit old place = scan_there unit old c.args.scan.now c.requires.scan in
+    let scanned : c.args.scan.now ≡ scan_at unit old place = scan_there unit old c.args.scan.now c.requires.scanned.scan in
     let lowest : c.args.scan.now.low ≡ low unit b = ap (λ (s : Scan). s.low) scanned in
     let end : c.args.scan.now.data_end ≡ data_end unit b = ap (λ (s : Scan). s.data_end) scanned in
     let is-unit : IsUnit unit = unit_is a area lawful is_area in
@@ -216,4 +216,4 @@ returns-clause-image g c =
     let size : c.geometry-g.result.sector ≡ sector_size a area = ap (λ (x : Geometry). x.sector) c.geometry-g.ensures in
     let at : c.geometry-g.result.sector - c.slot_size.result ≡ length b - slot_size unit = omega arith in
     let last : Device = g.F.Flash.device c.program_padded.new.flash in
-    on_ok_weaker c.program_padded.result (λ writes. close_image a area lawful is_area place has_sector last c.requires.not_closed c.requires.lawful.at_least (omega (arith, c.requires.lawful.at_most)) (subst (λ (offset : ℕ). Writes a last area place offset (padded_bytes unit (encoded e))) at (subst (λ (xs : List ℕ). Writes a last area place (c.geometry-g.result.sector - c.slot_size.result) (padded_bytes unit xs)) encoded_is writes))) c.program_padded.ensures.ok
+    on_ok_weaker c.program_padded.result (λ writes. close_image a area lawful is_area place has_sector last c.requires.not_closed c.requires.scanned.lawful.at_least (omega (arith, c.requires.scanned.lawful.at_most)) (subst (λ (offset : ℕ). Writes a last area place offset (padded_bytes unit (encoded e))) at (subst (λ (xs : List ℕ). Writes a last area place (c.geometry-g.result.sector - c.slot_size.result) (padded_bytes unit xs)) encoded_is writes))) c.program_padded.ensures.ok

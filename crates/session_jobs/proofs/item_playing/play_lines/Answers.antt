@@ -8,6 +8,7 @@ use Rattle.image_jobs.specs.Plays.{file_of}
 use Rattle.session_jobs.specs.ItemPlays.{ServesItems, texts}
 use Rattle.session_jobs.proofs.ItemAreaLemmas.{serves_items}
 use Rattle.session_jobs.proofs.ItemEndings.{played, stopped, wanted}
+use Rattle.session_jobs.proofs.TellLemmas.{each_has_text}
 use Rattle.session_jobs.proofs.item_playing.play_lines.Goals as goal
 
 pub run_by_role-ran-requires-clause-serves : goal.run_by_role-ran-requires-clause-serves
@@ -24,6 +25,9 @@ returns-in-Err g c = λ outside name script has plays.
     let image = c.args.opened.image in
     stopped name script c.args.out.now outside image.banks.items (contents image.bytes.items) image.map c.args.opened.area c.requires.area c.args.lines.now bench bench' has plays first c.in_ok-load.ensures.ok
     c.in-Err.fault c.stop_of.result c.in-Err.ensures.ends c.stop_of.ensures
+
+pub all_texts-requires : goal.all_texts-requires
+all_texts-requires g c = each_has_text c.as_slice.result.now
 
 pub returns-in-Err-all_texts : goal.returns-in-Err-all_texts
 returns-in-Err-all_texts g c = λ outside name script has plays.

@@ -16,8 +16,13 @@ use Rattle.zms_cycle.proofs.copying.copy_value.Goals as goal
 pub returns-then-from-le-TAIL-clause-ok : goal.returns-then-from-le-TAIL-clause-ok
 returns-then-from-le-TAIL-clause-ok g c = let len = c.requires.len in short_value (sector_bytes (g.F.Flash.device c.args.flash.now) c.args.area.now c.args.sector) c.args.to (value_of (sector_bytes (g.F.Flash.device c.args.flash.now) c.args.area.now c.args.from_sector) c.args.from.now) (omega arith)
 
-pub returns-then-from-le-TAIL-clause-spends : goal.returns-then-from-le-TAIL-clause-spends
-returns-then-from-le-TAIL-clause-spends g c = short_spends (g.F.Flash.device c.args.flash.now) c.args.from.now.len (omega arith)
+pub returns-then-from-le-TAIL-clause-ends : goal.returns-then-from-le-TAIL-clause-ends
+returns-then-from-le-TAIL-clause-ends g c = record {
+  lost = tt;
+  spends = short_spends (g.F.Flash.device c.args.flash.now) c.args.from.now.len (omega arith);
+  in_pieces = tt;
+  spends_lost = tt;
+}
 
 pub copy_bytes-requires-clause-from : goal.copy_bytes-requires-clause-from
 copy_bytes-requires-clause-from g c =
@@ -26,23 +31,23 @@ copy_bytes-requires-clause-from g c =
     let fits = range_fits (sector_bytes (g.F.Flash.device c.args.flash.now) c.args.area.now c.args.from_sector) (offset_of c.args.from.now) c.args.from.now.len (omega arith) (ap length (sym (long_value_is (sector_bytes (g.F.Flash.device c.args.flash.now) c.args.area.now c.args.from_sector) c.args.from.now (omega arith))) ∙ c.requires.len) in
     omega (arith, size, at, fits)
 
-pub copy_bytes-requires-clause-fits : goal.copy_bytes-requires-clause-fits
-copy_bytes-requires-clause-fits g c = let fits = c.requires.fits in let len = long_len c.args.from.now.len (omega arith) in omega arith
-
-pub copy_bytes-requires-clause-erased : goal.copy_bytes-requires-clause-erased
-copy_bytes-requires-clause-erased g c erasing =
-    let len = long_len c.args.from.now.len (omega arith) in
-    subst (λ (n : ℕ). is_erased (slice_range (sector_bytes (g.F.Flash.device c.args.flash.now) c.args.area.now c.args.sector) c.args.to (c.args.to + n)) ≡ true) len (c.requires.erased erasing)
+pub copy_bytes-requires-clause-place : goal.copy_bytes-requires-clause-place
+copy_bytes-requires-clause-place g c = record {
+  fits = let fits = c.requires.place.fits in let len = long_len c.args.from.now.len (omega arith) in omega arith;
+  aligned = c.requires.place.aligned;
+  erased = λ erasing.
+      let len = long_len c.args.from.now.len (omega arith) in
+      subst (λ (n : ℕ). is_erased (slice_range (sector_bytes (g.F.Flash.device c.args.flash.now) c.args.area.now c.args.sector) c.args.to (c.args.to + n)) ≡ true) len (c.requires.place.erased erasing);
+}
 
 pub returns-clause-ok : goal.returns-clause-ok
 returns-clause-ok g c =
     on_ok_weaker c.copy_bytes.result (λ is. is ∙ ap (λ (n : ℕ). overwritten (sector_bytes (g.F.Flash.device c.args.flash.now) c.args.area.now c.args.sector) c.args.to (padded_bytes 16 (slice_range (sector_bytes (g.F.Flash.device c.args.flash.now) c.args.area.now c.args.from_sector) n (n + c.args.from.now.len)))) c.offset_of.ensures ∙ with_copy (sector_bytes (g.F.Flash.device c.args.flash.now) c.args.area.now c.args.sector) (sector_bytes (g.F.Flash.device c.args.flash.now) c.args.area.now c.args.from_sector) c.args.from.now c.args.to (omega arith) c.requires.len) c.copy_bytes.ensures.ok
 
-pub returns-clause-lost : goal.returns-clause-lost
-returns-clause-lost g c = on_err_weaker c.copy_bytes.result (λ part. subst (λ (n : ℕ). HasPart (sector_bytes (g.F.Flash.device c.args.flash.now) c.args.area.now c.args.sector) (sector_bytes (g.F.Flash.device c.copy_bytes.new.flash) c.args.area.now c.args.sector) c.args.to n) (sym (long_len c.args.from.now.len (omega arith))) part) c.copy_bytes.ensures.lost
-
-pub returns-clause-spends : goal.returns-clause-spends
-returns-clause-spends g c = on_ok_weaker c.copy_bytes.result (λ spends. subst (λ (n : ℕ). SpendsBetween (g.F.Flash.device c.args.flash.now) (g.F.Flash.device c.copy_bytes.new.flash) (n / 16) (n / 16)) (sym (long_len c.args.from.now.len (omega arith))) spends) c.copy_bytes.ensures.spends
-
-pub returns-clause-spends_lost : goal.returns-clause-spends_lost
-returns-clause-spends_lost g c = on_err_weaker c.copy_bytes.result (λ spends. subst (λ (n : ℕ). SpendsBetween (g.F.Flash.device c.args.flash.now) (g.F.Flash.device c.copy_bytes.new.flash) 0 (n / 16)) (sym (long_len c.args.from.now.len (omega arith))) spends) c.copy_bytes.ensures.spends_lost
+pub returns-clause-ends : goal.returns-clause-ends
+returns-clause-ends g c = record {
+  lost = on_err_weaker c.copy_bytes.result (λ part. subst (λ (n : ℕ). HasPart (sector_bytes (g.F.Flash.device c.args.flash.now) c.args.area.now c.args.sector) (sector_bytes (g.F.Flash.device c.copy_bytes.new.flash) c.args.area.now c.args.sector) c.args.to n) (sym (long_len c.args.from.now.len (omega arith))) part) c.copy_bytes.ensures.ends.lost;
+  spends = on_ok_weaker c.copy_bytes.result (λ spends. subst (λ (n : ℕ). SpendsBetween (g.F.Flash.device c.args.flash.now) (g.F.Flash.device c.copy_bytes.new.flash) (n / 16) (n / 16)) (sym (long_len c.args.from.now.len (omega arith))) spends) c.copy_bytes.ensures.ends.spends;
+  in_pieces = c.copy_bytes.ensures.ends.in_pieces;
+  spends_lost = on_err_weaker c.copy_bytes.result (λ spends. subst (λ (n : ℕ). SpendsBetween (g.F.Flash.device c.args.flash.now) (g.F.Flash.device c.copy_bytes.new.flash) 0 (n / 16)) (sym (long_len c.args.from.now.len (omega arith))) spends) c.copy_bytes.ensures.ends.spends_lost;
+}

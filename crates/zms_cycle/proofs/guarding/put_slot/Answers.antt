@@ -21,15 +21,15 @@ returns-clause-others g c = others_then (g.F.Flash.device c.args.flash.now) (g.F
 pub returns-clause-spends : goal.returns-clause-spends
 returns-clause-spends g c =
     let few = few_units (kind_on (g.F.Flash.device c.args.flash.now) c.args.area.now) (Some c.args.entry.now.cycle) (c.args.slot + 1) (sector_bytes (g.F.Flash.device c.args.flash.now) c.args.area.now c.args.sector) in
-    on_ok_weaker c.put_unit.result (λ spends. between_within (between_then c.in_ok-guard.ensures.spends spends) 1 2 (omega arith) (omega arith)) c.put_unit.ensures.spends
+    on_ok_weaker c.put_unit.result (λ spends. between_within (between_then c.in_ok-guard.ensures.ends.spends spends) 1 2 (omega arith) (omega arith)) c.put_unit.ensures.ends.spends
 
 pub returns-clause-spends_lost : goal.returns-clause-spends_lost
 returns-clause-spends_lost g c =
     let few = few_units (kind_on (g.F.Flash.device c.args.flash.now) c.args.area.now) (Some c.args.entry.now.cycle) (c.args.slot + 1) (sector_bytes (g.F.Flash.device c.args.flash.now) c.args.area.now c.args.sector) in
-    on_err_weaker c.put_unit.result (λ spends. between_within (between_then c.in_ok-guard.ensures.spends spends) 0 1 (omega arith) (omega arith)) c.put_unit.ensures.spends_lost
+    on_err_weaker c.put_unit.result (λ spends. between_within (between_then c.in_ok-guard.ensures.ends.spends spends) 0 1 (omega arith) (omega arith)) c.put_unit.ensures.ends.spends_lost
 
 pub returns-clause-guards : goal.returns-clause-guards
-returns-clause-guards g c = on_ok_weaker c.put_unit.result (λ spends. between_within (between_then c.in_ok-guard.ensures.spends spends) _ _ (omega arith) (omega arith)) c.put_unit.ensures.spends
+returns-clause-guards g c = on_ok_weaker c.put_unit.result (λ spends. between_within (between_then c.in_ok-guard.ensures.ends.spends spends) _ _ (omega arith) (omega arith)) c.put_unit.ensures.ends.spends
 
 pub returns-clause-in_pieces : goal.returns-clause-in_pieces
-returns-clause-in_pieces g c = on_err_weaker c.put_unit.result (within_then SLOT (g.F.Flash.device c.args.flash.now) (g.F.Flash.device c.guard.new.flash) (g.F.Flash.device c.put_unit.new.flash) (c.args.area.now ∷ []) c.in_ok-guard.ensures.touches) c.put_unit.ensures.in_pieces
+returns-clause-in_pieces g c = on_err_weaker c.put_unit.result (within_then SLOT (g.F.Flash.device c.args.flash.now) (g.F.Flash.device c.guard.new.flash) (g.F.Flash.device c.put_unit.new.flash) (c.args.area.now ∷ []) c.in_ok-guard.ensures.touches) c.put_unit.ensures.ends.in_pieces

@@ -14,20 +14,16 @@ area_program-requires-clause-can g c =
 pub returns-clause-ok : goal.returns-clause-ok
 returns-clause-ok g c = on_ok_weaker c.area_program.result (unit_written (g.F.Flash.device c.args.flash.now) (g.F.Flash.device c.area_program.new.flash) c.args.area.now c.args.sector c.args.slot c.slot_start-start.result c.args.bytes.now c.requires.zms (g.met.F.Flash.is_lawful c.args.flash.now) c.slot_start-start.ensures c.requires.slot c.requires.unit) c.area_program.ensures.written
 
-pub returns-clause-lost : goal.returns-clause-lost
-returns-clause-lost g c = on_err_weaker c.area_program.result (unit_lost (g.F.Flash.device c.args.flash.now) (g.F.Flash.device c.area_program.new.flash) c.args.area.now c.args.sector c.args.slot c.slot_start-start.result c.args.bytes.now c.requires.zms (g.met.F.Flash.is_lawful c.args.flash.now) c.slot_start-start.ensures c.requires.slot c.requires.unit) c.area_program.ensures.part
+pub returns-clause-ends : goal.returns-clause-ends
+returns-clause-ends g c = record {
+  lost = on_err_weaker c.area_program.result (unit_lost (g.F.Flash.device c.args.flash.now) (g.F.Flash.device c.area_program.new.flash) c.args.area.now c.args.sector c.args.slot c.slot_start-start.result c.args.bytes.now c.requires.zms (g.met.F.Flash.is_lawful c.args.flash.now) c.slot_start-start.ensures c.requires.slot c.requires.unit) c.area_program.ensures.part;
+  spends = on_ok_weaker c.area_program.result (unit_spends (g.F.Flash.device c.args.flash.now) (g.F.Flash.device c.area_program.new.flash) c.args.area.now c.args.sector c.args.slot c.slot_start-start.result c.args.bytes.now c.requires.zms (g.met.F.Flash.is_lawful c.args.flash.now) c.slot_start-start.ensures c.requires.slot c.requires.unit (place_of (g.F.Flash.device c.args.flash.now) c.args.area.now c.args.sector c.slot_start-start.result) refl) c.area_program.ensures.ok;
+  in_pieces = on_err_weaker c.area_program.result (λ fails. loses_one SLOT (g.F.Flash.device c.args.flash.now) (g.F.Flash.device c.area_program.new.flash) (place_of (g.F.Flash.device c.args.flash.now) c.args.area.now c.args.sector c.slot_start-start.result) c.args.bytes.now fails (omega (arith, c.requires.unit))) c.area_program.ensures.lost;
+  spends_lost = on_err_weaker c.area_program.result (unit_spends_lost (g.F.Flash.device c.args.flash.now) (g.F.Flash.device c.area_program.new.flash) c.args.area.now c.args.sector c.args.slot c.slot_start-start.result c.args.bytes.now c.requires.zms (g.met.F.Flash.is_lawful c.args.flash.now) c.slot_start-start.ensures c.requires.slot c.requires.unit (place_of (g.F.Flash.device c.args.flash.now) c.args.area.now c.args.sector c.slot_start-start.result) refl) c.area_program.ensures.lost;
+}
 
 pub returns-clause-others : goal.returns-clause-others
 returns-clause-others g c =
     both_ends c.area_program.result
     (on_ok_weaker c.area_program.result (unit_others (g.F.Flash.device c.args.flash.now) (g.F.Flash.device c.area_program.new.flash) c.args.area.now c.args.sector c.args.slot c.slot_start-start.result c.args.bytes.now c.requires.zms (g.met.F.Flash.is_lawful c.args.flash.now) c.slot_start-start.ensures c.requires.slot c.requires.unit) c.area_program.ensures.written)
-    (on_err_weaker c.area_program.result (λ same. others_same (g.F.Flash.device c.args.flash.now) (g.F.Flash.device c.area_program.new.flash) c.args.area.now c.args.sector same) (returns-clause-lost g c))
-
-pub returns-clause-spends : goal.returns-clause-spends
-returns-clause-spends g c = on_ok_weaker c.area_program.result (unit_spends (g.F.Flash.device c.args.flash.now) (g.F.Flash.device c.area_program.new.flash) c.args.area.now c.args.sector c.args.slot c.slot_start-start.result c.args.bytes.now c.requires.zms (g.met.F.Flash.is_lawful c.args.flash.now) c.slot_start-start.ensures c.requires.slot c.requires.unit (place_of (g.F.Flash.device c.args.flash.now) c.args.area.now c.args.sector c.slot_start-start.result) refl) c.area_program.ensures.ok
-
-pub returns-clause-spends_lost : goal.returns-clause-spends_lost
-returns-clause-spends_lost g c = on_err_weaker c.area_program.result (unit_spends_lost (g.F.Flash.device c.args.flash.now) (g.F.Flash.device c.area_program.new.flash) c.args.area.now c.args.sector c.args.slot c.slot_start-start.result c.args.bytes.now c.requires.zms (g.met.F.Flash.is_lawful c.args.flash.now) c.slot_start-start.ensures c.requires.slot c.requires.unit (place_of (g.F.Flash.device c.args.flash.now) c.args.area.now c.args.sector c.slot_start-start.result) refl) c.area_program.ensures.lost
-
-pub returns-clause-in_pieces : goal.returns-clause-in_pieces
-returns-clause-in_pieces g c = on_err_weaker c.area_program.result (λ fails. loses_one SLOT (g.F.Flash.device c.args.flash.now) (g.F.Flash.device c.area_program.new.flash) (place_of (g.F.Flash.device c.args.flash.now) c.args.area.now c.args.sector c.slot_start-start.result) c.args.bytes.now fails (omega (arith, c.requires.unit))) c.area_program.ensures.lost
+    (on_err_weaker c.area_program.result (λ same. others_same (g.F.Flash.device c.args.flash.now) (g.F.Flash.device c.area_program.new.flash) c.args.area.now c.args.sector same) (returns-clause-ends g c).lost)

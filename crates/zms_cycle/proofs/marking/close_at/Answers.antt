@@ -67,19 +67,19 @@ returns-clause-ok g c =
 
 pub returns-clause-lost : goal.returns-clause-lost
 returns-clause-lost g c =
-    on_err_weaker c.put_unit.result (λ same. keeps_equal (kind_on (g.F.Flash.device c.args.flash.now) c.args.area.now) (sector_bytes (g.F.Flash.device c.args.flash.now) c.args.area.now c.args.sector) (sector_bytes (g.F.Flash.device c.fill_free.new.flash) c.args.area.now c.args.sector) (sector_bytes (g.F.Flash.device c.put_unit.new.flash) c.args.area.now c.args.sector) c.in_ok-fill_free.ensures.keeps (same_bytes (g.F.Flash.device c.fill_free.new.flash) (g.F.Flash.device c.put_unit.new.flash) c.args.area.now c.args.sector same)) c.put_unit.ensures.lost
+    on_err_weaker c.put_unit.result (λ same. keeps_equal (kind_on (g.F.Flash.device c.args.flash.now) c.args.area.now) (sector_bytes (g.F.Flash.device c.args.flash.now) c.args.area.now c.args.sector) (sector_bytes (g.F.Flash.device c.fill_free.new.flash) c.args.area.now c.args.sector) (sector_bytes (g.F.Flash.device c.put_unit.new.flash) c.args.area.now c.args.sector) c.in_ok-fill_free.ensures.keeps (same_bytes (g.F.Flash.device c.fill_free.new.flash) (g.F.Flash.device c.put_unit.new.flash) c.args.area.now c.args.sector same)) c.put_unit.ensures.ends.lost
 
 pub returns-clause-idle_lost : goal.returns-clause-idle_lost
 returns-clause-idle_lost g c = λ erasing.
     on_err_weaker c.put_unit.result
     (λ same. same_bytes (g.F.Flash.device c.fill_free.new.flash) (g.F.Flash.device c.put_unit.new.flash) c.args.area.now c.args.sector same ∙ ap (λ (d : Device). sector_bytes d c.args.area.now c.args.sector) (c.in_ok-fill_free.ensures.idle erasing))
-    c.put_unit.ensures.lost
+    c.put_unit.ensures.ends.lost
 
 pub returns-clause-spends : goal.returns-clause-spends
 returns-clause-spends g c =
     let some = closing_some (kind_on (g.F.Flash.device c.args.flash.now) c.args.area.now) (free_on (g.F.Flash.device c.args.flash.now) c.args.area.now c.args.sector) in
-    on_ok_weaker c.put_unit.result (λ spends. between_within (between_then c.in_ok-fill_free.ensures.spends spends) 1 (closing_units (g.F.Flash.device c.args.flash.now) c.args.area.now c.args.sector) (omega arith) (omega arith)) c.put_unit.ensures.spends
+    on_ok_weaker c.put_unit.result (λ spends. between_within (between_then c.in_ok-fill_free.ensures.spends spends) 1 (closing_units (g.F.Flash.device c.args.flash.now) c.args.area.now c.args.sector) (omega arith) (omega arith)) c.put_unit.ensures.ends.spends
 
 pub returns-clause-spends_lost : goal.returns-clause-spends_lost
 returns-clause-spends_lost g c =
-    on_err_weaker c.put_unit.result (λ spends. between_within (between_then c.in_ok-fill_free.ensures.spends spends) 0 (closing_units (g.F.Flash.device c.args.flash.now) c.args.area.now c.args.sector) (omega arith) (omega arith)) c.put_unit.ensures.spends_lost
+    on_err_weaker c.put_unit.result (λ spends. between_within (between_then c.in_ok-fill_free.ensures.spends spends) 0 (closing_units (g.F.Flash.device c.args.flash.now) c.args.area.now c.args.sector) (omega arith) (omega arith)) c.put_unit.ensures.ends.spends_lost

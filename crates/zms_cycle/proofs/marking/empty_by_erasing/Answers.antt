@@ -46,15 +46,15 @@ returns-clause-lost g c =
     let size = size_is (g.F.Flash.device c.args.flash.now) c.args.area.now c.args.sector c.requires.zms (g.met.F.Flash.is_lawful c.args.flash.now) in
     let due : not c.is_erased-is_used.result ≡ not (is_erased (sector_bytes (g.F.Flash.device c.args.flash.now) c.args.area.now c.args.sector)) = ap (λ (t : Bool). not t) (c.is_erased-is_used.ensures ∙ ap is_erased c.sector_view.ensures.bytes) in
     let blank = erased_mid (g.F.Flash.device c.args.flash.now) (g.F.Flash.device c.erase_if.new.flash) c.args.area.now c.args.sector (not c.is_erased-is_used.result) c.requires.zms size due c.in_ok-erase_if.ensures.erased in
-    on_err_weaker c.put_unit.result (λ same. stops_blank (kind_on (g.F.Flash.device c.args.flash.now) c.args.area.now) (sector_bytes (g.F.Flash.device c.args.flash.now) c.args.area.now c.args.sector) (sector_bytes (g.F.Flash.device c.erase_if.new.flash) c.args.area.now c.args.sector) (sector_bytes (g.F.Flash.device c.put_unit.new.flash) c.args.area.now c.args.sector) c.requires.kind blank (same_bytes (g.F.Flash.device c.erase_if.new.flash) (g.F.Flash.device c.put_unit.new.flash) c.args.area.now c.args.sector same)) c.put_unit.ensures.lost
+    on_err_weaker c.put_unit.result (λ same. stops_blank (kind_on (g.F.Flash.device c.args.flash.now) c.args.area.now) (sector_bytes (g.F.Flash.device c.args.flash.now) c.args.area.now c.args.sector) (sector_bytes (g.F.Flash.device c.erase_if.new.flash) c.args.area.now c.args.sector) (sector_bytes (g.F.Flash.device c.put_unit.new.flash) c.args.area.now c.args.sector) c.requires.kind blank (same_bytes (g.F.Flash.device c.erase_if.new.flash) (g.F.Flash.device c.put_unit.new.flash) c.args.area.now c.args.sector same)) c.put_unit.ensures.ends.lost
 
 pub returns-clause-guards : goal.returns-clause-guards
 returns-clause-guards g c =
     let due : not c.is_erased-is_used.result ≡ not (is_erased (sector_bytes (g.F.Flash.device c.args.flash.now) c.args.area.now c.args.sector)) = ap (λ (t : Bool). not t) (c.is_erased-is_used.ensures ∙ ap is_erased c.sector_view.ensures.bytes) in
     let all = emptying_erase (kind_on (g.F.Flash.device c.args.flash.now) c.args.area.now) (sector_bytes (g.F.Flash.device c.args.flash.now) c.args.area.now c.args.sector) (not c.is_erased-is_used.result) c.requires.kind due in
-    on_ok_weaker c.put_unit.result (λ spends. between_within (between_then (between_exact (g.F.Flash.device c.args.flash.now) (g.F.Flash.device c.erase_if.new.flash) (cond (not c.is_erased-is_used.result) 1 0) c.in_ok-erase_if.ensures.units) spends) (emptying_units (g.F.Flash.device c.args.flash.now) c.args.area.now c.args.sector) (emptying_units (g.F.Flash.device c.args.flash.now) c.args.area.now c.args.sector) (omega arith) (omega arith)) c.put_unit.ensures.spends
+    on_ok_weaker c.put_unit.result (λ spends. between_within (between_then (between_exact (g.F.Flash.device c.args.flash.now) (g.F.Flash.device c.erase_if.new.flash) (cond (not c.is_erased-is_used.result) 1 0) c.in_ok-erase_if.ensures.units) spends) (emptying_units (g.F.Flash.device c.args.flash.now) c.args.area.now c.args.sector) (emptying_units (g.F.Flash.device c.args.flash.now) c.args.area.now c.args.sector) (omega arith) (omega arith)) c.put_unit.ensures.ends.spends
 
 pub returns-clause-spends_lost : goal.returns-clause-spends_lost
 returns-clause-spends_lost g c =
     let few = zero_or_one (not c.is_erased-is_used.result) in
-    on_err_weaker c.put_unit.result (λ spends. between_within (between_then (between_exact (g.F.Flash.device c.args.flash.now) (g.F.Flash.device c.erase_if.new.flash) (cond (not c.is_erased-is_used.result) 1 0) c.in_ok-erase_if.ensures.units) spends) 0 1 (omega arith) (omega arith)) c.put_unit.ensures.spends_lost
+    on_err_weaker c.put_unit.result (λ spends. between_within (between_then (between_exact (g.F.Flash.device c.args.flash.now) (g.F.Flash.device c.erase_if.new.flash) (cond (not c.is_erased-is_used.result) 1 0) c.in_ok-erase_if.ensures.units) spends) 0 1 (omega arith) (omega arith)) c.put_unit.ensures.ends.spends_lost

@@ -18,10 +18,10 @@ pub put_unit-requires-clause-zms : goal.put_unit-requires-clause-zms
 put_unit-requires-clause-zms g c = still_zms (g.F.Flash.device c.guard.new.flash) (g.F.Flash.device c.guard-2.new.flash) c.args.area.now c.args.sector c.in_ok-guard-2.ensures.touches.banks (still_zms (g.F.Flash.device c.args.flash.now) (g.F.Flash.device c.guard.new.flash) c.args.area.now c.args.sector c.in_ok-guard.ensures.touches.banks c.requires.zms)
 
 pub returns-in_err-guard-clause-lost : goal.returns-in_err-guard-clause-lost
-returns-in_err-guard-clause-lost g c = on_err c.from_residual.result (kept_none (sector_bytes (g.F.Flash.device c.args.flash.now) c.args.area.now c.args.sector) (sector_bytes (g.F.Flash.device c.guard.new.flash) c.args.area.now c.args.sector) (same_bytes (g.F.Flash.device c.args.flash.now) (g.F.Flash.device c.guard.new.flash) c.args.area.now c.args.sector c.in_err-guard.ensures.lost))
+returns-in_err-guard-clause-lost g c = on_err c.from_residual.result (kept_none (sector_bytes (g.F.Flash.device c.args.flash.now) c.args.area.now c.args.sector) (sector_bytes (g.F.Flash.device c.guard.new.flash) c.args.area.now c.args.sector) (same_bytes (g.F.Flash.device c.args.flash.now) (g.F.Flash.device c.guard.new.flash) c.args.area.now c.args.sector c.in_err-guard.ensures.ends.lost))
 
 pub returns-in_err-guard-clause-spends_lost : goal.returns-in_err-guard-clause-spends_lost
-returns-in_err-guard-clause-spends_lost g c = on_err c.from_residual.result (between_within c.in_err-guard.ensures.spends_lost 0 2 (omega arith) (omega arith))
+returns-in_err-guard-clause-spends_lost g c = on_err c.from_residual.result (between_within c.in_err-guard.ensures.ends.spends_lost 0 2 (omega arith) (omega arith))
 
 pub returns-in_err-guard-2-clause-others : goal.returns-in_err-guard-2-clause-others
 returns-in_err-guard-2-clause-others g c = others_then (g.F.Flash.device c.args.flash.now) (g.F.Flash.device c.guard.new.flash) (g.F.Flash.device c.guard-2.new.flash) c.args.area.now c.args.sector c.in_ok-guard.ensures.others c.in_err-guard-2.ensures.others
@@ -31,12 +31,12 @@ returns-in_err-guard-2-clause-lost g c =
     let size = size_is (g.F.Flash.device c.args.flash.now) c.args.area.now c.args.sector c.requires.zms (g.met.F.Flash.is_lawful c.args.flash.now) in
     let least = c.requires.zms.lawful.at_least in
     let first = as_rewritable (kind_on (g.F.Flash.device c.args.flash.now) c.args.area.now) c.args.cycle 1 (sector_bytes (g.F.Flash.device c.args.flash.now) c.args.area.now c.args.sector) (sector_bytes (g.F.Flash.device c.guard.new.flash) c.args.area.now c.args.sector) c.requires.kind c.in_ok-guard.ensures.ok in
-    on_err c.from_residual-in_err-guard-2.result (kept_first (sector_bytes (g.F.Flash.device c.args.flash.now) c.args.area.now c.args.sector) (sector_bytes (g.F.Flash.device c.guard.new.flash) c.args.area.now c.args.sector) (sector_bytes (g.F.Flash.device c.guard-2.new.flash) c.args.area.now c.args.sector) c.args.cycle (omega arith) c.requires.cycle first (same_bytes (g.F.Flash.device c.guard.new.flash) (g.F.Flash.device c.guard-2.new.flash) c.args.area.now c.args.sector c.in_err-guard-2.ensures.lost))
+    on_err c.from_residual-in_err-guard-2.result (kept_first (sector_bytes (g.F.Flash.device c.args.flash.now) c.args.area.now c.args.sector) (sector_bytes (g.F.Flash.device c.guard.new.flash) c.args.area.now c.args.sector) (sector_bytes (g.F.Flash.device c.guard-2.new.flash) c.args.area.now c.args.sector) c.args.cycle (omega arith) c.requires.cycle first (same_bytes (g.F.Flash.device c.guard.new.flash) (g.F.Flash.device c.guard-2.new.flash) c.args.area.now c.args.sector c.in_err-guard-2.ensures.ends.lost))
 
 pub returns-in_err-guard-2-clause-spends_lost : goal.returns-in_err-guard-2-clause-spends_lost
 returns-in_err-guard-2-clause-spends_lost g c =
     let one = few_units (kind_on (g.F.Flash.device c.args.flash.now) c.args.area.now) (Some c.args.cycle) 1 (sector_bytes (g.F.Flash.device c.args.flash.now) c.args.area.now c.args.sector) in
-    on_err c.from_residual-in_err-guard-2.result (between_within (between_then c.in_ok-guard.ensures.spends c.in_err-guard-2.ensures.spends_lost) 0 2 (omega arith) (omega arith))
+    on_err c.from_residual-in_err-guard-2.result (between_within (between_then c.in_ok-guard.ensures.ends.spends c.in_err-guard-2.ensures.ends.spends_lost) 0 2 (omega arith) (omega arith))
 
 pub returns-clause-touches : goal.returns-clause-touches
 returns-clause-touches g c = then (then c.in_ok-guard.ensures.touches c.in_ok-guard-2.ensures.touches) c.put_unit.ensures.touches
@@ -63,7 +63,7 @@ returns-clause-lost g c =
     let first = as_rewritable (kind_on (g.F.Flash.device c.args.flash.now) c.args.area.now) c.args.cycle 1 (sector_bytes (g.F.Flash.device c.args.flash.now) c.args.area.now c.args.sector) (sector_bytes (g.F.Flash.device c.guard.new.flash) c.args.area.now c.args.sector) c.requires.kind c.in_ok-guard.ensures.ok in
     let kind = same_kind (g.F.Flash.device c.args.flash.now) (g.F.Flash.device c.guard.new.flash) c.args.area.now c.in_ok-guard.ensures.touches.banks ∙ c.requires.kind in
     let second = as_rewritable (kind_on (g.F.Flash.device c.guard.new.flash) c.args.area.now) c.args.cycle 2 (sector_bytes (g.F.Flash.device c.guard.new.flash) c.args.area.now c.args.sector) (sector_bytes (g.F.Flash.device c.guard-2.new.flash) c.args.area.now c.args.sector) kind c.in_ok-guard-2.ensures.ok in
-    on_err_weaker c.put_unit.result (λ same. kept_both (sector_bytes (g.F.Flash.device c.args.flash.now) c.args.area.now c.args.sector) (sector_bytes (g.F.Flash.device c.guard.new.flash) c.args.area.now c.args.sector) (sector_bytes (g.F.Flash.device c.guard-2.new.flash) c.args.area.now c.args.sector) (sector_bytes (g.F.Flash.device c.put_unit.new.flash) c.args.area.now c.args.sector) c.args.cycle (omega arith) c.requires.cycle first second (same_bytes (g.F.Flash.device c.guard-2.new.flash) (g.F.Flash.device c.put_unit.new.flash) c.args.area.now c.args.sector same)) c.put_unit.ensures.lost
+    on_err_weaker c.put_unit.result (λ same. kept_both (sector_bytes (g.F.Flash.device c.args.flash.now) c.args.area.now c.args.sector) (sector_bytes (g.F.Flash.device c.guard.new.flash) c.args.area.now c.args.sector) (sector_bytes (g.F.Flash.device c.guard-2.new.flash) c.args.area.now c.args.sector) (sector_bytes (g.F.Flash.device c.put_unit.new.flash) c.args.area.now c.args.sector) c.args.cycle (omega arith) c.requires.cycle first second (same_bytes (g.F.Flash.device c.guard-2.new.flash) (g.F.Flash.device c.put_unit.new.flash) c.args.area.now c.args.sector same)) c.put_unit.ensures.ends.lost
 
 pub returns-clause-guards : goal.returns-clause-guards
 returns-clause-guards g c =
@@ -72,10 +72,10 @@ returns-clause-guards g c =
     let first = as_rewritable (kind_on (g.F.Flash.device c.args.flash.now) c.args.area.now) c.args.cycle 1 (sector_bytes (g.F.Flash.device c.args.flash.now) c.args.area.now c.args.sector) (sector_bytes (g.F.Flash.device c.guard.new.flash) c.args.area.now c.args.sector) c.requires.kind c.in_ok-guard.ensures.ok in
     let kind = same_kind (g.F.Flash.device c.args.flash.now) (g.F.Flash.device c.guard.new.flash) c.args.area.now c.in_ok-guard.ensures.touches.banks ∙ c.requires.kind in
     let all = emptying_guards (kind_on (g.F.Flash.device c.args.flash.now) c.args.area.now) (kind_on (g.F.Flash.device c.guard.new.flash) c.args.area.now) (sector_bytes (g.F.Flash.device c.args.flash.now) c.args.area.now c.args.sector) (sector_bytes (g.F.Flash.device c.guard.new.flash) c.args.area.now c.args.sector) c.args.cycle c.requires.kind kind (omega arith) c.requires.cycle first in
-    on_ok_weaker c.put_unit.result (λ spends. between_within (between_then (between_then c.in_ok-guard.ensures.spends c.in_ok-guard-2.ensures.spends) spends) (emptying_units (g.F.Flash.device c.args.flash.now) c.args.area.now c.args.sector) (emptying_units (g.F.Flash.device c.args.flash.now) c.args.area.now c.args.sector) (omega arith) (omega arith)) c.put_unit.ensures.spends
+    on_ok_weaker c.put_unit.result (λ spends. between_within (between_then (between_then c.in_ok-guard.ensures.ends.spends c.in_ok-guard-2.ensures.ends.spends) spends) (emptying_units (g.F.Flash.device c.args.flash.now) c.args.area.now c.args.sector) (emptying_units (g.F.Flash.device c.args.flash.now) c.args.area.now c.args.sector) (omega arith) (omega arith)) c.put_unit.ensures.ends.spends
 
 pub returns-clause-spends_lost : goal.returns-clause-spends_lost
 returns-clause-spends_lost g c =
     let one = few_units (kind_on (g.F.Flash.device c.args.flash.now) c.args.area.now) (Some c.args.cycle) 1 (sector_bytes (g.F.Flash.device c.args.flash.now) c.args.area.now c.args.sector) in
     let two = few_units (kind_on (g.F.Flash.device c.guard.new.flash) c.args.area.now) (Some c.args.cycle) 2 (sector_bytes (g.F.Flash.device c.guard.new.flash) c.args.area.now c.args.sector) in
-    on_err_weaker c.put_unit.result (λ spends. between_within (between_then (between_then c.in_ok-guard.ensures.spends c.in_ok-guard-2.ensures.spends) spends) 0 2 (omega arith) (omega arith)) c.put_unit.ensures.spends_lost
+    on_err_weaker c.put_unit.result (λ spends. between_within (between_then (between_then c.in_ok-guard.ensures.ends.spends c.in_ok-guard-2.ensures.ends.spends) spends) 0 2 (omega arith) (omega arith)) c.put_unit.ensures.ends.spends_lost

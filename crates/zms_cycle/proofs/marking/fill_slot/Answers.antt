@@ -30,4 +30,4 @@ pub returns-clause-ok : goal.returns-clause-ok
 returns-clause-ok g c = on_ok_weaker c.put_unit.result (λ is. is ∙ ap (λ (bytes : List ℕ). with_slot (sector_bytes (g.F.Flash.device c.args.flash.now) c.args.area.now c.args.sector) c.args.slot bytes) c.fill_unit-unit.ensures) c.put_unit.ensures.ok
 
 pub returns-clause-spends : goal.returns-clause-spends
-returns-clause-spends g c = on_ok_weaker c.put_unit.result (λ spends. between_within spends 0 1 (omega arith) (omega arith)) c.put_unit.ensures.spends
+returns-clause-spends g c = on_ok_weaker c.put_unit.result (λ spends. between_within spends 0 1 (omega arith) (omega arith)) c.put_unit.ensures.ends.spends

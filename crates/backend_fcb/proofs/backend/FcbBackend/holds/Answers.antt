@@ -2,7 +2,7 @@ use Rattle.std.proofs.Common.{◌≡◌, None, Some, sym, ◌∙◌}
 use Rattle.flash_map.specs.Area.{value_limit}
 use Rattle.flash_sim.specs.Device.{Device}
 use Rattle.flash_map.specs.declared.area.Area.{Area}
-use Rattle.backend_fcb.specs.Last.{last_value}
+use Rattle.record_settings.specs.Last.{last_value}
 use Rattle.backend_fcb.specs.Standing.{bodies_on}
 use Rattle.backend_fcb.proofs.Ends.{stored-yes, stored-not, stored-nowhere}
 use Rattle.backend_fcb.proofs.backend.FcbBackend.holds.Goals as goal

@@ -12,10 +12,10 @@ use Rattle.backend_api.proofs.MapLemmas.{remove-absent}
 use Rattle.backend_api.specs.Room.{most_units}
 use Rattle.backend_api.specs.Commands.Command.{Del}
 use Rattle.backend_fcb.specs.Changing.{HasNoPlace, PutEnds, SpendsCost, SpendsUpToCost, collect_units}
-use Rattle.backend_fcb.specs.Numbers.{put_cost}
-use Rattle.backend_fcb.specs.Settings.{body_of, setting_of, with_setting}
+use Rattle.record_settings.specs.Numbers.{put_cost}
+use Rattle.record_settings.specs.Settings.{body_of, setting_of, with_setting}
 use Rattle.backend_fcb.specs.Standing.{settings_on}
-use Rattle.backend_fcb.proofs.BodyLemmas.{length-body_of}
+use Rattle.record_settings.proofs.BodyLemmas.{length-body_of}
 use Rattle.backend_fcb.proofs.Ends.{stands-ready, none-more, some-bytes, few-bytes, ready-stands, ready-undamaged, deletes-same, deletes-one, delete-fits, two-rounds, absent-yes, absent-not, delete-cost, takes-value}
 use Rattle.backend_fcb.proofs.Tearing.{stops-at}
 use Rattle.backend_fcb.proofs.backend.FcbBackendBackend.delete.Goals as goal
@@ -52,8 +52,15 @@ returns-then-is_none-clause-stands g c = λ up. c.requires.stands
 pub returns-then-is_none-clause-down : goal.returns-then-is_none-clause-down
 returns-then-is_none-clause-down g c lost = absurd (false≢true lost)
 
-pub returns-then-is_none-clause-no_more : goal.returns-then-is_none-clause-no_more
-returns-then-is_none-clause-no_more g c = tt
+pub returns-then-is_none-clause-spends : goal.returns-then-is_none-clause-spends
+returns-then-is_none-clause-spends g c = record {
+  exact =
+      λ changes.
+      let d : Device = g.F.Flash.device c.args.flash.now in
+      absurd (changes (remove-absent (settings_on d c.args.self.now.ring.area) c.args.name.now (absent-yes (λ b. b.now) c.get.result (finite.get (settings_on d c.args.self.now.ring.area) c.args.name.now) c.get.ensures (c.is_none.ensures ∙ ap not c.if-is_none.true))));
+  no_more = λ lost. absurd (false≢true lost);
+  few = (0, omega arith, spends_none (g.F.Flash.device c.args.flash.now));
+}
 
 pub put-requires-clause-ready : goal.put-requires-clause-ready
 put-requires-clause-ready g c = stands-ready (g.F.Flash.device c.args.flash.now) c.args.self.now c.requires.lawful c.requires.stands
@@ -80,8 +87,18 @@ returns-in-Ok-clause-cut g c on lost = absurd (false≢true lost)
 pub returns-in-Ok-clause-down : goal.returns-in-Ok-clause-down
 returns-in-Ok-clause-down g c lost = absurd (false≢true lost)
 
-pub returns-in-Ok-clause-no_more : goal.returns-in-Ok-clause-no_more
-returns-in-Ok-clause-no_more g c = tt
+pub returns-in-Ok-clause-spends : goal.returns-in-Ok-clause-spends
+returns-in-Ok-clause-spends g c = record {
+  exact =
+      λ changes.
+      let d : Device = g.F.Flash.device c.args.flash.now in
+      let e : Device = g.F.Flash.device c.put.new.flash in
+      let ring : Ring = c.args.self.now.ring in
+      let body : c.as_slice.result.now ≡ body_of c.args.name.now [] = c.as_slice.ensures.value ∙ c.body_of-body.ensures.items in
+      subst (λ (b : List ℕ). SpendsCost d e ring b 0) body c.in-Ok.ensures.ends.2;
+  no_more = λ lost. absurd (false≢true lost);
+  few = c.in-Ok.ensures.at_most;
+}
 
 pub returns-in-Err-PowerLost-clause-touches : goal.returns-in-Err-PowerLost-clause-touches
 returns-in-Err-PowerLost-clause-touches g c = rw c.in-Err-PowerLost.field-0-is at c.in-Err-PowerLost.ensures.touches
@@ -104,8 +121,18 @@ returns-in-Err-PowerLost-clause-down g c lost =
     let ends : PutEnds {T = Unit {0}} d e c.args.self.now.ring c.put.new.ring c.as_slice.result.now 0 1 (Err PowerLost) = rw c.in-Err-PowerLost.field-0-is at c.in-Err-PowerLost.ensures.ends in
     ends.0.down
 
-pub returns-in-Err-PowerLost-clause-exact : goal.returns-in-Err-PowerLost-clause-exact
-returns-in-Err-PowerLost-clause-exact g c = tt
+pub returns-in-Err-PowerLost-clause-spends : goal.returns-in-Err-PowerLost-clause-spends
+returns-in-Err-PowerLost-clause-spends g c =
+    let d : Device = g.F.Flash.device c.args.flash.now in
+    let e : Device = g.F.Flash.device c.put.new.flash in
+    let ring : Ring = c.args.self.now.ring in
+    let body : c.as_slice.result.now ≡ body_of c.args.name.now [] = c.as_slice.ensures.value ∙ c.body_of-body.ensures.items in
+    let ends : PutEnds {T = Unit {0}} d e ring c.put.new.ring c.as_slice.result.now 0 1 (Err PowerLost) = rw c.in-Err-PowerLost.field-0-is at c.in-Err-PowerLost.ensures.ends in
+    record {
+      exact = tt;
+      no_more = subst (λ (b : List ℕ). SpendsUpToCost d e ring b 0) body ends.1;
+      few = c.in-Err-PowerLost.ensures.at_most;
+    }
 
 pub returns-then-is_none-clause-ends : goal.returns-then-is_none-clause-ends
 returns-then-is_none-clause-ends g c =
@@ -204,34 +231,3 @@ returns-in-Err-PowerLost-clause-cut g c on lost =
     let body : c.as_slice.result.now ≡ body_of c.args.name.now [] = c.as_slice.ensures.value ∙ c.body_of-body.ensures.items in
     let ends : PutEnds {T = Unit {0}} d e c.args.self.now.ring c.put.new.ring c.as_slice.result.now 0 1 (Err PowerLost) = rw c.in-Err-PowerLost.field-0-is at c.in-Err-PowerLost.ensures.ends in
     stops-at d e area c.as_slice.result.now (Del name) body (takes-value (value_limit c.args.self.now.ring.area) (settings_on d area) name c.body_of-body.ensures.name) (ends.0.stops on)
-
-pub returns-then-is_none-clause-exact : goal.returns-then-is_none-clause-exact
-returns-then-is_none-clause-exact g c changes =
-    let d : Device = g.F.Flash.device c.args.flash.now in
-    absurd (changes (remove-absent (settings_on d c.args.self.now.ring.area) c.args.name.now (absent-yes (λ b. b.now) c.get.result (finite.get (settings_on d c.args.self.now.ring.area) c.args.name.now) c.get.ensures (c.is_none.ensures ∙ ap not c.if-is_none.true))))
-
-pub returns-in-Ok-clause-exact : goal.returns-in-Ok-clause-exact
-returns-in-Ok-clause-exact g c changes =
-    let d : Device = g.F.Flash.device c.args.flash.now in
-    let e : Device = g.F.Flash.device c.put.new.flash in
-    let ring : Ring = c.args.self.now.ring in
-    let body : c.as_slice.result.now ≡ body_of c.args.name.now [] = c.as_slice.ensures.value ∙ c.body_of-body.ensures.items in
-    subst (λ (b : List ℕ). SpendsCost d e ring b 0) body c.in-Ok.ensures.ends.2
-
-pub returns-in-Err-PowerLost-clause-no_more : goal.returns-in-Err-PowerLost-clause-no_more
-returns-in-Err-PowerLost-clause-no_more g c =
-    let d : Device = g.F.Flash.device c.args.flash.now in
-    let e : Device = g.F.Flash.device c.put.new.flash in
-    let ring : Ring = c.args.self.now.ring in
-    let body : c.as_slice.result.now ≡ body_of c.args.name.now [] = c.as_slice.ensures.value ∙ c.body_of-body.ensures.items in
-    let ends : PutEnds {T = Unit {0}} d e ring c.put.new.ring c.as_slice.result.now 0 1 (Err PowerLost) = rw c.in-Err-PowerLost.field-0-is at c.in-Err-PowerLost.ensures.ends in
-    subst (λ (b : List ℕ). SpendsUpToCost d e ring b 0) body ends.1
-
-pub returns-then-is_none-clause-few : goal.returns-then-is_none-clause-few
-returns-then-is_none-clause-few g c = (0, omega arith, spends_none (g.F.Flash.device c.args.flash.now))
-
-pub returns-in-Ok-clause-few : goal.returns-in-Ok-clause-few
-returns-in-Ok-clause-few g c = c.in-Ok.ensures.at_most
-
-pub returns-in-Err-PowerLost-clause-few : goal.returns-in-Err-PowerLost-clause-few
-returns-in-Err-PowerLost-clause-few g c = c.in-Err-PowerLost.ensures.at_most

@@ -2,7 +2,7 @@ use Rattle.std.proofs.Common.{◌≡◌, None, Some, sym, ◌∙◌}
 use Rattle.flash_map.specs.Area.{value_limit}
 use Rattle.flash_sim.specs.Device.{Device}
 use Rattle.flash_map.specs.declared.area.Area.{Area}
-use Rattle.backend_fcb.specs.Last.{last_value}
+use Rattle.record_settings.specs.Last.{last_value}
 use Rattle.backend_fcb.specs.Standing.{bodies_on}
 use Rattle.backend_fcb.proofs.Ends.{get-none, get-empty, get-some}
 use Rattle.backend_fcb.proofs.backend.FcbBackendBackend.get.Goals as goal

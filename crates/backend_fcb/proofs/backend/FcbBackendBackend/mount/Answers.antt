@@ -10,7 +10,7 @@ use Rattle.fcb_ring.proofs.AppendLemmas.{unit-after}
 use Rattle.fcb_ring.specs.Rings.{first_damage}
 use Rattle.fcb_ring.specs.Standing.{states_on, erases_due, erases_on}
 use Rattle.backend_api.specs.Room.{mount_units}
-use Rattle.backend_fcb.specs.Numbers.{reserve}
+use Rattle.record_settings.specs.Numbers.{reserve}
 use Rattle.std.specs.Option.{option_map}
 use Rattle.backend_fcb.specs.Reading.{first_overfull}
 use Rattle.backend_fcb.specs.Standing.{IsReady, damage_on}
@@ -27,10 +27,13 @@ returns-in-Err-clause-at_most g c =
     let d : Device = g.F.Flash.device c.args.flash.now in
     none-more d (mount_units (geometry_of d c.args.area))
 
-pub returns-in-Err-clause-few : goal.returns-in-Err-clause-few
-returns-in-Err-clause-few g c =
+pub returns-in-Err-clause-spends : goal.returns-in-Err-clause-spends
+returns-in-Err-clause-spends g c =
     let d : Device = g.F.Flash.device c.args.flash.now in
-    none-more d (erases_on d c.args.area)
+    record {
+      exact = tt;
+      few = none-more d (erases_on d c.args.area);
+    }
 
 pub returns-in-Err-clause-sound : goal.returns-in-Err-clause-sound
 returns-in-Err-clause-sound g c = λ none. none
@@ -50,9 +53,6 @@ returns-in-Err-clause-on g c = tt
 pub returns-in-Err-clause-stands : goal.returns-in-Err-clause-stands
 returns-in-Err-clause-stands g c = tt
 
-pub returns-in-Err-clause-exact : goal.returns-in-Err-clause-exact
-returns-in-Err-clause-exact g c = tt
-
 pub returns-in-Some-clause-touches : goal.returns-in-Some-clause-touches
 returns-in-Some-clause-touches g c = untouched (c.args.area ∷ []) (g.F.Flash.device c.args.flash.now)
 
@@ -61,10 +61,13 @@ returns-in-Some-clause-at_most g c =
     let d : Device = g.F.Flash.device c.args.flash.now in
     none-more d (mount_units (geometry_of d c.args.area))
 
-pub returns-in-Some-clause-few : goal.returns-in-Some-clause-few
-returns-in-Some-clause-few g c =
+pub returns-in-Some-clause-spends : goal.returns-in-Some-clause-spends
+returns-in-Some-clause-spends g c =
     let d : Device = g.F.Flash.device c.args.flash.now in
-    none-more d (erases_on d c.args.area)
+    record {
+      exact = tt;
+      few = none-more d (erases_on d c.args.area);
+    }
 
 pub returns-in-Some-clause-sound : goal.returns-in-Some-clause-sound
 returns-in-Some-clause-sound g c = λ none. none
@@ -84,17 +87,20 @@ returns-in-Some-clause-on g c = tt
 pub returns-in-Some-clause-stands : goal.returns-in-Some-clause-stands
 returns-in-Some-clause-stands g c = tt
 
-pub returns-in-Some-clause-exact : goal.returns-in-Some-clause-exact
-returns-in-Some-clause-exact g c = tt
-
 pub returns-in-Err-finish-clause-on : goal.returns-in-Err-finish-clause-on
 returns-in-Err-finish-clause-on g c = tt
 
 pub returns-in-Err-finish-clause-stands : goal.returns-in-Err-finish-clause-stands
 returns-in-Err-finish-clause-stands g c = tt
 
-pub returns-in-Err-finish-clause-exact : goal.returns-in-Err-finish-clause-exact
-returns-in-Err-finish-clause-exact g c = tt
+pub returns-in-Err-finish-clause-spends : goal.returns-in-Err-finish-clause-spends
+returns-in-Err-finish-clause-spends g c =
+    let d : Device = g.F.Flash.device c.args.flash.now in
+    let e : Device = g.F.Flash.device c.finish.new.flash in
+    record {
+      exact = tt;
+      few = subst (λ (x : Area). SpendsAtMost d e (erases_on d x)) c.in-Ok.ensures.ring.0 c.in-Err-finish.ensures.stopped.bound;
+    }
 
 pub returns-in-Err-finish-clause-written : goal.returns-in-Err-finish-clause-written
 returns-in-Err-finish-clause-written g c = λ other. absurd (other c.requires.serves)
@@ -138,11 +144,11 @@ returns-in-Ok-finish-clause-stands g c =
     let none : damage_on d area ≡ None = damage-none d area first costs in
     let undamaged = undamaged-kept d e area (g.met.F.Flash.is_lawful c.args.flash.now) (g.met.F.Flash.is_lawful c.finish.new.flash) ring did.touches.banks kept none in
     let unit : c.geometry-unit.result.unit ≡ unit_of d area = ap (λ (x : Geometry). x.unit) c.geometry-unit.ensures in
-    let new-area : c.finish.new.self.area ≡ area = did.area ∙ same in
+    let new-area : c.finish.new.self.area ≡ area = did.finished.area ∙ same in
     let ready : IsReady e c.finish.new.self = record {
-      stands = did.stands;
-      ready = did.ready;
-      reserve = did.reserve ∙ c.in-Ok.ensures.ring.1 ∙ c.reserve.ensures ∙ ap reserve (unit ∙ sym (unit-after d e area c.finish.new.self.area did.touches.banks new-area));
+      stands = did.finished.stands;
+      ready = did.finished.ready;
+      reserve = did.finished.reserve ∙ c.in-Ok.ensures.ring.1 ∙ c.reserve.ensures ∙ ap reserve (unit ∙ sym (unit-after d e area c.finish.new.self.area did.touches.banks new-area));
       undamaged = subst (λ (x : Area). damage_on e x ≡ None) (sym new-area) undamaged;
     } in
     ready-stands e c.finish.new.self area new-area c.requires.serves ready
@@ -157,32 +163,23 @@ returns-in-Err-finish-clause-rests g c rests =
     let d : Device = g.F.Flash.device c.args.flash.now in
     c.in-Err-finish.ensures.idle (ap (λ (x : Area). erases_due (states_on d x)) c.in-Ok.ensures.ring.0 ∙ rests)
 
-pub returns-in-Ok-finish-clause-exact : goal.returns-in-Ok-finish-clause-exact
-returns-in-Ok-finish-clause-exact g c =
+pub returns-in-Ok-finish-clause-spends : goal.returns-in-Ok-finish-clause-spends
+returns-in-Ok-finish-clause-spends g c =
     let d : Device = g.F.Flash.device c.args.flash.now in
     let e : Device = g.F.Flash.device c.finish.new.flash in
-    subst (λ (x : Area). Spends d e (erases_on d x)) c.in-Ok.ensures.ring.0 c.in-Ok-finish.ensures.units
-
-pub returns-in-Ok-finish-clause-few : goal.returns-in-Ok-finish-clause-few
-returns-in-Ok-finish-clause-few g c =
-    let d : Device = g.F.Flash.device c.args.flash.now in
-    let e : Device = g.F.Flash.device c.finish.new.flash in
-    (erases_on d c.args.area, omega arith, subst (λ (x : Area). Spends d e (erases_on d x)) c.in-Ok.ensures.ring.0 c.in-Ok-finish.ensures.units)
-
-pub returns-in-Err-finish-clause-few : goal.returns-in-Err-finish-clause-few
-returns-in-Err-finish-clause-few g c =
-    let d : Device = g.F.Flash.device c.args.flash.now in
-    let e : Device = g.F.Flash.device c.finish.new.flash in
-    subst (λ (x : Area). SpendsAtMost d e (erases_on d x)) c.in-Ok.ensures.ring.0 c.in-Err-finish.ensures.bound
+    record {
+      exact = subst (λ (x : Area). Spends d e (erases_on d x)) c.in-Ok.ensures.ring.0 c.in-Ok-finish.ensures.finished.units;
+      few = (erases_on d c.args.area, omega arith, subst (λ (x : Area). Spends d e (erases_on d x)) c.in-Ok.ensures.ring.0 c.in-Ok-finish.ensures.finished.units);
+    }
 
 pub returns-in-Ok-finish-clause-at_most : goal.returns-in-Ok-finish-clause-at_most
 returns-in-Ok-finish-clause-at_most g c =
     let d : Device = g.F.Flash.device c.args.flash.now in
     let e : Device = g.F.Flash.device c.finish.new.flash in
-    mount-most d c.args.area c.requires.lawful e (erases_on d c.args.area, omega arith, subst (λ (x : Area). Spends d e (erases_on d x)) c.in-Ok.ensures.ring.0 c.in-Ok-finish.ensures.units)
+    mount-most d c.args.area c.requires.lawful e (erases_on d c.args.area, omega arith, subst (λ (x : Area). Spends d e (erases_on d x)) c.in-Ok.ensures.ring.0 c.in-Ok-finish.ensures.finished.units)
 
 pub returns-in-Err-finish-clause-at_most : goal.returns-in-Err-finish-clause-at_most
 returns-in-Err-finish-clause-at_most g c =
     let d : Device = g.F.Flash.device c.args.flash.now in
     let e : Device = g.F.Flash.device c.finish.new.flash in
-    mount-most d c.args.area c.requires.lawful e (subst (λ (x : Area). SpendsAtMost d e (erases_on d x)) c.in-Ok.ensures.ring.0 c.in-Err-finish.ensures.bound)
+    mount-most d c.args.area c.requires.lawful e (subst (λ (x : Area). SpendsAtMost d e (erases_on d x)) c.in-Ok.ensures.ring.0 c.in-Err-finish.ensures.stopped.bound)

@@ -17,10 +17,10 @@ use Rattle.backend_api.proofs.MapLemmas.{insert-stored}
 use Rattle.backend_api.specs.Room.{most_units}
 use Rattle.backend_api.specs.Commands.Command.{Put}
 use Rattle.backend_fcb.specs.Changing.{HasNoPlace, PutEnds, SpendsCost, SpendsUpToCost, collect_units}
-use Rattle.backend_fcb.specs.Numbers.{pair_cost}
-use Rattle.backend_fcb.specs.Settings.{body_of, setting_of, with_setting}
+use Rattle.record_settings.specs.Numbers.{pair_cost}
+use Rattle.record_settings.specs.Settings.{body_of, setting_of, with_setting}
 use Rattle.backend_fcb.specs.Standing.{settings_on}
-use Rattle.backend_fcb.proofs.BodyLemmas.{length-body_of}
+use Rattle.record_settings.proofs.BodyLemmas.{length-body_of}
 use Rattle.backend_fcb.proofs.Ends.{stands-ring, stands-ready, none-more, some-bytes, few-bytes, one-less, ready-stands, ready-undamaged, sets-same, sets-new, finds-no_space, few-rounds, puts-value}
 use Rattle.backend_fcb.proofs.Tearing.{stops-at}
 use Rattle.backend_fcb.proofs.backend.FcbBackendBackend.set.Goals as goal
@@ -54,8 +54,17 @@ returns-then-holds-clause-stands g c = λ up. c.requires.stands
 pub returns-then-holds-clause-down : goal.returns-then-holds-clause-down
 returns-then-holds-clause-down g c lost = absurd (false≢true lost)
 
-pub returns-then-holds-clause-no_more : goal.returns-then-holds-clause-no_more
-returns-then-holds-clause-no_more g c lost = absurd (false≢true lost)
+pub returns-then-holds-clause-spends : goal.returns-then-holds-clause-spends
+returns-then-holds-clause-spends g c = record {
+  exact =
+      λ changes.
+      let d : Device = g.F.Flash.device c.args.flash.now in
+      absurd (changes (insert-stored (settings_on d c.args.self.now.ring.area) c.args.name.now c.args.value.now (c.holds.ensures.yes_it c.if-holds.true)));
+  no_more =
+      λ lost.
+      absurd (false≢true lost);
+  few = (0, omega arith, spends_none (g.F.Flash.device c.args.flash.now));
+}
 
 pub put-requires-clause-ready : goal.put-requires-clause-ready
 put-requires-clause-ready g c = stands-ready (g.F.Flash.device c.args.flash.now) c.args.self.now c.requires.lawful c.requires.stands
@@ -94,8 +103,25 @@ returns-in-Ok-clause-cut g c on lost = absurd (false≢true lost)
 pub returns-in-Ok-clause-down : goal.returns-in-Ok-clause-down
 returns-in-Ok-clause-down g c lost = absurd (false≢true lost)
 
-pub returns-in-Ok-clause-no_more : goal.returns-in-Ok-clause-no_more
-returns-in-Ok-clause-no_more g c lost = absurd (false≢true lost)
+pub returns-in-Ok-clause-spends : goal.returns-in-Ok-clause-spends
+returns-in-Ok-clause-spends g c =
+    let d : Device = g.F.Flash.device c.args.flash.now in
+    let ring : Ring = c.args.self.now.ring in
+    let e : Device = g.F.Flash.device c.put.new.flash in
+    let sectors : c.geometry-geometry.result.sectors ≡ ring.area.sectors = ap (λ (x : Geometry). x.sectors) c.geometry-geometry.ensures ∙ ap (λ (x : Area). x.sectors) c.area.ensures in
+    record {
+      exact =
+          λ changes.
+          let d : Device = g.F.Flash.device c.args.flash.now in
+          let e : Device = g.F.Flash.device c.put.new.flash in
+          let ring : Ring = c.args.self.now.ring in
+          let body : c.as_slice.result.now ≡ body_of c.args.name.now c.args.value.now = c.as_slice.ensures.value ∙ c.body_of-body.ensures.items in
+          subst (λ (b : List ℕ). SpendsCost d e ring b ring.reserve) body c.in-Ok.ensures.ends.2;
+      no_more =
+          λ lost.
+          absurd (false≢true lost);
+      few = subst (λ (n : ℕ). SpendsAtMost d e ((n - 1 + 1) * collect_units d ring)) sectors c.in-Ok.ensures.at_most;
+    }
 
 pub returns-in-Err-PowerLost-clause-touches : goal.returns-in-Err-PowerLost-clause-touches
 returns-in-Err-PowerLost-clause-touches g c = rw c.in-Err-PowerLost.field-0-is at c.in-Err-PowerLost.ensures.touches
@@ -117,8 +143,24 @@ returns-in-Err-PowerLost-clause-down g c lost =
     let ends : PutEnds {T = Unit {0}} d e ring c.put.new.ring c.as_slice.result.now ring.reserve (c.geometry-geometry.result.sectors - 1) (Err PowerLost) = rw c.in-Err-PowerLost.field-0-is at c.in-Err-PowerLost.ensures.ends in
     ends.0.down
 
-pub returns-in-Err-PowerLost-clause-exact : goal.returns-in-Err-PowerLost-clause-exact
-returns-in-Err-PowerLost-clause-exact g c = tt
+pub returns-in-Err-PowerLost-clause-spends : goal.returns-in-Err-PowerLost-clause-spends
+returns-in-Err-PowerLost-clause-spends g c =
+    let d : Device = g.F.Flash.device c.args.flash.now in
+    let ring : Ring = c.args.self.now.ring in
+    let e : Device = g.F.Flash.device c.put.new.flash in
+    let sectors : c.geometry-geometry.result.sectors ≡ ring.area.sectors = ap (λ (x : Geometry). x.sectors) c.geometry-geometry.ensures ∙ ap (λ (x : Area). x.sectors) c.area.ensures in
+    record {
+      exact = tt;
+      no_more =
+          λ lost.
+          let d : Device = g.F.Flash.device c.args.flash.now in
+          let e : Device = g.F.Flash.device c.put.new.flash in
+          let ring : Ring = c.args.self.now.ring in
+          let body : c.as_slice.result.now ≡ body_of c.args.name.now c.args.value.now = c.as_slice.ensures.value ∙ c.body_of-body.ensures.items in
+          let ends : PutEnds {T = Unit {0}} d e ring c.put.new.ring c.as_slice.result.now ring.reserve (c.geometry-geometry.result.sectors - 1) (Err PowerLost) = rw c.in-Err-PowerLost.field-0-is at c.in-Err-PowerLost.ensures.ends in
+          subst (λ (b : List ℕ). SpendsUpToCost d e ring b ring.reserve) body ends.1;
+      few = subst (λ (n : ℕ). SpendsAtMost d e ((n - 1 + 1) * collect_units d ring)) sectors c.in-Err-PowerLost.ensures.at_most;
+    }
 
 pub returns-in-Err-Full-clause-touches : goal.returns-in-Err-Full-clause-touches
 returns-in-Err-Full-clause-touches g c = rw c.in-Err-Full.field-0-is at c.in-Err-Full.ensures.touches
@@ -132,11 +174,19 @@ returns-in-Err-Full-clause-cut g c on lost = absurd (false≢true lost)
 pub returns-in-Err-Full-clause-down : goal.returns-in-Err-Full-clause-down
 returns-in-Err-Full-clause-down g c lost = absurd (false≢true lost)
 
-pub returns-in-Err-Full-clause-exact : goal.returns-in-Err-Full-clause-exact
-returns-in-Err-Full-clause-exact g c = tt
-
-pub returns-in-Err-Full-clause-no_more : goal.returns-in-Err-Full-clause-no_more
-returns-in-Err-Full-clause-no_more g c lost = absurd (false≢true lost)
+pub returns-in-Err-Full-clause-spends : goal.returns-in-Err-Full-clause-spends
+returns-in-Err-Full-clause-spends g c =
+    let d : Device = g.F.Flash.device c.args.flash.now in
+    let ring : Ring = c.args.self.now.ring in
+    let e : Device = g.F.Flash.device c.put.new.flash in
+    let sectors : c.geometry-geometry.result.sectors ≡ ring.area.sectors = ap (λ (x : Geometry). x.sectors) c.geometry-geometry.ensures ∙ ap (λ (x : Area). x.sectors) c.area.ensures in
+    record {
+      exact = tt;
+      no_more =
+          λ lost.
+          absurd (false≢true lost);
+      few = subst (λ (n : ℕ). SpendsAtMost d e ((n - 1 + 1) * collect_units d ring)) sectors c.in-Err-Full.ensures.at_most;
+    }
 
 pub returns-then-holds-clause-ends : goal.returns-then-holds-clause-ends
 returns-then-holds-clause-ends g c =
@@ -289,52 +339,3 @@ returns-in-Err-PowerLost-clause-cut g c on lost =
     let body : c.as_slice.result.now ≡ body_of c.args.name.now c.args.value.now = c.as_slice.ensures.value ∙ c.body_of-body.ensures.items in
     let ends : PutEnds {T = Unit {0}} d e c.args.self.now.ring c.put.new.ring c.as_slice.result.now c.args.self.now.ring.reserve (c.geometry-geometry.result.sectors - 1) (Err PowerLost) = rw c.in-Err-PowerLost.field-0-is at c.in-Err-PowerLost.ensures.ends in
     stops-at d e area c.as_slice.result.now (Put name value) body (puts-value (value_limit c.args.self.now.ring.area) (settings_on d area) name value c.body_of-body.ensures.name c.requires.some c.requires.short) (ends.0.stops on)
-
-pub returns-then-holds-clause-exact : goal.returns-then-holds-clause-exact
-returns-then-holds-clause-exact g c changes =
-    let d : Device = g.F.Flash.device c.args.flash.now in
-    absurd (changes (insert-stored (settings_on d c.args.self.now.ring.area) c.args.name.now c.args.value.now (c.holds.ensures.yes_it c.if-holds.true)))
-
-pub returns-in-Ok-clause-exact : goal.returns-in-Ok-clause-exact
-returns-in-Ok-clause-exact g c changes =
-    let d : Device = g.F.Flash.device c.args.flash.now in
-    let e : Device = g.F.Flash.device c.put.new.flash in
-    let ring : Ring = c.args.self.now.ring in
-    let body : c.as_slice.result.now ≡ body_of c.args.name.now c.args.value.now = c.as_slice.ensures.value ∙ c.body_of-body.ensures.items in
-    subst (λ (b : List ℕ). SpendsCost d e ring b ring.reserve) body c.in-Ok.ensures.ends.2
-
-pub returns-in-Err-PowerLost-clause-no_more : goal.returns-in-Err-PowerLost-clause-no_more
-returns-in-Err-PowerLost-clause-no_more g c lost =
-    let d : Device = g.F.Flash.device c.args.flash.now in
-    let e : Device = g.F.Flash.device c.put.new.flash in
-    let ring : Ring = c.args.self.now.ring in
-    let body : c.as_slice.result.now ≡ body_of c.args.name.now c.args.value.now = c.as_slice.ensures.value ∙ c.body_of-body.ensures.items in
-    let ends : PutEnds {T = Unit {0}} d e ring c.put.new.ring c.as_slice.result.now ring.reserve (c.geometry-geometry.result.sectors - 1) (Err PowerLost) = rw c.in-Err-PowerLost.field-0-is at c.in-Err-PowerLost.ensures.ends in
-    subst (λ (b : List ℕ). SpendsUpToCost d e ring b ring.reserve) body ends.1
-
-pub returns-then-holds-clause-few : goal.returns-then-holds-clause-few
-returns-then-holds-clause-few g c = (0, omega arith, spends_none (g.F.Flash.device c.args.flash.now))
-
-pub returns-in-Ok-clause-few : goal.returns-in-Ok-clause-few
-returns-in-Ok-clause-few g c =
-    let d : Device = g.F.Flash.device c.args.flash.now in
-    let ring : Ring = c.args.self.now.ring in
-    let e : Device = g.F.Flash.device c.put.new.flash in
-    let sectors : c.geometry-geometry.result.sectors ≡ ring.area.sectors = ap (λ (x : Geometry). x.sectors) c.geometry-geometry.ensures ∙ ap (λ (x : Area). x.sectors) c.area.ensures in
-    subst (λ (n : ℕ). SpendsAtMost d e ((n - 1 + 1) * collect_units d ring)) sectors c.in-Ok.ensures.at_most
-
-pub returns-in-Err-PowerLost-clause-few : goal.returns-in-Err-PowerLost-clause-few
-returns-in-Err-PowerLost-clause-few g c =
-    let d : Device = g.F.Flash.device c.args.flash.now in
-    let ring : Ring = c.args.self.now.ring in
-    let e : Device = g.F.Flash.device c.put.new.flash in
-    let sectors : c.geometry-geometry.result.sectors ≡ ring.area.sectors = ap (λ (x : Geometry). x.sectors) c.geometry-geometry.ensures ∙ ap (λ (x : Area). x.sectors) c.area.ensures in
-    subst (λ (n : ℕ). SpendsAtMost d e ((n - 1 + 1) * collect_units d ring)) sectors c.in-Err-PowerLost.ensures.at_most
-
-pub returns-in-Err-Full-clause-few : goal.returns-in-Err-Full-clause-few
-returns-in-Err-Full-clause-few g c =
-    let d : Device = g.F.Flash.device c.args.flash.now in
-    let ring : Ring = c.args.self.now.ring in
-    let e : Device = g.F.Flash.device c.put.new.flash in
-    let sectors : c.geometry-geometry.result.sectors ≡ ring.area.sectors = ap (λ (x : Geometry). x.sectors) c.geometry-geometry.ensures ∙ ap (λ (x : Area). x.sectors) c.area.ensures in
-    subst (λ (n : ℕ). SpendsAtMost d e ((n - 1 + 1) * collect_units d ring)) sectors c.in-Err-Full.ensures.at_most

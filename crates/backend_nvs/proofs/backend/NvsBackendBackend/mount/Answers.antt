@@ -11,6 +11,15 @@ pub returns-in-Ok-clause-stands : goal.returns-in-Ok-clause-stands
 returns-in-Ok-clause-stands g c =
     let e : Device = g.F.Flash.device c.mount_store.new.flash in
     record {
-      store = c.in-Ok.ensures.stands;
-      clean = subst (λ (x : Area). HasNoStrays (numbers_in x) (on nvs_items e x)) (sym c.in-Ok.ensures.on) c.in-Ok.ensures.clean;
+      store = c.in-Ok.ensures.store.up;
+      clean = subst (λ (x : Area). HasNoStrays (numbers_in x) (on nvs_items e x)) (sym c.in-Ok.ensures.store.on_it) c.in-Ok.ensures.store.clean;
     }
+
+pub returns-in-Ok-clause-on : goal.returns-in-Ok-clause-on
+returns-in-Ok-clause-on g c = c.in-Ok.ensures.store.on_it
+
+pub returns-in-Ok-clause-keeps : goal.returns-in-Ok-clause-keeps
+returns-in-Ok-clause-keeps g c = λ none. (c.in-Ok.ensures.keeps none).settings
+
+pub returns-in-Err-clause-keeps : goal.returns-in-Err-clause-keeps
+returns-in-Err-clause-keeps g c = λ none. (c.in-Err.ensures.keeps none).settings

@@ -209,10 +209,10 @@ pub returns-in-Ok-clause-touches : goal.returns-in-Ok-clause-touches
 returns-in-Ok-clause-touches g c = c.in-Ok.ensures.touches
 
 pub returns-in-Ok-clause-area : goal.returns-in-Ok-clause-area
-returns-in-Ok-clause-area g c = c.in-Ok.ensures.area
+returns-in-Ok-clause-area g c = c.in-Ok.ensures.put.ring.area
 
 pub returns-in-Ok-clause-reserve : goal.returns-in-Ok-clause-reserve
-returns-in-Ok-clause-reserve g c = c.in-Ok.ensures.reserve
+returns-in-Ok-clause-reserve g c = c.in-Ok.ensures.put.ring.reserve
 
 pub returns-in-Ok-clause-torn : goal.returns-in-Ok-clause-torn
 returns-in-Ok-clause-torn g c lost on = never lost
@@ -221,10 +221,10 @@ pub returns-in-Err-clause-touches : goal.returns-in-Err-clause-touches
 returns-in-Err-clause-touches g c = c.in-Err.ensures.touches
 
 pub returns-in-Err-clause-area : goal.returns-in-Err-clause-area
-returns-in-Err-clause-area g c = c.in-Err.ensures.area
+returns-in-Err-clause-area g c = c.in-Err.ensures.stopped.ring.area
 
 pub returns-in-Err-clause-reserve : goal.returns-in-Err-clause-reserve
-returns-in-Err-clause-reserve g c = c.in-Err.ensures.reserve
+returns-in-Err-clause-reserve g c = c.in-Err.ensures.stopped.ring.reserve
 
 pub returns-in-Err-clause-written : goal.returns-in-Err-clause-written
 returns-in-Err-clause-written g c = tt
@@ -239,10 +239,10 @@ pub returns-in-Ok-put_in_next-clause-touches : goal.returns-in-Ok-put_in_next-cl
 returns-in-Ok-put_in_next-clause-touches g c = c.in-Ok-put_in_next.ensures.touches
 
 pub returns-in-Ok-put_in_next-clause-area : goal.returns-in-Ok-put_in_next-clause-area
-returns-in-Ok-put_in_next-clause-area g c = c.in-Ok-put_in_next.ensures.area
+returns-in-Ok-put_in_next-clause-area g c = c.in-Ok-put_in_next.ensures.put.area
 
 pub returns-in-Ok-put_in_next-clause-reserve : goal.returns-in-Ok-put_in_next-clause-reserve
-returns-in-Ok-put_in_next-clause-reserve g c = c.in-Ok-put_in_next.ensures.reserve
+returns-in-Ok-put_in_next-clause-reserve g c = c.in-Ok-put_in_next.ensures.put.reserve
 
 pub returns-in-Ok-put_in_next-clause-torn : goal.returns-in-Ok-put_in_next-clause-torn
 returns-in-Ok-put_in_next-clause-torn g c lost on = never lost
@@ -251,10 +251,10 @@ pub returns-in-Err-put_in_next-clause-touches : goal.returns-in-Err-put_in_next-
 returns-in-Err-put_in_next-clause-touches g c = c.in-Err-put_in_next.ensures.touches
 
 pub returns-in-Err-put_in_next-clause-area : goal.returns-in-Err-put_in_next-clause-area
-returns-in-Err-put_in_next-clause-area g c = c.in-Err-put_in_next.ensures.area
+returns-in-Err-put_in_next-clause-area g c = c.in-Err-put_in_next.ensures.stopped.area
 
 pub returns-in-Err-put_in_next-clause-reserve : goal.returns-in-Err-put_in_next-clause-reserve
-returns-in-Err-put_in_next-clause-reserve g c = c.in-Err-put_in_next.ensures.reserve
+returns-in-Err-put_in_next-clause-reserve g c = c.in-Err-put_in_next.ensures.stopped.reserve
 
 pub returns-in-Err-put_in_next-clause-written : goal.returns-in-Err-put_in_next-clause-written
 returns-in-Err-put_in_next-clause-written g c = tt
@@ -275,7 +275,7 @@ returns-in-Ok-clause-gains g c =
     let kept : ℕ = kept_room ring c.args.into_reserve in
     let room : has_room unit size ring kept len ≡ true =
     sym (c.has_room.ensures ∙ ap (λ (x : Geometry). has_room x.unit x.sector ring c.kept_room-kept.result len) c.geometry-geometry.ensures ∙ ap (λ (k : ℕ). has_room unit size ring k len) c.kept_room-kept.ensures) ∙ c.if-has_room.true in
-    subst (λ (p : ℕ). GainsRecord d (g.F.Flash.device c.put_record.new.flash) ring.area p c.args.body.now true) (place-here (has_room unit size ring kept len) (newest_place ring) (next_place ring) room) c.in-Ok.ensures.gains
+    subst (λ (p : ℕ). GainsRecord d (g.F.Flash.device c.put_record.new.flash) ring.area p c.args.body.now true) (place-here (has_room unit size ring kept len) (newest_place ring) (next_place ring) room) c.in-Ok.ensures.put.gains
 
 pub returns-in-Ok-put_in_next-clause-gains : goal.returns-in-Ok-put_in_next-clause-gains
 returns-in-Ok-put_in_next-clause-gains g c =
@@ -287,7 +287,7 @@ returns-in-Ok-put_in_next-clause-gains g c =
     let kept : ℕ = kept_room ring c.args.into_reserve in
     let room : has_room unit size ring kept len ≡ false =
     sym (c.has_room.ensures ∙ ap (λ (x : Geometry). has_room x.unit x.sector ring c.kept_room-kept.result len) c.geometry-geometry.ensures ∙ ap (λ (k : ℕ). has_room unit size ring k len) c.kept_room-kept.ensures) ∙ c.if-has_room.false in
-    subst (λ (p : ℕ). GainsRecord d (g.F.Flash.device c.put_in_next.new.flash) ring.area p c.args.body.now true) (place-next (has_room unit size ring kept len) (newest_place ring) (next_place ring) room) c.in-Ok-put_in_next.ensures.gains
+    subst (λ (p : ℕ). GainsRecord d (g.F.Flash.device c.put_in_next.new.flash) ring.area p c.args.body.now true) (place-next (has_room unit size ring kept len) (newest_place ring) (next_place ring) room) c.in-Ok-put_in_next.ensures.put.gains
 
 pub returns-in-Ok-put_in_next-clause-ends : goal.returns-in-Ok-put_in_next-clause-ends
 returns-in-Ok-put_in_next-clause-ends g c =
@@ -304,9 +304,9 @@ returns-in-Ok-put_in_next-clause-ends g c =
     let left : is_scratch_left ring ≡ false = sym c.is_scratch_left.ensures ∙ c.if-is_scratch_left.false in
     let new : Device = g.F.Flash.device c.put_in_next.new.flash in (
       record { short = short; room = or_right (has_room unit size ring kept len) (not (is_scratch_left ring)) (not_from_false (is_scratch_left ring) left) },
-      subst (λ (p : ℕ). AddsRecord d new ring.area p c.args.body.now) (place-next (has_room unit size ring kept len) (newest_place ring) (next_place ring) room) c.in-Ok-put_in_next.ensures.adds,
-      subst (λ (b : Bool). GoesOn ring c.put_in_next.new.self b) (sym room) c.in-Ok-put_in_next.ensures.goes_on,
-      subst (λ (n : ℕ). IsReady d new c.put_in_next.new.self n) (units-next unit len (has_room unit size ring kept len) room) c.in-Ok-put_in_next.ensures.ready,
+      subst (λ (p : ℕ). AddsRecord d new ring.area p c.args.body.now) (place-next (has_room unit size ring kept len) (newest_place ring) (next_place ring) room) c.in-Ok-put_in_next.ensures.put.adds,
+      subst (λ (b : Bool). GoesOn ring c.put_in_next.new.self b) (sym room) c.in-Ok-put_in_next.ensures.put.goes_on,
+      subst (λ (n : ℕ). IsReady d new c.put_in_next.new.self n) (units-next unit len (has_room unit size ring kept len) room) c.in-Ok-put_in_next.ensures.put.ready,
     )
 
 pub put_in_next-requires-clause-free : goal.put_in_next-requires-clause-free
@@ -326,12 +326,12 @@ returns-in-Ok-clause-ends g c =
     sym (c.has_room.ensures ∙ ap (λ (x : Geometry). has_room x.unit x.sector ring c.kept_room-kept.result len) c.geometry-geometry.ensures ∙ ap (λ (k : ℕ). has_room unit size ring k len) c.kept_room-kept.ensures) ∙ c.if-has_room.true in
     let new : Device = g.F.Flash.device c.put_record.new.flash in (
       record { short = short; room = or_left (has_room unit size ring kept len) (not (is_scratch_left ring)) room },
-      subst (λ (p : ℕ). AddsRecord d new ring.area p c.args.body.now) (place-here (has_room unit size ring kept len) (newest_place ring) (next_place ring) room) (adds-here d new ring c.args.body.now (ready-used d ring c.requires.stands c.requires.ready) c.in-Ok.ensures.puts),
-      goes-here ring c.put_record.new.self (has_room unit size ring kept len) room c.in-Ok.ensures.oldest c.in-Ok.ensures.used c.in-Ok.ensures.id,
+      subst (λ (p : ℕ). AddsRecord d new ring.area p c.args.body.now) (place-here (has_room unit size ring kept len) (newest_place ring) (next_place ring) room) (adds-here d new ring c.args.body.now (ready-used d ring c.requires.stands c.requires.ready) c.in-Ok.ensures.put.puts),
+      goes-here ring c.put_record.new.self (has_room unit size ring kept len) room c.in-Ok.ensures.put.ring.oldest c.in-Ok.ensures.put.ring.used c.in-Ok.ensures.put.ring.id,
       record {
-        stands = c.in-Ok.ensures.stands;
-        stage = c.in-Ok.ensures.stage ∙ c.requires.ready;
-        units = subst (λ (n : ℕ). Spends d new n) (sym (units-here unit len (has_room unit size ring kept len) room)) c.in-Ok.ensures.units;
+        stands = c.in-Ok.ensures.put.stands;
+        stage = c.in-Ok.ensures.put.ring.stage ∙ c.requires.ready;
+        units = subst (λ (n : ℕ). Spends d new n) (sym (units-here unit len (has_room unit size ring kept len) room)) c.in-Ok.ensures.put.units;
       },
     )
 
@@ -349,10 +349,10 @@ returns-in-Err-clause-ends g c =
     sym (c.has_room.ensures ∙ ap (λ (x : Geometry). has_room x.unit x.sector ring c.kept_room-kept.result len) c.geometry-geometry.ensures ∙ ap (λ (k : ℕ). has_room unit size ring k len) c.kept_room-kept.ensures) ∙ c.if-has_room.true in
     let new : Device = g.F.Flash.device c.put_record.new.flash in (
       record { short = short; room = or_left (has_room unit size ring kept len) (not (is_scratch_left ring)) room },
-      subst (λ (p : ℕ). CutAppend d new ring.area p c.args.body.now) (place-here (has_room unit size ring kept len) (newest_place ring) (next_place ring) room) (c.in-Err.ensures.counted (ready-used d ring c.requires.stands c.requires.ready)),
+      subst (λ (p : ℕ). CutAppend d new ring.area p c.args.body.now) (place-here (has_room unit size ring kept len) (newest_place ring) (next_place ring) room) (c.in-Err.ensures.stopped.counted (ready-used d ring c.requires.stands c.requires.ready)),
       record {
-        down = c.in-Err.ensures.down;
-        units = subst (λ (n : ℕ). SpendsAtMost d new n) (sym (units-here unit len (has_room unit size ring kept len) room)) c.in-Err.ensures.bound;
+        down = c.in-Err.ensures.stopped.ring.down;
+        units = subst (λ (n : ℕ). SpendsAtMost d new n) (sym (units-here unit len (has_room unit size ring kept len) room)) c.in-Err.ensures.stopped.bound;
       },
     )
 
@@ -371,10 +371,10 @@ returns-in-Err-put_in_next-clause-ends g c =
     let left : is_scratch_left ring ≡ false = sym c.is_scratch_left.ensures ∙ c.if-is_scratch_left.false in
     let new : Device = g.F.Flash.device c.put_in_next.new.flash in (
       record { short = short; room = or_right (has_room unit size ring kept len) (not (is_scratch_left ring)) (not_from_false (is_scratch_left ring) left) },
-      subst (λ (p : ℕ). CutAppend d new ring.area p c.args.body.now) (place-next (has_room unit size ring kept len) (newest_place ring) (next_place ring) room) c.in-Err-put_in_next.ensures.cut,
+      subst (λ (p : ℕ). CutAppend d new ring.area p c.args.body.now) (place-next (has_room unit size ring kept len) (newest_place ring) (next_place ring) room) c.in-Err-put_in_next.ensures.stopped.cut,
       record {
-        down = c.in-Err-put_in_next.ensures.down.down;
-        units = subst (λ (n : ℕ). SpendsAtMost d new n) (units-next unit len (has_room unit size ring kept len) room) c.in-Err-put_in_next.ensures.down.units;
+        down = c.in-Err-put_in_next.ensures.stopped.down.down;
+        units = subst (λ (n : ℕ). SpendsAtMost d new n) (units-next unit len (has_room unit size ring kept len) room) c.in-Err-put_in_next.ensures.stopped.down.units;
       },
     )
 
@@ -436,7 +436,7 @@ returns-in-Ok-clause-written g c =
     let kept : ℕ = kept_room ring c.args.into_reserve in
     let room : has_room unit size ring kept len ≡ true =
     sym (c.has_room.ensures ∙ ap (λ (x : Geometry). has_room x.unit x.sector ring c.kept_room-kept.result len) c.geometry-geometry.ensures ∙ ap (λ (k : ℕ). has_room unit size ring k len) c.kept_room-kept.ensures) ∙ c.if-has_room.true in
-    subst (λ (p : ℕ). EndsWithRecord (g.F.Flash.device c.put_record.new.flash) c.put_record.new.self p c.args.body.now) (place-here (has_room unit size ring kept len) (newest_place ring) (next_place ring) room) c.in-Ok.ensures.ends_with
+    subst (λ (p : ℕ). EndsWithRecord (g.F.Flash.device c.put_record.new.flash) c.put_record.new.self p c.args.body.now) (place-here (has_room unit size ring kept len) (newest_place ring) (next_place ring) room) c.in-Ok.ensures.put.ends_with
 
 pub returns-in-Ok-put_in_next-clause-written : goal.returns-in-Ok-put_in_next-clause-written
 returns-in-Ok-put_in_next-clause-written g c =
@@ -448,7 +448,7 @@ returns-in-Ok-put_in_next-clause-written g c =
     let kept : ℕ = kept_room ring c.args.into_reserve in
     let room : has_room unit size ring kept len ≡ false =
     sym (c.has_room.ensures ∙ ap (λ (x : Geometry). has_room x.unit x.sector ring c.kept_room-kept.result len) c.geometry-geometry.ensures ∙ ap (λ (k : ℕ). has_room unit size ring k len) c.kept_room-kept.ensures) ∙ c.if-has_room.false in
-    subst (λ (p : ℕ). EndsWithRecord (g.F.Flash.device c.put_in_next.new.flash) c.put_in_next.new.self p c.args.body.now) (place-next (has_room unit size ring kept len) (newest_place ring) (next_place ring) room) c.in-Ok-put_in_next.ensures.ends_with
+    subst (λ (p : ℕ). EndsWithRecord (g.F.Flash.device c.put_in_next.new.flash) c.put_in_next.new.self p c.args.body.now) (place-next (has_room unit size ring kept len) (newest_place ring) (next_place ring) room) c.in-Ok-put_in_next.ensures.put.ends_with
 
 pub returns-in-Ok-clause-end : goal.returns-in-Ok-clause-end
 returns-in-Ok-clause-end g c =
@@ -460,7 +460,7 @@ returns-in-Ok-clause-end g c =
     let kept : ℕ = kept_room ring c.args.into_reserve in
     let room : has_room unit size ring kept len ≡ true =
     sym (c.has_room.ensures ∙ ap (λ (x : Geometry). has_room x.unit x.sector ring c.kept_room-kept.result len) c.geometry-geometry.ensures ∙ ap (λ (k : ℕ). has_room unit size ring k len) c.kept_room-kept.ensures) ∙ c.if-has_room.true in
-    c.in-Ok.ensures.end ∙ ap (λ (n : ℕ). n + record_cost unit len) (place-here (has_room unit size ring kept len) ring.end (padded unit 8) room)
+    c.in-Ok.ensures.put.ring.end ∙ ap (λ (n : ℕ). n + record_cost unit len) (place-here (has_room unit size ring kept len) ring.end (padded unit 8) room)
 
 pub returns-in-Ok-put_in_next-clause-end : goal.returns-in-Ok-put_in_next-clause-end
 returns-in-Ok-put_in_next-clause-end g c =
@@ -472,7 +472,7 @@ returns-in-Ok-put_in_next-clause-end g c =
     let kept : ℕ = kept_room ring c.args.into_reserve in
     let room : has_room unit size ring kept len ≡ false =
     sym (c.has_room.ensures ∙ ap (λ (x : Geometry). has_room x.unit x.sector ring c.kept_room-kept.result len) c.geometry-geometry.ensures ∙ ap (λ (k : ℕ). has_room unit size ring k len) c.kept_room-kept.ensures) ∙ c.if-has_room.false in
-    c.in-Ok-put_in_next.ensures.end ∙ ap (λ (n : ℕ). n + record_cost unit len) (place-next (has_room unit size ring kept len) ring.end (padded unit 8) room)
+    c.in-Ok-put_in_next.ensures.put.end ∙ ap (λ (n : ℕ). n + record_cost unit len) (place-next (has_room unit size ring kept len) ring.end (padded unit 8) room)
 
 pub returns-in-Err-clause-torn : goal.returns-in-Err-clause-torn
 returns-in-Err-clause-torn g c lost on =
@@ -484,7 +484,7 @@ returns-in-Err-clause-torn g c lost on =
     let kept : ℕ = kept_room ring c.args.into_reserve in
     let room : has_room unit size ring kept len ≡ true =
     sym (c.has_room.ensures ∙ ap (λ (x : Geometry). has_room x.unit x.sector ring c.kept_room-kept.result len) c.geometry-geometry.ensures ∙ ap (λ (k : ℕ). has_room unit size ring k len) c.kept_room-kept.ensures) ∙ c.if-has_room.true in
-    subst (λ (b : Bool). CutRing b d (g.F.Flash.device c.put_record.new.flash) ring c.args.body.now) (sym room) (c.in-Err.ensures.torn on)
+    subst (λ (b : Bool). CutRing b d (g.F.Flash.device c.put_record.new.flash) ring c.args.body.now) (sym room) (c.in-Err.ensures.stopped.torn on)
 
 pub returns-in-Err-put_in_next-clause-torn : goal.returns-in-Err-put_in_next-clause-torn
 returns-in-Err-put_in_next-clause-torn g c lost on =
@@ -496,4 +496,4 @@ returns-in-Err-put_in_next-clause-torn g c lost on =
     let kept : ℕ = kept_room ring c.args.into_reserve in
     let room : has_room unit size ring kept len ≡ false =
     sym (c.has_room.ensures ∙ ap (λ (x : Geometry). has_room x.unit x.sector ring c.kept_room-kept.result len) c.geometry-geometry.ensures ∙ ap (λ (k : ℕ). has_room unit size ring k len) c.kept_room-kept.ensures) ∙ c.if-has_room.false in
-    subst (λ (b : Bool). CutRing b d (g.F.Flash.device c.put_in_next.new.flash) ring c.args.body.now) (sym room) (c.in-Err-put_in_next.ensures.torn on)
+    subst (λ (b : Bool). CutRing b d (g.F.Flash.device c.put_in_next.new.flash) ring c.args.body.now) (sym room) (c.in-Err-put_in_next.ensures.stopped.torn on)

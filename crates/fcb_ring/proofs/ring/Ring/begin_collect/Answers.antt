@@ -8,14 +8,14 @@ returns-clause-begun g c =
       banks = did.touches.banks;
       list = did.list;
       others = did.others;
-      area = did.area;
-      reserve = did.reserve;
-      stands = did.stands;
-      stage = did.stage;
-      goes_on = record { oldest = did.oldest; used = did.used; id = did.id };
-      end = did.end;
-      fresh = did.fresh;
-      units = did.units;
+      area = did.opened.ring.area;
+      reserve = did.opened.ring.reserve;
+      stands = did.opened.stands;
+      stage = did.opened.ring.stage;
+      goes_on = record { oldest = did.opened.ring.oldest; used = did.opened.ring.used; id = did.opened.ring.id };
+      end = did.opened.ring.end;
+      fresh = did.opened.fresh;
+      units = did.opened.units;
     }
 
 pub returns-in_err-open_next-clause-stopped : goal.returns-in_err-open_next-clause-stopped
@@ -25,9 +25,12 @@ returns-in_err-open_next-clause-stopped g c =
       banks = did.touches.banks;
       list = did.list;
       others = did.others;
-      area = did.area;
-      reserve = did.reserve;
-      down = did.down;
-      lost = did.lost;
-      bound = did.bound;
+      area = did.stopped.ring.area;
+      reserve = did.stopped.ring.reserve;
+      down = did.stopped.ring.down;
+      lost = did.stopped.lost;
+      bound = did.stopped.bound;
     })
+
+pub returns-in_err-open_next-clause-form : goal.returns-in_err-open_next-clause-form
+returns-in_err-open_next-clause-form g c = on_err c.from_residual.result c.in_err-open_next.ensures.stopped.form

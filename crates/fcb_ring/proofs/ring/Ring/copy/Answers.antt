@@ -53,22 +53,22 @@ returns-clause-copied g c =
     let long : length c.as_slice.result.now ≡ c.args.r.now.len = ap length c.as_slice.ensures.value ∙ c.body_of-body.ensures.len in
     let bytes : c.as_slice.result.now ≡ body_at d ring.area c.args.r.now = c.as_slice.ensures.value ∙ c.body_of-body.ensures.bytes in
     let did = c.in_ok-put_record.ensures in
-    let none : entries_on d ring.area ++ cond (eqb ring.used ring.area.sectors) [] ((did.puts.at, body) ∷ []) ≡ entries_on d ring.area =
-    ap (λ (b : Bool). entries_on d ring.area ++ cond b [] ((did.puts.at, body) ∷ [])) (eq-eqb ring.used ring.area.sectors (collecting-used d ring c.requires.stands c.requires.collecting)) ∙ append-nil (entries_on d ring.area) in
+    let none : entries_on d ring.area ++ cond (eqb ring.used ring.area.sectors) [] ((did.put.puts.at, body) ∷ []) ≡ entries_on d ring.area =
+    ap (λ (b : Bool). entries_on d ring.area ++ cond b [] ((did.put.puts.at, body) ∷ [])) (eq-eqb ring.used ring.area.sectors (collecting-used d ring c.requires.stands c.requires.collecting)) ∙ append-nil (entries_on d ring.area) in
     record {
       banks = did.touches.banks;
-      list = subst (λ (l : List (RecordAt × List ℕ)). HasEntries (unit_of new ring.area) (sectors_of new ring.area) l) none did.puts.list;
+      list = subst (λ (l : List (RecordAt × List ℕ)). HasEntries (unit_of new ring.area) (sectors_of new ring.area) l) none did.put.puts.list;
       others = did.others;
-      area = did.area;
-      reserve = did.reserve;
-      stands = did.stands;
-      stage = did.stage ∙ c.requires.collecting;
-      oldest = did.oldest;
-      used = did.used;
-      end = did.end ∙ ap (λ (n : ℕ). ring.end + record_cost (unit_of d ring.area) n) long;
-      written = subst (λ (b : List ℕ). Writes d new ring.area (newest_place ring) ring.end (record_image (unit_of d ring.area) b)) bytes did.written;
-      copies = (did.puts.at, did.puts.sector, did.puts.here ∙ ap (λ (b : List ℕ). sector_list d ring.area (newest_place ring) ++ (did.puts.at, b) ∷ []) bytes);
-      units = subst (λ (n : ℕ). Spends d new (record_cost (unit_of d ring.area) n / unit_of d ring.area)) long did.units;
+      area = did.put.ring.area;
+      reserve = did.put.ring.reserve;
+      stands = did.put.stands;
+      stage = did.put.ring.stage ∙ c.requires.collecting;
+      oldest = did.put.ring.oldest;
+      used = did.put.ring.used;
+      end = did.put.ring.end ∙ ap (λ (n : ℕ). ring.end + record_cost (unit_of d ring.area) n) long;
+      written = subst (λ (b : List ℕ). Writes d new ring.area (newest_place ring) ring.end (record_image (unit_of d ring.area) b)) bytes did.put.written;
+      copies = (did.put.puts.at, did.put.puts.sector, did.put.puts.here ∙ ap (λ (b : List ℕ). sector_list d ring.area (newest_place ring) ++ (did.put.puts.at, b) ∷ []) bytes);
+      units = subst (λ (n : ℕ). Spends d new (record_cost (unit_of d ring.area) n / unit_of d ring.area)) long did.put.units;
     }
 
 pub returns-in_err-put_record-clause-stopped : goal.returns-in_err-put_record-clause-stopped
@@ -82,14 +82,14 @@ returns-in_err-put_record-clause-stopped g c =
     let did = c.in_err-put_record.ensures in
     on_err c.from_residual.result (record {
       banks = did.touches.banks;
-      list = did.uncounted full;
+      list = did.stopped.uncounted full;
       others = did.others;
-      area = did.area;
-      reserve = did.reserve;
-      down = did.down;
-      full = did.full full;
+      area = did.stopped.ring.area;
+      reserve = did.stopped.ring.reserve;
+      down = did.stopped.ring.down;
+      full = did.stopped.full full;
       lost = λ (is_on : d.is_on ≡ true).
-          let at = did.lost is_on in
+          let at = did.stopped.lost is_on in
           (at.0, subst (λ (b : List ℕ). IsRecordLoss new ring.area (newest_place ring) ring.end b at.0) bytes at.1);
-      bound = subst (λ (n : ℕ). SpendsAtMost d new (record_cost (unit_of d ring.area) n / unit_of d ring.area)) long did.bound;
+      bound = subst (λ (n : ℕ). SpendsAtMost d new (record_cost (unit_of d ring.area) n / unit_of d ring.area)) long did.stopped.bound;
     })

@@ -28,28 +28,34 @@ overflow_sub-self g c =
     let d : Device = g.F.Flash.device c.args.flash.now in
     omega (arith, collecting-used d c.args.self.now c.requires.stands c.requires.collecting, c.requires.stands.area.lawful.several)
 
-pub returns-in_err-area_erase-clause-list : goal.returns-in_err-area_erase-clause-list
-returns-in_err-area_erase-clause-list g c =
+pub returns-in_err-area_erase-clause-stopped : goal.returns-in_err-area_erase-clause-stopped
+returns-in_err-area_erase-clause-stopped g c =
     let d : Device = g.F.Flash.device c.args.flash.now in
-    on_err c.from_residual.result (same-list d c.args.self.now (g.met.F.Flash.is_lawful c.args.flash.now) c.requires.stands c.requires.collecting (g.F.Flash.device c.area_erase.new.flash) c.in_err-area_erase.ensures.touches.banks c.in_err-area_erase.ensures.same)
+    let ring : Ring = c.args.self.now in
+    on_err c.from_residual.result (record {
+      ring = record {
+        area = refl;
+        reserve = refl;
+        down = refl;
+      };
+      list = same-list d c.args.self.now (g.met.F.Flash.is_lawful c.args.flash.now) c.requires.stands c.requires.collecting (g.F.Flash.device c.area_erase.new.flash) c.in_err-area_erase.ensures.touches.banks c.in_err-area_erase.ensures.same;
+      same = c.in_err-area_erase.ensures.same;
+      lost = erase-lost (g.F.Flash.device c.args.flash.now) (g.F.Flash.device c.area_erase.new.flash) ring.area ring.oldest c.in_err-area_erase.ensures.touches.banks c.in_err-area_erase.ensures.lost;
+      bound = erase-most d (g.F.Flash.device c.area_erase.new.flash) c.args.self.now.area.bank (c.args.self.now.area.first + c.args.self.now.oldest) c.in_err-area_erase.ensures.lost;
+    })
 
-pub returns-in_err-area_erase-clause-bound : goal.returns-in_err-area_erase-clause-bound
-returns-in_err-area_erase-clause-bound g c =
+pub returns-clause-ended : goal.returns-clause-ended
+returns-clause-ended g c =
     let d : Device = g.F.Flash.device c.args.flash.now in
-    on_err c.from_residual.result (erase-most d (g.F.Flash.device c.area_erase.new.flash) c.args.self.now.area.bank (c.args.self.now.area.first + c.args.self.now.oldest) c.in_err-area_erase.ensures.lost)
-
-pub returns-clause-stands : goal.returns-clause-stands
-returns-clause-stands g c =
-    let d : Device = g.F.Flash.device c.args.flash.now in
-    ended-stands d c.args.self.now (g.met.F.Flash.is_lawful c.args.flash.now) c.requires.stands c.requires.collecting (g.F.Flash.device c.area_erase.new.flash) c.in_ok-area_erase.ensures.touches.banks c.place-next.result c.place-next.ensures.value c.in_ok-area_erase.ensures.erased
-
-pub returns-clause-ends : goal.returns-clause-ends
-returns-clause-ends g c =
-    let d : Device = g.F.Flash.device c.args.flash.now in
-    ended-collection d c.args.self.now (g.met.F.Flash.is_lawful c.args.flash.now) c.requires.stands c.requires.collecting (g.F.Flash.device c.area_erase.new.flash) c.in_ok-area_erase.ensures.touches.banks c.place-next.result c.place-next.ensures.value c.in_ok-area_erase.ensures.erased
-
-pub returns-clause-units : goal.returns-clause-units
-returns-clause-units g c = ap (λ (x : Device). x.spent) c.in_ok-area_erase.ensures.ok.is
+    record {
+      area = refl;
+      reserve = refl;
+      stands = ended-stands d c.args.self.now (g.met.F.Flash.is_lawful c.args.flash.now) c.requires.stands c.requires.collecting (g.F.Flash.device c.area_erase.new.flash) c.in_ok-area_erase.ensures.touches.banks c.place-next.result c.place-next.ensures.value c.in_ok-area_erase.ensures.erased;
+      ready = refl;
+      end = refl;
+      ends = ended-collection d c.args.self.now (g.met.F.Flash.is_lawful c.args.flash.now) c.requires.stands c.requires.collecting (g.F.Flash.device c.area_erase.new.flash) c.in_ok-area_erase.ensures.touches.banks c.place-next.result c.place-next.ensures.value c.in_ok-area_erase.ensures.erased;
+      units = ap (λ (x : Device). x.spent) c.in_ok-area_erase.ensures.ok.is;
+    }
 
 pub returns-clause-others : goal.returns-clause-others
 returns-clause-others g c =
@@ -58,8 +64,3 @@ returns-clause-others g c =
 pub returns-in_err-area_erase-clause-others : goal.returns-in_err-area_erase-clause-others
 returns-in_err-area_erase-clause-others g c =
     others_same (g.F.Flash.device c.args.flash.now) (g.F.Flash.device c.area_erase.new.flash) c.args.self.now.area c.args.self.now.oldest c.in_err-area_erase.ensures.same
-
-pub returns-in_err-area_erase-clause-lost : goal.returns-in_err-area_erase-clause-lost
-returns-in_err-area_erase-clause-lost g c =
-    let ring : Ring = c.args.self.now in
-    on_err c.from_residual.result (erase-lost (g.F.Flash.device c.args.flash.now) (g.F.Flash.device c.area_erase.new.flash) ring.area ring.oldest c.in_err-area_erase.ensures.touches.banks c.in_err-area_erase.ensures.lost)

@@ -31,73 +31,85 @@ returns-in_err-erase_torn-clause-touches g c =
     is_err_by c.from_residual.result (Touches (c.args.self.now.area ∷ []) (g.F.Flash.device c.args.flash.now) (g.F.Flash.device c.erase_torn.new.flash)) c.from_residual.ensures.0
     c.in_err-erase_torn.ensures.touches
 
-pub returns-in_err-erase_torn-clause-area : goal.returns-in_err-erase_torn-clause-area
-returns-in_err-erase_torn-clause-area g c = refl
+pub returns-in_err-erase_torn-clause-stopped : goal.returns-in_err-erase_torn-clause-stopped
+returns-in_err-erase_torn-clause-stopped g c =
+    let part = c.in_err-erase_torn.ensures.part in
+    let a = g.F.Flash.device c.args.flash.now in
+    let ring = c.args.self.now in
+    let due = due-is (unit_of a ring.area) (sector_size a ring.area) (sectors_of a ring.area) (has_size a ring.area (g.met.F.Flash.is_lawful c.args.flash.now) c.requires.stands.area) ring c.requires.stands.sectors c.requires.not_finished c.is_uncounted-is_full.result c.is_uncounted-is_full.ensures in
+    let bound = c.in_err-erase_torn.ensures.bound in
+    on_err c.from_residual.result (record {
+      ring = record {
+        area = refl;
+        reserve = refl;
+        down = refl;
+      };
+      part = record { done = part.0; sectors = part.1; place = part.0; which = inl refl; lost = part.2 };
+      bound = (bound.0, omega (arith, bound.1), bound.2);
+    })
 
-pub returns-in_err-erase_torn-clause-reserve : goal.returns-in_err-erase_torn-clause-reserve
-returns-in_err-erase_torn-clause-reserve g c = refl
-
-pub returns-in_err-erase_torn-clause-stands : goal.returns-in_err-erase_torn-clause-stands
-returns-in_err-erase_torn-clause-stands g c = not_ok _ c.from_residual.result c.from_residual.ensures.0
-
-pub returns-in_err-erase_torn-clause-ready : goal.returns-in_err-erase_torn-clause-ready
-returns-in_err-erase_torn-clause-ready g c = not_ok _ c.from_residual.result c.from_residual.ensures.0
-
-pub returns-in_err-erase_torn-clause-erased : goal.returns-in_err-erase_torn-clause-erased
-returns-in_err-erase_torn-clause-erased g c = not_ok _ c.from_residual.result c.from_residual.ensures.0
-
-pub returns-in_err-erase_torn-clause-units : goal.returns-in_err-erase_torn-clause-units
-returns-in_err-erase_torn-clause-units g c = not_ok _ c.from_residual.result c.from_residual.ensures.0
-
-pub returns-in_err-erase_torn-clause-down : goal.returns-in_err-erase_torn-clause-down
-returns-in_err-erase_torn-clause-down g c = on_err c.from_residual.result refl
+pub returns-in_err-erase_torn-clause-finished : goal.returns-in_err-erase_torn-clause-finished
+returns-in_err-erase_torn-clause-finished g c = not_ok _ c.from_residual.result c.from_residual.ensures.0
 
 pub returns-in_err-erase_if-clause-touches : goal.returns-in_err-erase_if-clause-touches
 returns-in_err-erase_if-clause-touches g c =
     is_err_by c.from_residual-in_err-erase_if.result (Touches (c.args.self.now.area ∷ []) (g.F.Flash.device c.args.flash.now) (g.F.Flash.device c.erase_if.new.flash)) c.from_residual-in_err-erase_if.ensures.0
     (then c.in_ok-erase_torn.ensures.touches c.in_err-erase_if.ensures.touches)
 
-pub returns-in_err-erase_if-clause-area : goal.returns-in_err-erase_if-clause-area
-returns-in_err-erase_if-clause-area g c = refl
+pub returns-in_err-erase_if-clause-stopped : goal.returns-in_err-erase_if-clause-stopped
+returns-in_err-erase_if-clause-stopped g c =
+    let a = g.F.Flash.device c.args.flash.now in
+    let ring = c.args.self.now in
+    let full = sym c.is_uncounted-is_full.ensures ∙ c.in_err-erase_if.ensures.due in
+    let newest = newest-place (unit_of a ring.area) (sector_size a ring.area) (sectors_of a ring.area) (has_size a ring.area (g.met.F.Flash.is_lawful c.args.flash.now) c.requires.stands.area) ring c.requires.stands.sectors c.requires.not_finished full in
+    let due = due-is (unit_of a ring.area) (sector_size a ring.area) (sectors_of a ring.area) (has_size a ring.area (g.met.F.Flash.is_lawful c.args.flash.now) c.requires.stands.area) ring c.requires.stands.sectors c.requires.not_finished c.is_uncounted-is_full.result c.is_uncounted-is_full.ensures in
+    on_err c.from_residual-in_err-erase_if.result (record {
+      ring = record {
+        area = refl;
+        reserve = refl;
+        down = refl;
+      };
+      part =
+          record {
+            done = ring.area.sectors;
+            sectors = c.in_err-erase_if.ensures.same ∙ c.in_ok-erase_torn.ensures.mended ∙ sym (mends_all (sectors_of a ring.area) ring.area.sectors (omega (arith, count-sectors a ring.area)));
+            place = c.place-newest.result;
+            which = inr (refl, c.place-newest.ensures.value ∙ sym (newest ∙ ap (λ (n : ℕ). turned n ring.oldest ring.used) (count-sectors a ring.area)));
+            lost = λ on. erase-lost (g.F.Flash.device c.erase_torn.new.flash) (g.F.Flash.device c.erase_if.new.flash) ring.area c.place-newest.result c.in_err-erase_if.ensures.touches.banks c.in_err-erase_if.ensures.lost (c.in_ok-erase_torn.ensures.touches.ends.on ∙ on);
+          };
+      bound = spends_then a (g.F.Flash.device c.erase_torn.new.flash) (g.F.Flash.device c.erase_if.new.flash) (count_by is_torn (sectors_of a ring.area)) 0 (erases_due (states_on a ring.area)) c.in_ok-erase_torn.ensures.units c.in_err-erase_if.ensures.bound (omega arith);
+    })
 
-pub returns-in_err-erase_if-clause-reserve : goal.returns-in_err-erase_if-clause-reserve
-returns-in_err-erase_if-clause-reserve g c = refl
-
-pub returns-in_err-erase_if-clause-stands : goal.returns-in_err-erase_if-clause-stands
-returns-in_err-erase_if-clause-stands g c = not_ok _ c.from_residual-in_err-erase_if.result c.from_residual-in_err-erase_if.ensures.0
-
-pub returns-in_err-erase_if-clause-ready : goal.returns-in_err-erase_if-clause-ready
-returns-in_err-erase_if-clause-ready g c = not_ok _ c.from_residual-in_err-erase_if.result c.from_residual-in_err-erase_if.ensures.0
-
-pub returns-in_err-erase_if-clause-erased : goal.returns-in_err-erase_if-clause-erased
-returns-in_err-erase_if-clause-erased g c = not_ok _ c.from_residual-in_err-erase_if.result c.from_residual-in_err-erase_if.ensures.0
-
-pub returns-in_err-erase_if-clause-units : goal.returns-in_err-erase_if-clause-units
-returns-in_err-erase_if-clause-units g c = not_ok _ c.from_residual-in_err-erase_if.result c.from_residual-in_err-erase_if.ensures.0
-
-pub returns-in_err-erase_if-clause-down : goal.returns-in_err-erase_if-clause-down
-returns-in_err-erase_if-clause-down g c = on_err c.from_residual-in_err-erase_if.result refl
+pub returns-in_err-erase_if-clause-finished : goal.returns-in_err-erase_if-clause-finished
+returns-in_err-erase_if-clause-finished g c = not_ok _ c.from_residual-in_err-erase_if.result c.from_residual-in_err-erase_if.ensures.0
 
 pub returns-clause-touches : goal.returns-clause-touches
 returns-clause-touches g c = then c.in_ok-erase_torn.ensures.touches c.in_ok-erase_if.ensures.touches
 
-pub returns-clause-area : goal.returns-clause-area
-returns-clause-area g c = refl
-
-pub returns-clause-reserve : goal.returns-clause-reserve
-returns-clause-reserve g c = refl
-
-pub returns-clause-ready : goal.returns-clause-ready
-returns-clause-ready g c = refl
-
-pub returns-clause-down : goal.returns-clause-down
-returns-clause-down g c = tt
-
-pub returns-clause-part : goal.returns-clause-part
-returns-clause-part g c = tt
-
-pub returns-clause-bound : goal.returns-clause-bound
-returns-clause-bound g c = tt
+pub returns-clause-finished : goal.returns-clause-finished
+returns-clause-finished g c =
+    let a = g.F.Flash.device c.args.flash.now in
+    let b = g.F.Flash.device c.erase_torn.new.flash in
+    let d = g.F.Flash.device c.erase_if.new.flash in
+    let ring = c.args.self.now in
+    let banks = c.in_ok-erase_if.ensures.touches.banks ∙ c.in_ok-erase_torn.ensures.touches.banks in
+    let after = after_erases a b d ring.area c.place-newest.result ring.oldest ring.used c.place-newest.ensures.value c.is_uncounted-is_full.result c.in_ok-erase_torn.ensures.touches.banks c.in_ok-erase_torn.ensures.mended c.in_ok-erase_if.ensures.erased in
+    let done = finished (unit_of a ring.area) (sector_size a ring.area) (sectors_of a ring.area) (has_size a ring.area (g.met.F.Flash.is_lawful c.args.flash.now) c.requires.stands.area) ring c.requires.stands.sectors c.requires.not_finished (sectors_of d ring.area) c.is_uncounted-is_full.result c.is_uncounted-is_full.ensures after in
+    let due = due-is (unit_of a ring.area) (sector_size a ring.area) (sectors_of a ring.area) (has_size a ring.area (g.met.F.Flash.is_lawful c.args.flash.now) c.requires.stands.area) ring c.requires.stands.sectors c.requires.not_finished c.is_uncounted-is_full.result c.is_uncounted-is_full.ensures in
+    record {
+      area = refl;
+      reserve = refl;
+      stands =
+          record {
+            area = area_after a d ring.area (c.in_ok-erase_if.ensures.touches.banks ∙ c.in_ok-erase_torn.ensures.touches.banks) c.requires.stands.area;
+            sectors = with_unit (λ (unit : ℕ). Stands unit (sectors_of d ring.area) (record ring { stage = Ready })) a d ring.area (c.in_ok-erase_if.ensures.touches.banks ∙ c.in_ok-erase_torn.ensures.touches.banks) done.0;
+          };
+      ready = refl;
+      erased = mounted-is (unit_of a ring.area) (sector_size a ring.area) (sectors_of a ring.area) (has_size a ring.area (g.met.F.Flash.is_lawful c.args.flash.now) c.requires.stands.area) ring c.requires.stands.sectors c.requires.not_finished (sectors_of d ring.area) c.is_uncounted-is_full.result c.is_uncounted-is_full.ensures after;
+      units =
+          c.in_ok-erase_if.ensures.units ∙ ap (λ (n : ℕ). counted n (cond c.is_uncounted-is_full.result 1 0)) c.in_ok-erase_torn.ensures.units
+          ∙ counted_counted a.spent (count_by is_torn (sectors_of a ring.area)) (cond c.is_uncounted-is_full.result 1 0) ∙ ap (counted a.spent) (sym due);
+    }
 
 pub erase_torn-requires : goal.erase_torn-requires
 erase_torn-requires g c = c.requires.stands.area
@@ -129,14 +141,6 @@ returns-in_err-erase_torn-clause-list g c =
     with_unit (λ (unit : ℕ). HasEntries unit (sectors_of b ring.area) (entries_on a ring.area)) a b ring.area c.in_err-erase_torn.ensures.touches.banks
     (subst (λ (l : List (List ℕ)). HasEntries (unit_of a ring.area) l (entries_on a ring.area)) (sym part.1) has)
 
-pub returns-in_err-erase_torn-clause-bound : goal.returns-in_err-erase_torn-clause-bound
-returns-in_err-erase_torn-clause-bound g c =
-    let a = g.F.Flash.device c.args.flash.now in
-    let ring = c.args.self.now in
-    let due = due-is (unit_of a ring.area) (sector_size a ring.area) (sectors_of a ring.area) (has_size a ring.area (g.met.F.Flash.is_lawful c.args.flash.now) c.requires.stands.area) ring c.requires.stands.sectors c.requires.not_finished c.is_uncounted-is_full.result c.is_uncounted-is_full.ensures in
-    let bound = c.in_err-erase_torn.ensures.bound in
-    on_err c.from_residual.result (bound.0, omega (arith, bound.1), bound.2)
-
 pub returns-in_err-erase_if-clause-list : goal.returns-in_err-erase_if-clause-list
 returns-in_err-erase_if-clause-list g c =
     let a = g.F.Flash.device c.args.flash.now in
@@ -147,13 +151,6 @@ returns-in_err-erase_if-clause-list g c =
     with_unit (λ (unit : ℕ). HasEntries unit (sectors_of d ring.area) (entries_on a ring.area)) a d ring.area (c.in_err-erase_if.ensures.touches.banks ∙ c.in_ok-erase_torn.ensures.touches.banks)
     (subst (λ (l : List (List ℕ)). HasEntries (unit_of a ring.area) l (entries_on a ring.area)) (is ∙ sym c.in_ok-erase_torn.ensures.mended ∙ sym c.in_err-erase_if.ensures.same) has)
 
-pub returns-in_err-erase_if-clause-bound : goal.returns-in_err-erase_if-clause-bound
-returns-in_err-erase_if-clause-bound g c =
-    let a = g.F.Flash.device c.args.flash.now in
-    let ring = c.args.self.now in
-    let due = due-is (unit_of a ring.area) (sector_size a ring.area) (sectors_of a ring.area) (has_size a ring.area (g.met.F.Flash.is_lawful c.args.flash.now) c.requires.stands.area) ring c.requires.stands.sectors c.requires.not_finished c.is_uncounted-is_full.result c.is_uncounted-is_full.ensures in
-    on_err c.from_residual-in_err-erase_if.result (spends_then a (g.F.Flash.device c.erase_torn.new.flash) (g.F.Flash.device c.erase_if.new.flash) (count_by is_torn (sectors_of a ring.area)) 0 (erases_due (states_on a ring.area)) c.in_ok-erase_torn.ensures.units c.in_err-erase_if.ensures.bound (omega arith))
-
 pub returns-clause-list : goal.returns-clause-list
 returns-clause-list g c =
     let a = g.F.Flash.device c.args.flash.now in
@@ -163,56 +160,6 @@ returns-clause-list g c =
     let after = after_erases a b d ring.area c.place-newest.result ring.oldest ring.used c.place-newest.ensures.value c.is_uncounted-is_full.result c.in_ok-erase_torn.ensures.touches.banks c.in_ok-erase_torn.ensures.mended c.in_ok-erase_if.ensures.erased in
     let done = finished (unit_of a ring.area) (sector_size a ring.area) (sectors_of a ring.area) (has_size a ring.area (g.met.F.Flash.is_lawful c.args.flash.now) c.requires.stands.area) ring c.requires.stands.sectors c.requires.not_finished (sectors_of d ring.area) c.is_uncounted-is_full.result c.is_uncounted-is_full.ensures after in
     with_unit (λ (unit : ℕ). HasEntries unit (sectors_of d ring.area) (entries_on a ring.area)) a d ring.area (c.in_ok-erase_if.ensures.touches.banks ∙ c.in_ok-erase_torn.ensures.touches.banks) done.1
-
-pub returns-clause-stands : goal.returns-clause-stands
-returns-clause-stands g c =
-    let a = g.F.Flash.device c.args.flash.now in
-    let b = g.F.Flash.device c.erase_torn.new.flash in
-    let d = g.F.Flash.device c.erase_if.new.flash in
-    let ring = c.args.self.now in
-    let banks = c.in_ok-erase_if.ensures.touches.banks ∙ c.in_ok-erase_torn.ensures.touches.banks in
-    let after = after_erases a b d ring.area c.place-newest.result ring.oldest ring.used c.place-newest.ensures.value c.is_uncounted-is_full.result c.in_ok-erase_torn.ensures.touches.banks c.in_ok-erase_torn.ensures.mended c.in_ok-erase_if.ensures.erased in
-    let done = finished (unit_of a ring.area) (sector_size a ring.area) (sectors_of a ring.area) (has_size a ring.area (g.met.F.Flash.is_lawful c.args.flash.now) c.requires.stands.area) ring c.requires.stands.sectors c.requires.not_finished (sectors_of d ring.area) c.is_uncounted-is_full.result c.is_uncounted-is_full.ensures after in
-    record {
-      area = area_after a d ring.area (c.in_ok-erase_if.ensures.touches.banks ∙ c.in_ok-erase_torn.ensures.touches.banks) c.requires.stands.area;
-      sectors = with_unit (λ (unit : ℕ). Stands unit (sectors_of d ring.area) (record ring { stage = Ready })) a d ring.area (c.in_ok-erase_if.ensures.touches.banks ∙ c.in_ok-erase_torn.ensures.touches.banks) done.0;
-    }
-
-pub returns-clause-units : goal.returns-clause-units
-returns-clause-units g c =
-    let a = g.F.Flash.device c.args.flash.now in
-    let ring = c.args.self.now in
-    let due = due-is (unit_of a ring.area) (sector_size a ring.area) (sectors_of a ring.area) (has_size a ring.area (g.met.F.Flash.is_lawful c.args.flash.now) c.requires.stands.area) ring c.requires.stands.sectors c.requires.not_finished c.is_uncounted-is_full.result c.is_uncounted-is_full.ensures in
-    c.in_ok-erase_if.ensures.units ∙ ap (λ (n : ℕ). counted n (cond c.is_uncounted-is_full.result 1 0)) c.in_ok-erase_torn.ensures.units
-    ∙ counted_counted a.spent (count_by is_torn (sectors_of a ring.area)) (cond c.is_uncounted-is_full.result 1 0) ∙ ap (counted a.spent) (sym due)
-
-pub returns-clause-erased : goal.returns-clause-erased
-returns-clause-erased g c =
-    let a = g.F.Flash.device c.args.flash.now in
-    let b = g.F.Flash.device c.erase_torn.new.flash in
-    let d = g.F.Flash.device c.erase_if.new.flash in
-    let ring = c.args.self.now in
-    let after = after_erases a b d ring.area c.place-newest.result ring.oldest ring.used c.place-newest.ensures.value c.is_uncounted-is_full.result c.in_ok-erase_torn.ensures.touches.banks c.in_ok-erase_torn.ensures.mended c.in_ok-erase_if.ensures.erased in
-    mounted-is (unit_of a ring.area) (sector_size a ring.area) (sectors_of a ring.area) (has_size a ring.area (g.met.F.Flash.is_lawful c.args.flash.now) c.requires.stands.area) ring c.requires.stands.sectors c.requires.not_finished (sectors_of d ring.area) c.is_uncounted-is_full.result c.is_uncounted-is_full.ensures after
-
-pub returns-in_err-erase_if-clause-part : goal.returns-in_err-erase_if-clause-part
-returns-in_err-erase_if-clause-part g c =
-    let a = g.F.Flash.device c.args.flash.now in
-    let ring = c.args.self.now in
-    let full = sym c.is_uncounted-is_full.ensures ∙ c.in_err-erase_if.ensures.due in
-    let newest = newest-place (unit_of a ring.area) (sector_size a ring.area) (sectors_of a ring.area) (has_size a ring.area (g.met.F.Flash.is_lawful c.args.flash.now) c.requires.stands.area) ring c.requires.stands.sectors c.requires.not_finished full in
-    on_err c.from_residual-in_err-erase_if.result (record {
-      done = ring.area.sectors;
-      sectors = c.in_err-erase_if.ensures.same ∙ c.in_ok-erase_torn.ensures.mended ∙ sym (mends_all (sectors_of a ring.area) ring.area.sectors (omega (arith, count-sectors a ring.area)));
-      place = c.place-newest.result;
-      which = inr (refl, c.place-newest.ensures.value ∙ sym (newest ∙ ap (λ (n : ℕ). turned n ring.oldest ring.used) (count-sectors a ring.area)));
-      lost = λ on. erase-lost (g.F.Flash.device c.erase_torn.new.flash) (g.F.Flash.device c.erase_if.new.flash) ring.area c.place-newest.result c.in_err-erase_if.ensures.touches.banks c.in_err-erase_if.ensures.lost (c.in_ok-erase_torn.ensures.touches.ends.on ∙ on);
-    })
-
-pub returns-in_err-erase_torn-clause-part : goal.returns-in_err-erase_torn-clause-part
-returns-in_err-erase_torn-clause-part g c =
-    let part = c.in_err-erase_torn.ensures.part in
-    on_err c.from_residual.result (record { done = part.0; sectors = part.1; place = part.0; which = inl refl; lost = part.2 })
 
 pub returns-in_err-erase_torn-clause-idle : goal.returns-in_err-erase_torn-clause-idle
 returns-in_err-erase_torn-clause-idle g c none =
@@ -234,3 +181,6 @@ returns-clause-idle g c none =
     let ring = c.args.self.now in
     let due = due-is (unit_of a ring.area) (sector_size a ring.area) (sectors_of a ring.area) (has_size a ring.area (g.met.F.Flash.is_lawful c.args.flash.now) c.requires.stands.area) ring c.requires.stands.sectors c.requires.not_finished c.is_uncounted-is_full.result c.is_uncounted-is_full.ensures in
     c.in_ok-erase_if.ensures.idle (not-due c.is_uncounted-is_full.result (count_by is_torn (sectors_of a ring.area)) (sym due ∙ none)) ∙ c.in_ok-erase_torn.ensures.idle (omega arith)
+
+pub returns-clause-stopped : goal.returns-clause-stopped
+returns-clause-stopped g c = tt

@@ -9,7 +9,7 @@ pub returns-in-Err-finish-clause-ends : goal.returns-in-Err-finish-clause-ends
 returns-in-Err-finish-clause-ends g c =
     let d = g.F.Flash.device c.args.flash.now in
     let e = g.F.Flash.device c.finish.new.flash in
-    (c.in-Ok.ensures.damaged, subst (λ (x : Area). SpendsAtMost d e (erases_due (states_on d x))) c.in-Ok.ensures.ring.0 c.in-Err-finish.ensures.bound)
+    (c.in-Ok.ensures.damaged, subst (λ (x : Area). SpendsAtMost d e (erases_due (states_on d x))) c.in-Ok.ensures.ring.0 c.in-Err-finish.ensures.stopped.bound)
 
 pub returns-in-Err-finish-clause-idle : goal.returns-in-Err-finish-clause-idle
 returns-in-Err-finish-clause-idle g c none =
@@ -25,4 +25,4 @@ pub returns-in-Err-finish-clause-part : goal.returns-in-Err-finish-clause-part
 returns-in-Err-finish-clause-part g c lost =
     let d = g.F.Flash.device c.args.flash.now in
     let e = g.F.Flash.device c.finish.new.flash in
-    subst (λ (x : Area). StopsErasing d e x) c.in-Ok.ensures.ring.0 c.in-Err-finish.ensures.part
+    subst (λ (x : Area). StopsErasing d e x) c.in-Ok.ensures.ring.0 c.in-Err-finish.ensures.stopped.part

@@ -1,4 +1,4 @@
-use Rattle.std.proofs.Common.{◌≡◌, ◌+◌, ℕ, List, length, take, ap, sym, subst, ◌∙◌, arith}
+use Rattle.std.proofs.Common.{refl, ◌≡◌, ◌+◌, ℕ, List, length, take, ap, sym, subst, ◌∙◌, arith}
 use Rattle.std.proofs.lemmas.List.{length-take-le}
 use Rattle.flash_sim.specs.Device.{Device}
 use Rattle.flash_map.specs.declared.area.Geometry.{Geometry}
@@ -70,8 +70,8 @@ returns-in_err-area_program-clause-list g c =
     let new : Device = g.F.Flash.device c.area_program.new.flash in
     lost-list d ring lawful c.requires.stands c.requires.ready id c.next_id-id.ensures c.place-place.result c.place-place.ensures.value header is new c.in_err-area_program.ensures.touches.banks c.in_err-area_program.ensures.part
 
-pub returns-in_err-area_program-clause-lost : goal.returns-in_err-area_program-clause-lost
-returns-in_err-area_program-clause-lost g c =
+pub returns-in_err-area_program-clause-stopped : goal.returns-in_err-area_program-clause-stopped
+returns-in_err-area_program-clause-stopped g c =
     let d : Device = g.F.Flash.device c.args.flash.now in
     let ring : Ring = c.args.self.now in
     let lawful = g.met.F.Flash.is_lawful c.args.flash.now in
@@ -82,21 +82,16 @@ returns-in_err-area_program-clause-lost g c =
     let is : header ≡ header_image unit id =
     ap (take c.padded-end.result) c.header_image-header.ensures ∙ ap (λ (n : ℕ). take n (header_image 16 id)) end-is ∙ header-front unit id (has_size d ring.area lawful c.requires.stands.area).is_unit in
     let new : Device = g.F.Flash.device c.area_program.new.flash in
-    on_err c.from_residual.result (header-loss d ring lawful c.requires.stands c.requires.ready id c.next_id-id.ensures c.place-place.result c.place-place.ensures.value header is new c.in_err-area_program.ensures.touches.banks c.in_err-area_program.ensures.lost)
-
-pub returns-in_err-area_program-clause-bound : goal.returns-in_err-area_program-clause-bound
-returns-in_err-area_program-clause-bound g c =
-    let d : Device = g.F.Flash.device c.args.flash.now in
-    let ring : Ring = c.args.self.now in
-    let lawful = g.met.F.Flash.is_lawful c.args.flash.now in
-    let id : ℕ = c.next_id-id.result in
-    let unit : ℕ = unit_of d ring.area in
-    let end-is : c.padded-end.result ≡ padded unit 8 = c.padded-end.ensures.value ∙ ap (λ (x : Geometry). padded x.unit 8) c.geometry-unit.ensures in
-    let header : List ℕ = take c.padded-end.result c.header_image-header.result in
-    let is : header ≡ header_image unit id =
-    ap (take c.padded-end.result) c.header_image-header.ensures ∙ ap (λ (n : ℕ). take n (header_image 16 id)) end-is ∙ header-front unit id (has_size d ring.area lawful c.requires.stands.area).is_unit in
-    let new : Device = g.F.Flash.device c.area_program.new.flash in
-    on_err c.from_residual.result (header-most d ring lawful c.requires.stands c.requires.ready id c.next_id-id.ensures c.place-place.result c.place-place.ensures.value header is new c.in_err-area_program.ensures.touches.banks c.in_err-area_program.ensures.lost)
+    on_err c.from_residual.result (record {
+      ring = record {
+        area = refl;
+        reserve = refl;
+        down = refl;
+      };
+      form = lost-form d ring lawful c.requires.stands c.requires.ready id c.next_id-id.ensures c.place-place.result c.place-place.ensures.value header is new c.in_err-area_program.ensures.touches.banks c.in_err-area_program.ensures.part;
+      lost = header-loss d ring lawful c.requires.stands c.requires.ready id c.next_id-id.ensures c.place-place.result c.place-place.ensures.value header is new c.in_err-area_program.ensures.touches.banks c.in_err-area_program.ensures.lost;
+      bound = header-most d ring lawful c.requires.stands c.requires.ready id c.next_id-id.ensures c.place-place.result c.place-place.ensures.value header is new c.in_err-area_program.ensures.touches.banks c.in_err-area_program.ensures.lost;
+    })
 
 pub returns-clause-list : goal.returns-clause-list
 returns-clause-list g c =
@@ -112,8 +107,8 @@ returns-clause-list g c =
     let new : Device = g.F.Flash.device c.area_program.new.flash in
     opened-list d ring lawful c.requires.stands c.requires.ready id c.next_id-id.ensures c.place-place.result c.place-place.ensures.value header is new c.in_ok-area_program.ensures.touches.banks c.args.next c.requires.fits c.in_ok-area_program.ensures.written
 
-pub returns-clause-stands : goal.returns-clause-stands
-returns-clause-stands g c =
+pub returns-clause-opened : goal.returns-clause-opened
+returns-clause-opened g c =
     let d : Device = g.F.Flash.device c.args.flash.now in
     let ring : Ring = c.args.self.now in
     let lawful = g.met.F.Flash.is_lawful c.args.flash.now in
@@ -124,36 +119,23 @@ returns-clause-stands g c =
     let is : header ≡ header_image unit id =
     ap (take c.padded-end.result) c.header_image-header.ensures ∙ ap (λ (n : ℕ). take n (header_image 16 id)) end-is ∙ header-front unit id (has_size d ring.area lawful c.requires.stands.area).is_unit in
     let new : Device = g.F.Flash.device c.area_program.new.flash in
-    subst (λ (n : ℕ). StandsOn new (record ring { used = ring.used + 1; id = id; end = n; stage = c.args.next })) (sym end-is)
-    (opened-stands d ring lawful c.requires.stands c.requires.ready id c.next_id-id.ensures c.place-place.result c.place-place.ensures.value header is new c.in_ok-area_program.ensures.touches.banks c.args.next c.requires.fits c.in_ok-area_program.ensures.written)
-
-pub returns-clause-fresh : goal.returns-clause-fresh
-returns-clause-fresh g c =
-    let d : Device = g.F.Flash.device c.args.flash.now in
-    let ring : Ring = c.args.self.now in
-    let lawful = g.met.F.Flash.is_lawful c.args.flash.now in
-    let id : ℕ = c.next_id-id.result in
-    let unit : ℕ = unit_of d ring.area in
-    let end-is : c.padded-end.result ≡ padded unit 8 = c.padded-end.ensures.value ∙ ap (λ (x : Geometry). padded x.unit 8) c.geometry-unit.ensures in
-    let header : List ℕ = take c.padded-end.result c.header_image-header.result in
-    let is : header ≡ header_image unit id =
-    ap (take c.padded-end.result) c.header_image-header.ensures ∙ ap (λ (n : ℕ). take n (header_image 16 id)) end-is ∙ header-front unit id (has_size d ring.area lawful c.requires.stands.area).is_unit in
-    let new : Device = g.F.Flash.device c.area_program.new.flash in
-    opened-fresh d ring lawful c.requires.stands c.requires.ready id c.next_id-id.ensures c.place-place.result c.place-place.ensures.value header is new c.in_ok-area_program.ensures.touches.banks c.args.next c.requires.fits c.in_ok-area_program.ensures.written
-
-pub returns-clause-units : goal.returns-clause-units
-returns-clause-units g c =
-    let d : Device = g.F.Flash.device c.args.flash.now in
-    let ring : Ring = c.args.self.now in
-    let lawful = g.met.F.Flash.is_lawful c.args.flash.now in
-    let id : ℕ = c.next_id-id.result in
-    let unit : ℕ = unit_of d ring.area in
-    let end-is : c.padded-end.result ≡ padded unit 8 = c.padded-end.ensures.value ∙ ap (λ (x : Geometry). padded x.unit 8) c.geometry-unit.ensures in
-    let header : List ℕ = take c.padded-end.result c.header_image-header.result in
-    let is : header ≡ header_image unit id =
-    ap (take c.padded-end.result) c.header_image-header.ensures ∙ ap (λ (n : ℕ). take n (header_image 16 id)) end-is ∙ header-front unit id (has_size d ring.area lawful c.requires.stands.area).is_unit in
-    let new : Device = g.F.Flash.device c.area_program.new.flash in
-    header-spends d ring lawful c.requires.stands c.requires.ready id c.next_id-id.ensures c.place-place.result c.place-place.ensures.value header is new c.in_ok-area_program.ensures.touches.banks c.in_ok-area_program.ensures.ok
+    record {
+      ring = record {
+        area = refl;
+        reserve = refl;
+        oldest = refl;
+        used = refl;
+        id = c.next_id-id.ensures;
+        end = end-is;
+        stage = refl;
+      };
+      stands =
+          subst (λ (n : ℕ). StandsOn new (record ring { used = ring.used + 1; id = id; end = n; stage = c.args.next })) (sym end-is)
+          (opened-stands d ring lawful c.requires.stands c.requires.ready id c.next_id-id.ensures c.place-place.result c.place-place.ensures.value header is new c.in_ok-area_program.ensures.touches.banks c.args.next c.requires.fits c.in_ok-area_program.ensures.written);
+      fresh = opened-fresh d ring lawful c.requires.stands c.requires.ready id c.next_id-id.ensures c.place-place.result c.place-place.ensures.value header is new c.in_ok-area_program.ensures.touches.banks c.args.next c.requires.fits c.in_ok-area_program.ensures.written;
+      empty = opened-empty d ring lawful c.requires.stands c.requires.ready id c.next_id-id.ensures c.place-place.result c.place-place.ensures.value header is new c.in_ok-area_program.ensures.touches.banks c.args.next c.requires.fits c.in_ok-area_program.ensures.written;
+      units = header-spends d ring lawful c.requires.stands c.requires.ready id c.next_id-id.ensures c.place-place.result c.place-place.ensures.value header is new c.in_ok-area_program.ensures.touches.banks c.in_ok-area_program.ensures.ok;
+    }
 
 pub returns-clause-others : goal.returns-clause-others
 returns-clause-others g c =
@@ -162,32 +144,3 @@ returns-clause-others g c =
 pub returns-in_err-area_program-clause-others : goal.returns-in_err-area_program-clause-others
 returns-in_err-area_program-clause-others g c =
     others_set (g.F.Flash.device c.args.flash.now) (g.F.Flash.device c.area_program.new.flash) c.args.self.now.area c.place-place.result (next_place c.args.self.now) _ c.place-place.ensures.value c.in_err-area_program.ensures.part.2
-
-pub returns-in_err-area_program-clause-form : goal.returns-in_err-area_program-clause-form
-returns-in_err-area_program-clause-form g c =
-    let d : Device = g.F.Flash.device c.args.flash.now in
-    let ring : Ring = c.args.self.now in
-    let lawful = g.met.F.Flash.is_lawful c.args.flash.now in
-    let id : ℕ = c.next_id-id.result in
-    let unit : ℕ = unit_of d ring.area in
-    let end-is : c.padded-end.result ≡ padded unit 8 = c.padded-end.ensures.value ∙ ap (λ (x : Geometry). padded x.unit 8) c.geometry-unit.ensures in
-    let header : List ℕ = take c.padded-end.result c.header_image-header.result in
-    let is : header ≡ header_image unit id =
-    ap (take c.padded-end.result) c.header_image-header.ensures ∙ ap (λ (n : ℕ). take n (header_image 16 id)) end-is ∙ header-front unit id (has_size d ring.area lawful c.requires.stands.area).is_unit in
-    let new : Device = g.F.Flash.device c.area_program.new.flash in
-    on_err c.from_residual.result
-    (lost-form d ring lawful c.requires.stands c.requires.ready id c.next_id-id.ensures c.place-place.result c.place-place.ensures.value header is new c.in_err-area_program.ensures.touches.banks c.in_err-area_program.ensures.part)
-
-pub returns-clause-empty : goal.returns-clause-empty
-returns-clause-empty g c =
-    let d : Device = g.F.Flash.device c.args.flash.now in
-    let ring : Ring = c.args.self.now in
-    let lawful = g.met.F.Flash.is_lawful c.args.flash.now in
-    let id : ℕ = c.next_id-id.result in
-    let unit : ℕ = unit_of d ring.area in
-    let end-is : c.padded-end.result ≡ padded unit 8 = c.padded-end.ensures.value ∙ ap (λ (x : Geometry). padded x.unit 8) c.geometry-unit.ensures in
-    let header : List ℕ = take c.padded-end.result c.header_image-header.result in
-    let is : header ≡ header_image unit id =
-    ap (take c.padded-end.result) c.header_image-header.ensures ∙ ap (λ (n : ℕ). take n (header_image 16 id)) end-is ∙ header-front unit id (has_size d ring.area lawful c.requires.stands.area).is_unit in
-    let new : Device = g.F.Flash.device c.area_program.new.flash in
-    opened-empty d ring lawful c.requires.stands c.requires.ready id c.next_id-id.ensures c.place-place.result c.place-place.ensures.value header is new c.in_ok-area_program.ensures.touches.banks c.args.next c.requires.fits c.in_ok-area_program.ensures.written

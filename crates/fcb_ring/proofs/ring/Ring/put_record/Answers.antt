@@ -1,4 +1,4 @@
-use Rattle.std.proofs.Common.{◌≡◌, ◌+◌, ℕ, List, length, ap, sym, ◌∙◌, arith}
+use Rattle.std.proofs.Common.{refl, ◌≡◌, ◌+◌, ℕ, List, length, ap, sym, ◌∙◌, arith}
 use Rattle.flash_sim.specs.Device.{Device}
 use Rattle.flash_map.specs.declared.area.Geometry.{Geometry}
 use Rattle.flash_map.specs.Area.{unit_of, sector_size, sectors_of}
@@ -36,8 +36,8 @@ area_program-requires-clause-can g c =
     c.as_slice.ensures.value ∙ c.record_image-record.ensures ∙ ap (λ (x : Geometry). record_image x.unit c.args.body.now) c.geometry-unit.ensures in
     can-record d ring lawful c.requires.stands c.requires.writes c.requires.some c.args.body.now c.requires.short c.requires.fits c.place-place.result bytes c.place-place.ensures.value is
 
-pub returns-in_err-area_program-clause-counted : goal.returns-in_err-area_program-clause-counted
-returns-in_err-area_program-clause-counted g c =
+pub returns-in_err-area_program-clause-stopped : goal.returns-in_err-area_program-clause-stopped
+returns-in_err-area_program-clause-stopped g c =
     let d : Device = g.F.Flash.device c.args.flash.now in
     let ring : Ring = c.args.self.now in
     let lawful = g.met.F.Flash.is_lawful c.args.flash.now in
@@ -45,10 +45,22 @@ returns-in_err-area_program-clause-counted g c =
     let is : bytes ≡ record_image (unit_of d ring.area) c.args.body.now =
     c.as_slice.ensures.value ∙ c.record_image-record.ensures ∙ ap (λ (x : Geometry). record_image x.unit c.args.body.now) c.geometry-unit.ensures in
     let new : Device = g.F.Flash.device c.area_program.new.flash in
-    on_err c.from_residual.result (record-cut d ring lawful c.requires.stands c.requires.writes c.requires.some c.args.body.now c.requires.short c.requires.fits new c.in_err-area_program.ensures.touches.banks c.place-place.result bytes c.place-place.ensures.value is c.in_err-area_program.ensures.lost)
+    on_err c.from_residual.result (record {
+      ring = record {
+        area = refl;
+        reserve = refl;
+        down = refl;
+      };
+      lost = record-lost d ring lawful c.requires.stands c.requires.writes c.requires.some c.args.body.now c.requires.short c.requires.fits new c.in_err-area_program.ensures.touches.banks c.place-place.result bytes c.place-place.ensures.value is c.in_err-area_program.ensures.lost;
+      counted = record-cut d ring lawful c.requires.stands c.requires.writes c.requires.some c.args.body.now c.requires.short c.requires.fits new c.in_err-area_program.ensures.touches.banks c.place-place.result bytes c.place-place.ensures.value is c.in_err-area_program.ensures.lost;
+      torn = record-torn d ring lawful c.requires.stands c.requires.writes c.requires.some c.args.body.now c.requires.short c.requires.fits new c.in_err-area_program.ensures.touches.banks c.place-place.result bytes c.place-place.ensures.value is c.in_err-area_program.ensures.lost;
+      full = record-full d ring lawful c.requires.stands c.requires.writes c.requires.some c.args.body.now c.requires.short c.requires.fits new c.in_err-area_program.ensures.touches.banks c.place-place.result bytes c.place-place.ensures.value is c.in_err-area_program.ensures.lost;
+      uncounted = record-kept d ring lawful c.requires.stands c.requires.writes c.requires.some c.args.body.now c.requires.short c.requires.fits new c.in_err-area_program.ensures.touches.banks c.place-place.result bytes c.place-place.ensures.value is c.in_err-area_program.ensures.lost;
+      bound = record-most d ring lawful c.requires.stands c.requires.writes c.requires.some c.args.body.now c.requires.short c.requires.fits new c.in_err-area_program.ensures.touches.banks c.place-place.result bytes is c.in_err-area_program.ensures.lost;
+    })
 
-pub returns-in_err-area_program-clause-uncounted : goal.returns-in_err-area_program-clause-uncounted
-returns-in_err-area_program-clause-uncounted g c =
+pub returns-clause-put : goal.returns-clause-put
+returns-clause-put g c =
     let d : Device = g.F.Flash.device c.args.flash.now in
     let ring : Ring = c.args.self.now in
     let lawful = g.met.F.Flash.is_lawful c.args.flash.now in
@@ -56,62 +68,27 @@ returns-in_err-area_program-clause-uncounted g c =
     let is : bytes ≡ record_image (unit_of d ring.area) c.args.body.now =
     c.as_slice.ensures.value ∙ c.record_image-record.ensures ∙ ap (λ (x : Geometry). record_image x.unit c.args.body.now) c.geometry-unit.ensures in
     let new : Device = g.F.Flash.device c.area_program.new.flash in
-    on_err c.from_residual.result (record-kept d ring lawful c.requires.stands c.requires.writes c.requires.some c.args.body.now c.requires.short c.requires.fits new c.in_err-area_program.ensures.touches.banks c.place-place.result bytes c.place-place.ensures.value is c.in_err-area_program.ensures.lost)
-
-pub returns-in_err-area_program-clause-bound : goal.returns-in_err-area_program-clause-bound
-returns-in_err-area_program-clause-bound g c =
-    let d : Device = g.F.Flash.device c.args.flash.now in
-    let ring : Ring = c.args.self.now in
-    let lawful = g.met.F.Flash.is_lawful c.args.flash.now in
-    let bytes : List ℕ = c.as_slice.result.now in
-    let is : bytes ≡ record_image (unit_of d ring.area) c.args.body.now =
-    c.as_slice.ensures.value ∙ c.record_image-record.ensures ∙ ap (λ (x : Geometry). record_image x.unit c.args.body.now) c.geometry-unit.ensures in
-    let new : Device = g.F.Flash.device c.area_program.new.flash in
-    on_err c.from_residual.result (record-most d ring lawful c.requires.stands c.requires.writes c.requires.some c.args.body.now c.requires.short c.requires.fits new c.in_err-area_program.ensures.touches.banks c.place-place.result bytes is c.in_err-area_program.ensures.lost)
-
-pub returns-clause-stands : goal.returns-clause-stands
-returns-clause-stands g c =
-    let d : Device = g.F.Flash.device c.args.flash.now in
-    let ring : Ring = c.args.self.now in
-    let lawful = g.met.F.Flash.is_lawful c.args.flash.now in
-    let bytes : List ℕ = c.as_slice.result.now in
-    let is : bytes ≡ record_image (unit_of d ring.area) c.args.body.now =
-    c.as_slice.ensures.value ∙ c.record_image-record.ensures ∙ ap (λ (x : Geometry). record_image x.unit c.args.body.now) c.geometry-unit.ensures in
-    let new : Device = g.F.Flash.device c.area_program.new.flash in
-    put-stands-on d ring lawful c.requires.stands c.requires.writes c.requires.some c.args.body.now c.requires.short c.requires.fits new c.in_ok-area_program.ensures.touches.banks c.place-place.result bytes c.place-place.ensures.value is c.in_ok-area_program.ensures.written (ring.end + c.len.result)
-    (ap (λ (n : ℕ). ring.end + n) (c.len.ensures.value ∙ sym (ap length c.as_slice.ensures.value)))
-
-pub returns-clause-end : goal.returns-clause-end
-returns-clause-end g c =
-    let d : Device = g.F.Flash.device c.args.flash.now in
-    let ring : Ring = c.args.self.now in
-    let lawful = g.met.F.Flash.is_lawful c.args.flash.now in
-    let bytes : List ℕ = c.as_slice.result.now in
-    let is : bytes ≡ record_image (unit_of d ring.area) c.args.body.now =
-    c.as_slice.ensures.value ∙ c.record_image-record.ensures ∙ ap (λ (x : Geometry). record_image x.unit c.args.body.now) c.geometry-unit.ensures in
-    ap (λ (n : ℕ). ring.end + n) (c.len.ensures.value ∙ sym (ap length c.as_slice.ensures.value) ∙ record-long d ring lawful c.requires.stands c.requires.writes c.requires.some c.args.body.now c.requires.short c.requires.fits bytes is)
-
-pub returns-clause-puts : goal.returns-clause-puts
-returns-clause-puts g c =
-    let d : Device = g.F.Flash.device c.args.flash.now in
-    let ring : Ring = c.args.self.now in
-    let lawful = g.met.F.Flash.is_lawful c.args.flash.now in
-    let bytes : List ℕ = c.as_slice.result.now in
-    let is : bytes ≡ record_image (unit_of d ring.area) c.args.body.now =
-    c.as_slice.ensures.value ∙ c.record_image-record.ensures ∙ ap (λ (x : Geometry). record_image x.unit c.args.body.now) c.geometry-unit.ensures in
-    let new : Device = g.F.Flash.device c.area_program.new.flash in
-    puts-record d ring lawful c.requires.stands c.requires.writes c.requires.some c.args.body.now c.requires.short c.requires.fits new c.in_ok-area_program.ensures.touches.banks c.place-place.result bytes c.place-place.ensures.value is c.in_ok-area_program.ensures.written
-
-pub returns-clause-units : goal.returns-clause-units
-returns-clause-units g c =
-    let d : Device = g.F.Flash.device c.args.flash.now in
-    let ring : Ring = c.args.self.now in
-    let lawful = g.met.F.Flash.is_lawful c.args.flash.now in
-    let bytes : List ℕ = c.as_slice.result.now in
-    let is : bytes ≡ record_image (unit_of d ring.area) c.args.body.now =
-    c.as_slice.ensures.value ∙ c.record_image-record.ensures ∙ ap (λ (x : Geometry). record_image x.unit c.args.body.now) c.geometry-unit.ensures in
-    let new : Device = g.F.Flash.device c.area_program.new.flash in
-    record-spends d ring lawful c.requires.stands c.requires.writes c.requires.some c.args.body.now c.requires.short c.requires.fits new c.in_ok-area_program.ensures.touches.banks c.place-place.result bytes c.place-place.ensures.value is c.in_ok-area_program.ensures.written c.in_ok-area_program.ensures.ok
+    record {
+      ring = record {
+        area = refl;
+        reserve = refl;
+        oldest = refl;
+        used = refl;
+        id = refl;
+        end = ap (λ (n : ℕ). ring.end + n) (c.len.ensures.value ∙ sym (ap length c.as_slice.ensures.value) ∙ record-long d ring lawful c.requires.stands c.requires.writes c.requires.some c.args.body.now c.requires.short c.requires.fits bytes is);
+        stage = refl;
+      };
+      stands =
+          put-stands-on d ring lawful c.requires.stands c.requires.writes c.requires.some c.args.body.now c.requires.short c.requires.fits new c.in_ok-area_program.ensures.touches.banks c.place-place.result bytes c.place-place.ensures.value is c.in_ok-area_program.ensures.written (ring.end + c.len.result)
+          (ap (λ (n : ℕ). ring.end + n) (c.len.ensures.value ∙ sym (ap length c.as_slice.ensures.value)));
+      written = record-written d ring lawful c.requires.stands c.requires.writes c.requires.some c.args.body.now c.requires.short c.requires.fits new c.in_ok-area_program.ensures.touches.banks c.place-place.result bytes c.place-place.ensures.value is c.in_ok-area_program.ensures.written;
+      ends_with =
+          record-stands d ring lawful c.requires.stands c.requires.writes c.requires.some c.args.body.now c.requires.short c.requires.fits new c.in_ok-area_program.ensures.touches.banks c.place-place.result bytes c.place-place.ensures.value is c.in_ok-area_program.ensures.written (ring.end + c.len.result)
+          (ap (λ (n : ℕ). ring.end + n) (c.len.ensures.value ∙ sym (ap length c.as_slice.ensures.value)));
+      puts = puts-record d ring lawful c.requires.stands c.requires.writes c.requires.some c.args.body.now c.requires.short c.requires.fits new c.in_ok-area_program.ensures.touches.banks c.place-place.result bytes c.place-place.ensures.value is c.in_ok-area_program.ensures.written;
+      gains = record-gains d ring lawful c.requires.stands c.requires.writes c.requires.some c.args.body.now c.requires.short c.requires.fits new c.in_ok-area_program.ensures.touches.banks c.place-place.result bytes c.place-place.ensures.value is c.in_ok-area_program.ensures.written;
+      units = record-spends d ring lawful c.requires.stands c.requires.writes c.requires.some c.args.body.now c.requires.short c.requires.fits new c.in_ok-area_program.ensures.touches.banks c.place-place.result bytes c.place-place.ensures.value is c.in_ok-area_program.ensures.written c.in_ok-area_program.ensures.ok;
+    }
 
 pub returns-clause-others : goal.returns-clause-others
 returns-clause-others g c =
@@ -120,70 +97,3 @@ returns-clause-others g c =
 pub returns-in_err-area_program-clause-others : goal.returns-in_err-area_program-clause-others
 returns-in_err-area_program-clause-others g c =
     others_set (g.F.Flash.device c.args.flash.now) (g.F.Flash.device c.area_program.new.flash) c.args.self.now.area c.place-place.result (newest_place c.args.self.now) _ c.place-place.ensures.value c.in_err-area_program.ensures.part.2
-
-pub returns-in_err-area_program-clause-lost : goal.returns-in_err-area_program-clause-lost
-returns-in_err-area_program-clause-lost g c =
-    let d : Device = g.F.Flash.device c.args.flash.now in
-    let ring : Ring = c.args.self.now in
-    let lawful = g.met.F.Flash.is_lawful c.args.flash.now in
-    let bytes : List ℕ = c.as_slice.result.now in
-    let is : bytes ≡ record_image (unit_of d ring.area) c.args.body.now =
-    c.as_slice.ensures.value ∙ c.record_image-record.ensures ∙ ap (λ (x : Geometry). record_image x.unit c.args.body.now) c.geometry-unit.ensures in
-    let new : Device = g.F.Flash.device c.area_program.new.flash in
-    on_err c.from_residual.result (record-lost d ring lawful c.requires.stands c.requires.writes c.requires.some c.args.body.now c.requires.short c.requires.fits new c.in_err-area_program.ensures.touches.banks c.place-place.result bytes c.place-place.ensures.value is c.in_err-area_program.ensures.lost)
-
-pub returns-in_err-area_program-clause-full : goal.returns-in_err-area_program-clause-full
-returns-in_err-area_program-clause-full g c =
-    let d : Device = g.F.Flash.device c.args.flash.now in
-    let ring : Ring = c.args.self.now in
-    let lawful = g.met.F.Flash.is_lawful c.args.flash.now in
-    let bytes : List ℕ = c.as_slice.result.now in
-    let is : bytes ≡ record_image (unit_of d ring.area) c.args.body.now =
-    c.as_slice.ensures.value ∙ c.record_image-record.ensures ∙ ap (λ (x : Geometry). record_image x.unit c.args.body.now) c.geometry-unit.ensures in
-    let new : Device = g.F.Flash.device c.area_program.new.flash in
-    on_err c.from_residual.result (record-full d ring lawful c.requires.stands c.requires.writes c.requires.some c.args.body.now c.requires.short c.requires.fits new c.in_err-area_program.ensures.touches.banks c.place-place.result bytes c.place-place.ensures.value is c.in_err-area_program.ensures.lost)
-
-pub returns-clause-written : goal.returns-clause-written
-returns-clause-written g c =
-    let d : Device = g.F.Flash.device c.args.flash.now in
-    let ring : Ring = c.args.self.now in
-    let lawful = g.met.F.Flash.is_lawful c.args.flash.now in
-    let bytes : List ℕ = c.as_slice.result.now in
-    let is : bytes ≡ record_image (unit_of d ring.area) c.args.body.now =
-    c.as_slice.ensures.value ∙ c.record_image-record.ensures ∙ ap (λ (x : Geometry). record_image x.unit c.args.body.now) c.geometry-unit.ensures in
-    let new : Device = g.F.Flash.device c.area_program.new.flash in
-    record-written d ring lawful c.requires.stands c.requires.writes c.requires.some c.args.body.now c.requires.short c.requires.fits new c.in_ok-area_program.ensures.touches.banks c.place-place.result bytes c.place-place.ensures.value is c.in_ok-area_program.ensures.written
-
-pub returns-clause-ends_with : goal.returns-clause-ends_with
-returns-clause-ends_with g c =
-    let d : Device = g.F.Flash.device c.args.flash.now in
-    let ring : Ring = c.args.self.now in
-    let lawful = g.met.F.Flash.is_lawful c.args.flash.now in
-    let bytes : List ℕ = c.as_slice.result.now in
-    let is : bytes ≡ record_image (unit_of d ring.area) c.args.body.now =
-    c.as_slice.ensures.value ∙ c.record_image-record.ensures ∙ ap (λ (x : Geometry). record_image x.unit c.args.body.now) c.geometry-unit.ensures in
-    let new : Device = g.F.Flash.device c.area_program.new.flash in
-    record-stands d ring lawful c.requires.stands c.requires.writes c.requires.some c.args.body.now c.requires.short c.requires.fits new c.in_ok-area_program.ensures.touches.banks c.place-place.result bytes c.place-place.ensures.value is c.in_ok-area_program.ensures.written (ring.end + c.len.result)
-    (ap (λ (n : ℕ). ring.end + n) (c.len.ensures.value ∙ sym (ap length c.as_slice.ensures.value)))
-
-pub returns-in_err-area_program-clause-torn : goal.returns-in_err-area_program-clause-torn
-returns-in_err-area_program-clause-torn g c =
-    let d : Device = g.F.Flash.device c.args.flash.now in
-    let ring : Ring = c.args.self.now in
-    let lawful = g.met.F.Flash.is_lawful c.args.flash.now in
-    let bytes : List ℕ = c.as_slice.result.now in
-    let is : bytes ≡ record_image (unit_of d ring.area) c.args.body.now =
-    c.as_slice.ensures.value ∙ c.record_image-record.ensures ∙ ap (λ (x : Geometry). record_image x.unit c.args.body.now) c.geometry-unit.ensures in
-    let new : Device = g.F.Flash.device c.area_program.new.flash in
-    on_err c.from_residual.result (record-torn d ring lawful c.requires.stands c.requires.writes c.requires.some c.args.body.now c.requires.short c.requires.fits new c.in_err-area_program.ensures.touches.banks c.place-place.result bytes c.place-place.ensures.value is c.in_err-area_program.ensures.lost)
-
-pub returns-clause-gains : goal.returns-clause-gains
-returns-clause-gains g c =
-    let d : Device = g.F.Flash.device c.args.flash.now in
-    let ring : Ring = c.args.self.now in
-    let lawful = g.met.F.Flash.is_lawful c.args.flash.now in
-    let bytes : List ℕ = c.as_slice.result.now in
-    let is : bytes ≡ record_image (unit_of d ring.area) c.args.body.now =
-    c.as_slice.ensures.value ∙ c.record_image-record.ensures ∙ ap (λ (x : Geometry). record_image x.unit c.args.body.now) c.geometry-unit.ensures in
-    let new : Device = g.F.Flash.device c.area_program.new.flash in
-    record-gains d ring lawful c.requires.stands c.requires.writes c.requires.some c.args.body.now c.requires.short c.requires.fits new c.in_ok-area_program.ensures.touches.banks c.place-place.result bytes c.place-place.ensures.value is c.in_ok-area_program.ensures.written

@@ -23,12 +23,12 @@ returns-in-Ok-redo-clause-ends g c =
     let found = c.in-Ok.ensures in
     let did = c.in-Ok-redo.ensures in (
       found.undamaged,
-      stands_with g.T.SlotSectors.role g.T.SlotSectors.kind g.T.SlotSectors.kept d area c.in-Ok.current c.redo.new.opened c.fill.new.cache (stands g.T.SlotSectors.role g.T.SlotSectors.kind g.T.SlotSectors.kept a d area c.in-Ok.current c.redo.new.opened law did.touches.banks c.requires.area did.rested did.kept) c.fill.ensures,
+      stands_with g.T.SlotSectors.role g.T.SlotSectors.kind g.T.SlotSectors.kept d area c.in-Ok.current c.redo.new.opened c.fill.new.cache (stands g.T.SlotSectors.role g.T.SlotSectors.kind g.T.SlotSectors.kept a d area c.in-Ok.current c.redo.new.opened law did.touches.banks c.requires.area did.ends.rested did.ends.kept) c.fill.ensures,
       refl,
       did.items,
-      subst (λ (p : ℕ). SpendsIn a d (redo_units k (sectors_of a area) p (redo_of k (sectors_of a area) p))) found.opened did.spends,
+      subst (λ (p : ℕ). SpendsIn a d (redo_units k (sectors_of a area) p (redo_of k (sectors_of a area) p))) found.opened did.ends.spends,
       λ rest. did.same (subst (λ (p : ℕ). AtRest (g.T.SlotSectors.kind (geometry_of a area)).reading (sectors_of a area) p) (sym found.opened) rest),
-      subst (λ (p : ℕ). list_of k (sectors_of d area) ≡ redo_list k (sectors_of a area) p (redo_of k (sectors_of a area) p)) found.opened did.list,
+      subst (λ (p : ℕ). list_of k (sectors_of d area) ≡ redo_list k (sectors_of a area) p (redo_of k (sectors_of a area) p)) found.opened did.ends.list,
     )
 
 pub returns-in-Err-redo-clause-ends : goal.returns-in-Err-redo-clause-ends
@@ -41,9 +41,9 @@ returns-in-Err-redo-clause-ends g c =
     let did = c.in-Err-redo.ensures in (
       found.undamaged,
       did.items,
-      subst (λ (p : ℕ). SpendsUpTo a d (redo_units k (sectors_of a area) p (redo_of k (sectors_of a area) p))) found.opened did.spends_lost,
-      λ rest. did.busy (subst (λ (p : ℕ). AtRest (g.T.SlotSectors.kind (geometry_of a area)).reading (sectors_of a area) p) (sym found.opened) rest),
-      subst (λ (p : ℕ). KeepsOrRedoes k (sectors_of a area) (sectors_of d area) p) found.opened did.list_lost,
+      subst (λ (p : ℕ). SpendsUpTo a d (redo_units k (sectors_of a area) p (redo_of k (sectors_of a area) p))) found.opened did.ends.spends_lost,
+      λ rest. did.ends.busy (subst (λ (p : ℕ). AtRest (g.T.SlotSectors.kind (geometry_of a area)).reading (sectors_of a area) p) (sym found.opened) rest),
+      subst (λ (p : ℕ). KeepsOrRedoes k (sectors_of a area) (sectors_of d area) p) found.opened did.ends.list_lost,
     )
 
 pub returns-in-Ok-redo-clause-at_most : goal.returns-in-Ok-redo-clause-at_most
@@ -51,14 +51,14 @@ returns-in-Ok-redo-clause-at_most g c =
     let a : Device = g.F.Flash.device c.args.flash.now in
     let law = g.met.T.SlotSectors.lawful (geometry_of a c.args.area) (unit_is a c.args.area (g.met.F.Flash.is_lawful c.args.flash.now) c.requires.area.lawful) in
     let found = c.in-Ok.ensures in
-    mount-most (g.T.SlotSectors.kind (geometry_of a c.args.area)) law g.T.SlotSectors.role a c.args.area (g.met.F.Flash.is_lawful c.args.flash.now) c.requires.area found.undamaged c.in-Ok.current found.opened (g.F.Flash.device c.redo.new.flash) c.in-Ok-redo.ensures.spends
+    mount-most (g.T.SlotSectors.kind (geometry_of a c.args.area)) law g.T.SlotSectors.role a c.args.area (g.met.F.Flash.is_lawful c.args.flash.now) c.requires.area found.undamaged c.in-Ok.current found.opened (g.F.Flash.device c.redo.new.flash) c.in-Ok-redo.ensures.ends.spends
 
 pub returns-in-Err-redo-clause-at_most : goal.returns-in-Err-redo-clause-at_most
 returns-in-Err-redo-clause-at_most g c =
     let a : Device = g.F.Flash.device c.args.flash.now in
     let law = g.met.T.SlotSectors.lawful (geometry_of a c.args.area) (unit_is a c.args.area (g.met.F.Flash.is_lawful c.args.flash.now) c.requires.area.lawful) in
     let found = c.in-Ok.ensures in
-    mount-most_lost (g.T.SlotSectors.kind (geometry_of a c.args.area)) law g.T.SlotSectors.role a c.args.area (g.met.F.Flash.is_lawful c.args.flash.now) c.requires.area found.undamaged c.in-Ok.current found.opened (g.F.Flash.device c.redo.new.flash) c.in-Err-redo.ensures.spends_lost
+    mount-most_lost (g.T.SlotSectors.kind (geometry_of a c.args.area)) law g.T.SlotSectors.role a c.args.area (g.met.F.Flash.is_lawful c.args.flash.now) c.requires.area found.undamaged c.in-Ok.current found.opened (g.F.Flash.device c.redo.new.flash) c.in-Err-redo.ensures.ends.spends_lost
 
 pub returns-in-Err-clause-at_most : goal.returns-in-Err-clause-at_most
 returns-in-Err-clause-at_most g c =
@@ -102,7 +102,7 @@ fill-requires-clause-area g c =
     let area : Area = c.args.area in
     let law : IsKind (g.T.SlotSectors.kind (geometry_of a area)) = g.met.T.SlotSectors.lawful (geometry_of a area) (unit_is a area (g.met.F.Flash.is_lawful c.args.flash.now) c.requires.area.lawful) in
     let did = c.in-Ok-redo.ensures in
-    (stands g.T.SlotSectors.role g.T.SlotSectors.kind g.T.SlotSectors.kept a d area c.in-Ok.current c.redo.new.opened law did.touches.banks c.requires.area did.rested did.kept).area
+    (stands g.T.SlotSectors.role g.T.SlotSectors.kind g.T.SlotSectors.kept a d area c.in-Ok.current c.redo.new.opened law did.touches.banks c.requires.area did.ends.rested did.ends.kept).area
 
 pub fill-requires-clause-kept : goal.fill-requires-clause-kept
 fill-requires-clause-kept g c =
@@ -111,7 +111,7 @@ fill-requires-clause-kept g c =
     let area : Area = c.args.area in
     let law : IsKind (g.T.SlotSectors.kind (geometry_of a area)) = g.met.T.SlotSectors.lawful (geometry_of a area) (unit_is a area (g.met.F.Flash.is_lawful c.args.flash.now) c.requires.area.lawful) in
     let did = c.in-Ok-redo.ensures in
-    (stands g.T.SlotSectors.role g.T.SlotSectors.kind g.T.SlotSectors.kept a d area c.in-Ok.current c.redo.new.opened law did.touches.banks c.requires.area did.rested did.kept).opened
+    (stands g.T.SlotSectors.role g.T.SlotSectors.kind g.T.SlotSectors.kept a d area c.in-Ok.current c.redo.new.opened law did.touches.banks c.requires.area did.ends.rested did.ends.kept).opened
 
 pub fill-requires-clause-current : goal.fill-requires-clause-current
 fill-requires-clause-current g c =
@@ -120,7 +120,7 @@ fill-requires-clause-current g c =
     let area : Area = c.args.area in
     let law : IsKind (g.T.SlotSectors.kind (geometry_of a area)) = g.met.T.SlotSectors.lawful (geometry_of a area) (unit_is a area (g.met.F.Flash.is_lawful c.args.flash.now) c.requires.area.lawful) in
     let did = c.in-Ok-redo.ensures in
-    (stands g.T.SlotSectors.role g.T.SlotSectors.kind g.T.SlotSectors.kept a d area c.in-Ok.current c.redo.new.opened law did.touches.banks c.requires.area did.rested did.kept).current
+    (stands g.T.SlotSectors.role g.T.SlotSectors.kind g.T.SlotSectors.kept a d area c.in-Ok.current c.redo.new.opened law did.touches.banks c.requires.area did.ends.rested did.ends.kept).current
 
 pub fill-requires-clause-slots : goal.fill-requires-clause-slots
 fill-requires-clause-slots g c =

@@ -1,4 +1,4 @@
-use Rattle.std.proofs.Common.{◌≡◌, ℕ, List, ◌⊎◌, sym, ap, ◌∙◌, inl, inr}
+use Rattle.std.proofs.Common.{rules, ◌≡◌, ℕ, List, ◌⊎◌, sym, ap, ◌∙◌, inl, inr}
 use Rattle.std.proofs.lemmas.Bool.{false≢true}
 use Rattle.std.proofs.lemmas.Result.{on_ok_weaker, on_err_weaker}
 use Rattle.flash_sim.specs.Device.{Device}
@@ -21,27 +21,25 @@ cut_closes : (unit : ℕ) (old new : List (List ℕ)) (place : ℕ) → (new ≡
 cut_closes unit old new place (inl same) done = inl (keeps_same unit (sector_at old place) (sector_at new place) (ap (λ (s : List (List ℕ)). sector_at s place) same))
 cut_closes unit old new place (inr at) done = inr (done at)
 
-pub returns-clause-only : goal.returns-clause-only
-returns-clause-only g c =
-    let a : Device = g.F.Flash.device c.args.flash.now in
-    let e : Device = g.F.Flash.device c.put_close.new.flash in
-    let area : Area = c.args.area.now in
-    either c.put_close.result (on_ok_weaker c.put_close.result (λ h. h.only) c.put_close.ensures.ok)
-    (on_err_weaker c.put_close.result (λ h. cut_only (unit_of a area) (sectors_of a area) (sectors_of e area) c.args.place h) c.put_close.ensures.lost)
-
-pub returns-clause-closes : goal.returns-clause-closes
-returns-clause-closes g c =
-    let a : Device = g.F.Flash.device c.args.flash.now in
-    let e : Device = g.F.Flash.device c.put_close.new.flash in
-    let area : Area = c.args.area.now in
-    on_ok_weaker c.put_close.result (λ h. closes (unit_of a area) (sector_at (sectors_of a area) c.args.place) (sector_at (sectors_of e area) c.args.place) c.requires.used h.closes) c.put_close.ensures.ok
-
-pub returns-clause-lost : goal.returns-clause-lost
-returns-clause-lost g c =
-    let a : Device = g.F.Flash.device c.args.flash.now in
-    let e : Device = g.F.Flash.device c.put_close.new.flash in
-    let area : Area = c.args.area.now in
-    on_err_weaker c.put_close.result (λ h. cut_closes (unit_of a area) (sectors_of a area) (sectors_of e area) c.args.place h (λ at. closes (unit_of a area) (sector_at (sectors_of a area) c.args.place) (sector_at (sectors_of e area) c.args.place) c.requires.used at.closes)) c.put_close.ensures.lost
-
-pub returns-clause-blank_lost : goal.returns-clause-blank_lost
-returns-clause-blank_lost g c = on_err_weaker c.put_close.result (λ h blank. absurd (false≢true (sym c.requires.used ∙ blank))) c.put_close.ensures.lost
+pub returns-clause-ends : goal.returns-clause-ends
+returns-clause-ends g c = record {
+  only =
+      let a : Device = g.F.Flash.device c.args.flash.now in
+      let e : Device = g.F.Flash.device c.put_close.new.flash in
+      let area : Area = c.args.area.now in
+      either c.put_close.result (on_ok_weaker c.put_close.result (λ h. h.only) c.put_close.ensures.ok)
+      (on_err_weaker c.put_close.result (λ h. cut_only (unit_of a area) (sectors_of a area) (sectors_of e area) c.args.place h) c.put_close.ensures.lost);
+  closes =
+      let a : Device = g.F.Flash.device c.args.flash.now in
+      let e : Device = g.F.Flash.device c.put_close.new.flash in
+      let area : Area = c.args.area.now in
+      on_ok_weaker c.put_close.result (λ h. closes (unit_of a area) (sector_at (sectors_of a area) c.args.place) (sector_at (sectors_of e area) c.args.place) c.requires.used h.closes) c.put_close.ensures.ok;
+  lost =
+      let a : Device = g.F.Flash.device c.args.flash.now in
+      let e : Device = g.F.Flash.device c.put_close.new.flash in
+      let area : Area = c.args.area.now in
+      on_err_weaker c.put_close.result (λ h. cut_closes (unit_of a area) (sectors_of a area) (sectors_of e area) c.args.place h (λ at. closes (unit_of a area) (sector_at (sectors_of a area) c.args.place) (sector_at (sectors_of e area) c.args.place) c.requires.used at.closes)) c.put_close.ensures.lost;
+  blank_lost = on_err_weaker c.put_close.result (λ h blank. absurd (false≢true (sym c.requires.used ∙ blank))) c.put_close.ensures.lost;
+  spends = search rules;
+  spends_lost = search rules;
+}

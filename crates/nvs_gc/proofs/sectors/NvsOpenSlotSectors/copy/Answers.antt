@@ -18,17 +18,13 @@ use Rattle.nvs_gc.specs.declared.sectors.NvsOpen.{NvsOpen}
 use Rattle.nvs_gc.proofs.OpenLemmas.{kept_is}
 use Rattle.nvs_gc.proofs.sectors.NvsOpenSlotSectors.copy.Goals as goal
 
-pub copy_entry-requires-clause-has_source : goal.copy_entry-requires-clause-has_source
-copy_entry-requires-clause-has_source g c = c.read_again-own.ensures.in_area.sector
-
-pub copy_entry-requires-clause-other : goal.copy_entry-requires-clause-other
-copy_entry-requires-clause-other g c = λ (e : c.read_again-own.result.sector ≡ c.args.place). c.requires.source.other (sym c.read_again-own.ensures.own.sector ∙ e)
-
-pub copy_entry-requires-clause-ordinary : goal.copy_entry-requires-clause-ordinary
-copy_entry-requires-clause-ordinary g c = let other = c.read_again-own.ensures.in_area.ordinary in let small = c.read_again-own.ensures.small in omega (arith, other, small)
-
-pub copy_entry-requires-clause-inside : goal.copy_entry-requires-clause-inside
-copy_entry-requires-clause-inside g c = c.read_again-own.ensures.in_area.inside
+pub copy_entry-requires-clause-source : goal.copy_entry-requires-clause-source
+copy_entry-requires-clause-source g c = record {
+  has_source = c.read_again-own.ensures.in_area.sector;
+  other = λ (e : c.read_again-own.result.sector ≡ c.args.place). c.requires.source.other (sym c.read_again-own.ensures.own.sector ∙ e);
+  ordinary = let other = c.read_again-own.ensures.in_area.ordinary in let small = c.read_again-own.ensures.small in omega (arith, other, small);
+  inside = c.read_again-own.ensures.in_area.inside;
+}
 
 pub copy_entry-requires-clause-free : goal.copy_entry-requires-clause-free
 copy_entry-requires-clause-free g c =
@@ -48,7 +44,7 @@ returns-clause-adds g c =
     let e : Device = g.F.Flash.device c.copy_entry.new.flash in
     let area : Area = c.args.area.now in
     adds_copy (unit_of a area) (sector_at (sectors_of a area) c.args.place) (sector_at (sectors_of e area) c.args.place) (sectors_of a area) c.args.from.now c.read_again-own.result
-    c.read_again-own.ensures.own c.requires.room c.in_ok-copy_entry.ensures.ok.adds
+    c.read_again-own.ensures.own c.requires.room c.in_ok-copy_entry.ensures.ends.ok.adds
 
 pub returns-clause-kept : goal.returns-clause-kept
 returns-clause-kept g c =
@@ -60,8 +56,8 @@ returns-clause-kept g c =
     let room : cost u c.args.from.now.len + 3 * slot_size u ≤ low u (sector_at (sectors_of a area) c.args.place) - data_end u (sector_at (sectors_of a area) c.args.place) = c.requires.room in
     let count = length-sectors a area in
     let within : c.args.place < length (sectors_of a area) = omega (arith, c.requires.here.inside) in
-    let put = c.in_ok-copy_entry.ensures.ok in
-    let scanned : c.copy_entry.new.scan ≡ scan_of u (sectors_of e area) = c.in_ok-copy_entry.ensures.scan ∙ ap (λ (s : Geometry). scan_of s.unit (sectors_of e area)) (same_geometry a e area c.in_ok-copy_entry.ensures.touches.banks) in
+    let put = c.in_ok-copy_entry.ensures.ends.ok in
+    let scanned : c.copy_entry.new.scan ≡ scan_of u (sectors_of e area) = c.in_ok-copy_entry.ensures.ends.scan ∙ ap (λ (s : Geometry). scan_of s.unit (sectors_of e area)) (same_geometry a e area c.in_ok-copy_entry.ensures.touches.banks) in
     let at = scan_added u (sectors_of a area) (sectors_of e area) c.args.place within c.requires.here.opened c.copy_entry.new.scan scanned c.read_again-own.result.entry.id (bytes_on a area c.read_again-own.result) is-unit (omega arith) put in
     kept_is u (sector_at (sectors_of e area) c.args.place) c.copy_entry.new.scan.low c.copy_entry.new.scan.data_end c.args.self.now.gc_done at.0 at.1
     (ap (λ (o : NvsOpen). o.gc_done) c.requires.here.kept ∙ sym put.adds.gc_done)
@@ -71,7 +67,7 @@ returns-clause-spends g c =
     let a : Device = g.F.Flash.device c.args.flash.now in
     let e : Device = g.F.Flash.device c.copy_entry.new.flash in
     between_exact a e (entry_units a c.args.area.now c.args.from.now.len)
-    (subst (λ (n : ℕ). Spends a e (entry_units a c.args.area.now n)) c.read_again-own.ensures.own.len c.in_ok-copy_entry.ensures.spent)
+    (subst (λ (n : ℕ). Spends a e (entry_units a c.args.area.now n)) c.read_again-own.ensures.own.len c.in_ok-copy_entry.ensures.ends.spent)
 
 -- ---- power was lost in it
 
@@ -81,7 +77,7 @@ returns-in_err-copy_entry-clause-lost g c =
     let e : Device = g.F.Flash.device c.copy_entry.new.flash in
     let area : Area = c.args.area.now in
     on_err c.from_residual.result
-    (stops_marks (unit_of a area) (sector_at (sectors_of a area) c.args.place) (sector_at (sectors_of e area) c.args.place) c.read_again-own.result.entry.id (bytes_on a area c.read_again-own.result) c.in_err-copy_entry.ensures.lost.stops)
+    (stops_marks (unit_of a area) (sector_at (sectors_of a area) c.args.place) (sector_at (sectors_of e area) c.args.place) c.read_again-own.result.entry.id (bytes_on a area c.read_again-own.result) c.in_err-copy_entry.ensures.ends.lost.stops)
 
 pub returns-in_err-copy_entry-clause-spends_lost : goal.returns-in_err-copy_entry-clause-spends_lost
 returns-in_err-copy_entry-clause-spends_lost g c =
@@ -89,4 +85,4 @@ returns-in_err-copy_entry-clause-spends_lost g c =
     let e : Device = g.F.Flash.device c.copy_entry.new.flash in
     on_err c.from_residual.result
     (between_most a e (entry_units a c.args.area.now c.args.from.now.len)
-    (subst (λ (n : ℕ). SpendsAtMost a e (entry_units a c.args.area.now n)) c.read_again-own.ensures.own.len c.in_err-copy_entry.ensures.spent_at_most))
+    (subst (λ (n : ℕ). SpendsAtMost a e (entry_units a c.args.area.now n)) c.read_again-own.ensures.own.len c.in_err-copy_entry.ensures.ends.spent_at_most))

@@ -1,4 +1,4 @@
-use Rattle.std.proofs.Common.{◌≡◌, ℕ, Bool, true, false, Option, Some, None, refl, sym, ap, ◌∙◌}
+use Rattle.std.proofs.Common.{rules, ◌≡◌, ℕ, Bool, true, false, Option, Some, None, refl, sym, ap, ◌∙◌}
 use Rattle.std.proofs.lemmas.Bool.{false≢true}
 use Rattle.flash_sim.specs.Device.{Device}
 use Rattle.flash_map.specs.declared.area.Area.{Area}
@@ -21,48 +21,66 @@ no_cycle : (o kept : Option ℕ) (some : Bool) → kept ≡ o → some ≡ is_so
 no_cycle None kept some cycle is none = refl
 no_cycle (Some x) kept some cycle is none = absurd (false≢true (sym none ∙ is ∙ ap (λ (y : Option ℕ). is_some y) cycle))
 
-pub returns-then-is_some-clause-begins : goal.returns-then-is_some-clause-begins
-returns-then-is_some-clause-begins g c =
-    let a : Device = g.F.Flash.device c.args.flash.now in
-    let area : Area = c.args.area.now in
-    let u : Geometry = geometry_of a area in
-    let wide = large_there zms_role a area (g.met.F.Flash.is_lawful c.args.flash.now) c.requires.area c.args.place c.requires.inside in
-    let cycle : c.args.self.now.cycle ≡ cycle_of (sector_at (sectors_of a area) c.args.place) = kept_cycle u (sector_at (sectors_of a area) c.args.place) c.args.self.now c.requires.kept in
-    begins_as u (sector_at (sectors_of a area) c.args.place) (sector_at (sectors_of a area) c.args.place) wide (has_cycle (cycle_of (sector_at (sectors_of a area) c.args.place)) c.args.self.now.cycle c.is_some.result cycle c.is_some.ensures c.if-is_some.true) c.requires.sound
+pub returns-then-is_some-clause-ends : goal.returns-then-is_some-clause-ends
+returns-then-is_some-clause-ends g c = record {
+  only = search rules;
+  begins =
+      let a : Device = g.F.Flash.device c.args.flash.now in
+      let area : Area = c.args.area.now in
+      let u : Geometry = geometry_of a area in
+      let wide = large_there zms_role a area (g.met.F.Flash.is_lawful c.args.flash.now) c.requires.area c.args.place c.requires.inside in
+      let cycle : c.args.self.now.cycle ≡ cycle_of (sector_at (sectors_of a area) c.args.place) = kept_cycle u (sector_at (sectors_of a area) c.args.place) c.args.self.now c.requires.kept in
+      begins_as u (sector_at (sectors_of a area) c.args.place) (sector_at (sectors_of a area) c.args.place) wide (has_cycle (cycle_of (sector_at (sectors_of a area) c.args.place)) c.args.self.now.cycle c.is_some.result cycle c.is_some.ensures c.if-is_some.true) c.requires.sound;
+  kept = search rules;
+  lost = search rules;
+  room_lost = search rules;
+  spends = search rules;
+  spends_lost = search rules;
+}
 
-pub returns-in_err-empty_sector-clause-lost : goal.returns-in_err-empty_sector-clause-lost
-returns-in_err-empty_sector-clause-lost g c =
-    let a : Device = g.F.Flash.device c.args.flash.now in
-    let area : Area = c.args.area.now in
-    let u : Geometry = geometry_of a area in
-    let e : Device = g.F.Flash.device c.empty_sector.new.flash in
-    let cycle : c.args.self.now.cycle ≡ cycle_of (sector_at (sectors_of a area) c.args.place) = kept_cycle u (sector_at (sectors_of a area) c.args.place) c.args.self.now c.requires.kept in
-    on_err c.from_residual.result (begin_cut u (sector_at (sectors_of a area) c.args.place) (sector_at (sectors_of e area) c.args.place) (no_cycle (cycle_of (sector_at (sectors_of a area) c.args.place)) c.args.self.now.cycle c.is_some.result cycle c.is_some.ensures c.if-is_some.false) c.in_err-empty_sector.ensures.lost)
+pub returns-in_err-empty_sector-clause-ends : goal.returns-in_err-empty_sector-clause-ends
+returns-in_err-empty_sector-clause-ends g c = record {
+  only = search rules;
+  begins = search rules;
+  kept = search rules;
+  lost =
+      let a : Device = g.F.Flash.device c.args.flash.now in
+      let area : Area = c.args.area.now in
+      let u : Geometry = geometry_of a area in
+      let e : Device = g.F.Flash.device c.empty_sector.new.flash in
+      let cycle : c.args.self.now.cycle ≡ cycle_of (sector_at (sectors_of a area) c.args.place) = kept_cycle u (sector_at (sectors_of a area) c.args.place) c.args.self.now c.requires.kept in
+      on_err c.from_residual.result (begin_cut u (sector_at (sectors_of a area) c.args.place) (sector_at (sectors_of e area) c.args.place) (no_cycle (cycle_of (sector_at (sectors_of a area) c.args.place)) c.args.self.now.cycle c.is_some.result cycle c.is_some.ensures c.if-is_some.false) c.in_err-empty_sector.ensures.lost);
+  room_lost =
+      let a : Device = g.F.Flash.device c.args.flash.now in
+      let area : Area = c.args.area.now in
+      let u : Geometry = geometry_of a area in
+      let e : Device = g.F.Flash.device c.empty_sector.new.flash in
+      let cycle : c.args.self.now.cycle ≡ cycle_of (sector_at (sectors_of a area) c.args.place) = kept_cycle u (sector_at (sectors_of a area) c.args.place) c.args.self.now c.requires.kept in
+      on_err c.from_residual.result
+      (begin_room u (sector_at (sectors_of a area) c.args.place) (sector_at (sectors_of e area) c.args.place) (no_cycle (cycle_of (sector_at (sectors_of a area) c.args.place)) c.args.self.now.cycle c.is_some.result cycle c.is_some.ensures c.if-is_some.false) c.in_err-empty_sector.ensures.lost);
+  spends = search rules;
+  spends_lost = search rules;
+}
 
-pub returns-in_err-empty_sector-clause-room_lost : goal.returns-in_err-empty_sector-clause-room_lost
-returns-in_err-empty_sector-clause-room_lost g c =
-    let a : Device = g.F.Flash.device c.args.flash.now in
-    let area : Area = c.args.area.now in
-    let u : Geometry = geometry_of a area in
-    let e : Device = g.F.Flash.device c.empty_sector.new.flash in
-    let cycle : c.args.self.now.cycle ≡ cycle_of (sector_at (sectors_of a area) c.args.place) = kept_cycle u (sector_at (sectors_of a area) c.args.place) c.args.self.now c.requires.kept in
-    on_err c.from_residual.result
-    (begin_room u (sector_at (sectors_of a area) c.args.place) (sector_at (sectors_of e area) c.args.place) (no_cycle (cycle_of (sector_at (sectors_of a area) c.args.place)) c.args.self.now.cycle c.is_some.result cycle c.is_some.ensures c.if-is_some.false) c.in_err-empty_sector.ensures.lost)
-
-pub returns-clause-begins : goal.returns-clause-begins
-returns-clause-begins g c =
-    let a : Device = g.F.Flash.device c.args.flash.now in
-    let area : Area = c.args.area.now in
-    let u : Geometry = geometry_of a area in
-    let e : Device = g.F.Flash.device c.empty_sector.new.flash in
-    let cycle : c.args.self.now.cycle ≡ cycle_of (sector_at (sectors_of a area) c.args.place) = kept_cycle u (sector_at (sectors_of a area) c.args.place) c.args.self.now c.requires.kept in
-    begins_empty u (sector_at (sectors_of a area) c.args.place) (sector_at (sectors_of e area) c.args.place) (no_cycle (cycle_of (sector_at (sectors_of a area) c.args.place)) c.args.self.now.cycle c.is_some.result cycle c.is_some.ensures c.if-is_some.false) c.in_ok-empty_sector.ensures.ok
-
-pub returns-clause-kept : goal.returns-clause-kept
-returns-clause-kept g c =
-    let a : Device = g.F.Flash.device c.args.flash.now in
-    let area : Area = c.args.area.now in
-    let u : Geometry = geometry_of a area in
-    let e : Device = g.F.Flash.device c.empty_sector.new.flash in
-    let cycle : c.args.self.now.cycle ≡ cycle_of (sector_at (sectors_of a area) c.args.place) = kept_cycle u (sector_at (sectors_of a area) c.args.place) c.args.self.now c.requires.kept in
-    kept_emptied u.kind (sector_at (sectors_of a area) c.args.place) (sector_at (sectors_of e area) c.args.place) (no_cycle (cycle_of (sector_at (sectors_of a area) c.args.place)) c.args.self.now.cycle c.is_some.result cycle c.is_some.ensures c.if-is_some.false) c.in_ok-empty_sector.ensures.ok
+pub returns-clause-ends : goal.returns-clause-ends
+returns-clause-ends g c = record {
+  only = search rules;
+  begins =
+      let a : Device = g.F.Flash.device c.args.flash.now in
+      let area : Area = c.args.area.now in
+      let u : Geometry = geometry_of a area in
+      let e : Device = g.F.Flash.device c.empty_sector.new.flash in
+      let cycle : c.args.self.now.cycle ≡ cycle_of (sector_at (sectors_of a area) c.args.place) = kept_cycle u (sector_at (sectors_of a area) c.args.place) c.args.self.now c.requires.kept in
+      begins_empty u (sector_at (sectors_of a area) c.args.place) (sector_at (sectors_of e area) c.args.place) (no_cycle (cycle_of (sector_at (sectors_of a area) c.args.place)) c.args.self.now.cycle c.is_some.result cycle c.is_some.ensures c.if-is_some.false) c.in_ok-empty_sector.ensures.ok;
+  kept =
+      let a : Device = g.F.Flash.device c.args.flash.now in
+      let area : Area = c.args.area.now in
+      let u : Geometry = geometry_of a area in
+      let e : Device = g.F.Flash.device c.empty_sector.new.flash in
+      let cycle : c.args.self.now.cycle ≡ cycle_of (sector_at (sectors_of a area) c.args.place) = kept_cycle u (sector_at (sectors_of a area) c.args.place) c.args.self.now c.requires.kept in
+      kept_emptied u.kind (sector_at (sectors_of a area) c.args.place) (sector_at (sectors_of e area) c.args.place) (no_cycle (cycle_of (sector_at (sectors_of a area) c.args.place)) c.args.self.now.cycle c.is_some.result cycle c.is_some.ensures c.if-is_some.false) c.in_ok-empty_sector.ensures.ok;
+  lost = search rules;
+  room_lost = search rules;
+  spends = search rules;
+  spends_lost = search rules;
+}

@@ -1,4 +1,4 @@
-use Rattle.std.proofs.Common.{◌≡◌, ◌+◌, ◌/◌, ◌^◌, ◌≤◌, ℕ, List, length, Option, sym, ap, subst, ◌∙◌, arith}
+use Rattle.std.proofs.Common.{rules, ◌≡◌, ◌+◌, ◌/◌, ◌^◌, ◌≤◌, ℕ, List, length, Option, sym, ap, subst, ◌∙◌, arith}
 use Rattle.std.specs.Option.{option_map_or}
 use Rattle.flash_sim.specs.Device.{Device}
 use Rattle.flash_map.specs.declared.area.Area.{Area}
@@ -18,14 +18,21 @@ use Rattle.flash_map.specs.declared.area.Role.TheVariants.{Zms as zms_role}
 use Rattle.zms_store.proofs.OpenLemmas.{kept_some, kept_opened, cost_above, kept_few, end_room, kept_added}
 use Rattle.zms_store.proofs.sectors.ZmsOpenSlotSectors.copy.Goals as goal
 
-pub copy_entry_at-requires-clause-from_sound : goal.copy_entry_at-requires-clause-from_sound
-copy_entry_at-requires-clause-from_sound g c =
-    let a : Device = g.F.Flash.device c.args.flash.now in
-    let area : Area = c.args.area.now in
-    let u : Geometry = geometry_of a area in
-    let b : List ℕ = sector_at (sectors_of a area) c.args.place in
-    let wide = large_there zms_role a area (g.met.F.Flash.is_lawful c.args.flash.now) c.requires.here.area c.args.place c.requires.here.inside in
-    let there = large_there zms_role a area (g.met.F.Flash.is_lawful c.args.flash.now) c.requires.here.area c.args.from.now.sector c.requires.source.has_source in (roomy_of u.kind (sector_at (sectors_of a area) c.args.from.now.sector) (omega arith) c.requires.source.source).sound
+pub copy_entry_at-requires-clause-source : goal.copy_entry_at-requires-clause-source
+copy_entry_at-requires-clause-source g c = record {
+  from_zms = search rules;
+  from_sound =
+      let a : Device = g.F.Flash.device c.args.flash.now in
+      let area : Area = c.args.area.now in
+      let u : Geometry = geometry_of a area in
+      let b : List ℕ = sector_at (sectors_of a area) c.args.place in
+      let wide = large_there zms_role a area (g.met.F.Flash.is_lawful c.args.flash.now) c.requires.here.area c.args.place c.requires.here.inside in
+      let there = large_there zms_role a area (g.met.F.Flash.is_lawful c.args.flash.now) c.requires.here.area c.args.from.now.sector c.requires.source.has_source in (roomy_of u.kind (sector_at (sectors_of a area) c.args.from.now.sector) (omega arith) c.requires.source.source).sound;
+  other = search rules;
+  from = search rules;
+  listed = search rules;
+  some = search rules;
+}
 
 pub returns-clause-adds : goal.returns-clause-adds
 returns-clause-adds g c =
@@ -102,7 +109,7 @@ returns-in_err-copy_entry_at-clause-spends_lost g c =
     let len : entry_len (sector_at (sectors_of a area) c.args.from.now.sector) c.args.from.now.slot ≡ c.args.from.now.len = ap (λ (o : Option SlotEntry). option_map_or (λ f. f.entry.len) o 0) there.read ∙ sym there.len in
     let units : cost (entry_len (sector_at (sectors_of a area) c.args.from.now.sector) c.args.from.now.slot) / 16 ≡ cost c.args.from.now.len / 16 = ap (λ (n : ℕ). cost n / 16) len in
     on_err c.from_residual.result
-    (between_within c.in_err-copy_entry_at.ensures.spends_lost 0 (entry_units u.kind (sector_at (sectors_of a area) c.args.place) (cost c.args.from.now.len / 16)).lost (omega arith) (omega arith))
+    (between_within c.in_err-copy_entry_at.ensures.ends.spends_lost 0 (entry_units u.kind (sector_at (sectors_of a area) c.args.place) (cost c.args.from.now.len / 16)).lost (omega arith) (omega arith))
 
 pub returns-clause-spends : goal.returns-clause-spends
 returns-clause-spends g c =
@@ -113,7 +120,7 @@ returns-clause-spends g c =
     let there = is_there (sector_at (sectors_of a area) c.args.from.now.sector) c.args.from.now c.requires.source.there in
     let len : entry_len (sector_at (sectors_of a area) c.args.from.now.sector) c.args.from.now.slot ≡ c.args.from.now.len = ap (λ (o : Option SlotEntry). option_map_or (λ f. f.entry.len) o 0) there.read ∙ sym there.len in
     ready_spends u.kind (sector_at (sectors_of a area) c.args.place) c.requires.here.ready a e (cost c.args.from.now.len / 16)
-    (subst (λ (n : ℕ). SpendsBetween a e (cost n / 16 + next_guard a area c.args.place) (cost n / 16 + next_guard a area c.args.place)) len c.in_ok-copy_entry_at.ensures.guards)
+    (subst (λ (n : ℕ). SpendsBetween a e (cost n / 16 + next_guard a area c.args.place) (cost n / 16 + next_guard a area c.args.place)) len c.in_ok-copy_entry_at.ensures.ends.guards)
 
 pub opened-opened-requires : goal.opened-opened-requires
 opened-opened-requires g c =

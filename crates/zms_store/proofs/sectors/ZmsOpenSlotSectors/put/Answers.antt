@@ -49,7 +49,7 @@ returns-clause-ends g c = record {
       let area : Area = c.args.area.now in
       let u : Geometry = geometry_of a area in
       let e : Device = g.F.Flash.device c.put_entry_at.new.flash in
-      ready_spends u.kind (sector_at (sectors_of a area) c.args.place) c.requires.here.ready a e (cost (length c.args.bytes.now) / 16) c.in_ok-put_entry_at.ensures.guards;
+      ready_spends u.kind (sector_at (sectors_of a area) c.args.place) c.requires.here.ready a e (cost (length c.args.bytes.now) / 16) c.in_ok-put_entry_at.ensures.ends.guards;
   spends_lost = tt;
 }
 
@@ -64,20 +64,20 @@ returns-in_err-put_entry_at-clause-ends g c = record {
       let u : Geometry = geometry_of a area in
       let wide = large_there zms_role a area (g.met.F.Flash.is_lawful c.args.flash.now) c.requires.here.area c.args.place c.requires.here.inside in
       let e : Device = g.F.Flash.device c.put_entry_at.new.flash in
-      on_err c.from_residual.result (inl (keeps u (sector_at (sectors_of a area) c.args.place) (sector_at (sectors_of e area) c.args.place) wide (left_over u.kind (data_len (length c.args.bytes.now))) c.in_err-put_entry_at.ensures.lost));
+      on_err c.from_residual.result (inl (keeps u (sector_at (sectors_of a area) c.args.place) (sector_at (sectors_of e area) c.args.place) wide (left_over u.kind (data_len (length c.args.bytes.now))) c.in_err-put_entry_at.ensures.ends.lost));
   room_lost =
       let a : Device = g.F.Flash.device c.args.flash.now in
       let area : Area = c.args.area.now in
       let u : Geometry = geometry_of a area in
       let e : Device = g.F.Flash.device c.put_entry_at.new.flash in
-      on_err c.from_residual.result (put_room u (sector_at (sectors_of a area) c.args.place) (sector_at (sectors_of e area) c.args.place) (length c.args.bytes.now) c.in_err-put_entry_at.ensures.lost);
+      on_err c.from_residual.result (put_room u (sector_at (sectors_of a area) c.args.place) (sector_at (sectors_of e area) c.args.place) (length c.args.bytes.now) c.in_err-put_entry_at.ensures.ends.lost);
   sound =
       let a : Device = g.F.Flash.device c.args.flash.now in
       let area : Area = c.args.area.now in
       let u : Geometry = geometry_of a area in
       let wide = large_there zms_role a area (g.met.F.Flash.is_lawful c.args.flash.now) c.requires.here.area c.args.place c.requires.here.inside in
       let e : Device = g.F.Flash.device c.put_entry_at.new.flash in
-      (keeps u (sector_at (sectors_of a area) c.args.place) (sector_at (sectors_of e area) c.args.place) wide (left_over u.kind (data_len (length c.args.bytes.now))) c.in_err-put_entry_at.ensures.lost).sound;
+      (keeps u (sector_at (sectors_of a area) c.args.place) (sector_at (sectors_of e area) c.args.place) wide (left_over u.kind (data_len (length c.args.bytes.now))) c.in_err-put_entry_at.ensures.ends.lost).sound;
   spends = search rules;
   spends_lost = search rules;
 }

@@ -1,0 +1,42 @@
+use Rattle.std.proofs.Common.{◌∷◌, [], Bool, sym, subst}
+use Rattle.flash_sim.specs.Device.{Device}
+use Rattle.flash_map.specs.declared.area.Area.{Area}
+use Rattle.flash_map.specs.On.{on}
+use Rattle.flash_map.specs.Touches.{Ends, IsCut}
+use Rattle.named_items.specs.Pairs.{HasNoStrays}
+use Rattle.named_items.specs.ZmsStore.{zms_items}
+use Rattle.backend_zms.specs.Numbers.{numbers_in}
+use Rattle.backend_zms.proofs.backend.ZmsBackendBackend.delete.Goals as goal
+
+pub delete_name-requires-clause-here : goal.delete_name-requires-clause-here
+delete_name-requires-clause-here g c = record { lawful = c.requires.lawful; up = c.requires.stands.store; clean = c.requires.stands.clean }
+
+pub returns-clause-area : goal.returns-clause-area
+returns-clause-area g c = c.delete_name.ensures.store.area
+
+pub returns-clause-ends : goal.returns-clause-ends
+returns-clause-ends g c = c.delete_name.ensures.ends.ends
+
+pub returns-clause-sound : goal.returns-clause-sound
+returns-clause-sound g c = c.delete_name.ensures.store.sound
+
+pub returns-clause-down : goal.returns-clause-down
+returns-clause-down g c = λ lost. c.delete_name.ensures.store.down lost
+
+-- the loss is the one of the call, and the settings are the old ones or the new
+pub returns-clause-cut : goal.returns-clause-cut
+returns-clause-cut g c = λ is_on lost.
+    let d : Device = g.F.Flash.device c.args.flash.now in
+    let e : Device = g.F.Flash.device c.delete_name.new.flash in
+    let own : Area = c.args.self.now.store.store.area in
+    let touches = c.delete_name.ensures.touches in
+    let cut : IsCut (own ∷ []) d e touches.units = subst (λ (was_lost : Bool). Ends (own ∷ []) d e touches.units was_lost) lost touches.ends is_on in
+    record { loss = cut.loss; last = cut.last_loss; settings = c.delete_name.ensures.ends.cut lost }
+
+pub returns-clause-stands : goal.returns-clause-stands
+returns-clause-stands g c = λ kept.
+    let e : Device = g.F.Flash.device c.delete_name.new.flash in
+    record {
+      store = c.delete_name.ensures.store.up kept;
+      clean = subst (λ (x : Area). HasNoStrays (numbers_in x) (on zms_items e x)) (sym c.delete_name.ensures.store.area) (c.delete_name.ensures.ends.clean kept);
+    }

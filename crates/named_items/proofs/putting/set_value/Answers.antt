@@ -1,0 +1,28 @@
+use Rattle.std.proofs.Common.{arith}
+use Rattle.flash_sim.specs.Device.{Device}
+use Rattle.flash_map.specs.Area.{geometry_of}
+use Rattle.named_items.specs.StoreEnds as items
+use Rattle.named_items.proofs.SpendSteps.{one-call, calls-within}
+use Rattle.named_items.proofs.putting.set_value.Goals as goal
+
+pub standing_place-requires-clause-lawful : goal.standing_place-requires-clause-lawful
+standing_place-requires-clause-lawful g c = c.requires.here.lawful
+
+pub standing_place-requires-clause-stands : goal.standing_place-requires-clause-stands
+standing_place-requires-clause-stands g c = c.requires.here.up
+
+pub standing_place-requires-clause-clean : goal.standing_place-requires-clause-clean
+standing_place-requires-clause-clean g c = c.requires.here.clean
+
+pub change_value-requires-clause-at : goal.change_value-requires-clause-at
+change_value-requires-clause-at g c = c.in-Some.ensures
+
+pub put_name-requires-clause-absent : goal.put_name-requires-clause-absent
+put_name-requires-clause-absent g c = c.in-None.ensures
+
+pub returns-in-Some-clause-at_most : goal.returns-in-Some-clause-at_most
+returns-in-Some-clause-at_most g c =
+    let d : Device = g.F.Flash.device c.args.flash.now in
+    let e : Device = g.F.Flash.device c.change_value.new.flash in
+    let k = geometry_of d (g.S.ItemStore.mounted_on c.args.store.now) in
+    calls-within d e 1 k (omega arith) (one-call d e (items.most_units k) c.change_value.ensures.at_most)

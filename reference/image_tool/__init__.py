@@ -1,0 +1,1 @@
+"""image_tool once more, in plain Python: settings over NVS, ZMS and FCB on simulated flash."""

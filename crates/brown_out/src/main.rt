@@ -34,7 +34,7 @@ struct Story {
     in_the_end: Option<u8>,
 }
 
-fn story(alloc: Global) -> Result<Story, Error> {
+fn live_through(alloc: Global) -> Result<Story, Error> {
     let key = Name::read(b"bt/key")?;
     let mut settings = start(alloc, Board::blank(alloc, LAYOUT)?)?;
     settings.set(alloc, &key, &[1])?;
@@ -61,7 +61,7 @@ fn story(alloc: Global) -> Result<Story, Error> {
 }
 
 fn main(rt: HostRuntime) -> io::Result<()> {
-    match story(rt.alloc()) {
+    match live_through(rt.alloc()) {
         Ok(story) => {
             println!(rt; "power lost in the save: {}", story.lost)?;
             println!(rt; "the key after it: {:?}", story.after_loss)?;

@@ -32,8 +32,8 @@ SpendsUpToCostOf old new backend command =
 abbrev pub SpendsRounds : Device → Device → FcbBackend → ℕ → Type 0
 SpendsRounds old new backend rounds = SpendsAtMost old new ((rounds + 1) * collect_units old backend.ring)
 
--- What a set or delete spends. Where its record fits behind those of the newest sector, just the units of that
--- record, and up to a loss no more; else no more than so many collections and one append take.
+-- What a set or delete spends. Where its record fits behind those of the newest sector, just the units of
+-- that record, and up to a loss no more; else no more than so many collections and one append take.
 pub record SpendsFor {X E : Type 0} (old new : Device) (backend : FcbBackend) (command : Command)
     (rounds : ℕ) (result : Result X E) (stopped : Bool) : Type 0 where
   pub exact : OnOk result (SpendsCostOf old new backend command)

@@ -28,12 +28,10 @@ returns-in-Err-clause-selector g c =
       sound = open-sound b c.args.selector.now.ring (g.met.F.Flash.is_lawful c.fill-filled.new.flash) (open-still a b c.args.selector.now.ring c.fill-filled.ensures.touches.banks same c.requires.moves.mounted);
       open_ring =
           λ kept.
-          
           let same = same_apart (g.met.F.Flash.is_lawful c.args.flash.now) (g.met.F.Flash.is_lawful c.fill-filled.new.flash) c.requires.moves.mounted.stands.area.lawful.in_bank c.requires.moves.apart_selector c.fill-filled.ensures.touches in
           open-still (g.F.Flash.device c.args.flash.now) (g.F.Flash.device c.fill-filled.new.flash) c.args.selector.now.ring c.fill-filled.ensures.touches.banks same c.requires.moves.mounted;
       lost =
           λ lost.
-          
           let same = same_apart (g.met.F.Flash.is_lawful c.args.flash.now) (g.met.F.Flash.is_lawful c.fill-filled.new.flash) c.requires.moves.mounted.stands.area.lawful.in_bank c.requires.moves.apart_selector c.fill-filled.ensures.touches in
           inr (open-still (g.F.Flash.device c.args.flash.now) (g.F.Flash.device c.fill-filled.new.flash) c.args.selector.now.ring c.fill-filled.ensures.touches.banks same c.requires.moves.mounted);
     }
@@ -72,12 +70,10 @@ returns-clause-selector g c = record {
       (g.met.F.Flash.is_lawful c.choose-chosen.new.flash) c.choose-chosen.ensures.area c.choose-chosen.ensures.ends;
   open_ring =
       λ kept.
-      
       chosen-open c.args.map.now (g.F.Flash.device c.fill-filled.new.flash) (g.F.Flash.device c.choose-chosen.new.flash) c.args.selector.now.ring c.choose-chosen.new.self.ring c.args.index (c.in-Ok.to, c.args.index) c.choose-chosen.result c.moved_as.result
       c.choose-chosen.ensures.ends c.moved_as.ensures kept;
   lost =
       λ lost.
-      
       inl (chosen-down c.args.map.now (g.F.Flash.device c.fill-filled.new.flash) (g.F.Flash.device c.choose-chosen.new.flash) c.args.selector.now.ring c.choose-chosen.new.self.ring c.args.index (c.in-Ok.to, c.args.index) c.choose-chosen.result c.moved_as.result
       c.choose-chosen.ensures.ends c.moved_as.ensures lost);
 }

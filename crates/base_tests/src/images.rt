@@ -198,3 +198,26 @@ fn unlawful_words(rt: HostRuntime) -> Result<(), Fail> {
     }
     Ok(())
 }
+
+// What keeps an image from being read or made, and its message.
+#[test]
+fn messages(rt: HostRuntime) -> Result<(), Fail> {
+    let alloc = rt.alloc();
+    let bad = ImageFault::Bad {
+        at: 4,
+        why: ImageWhy::BadVersion,
+    };
+    for (fault, message) in [
+        (bad, "no image file: byte 4 departs from the format"),
+        (ImageFault::NoMemory, "out of memory"),
+    ] {
+        assert!(rt; fault.to_string(alloc)?.as_str() == message);
+    }
+    for (fault, message) in [
+        (SpecFault::BadSpec { item: 2 }, "item 2 is refused"),
+        (SpecFault::NoMemory, "out of memory"),
+    ] {
+        assert!(rt; fault.to_string(alloc)?.as_str() == message);
+    }
+    Ok(())
+}

@@ -4,6 +4,10 @@
 #[cfg(test)]
 mod counted;
 #[cfg(test)]
+mod cuts;
+#[cfg(test)]
+mod each_store;
+#[cfg(test)]
 mod handling;
 #[cfg(test)]
 mod names;

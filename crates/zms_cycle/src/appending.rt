@@ -77,7 +77,8 @@ pub fn put_bytes<F: Flash>(
     bytes: &[u8],
 ) -> Result<(), PowerLost>
     requires zms { IsZmsSector (F.device flash.old) area.now sector }
-    requires place { HasPlace (F.device flash.old) area.now sector at (padded 16 (length bytes.now)) }
+    requires place { HasPlace (F.device flash.old) area.now sector at
+        (padded 16 (length bytes.now)) }
 
     ensures touches { Touches (area.now ∷ []) (F.device flash.old) (F.device flash.new)
         (is_err result) }
@@ -101,7 +102,8 @@ fn put_value<F: Flash>(
     bytes: &[u8],
 ) -> Result<(), PowerLost>
     requires zms { IsZmsSector (F.device flash.old) area.now sector }
-    requires place { HasPlace (F.device flash.old) area.now sector at (data_len (length bytes.now)) }
+    requires place { HasPlace (F.device flash.old) area.now sector at
+        (data_len (length bytes.now)) }
 
     ensures touches { Touches (area.now ∷ []) (F.device flash.old) (F.device flash.new)
         (is_err result) }

@@ -82,8 +82,9 @@ pub fn guard<F: Flash, L: Ledger>(
     ensures idle { kind_on (F.device flash.old) area.now ≡ Erasing
         → F.device flash.new ≡ F.device flash.old }
     ensures ends { let d = F.device flash.old in
-        UnitEnds (guard_units (kind_on d area.now) (Some cycle) slot (sector_bytes d area.now sector))
-        d (F.device flash.new) area.now result }
+        UnitEnds
+        (guard_units (kind_on d area.now) (Some cycle) slot (sector_bytes d area.now sector)) d
+        (F.device flash.new) area.now result }
     ensures rewritable_lost { OnErr result (kind_on (F.device flash.old) area.now ≡ Rewritable) }
     ensures steps { ReadsGuard (kind_on (F.device flash.old) area.now) steps.old steps.new }
 {

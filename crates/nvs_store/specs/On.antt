@@ -155,7 +155,7 @@ pub record PairEnds {X E : Type 0} (old new : Device) (on : Area) (before after 
   pub ok : OnOk result (AddsPairOn old new on before.current id bytes)
   pub image : OnOk result
       (sector_bytes new on before.current
-          ≡ after_append (unit_of old on) (sector_bytes old on before.current) id bytes)
+      ≡ after_append (unit_of old on) (sector_bytes old on before.current) id bytes)
   pub scan : OnOk result (after ≡ scan_on new on)
   pub spent : OnOk result (Spends old new (entry_units old on len))
   pub lost : OnErr result (StopsAddingOn old new on before.current id bytes)

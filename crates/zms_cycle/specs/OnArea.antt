@@ -131,6 +131,6 @@ pub record EntryEnds {X E : Type 0} (piece len : ℕ) (old new : Device) (on : A
   pub spends : OnOk result (SpendsBetween old new (entry_units len) (entry_units len + 1))
   pub guards : OnOk result
       (SpendsBetween old new (entry_units len + next_guard old on sector)
-          (entry_units len + next_guard old on sector))
+      (entry_units len + next_guard old on sector))
   pub in_pieces : OnErr result (LosesWithin piece old new)
   pub spends_lost : OnErr result (SpendsBetween old new 0 (entry_units len))

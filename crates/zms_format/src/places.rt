@@ -31,12 +31,7 @@ pub enum Sought {
 }
 
 // The marks of a sector. It is one step.
-fn marks_at<F: Flash, L: Ledger>(
-    flash: &F,
-    area: &Area,
-    place: u32,
-    steps: &mut Steps<L>,
-) -> Marks
+fn marks_at<F: Flash, L: Ledger>(flash: &F, area: &Area, place: u32, steps: &mut Steps<L>) -> Marks
     requires lawful { IsLawfulFor (F.device flash.now).banks area.now }
     requires role { area.now.role ≡ Zms }
     requires inside { place < area.now.sectors }

@@ -25,21 +25,21 @@ value_entry-entry-requires g c =
 pub put_value-requires-clause-place : goal.put_value-requires-clause-place
 put_value-requires-clause-place g c = record {
   fits =
-    let r = ready (g.F.Flash.device c.args.flash.now) c.args.area.now c.args.sector c.args.opened.now.cycle c.args.opened.now.slots c.args.opened.now.data_end (data_len (length c.args.bytes.now)) c.requires.zms (g.met.F.Flash.is_lawful c.args.flash.now) c.requires.sound c.requires.opened.cycle c.requires.opened.slots c.requires.opened.data_end (fits_room (kind_on (g.F.Flash.device c.args.flash.now) c.args.area.now) (sector_bytes (g.F.Flash.device c.args.flash.now) c.args.area.now c.args.sector) (length c.args.bytes.now) c.requires.room) in
-    ready_fits (g.F.Flash.device c.args.flash.now) c.args.area.now c.args.sector c.args.opened.now.cycle c.args.opened.now.slots c.args.opened.now.data_end (data_len (length c.args.bytes.now)) r;
+      let r = ready (g.F.Flash.device c.args.flash.now) c.args.area.now c.args.sector c.args.opened.now.cycle c.args.opened.now.slots c.args.opened.now.data_end (data_len (length c.args.bytes.now)) c.requires.zms (g.met.F.Flash.is_lawful c.args.flash.now) c.requires.sound c.requires.opened.cycle c.requires.opened.slots c.requires.opened.data_end (fits_room (kind_on (g.F.Flash.device c.args.flash.now) c.args.area.now) (sector_bytes (g.F.Flash.device c.args.flash.now) c.args.area.now c.args.sector) (length c.args.bytes.now) c.requires.room) in
+      ready_fits (g.F.Flash.device c.args.flash.now) c.args.area.now c.args.sector c.args.opened.now.cycle c.args.opened.now.slots c.args.opened.now.data_end (data_len (length c.args.bytes.now)) r;
   aligned =
-    let r = ready (g.F.Flash.device c.args.flash.now) c.args.area.now c.args.sector c.args.opened.now.cycle c.args.opened.now.slots c.args.opened.now.data_end (data_len (length c.args.bytes.now)) c.requires.zms (g.met.F.Flash.is_lawful c.args.flash.now) c.requires.sound c.requires.opened.cycle c.requires.opened.slots c.requires.opened.data_end (fits_room (kind_on (g.F.Flash.device c.args.flash.now) c.args.area.now) (sector_bytes (g.F.Flash.device c.args.flash.now) c.args.area.now c.args.sector) (length c.args.bytes.now) c.requires.room) in
-    ready_aligned (g.F.Flash.device c.args.flash.now) c.args.area.now c.args.sector c.args.opened.now.cycle c.args.opened.now.slots c.args.opened.now.data_end (data_len (length c.args.bytes.now)) r;
+      let r = ready (g.F.Flash.device c.args.flash.now) c.args.area.now c.args.sector c.args.opened.now.cycle c.args.opened.now.slots c.args.opened.now.data_end (data_len (length c.args.bytes.now)) c.requires.zms (g.met.F.Flash.is_lawful c.args.flash.now) c.requires.sound c.requires.opened.cycle c.requires.opened.slots c.requires.opened.data_end (fits_room (kind_on (g.F.Flash.device c.args.flash.now) c.args.area.now) (sector_bytes (g.F.Flash.device c.args.flash.now) c.args.area.now c.args.sector) (length c.args.bytes.now) c.requires.room) in
+      ready_aligned (g.F.Flash.device c.args.flash.now) c.args.area.now c.args.sector c.args.opened.now.cycle c.args.opened.now.slots c.args.opened.now.data_end (data_len (length c.args.bytes.now)) r;
   erased =
-    let r = ready (g.F.Flash.device c.args.flash.now) c.args.area.now c.args.sector c.args.opened.now.cycle c.args.opened.now.slots c.args.opened.now.data_end (data_len (length c.args.bytes.now)) c.requires.zms (g.met.F.Flash.is_lawful c.args.flash.now) c.requires.sound c.requires.opened.cycle c.requires.opened.slots c.requires.opened.data_end (fits_room (kind_on (g.F.Flash.device c.args.flash.now) c.args.area.now) (sector_bytes (g.F.Flash.device c.args.flash.now) c.args.area.now c.args.sector) (length c.args.bytes.now) c.requires.room) in
-    ready_put (g.F.Flash.device c.args.flash.now) c.args.area.now c.args.sector c.args.opened.now.cycle c.args.opened.now.slots c.args.opened.now.data_end (data_len (length c.args.bytes.now)) r;
+      let r = ready (g.F.Flash.device c.args.flash.now) c.args.area.now c.args.sector c.args.opened.now.cycle c.args.opened.now.slots c.args.opened.now.data_end (data_len (length c.args.bytes.now)) c.requires.zms (g.met.F.Flash.is_lawful c.args.flash.now) c.requires.sound c.requires.opened.cycle c.requires.opened.slots c.requires.opened.data_end (fits_room (kind_on (g.F.Flash.device c.args.flash.now) c.args.area.now) (sector_bytes (g.F.Flash.device c.args.flash.now) c.args.area.now c.args.sector) (length c.args.bytes.now) c.requires.room) in
+      ready_put (g.F.Flash.device c.args.flash.now) c.args.area.now c.args.sector c.args.opened.now.cycle c.args.opened.now.slots c.args.opened.now.data_end (data_len (length c.args.bytes.now)) r;
 }
 
 pub returns-in_err-put_value-clause-ends : goal.returns-in_err-put_value-clause-ends
 returns-in_err-put_value-clause-ends g c = record {
   lost =
-    let r = ready (g.F.Flash.device c.args.flash.now) c.args.area.now c.args.sector c.args.opened.now.cycle c.args.opened.now.slots c.args.opened.now.data_end (data_len (length c.args.bytes.now)) c.requires.zms (g.met.F.Flash.is_lawful c.args.flash.now) c.requires.sound c.requires.opened.cycle c.requires.opened.slots c.requires.opened.data_end (fits_room (kind_on (g.F.Flash.device c.args.flash.now) c.args.area.now) (sector_bytes (g.F.Flash.device c.args.flash.now) c.args.area.now c.args.sector) (length c.args.bytes.now) c.requires.room) in
-    on_err c.from_residual.result (ready_part (g.F.Flash.device c.args.flash.now) c.args.area.now c.args.sector c.args.opened.now.cycle c.args.opened.now.slots c.args.opened.now.data_end (data_len (length c.args.bytes.now)) r (sector_bytes (g.F.Flash.device c.put_value.new.flash) c.args.area.now c.args.sector) (data_len-aligned (length c.args.bytes.now)) c.in_err-put_value.ensures.ends.lost);
+      let r = ready (g.F.Flash.device c.args.flash.now) c.args.area.now c.args.sector c.args.opened.now.cycle c.args.opened.now.slots c.args.opened.now.data_end (data_len (length c.args.bytes.now)) c.requires.zms (g.met.F.Flash.is_lawful c.args.flash.now) c.requires.sound c.requires.opened.cycle c.requires.opened.slots c.requires.opened.data_end (fits_room (kind_on (g.F.Flash.device c.args.flash.now) c.args.area.now) (sector_bytes (g.F.Flash.device c.args.flash.now) c.args.area.now c.args.sector) (length c.args.bytes.now) c.requires.room) in
+      on_err c.from_residual.result (ready_part (g.F.Flash.device c.args.flash.now) c.args.area.now c.args.sector c.args.opened.now.cycle c.args.opened.now.slots c.args.opened.now.data_end (data_len (length c.args.bytes.now)) r (sector_bytes (g.F.Flash.device c.put_value.new.flash) c.args.area.now c.args.sector) (data_len-aligned (length c.args.bytes.now)) c.in_err-put_value.ensures.ends.lost);
   spends = search rules;
   guards = search rules;
   in_pieces = search rules;
@@ -76,18 +76,18 @@ returns-clause-ok g c =
 pub returns-clause-ends : goal.returns-clause-ends
 returns-clause-ends g c = record {
   lost =
-    let r = ready (g.F.Flash.device c.args.flash.now) c.args.area.now c.args.sector c.args.opened.now.cycle c.args.opened.now.slots c.args.opened.now.data_end (data_len (length c.args.bytes.now)) c.requires.zms (g.met.F.Flash.is_lawful c.args.flash.now) c.requires.sound c.requires.opened.cycle c.requires.opened.slots c.requires.opened.data_end (fits_room (kind_on (g.F.Flash.device c.args.flash.now) c.args.area.now) (sector_bytes (g.F.Flash.device c.args.flash.now) c.args.area.now c.args.sector) (length c.args.bytes.now) c.requires.room) in
-    on_err_weaker c.put_slot.result (ready_cut (g.F.Flash.device c.args.flash.now) c.args.area.now c.args.sector c.args.opened.now.cycle c.args.opened.now.slots c.args.opened.now.data_end (data_len (length c.args.bytes.now)) r (sector_bytes (g.F.Flash.device c.put_value.new.flash) c.args.area.now c.args.sector) (sector_bytes (g.F.Flash.device c.put_slot.new.flash) c.args.area.now c.args.sector) c.value_entry-entry.result (kind_on (g.F.Flash.device c.put_value.new.flash) c.args.area.now) (same_kind (g.F.Flash.device c.args.flash.now) (g.F.Flash.device c.put_value.new.flash) c.args.area.now c.in_ok-put_value.ensures.touches.banks) (ap (λ (e : ZEntry). e.cycle) c.value_entry-entry.ensures) (ready_value (g.F.Flash.device c.args.flash.now) c.args.area.now c.args.sector c.args.opened.now.cycle c.args.opened.now.slots c.args.opened.now.data_end c.args.bytes.now (sector_bytes (g.F.Flash.device c.put_value.new.flash) c.args.area.now c.args.sector) r c.in_ok-put_value.ensures.ok)) c.put_slot.ensures.lost;
+      let r = ready (g.F.Flash.device c.args.flash.now) c.args.area.now c.args.sector c.args.opened.now.cycle c.args.opened.now.slots c.args.opened.now.data_end (data_len (length c.args.bytes.now)) c.requires.zms (g.met.F.Flash.is_lawful c.args.flash.now) c.requires.sound c.requires.opened.cycle c.requires.opened.slots c.requires.opened.data_end (fits_room (kind_on (g.F.Flash.device c.args.flash.now) c.args.area.now) (sector_bytes (g.F.Flash.device c.args.flash.now) c.args.area.now c.args.sector) (length c.args.bytes.now) c.requires.room) in
+      on_err_weaker c.put_slot.result (ready_cut (g.F.Flash.device c.args.flash.now) c.args.area.now c.args.sector c.args.opened.now.cycle c.args.opened.now.slots c.args.opened.now.data_end (data_len (length c.args.bytes.now)) r (sector_bytes (g.F.Flash.device c.put_value.new.flash) c.args.area.now c.args.sector) (sector_bytes (g.F.Flash.device c.put_slot.new.flash) c.args.area.now c.args.sector) c.value_entry-entry.result (kind_on (g.F.Flash.device c.put_value.new.flash) c.args.area.now) (same_kind (g.F.Flash.device c.args.flash.now) (g.F.Flash.device c.put_value.new.flash) c.args.area.now c.in_ok-put_value.ensures.touches.banks) (ap (λ (e : ZEntry). e.cycle) c.value_entry-entry.ensures) (ready_value (g.F.Flash.device c.args.flash.now) c.args.area.now c.args.sector c.args.opened.now.cycle c.args.opened.now.slots c.args.opened.now.data_end c.args.bytes.now (sector_bytes (g.F.Flash.device c.put_value.new.flash) c.args.area.now c.args.sector) r c.in_ok-put_value.ensures.ok)) c.put_slot.ensures.lost;
   spends = on_ok_weaker c.put_slot.result (λ spends. between_within (between_then c.in_ok-put_value.ensures.ends.spends spends) (cost (length c.args.bytes.now) / 16) (cost (length c.args.bytes.now) / 16 + 1) (omega arith) (omega arith)) c.put_slot.ensures.spends;
   guards =
-    let r = ready (g.F.Flash.device c.args.flash.now) c.args.area.now c.args.sector c.args.opened.now.cycle c.args.opened.now.slots c.args.opened.now.data_end (data_len (length c.args.bytes.now)) c.requires.zms (g.met.F.Flash.is_lawful c.args.flash.now) c.requires.sound c.requires.opened.cycle c.requires.opened.slots c.requires.opened.data_end (fits_room (kind_on (g.F.Flash.device c.args.flash.now) c.args.area.now) (sector_bytes (g.F.Flash.device c.args.flash.now) c.args.area.now c.args.sector) (length c.args.bytes.now) c.requires.room) in
-    let same = ap (λ (b : List ℕ). slot_of b (length (valid_slots (sector_bytes (g.F.Flash.device c.args.flash.now) c.args.area.now c.args.sector)) + 2 + 1)) c.in_ok-put_value.ensures.ok ∙ value_under (kind_on (g.F.Flash.device c.args.flash.now) c.args.area.now) (sector_bytes (g.F.Flash.device c.args.flash.now) c.args.area.now c.args.sector) c.args.bytes.now c.args.opened.now.data_end r.end_is r.fits in
-    let due = ap (λ (k : Kind). guard_units k (Some c.value_entry-entry.result.cycle) (c.args.opened.now.slots + 2 + 1) (sector_bytes (g.F.Flash.device c.put_value.new.flash) c.args.area.now c.args.sector)) (same_kind (g.F.Flash.device c.args.flash.now) (g.F.Flash.device c.put_value.new.flash) c.args.area.now c.in_ok-put_value.ensures.touches.banks)
-    ∙ entry_guard (g.F.Flash.device c.args.flash.now) c.args.area.now c.args.sector c.args.opened.now.cycle c.args.opened.now.slots c.args.opened.now.data_end (data_len (length c.args.bytes.now)) c.value_entry-entry.result.cycle (sector_bytes (g.F.Flash.device c.put_value.new.flash) c.args.area.now c.args.sector) r (ap (λ (e : ZEntry). e.cycle) c.value_entry-entry.ensures) same in
-    on_ok_weaker c.put_slot.result (λ spends. between_within (between_then c.in_ok-put_value.ensures.ends.spends spends) _ _ (omega arith) (omega arith)) c.put_slot.ensures.guards;
+      let r = ready (g.F.Flash.device c.args.flash.now) c.args.area.now c.args.sector c.args.opened.now.cycle c.args.opened.now.slots c.args.opened.now.data_end (data_len (length c.args.bytes.now)) c.requires.zms (g.met.F.Flash.is_lawful c.args.flash.now) c.requires.sound c.requires.opened.cycle c.requires.opened.slots c.requires.opened.data_end (fits_room (kind_on (g.F.Flash.device c.args.flash.now) c.args.area.now) (sector_bytes (g.F.Flash.device c.args.flash.now) c.args.area.now c.args.sector) (length c.args.bytes.now) c.requires.room) in
+      let same = ap (λ (b : List ℕ). slot_of b (length (valid_slots (sector_bytes (g.F.Flash.device c.args.flash.now) c.args.area.now c.args.sector)) + 2 + 1)) c.in_ok-put_value.ensures.ok ∙ value_under (kind_on (g.F.Flash.device c.args.flash.now) c.args.area.now) (sector_bytes (g.F.Flash.device c.args.flash.now) c.args.area.now c.args.sector) c.args.bytes.now c.args.opened.now.data_end r.end_is r.fits in
+      let due = ap (λ (k : Kind). guard_units k (Some c.value_entry-entry.result.cycle) (c.args.opened.now.slots + 2 + 1) (sector_bytes (g.F.Flash.device c.put_value.new.flash) c.args.area.now c.args.sector)) (same_kind (g.F.Flash.device c.args.flash.now) (g.F.Flash.device c.put_value.new.flash) c.args.area.now c.in_ok-put_value.ensures.touches.banks)
+      ∙ entry_guard (g.F.Flash.device c.args.flash.now) c.args.area.now c.args.sector c.args.opened.now.cycle c.args.opened.now.slots c.args.opened.now.data_end (data_len (length c.args.bytes.now)) c.value_entry-entry.result.cycle (sector_bytes (g.F.Flash.device c.put_value.new.flash) c.args.area.now c.args.sector) r (ap (λ (e : ZEntry). e.cycle) c.value_entry-entry.ensures) same in
+      on_ok_weaker c.put_slot.result (λ spends. between_within (between_then c.in_ok-put_value.ensures.ends.spends spends) _ _ (omega arith) (omega arith)) c.put_slot.ensures.guards;
   in_pieces =
-    let m = g.F.Flash.device c.put_value.new.flash in
-    let last = g.F.Flash.device c.put_slot.new.flash in
-    on_err_weaker c.put_slot.result (λ within. within_then PIECE (g.F.Flash.device c.args.flash.now) m last (c.args.area.now ∷ []) c.in_ok-put_value.ensures.touches (within_most SLOT PIECE m last (omega arith) within)) c.put_slot.ensures.in_pieces;
+      let m = g.F.Flash.device c.put_value.new.flash in
+      let last = g.F.Flash.device c.put_slot.new.flash in
+      on_err_weaker c.put_slot.result (λ within. within_then PIECE (g.F.Flash.device c.args.flash.now) m last (c.args.area.now ∷ []) c.in_ok-put_value.ensures.touches (within_most SLOT PIECE m last (omega arith) within)) c.put_slot.ensures.in_pieces;
   spends_lost = on_err_weaker c.put_slot.result (λ spends. between_within (between_then c.in_ok-put_value.ensures.ends.spends spends) 0 (cost (length c.args.bytes.now) / 16) (omega arith) (omega arith)) c.put_slot.ensures.spends_lost;
 }

@@ -24,8 +24,8 @@ put_bytes-requires-clause-place g c = record {
   fits = let fits = c.requires.place.fits in let len = long_len (length c.args.bytes.now) (omega arith) in omega arith;
   aligned = c.requires.place.aligned;
   erased = λ erasing.
-    let len = long_len (length c.args.bytes.now) (omega arith) in
-    subst (λ (n : ℕ). is_erased (slice_range (sector_bytes (g.F.Flash.device c.args.flash.now) c.args.area.now c.args.sector) c.args.at (c.args.at + n)) ≡ true) len (c.requires.place.erased erasing);
+      let len = long_len (length c.args.bytes.now) (omega arith) in
+      subst (λ (n : ℕ). is_erased (slice_range (sector_bytes (g.F.Flash.device c.args.flash.now) c.args.area.now c.args.sector) c.args.at (c.args.at + n)) ≡ true) len (c.requires.place.erased erasing);
 }
 
 pub returns-clause-ok : goal.returns-clause-ok

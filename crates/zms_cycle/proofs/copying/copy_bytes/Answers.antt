@@ -47,23 +47,23 @@ returns-clause-ok g c =
 pub returns-clause-ends : goal.returns-clause-ends
 returns-clause-ends g c = record {
   lost =
-    let d : Device = g.F.Flash.device c.args.flash.now in
-    let m : Device = g.F.Flash.device c.copy_padded.new.flash in
-    let size = size_is d c.args.area.now c.args.from.sector c.requires.from_zms (g.met.F.Flash.is_lawful c.args.flash.now) in
-    let from = c.requires.from in
-    let long = length-range (sector_bytes d c.args.area.now c.args.from.sector) c.args.from.offset c.args.from.len (omega (arith, size, from)) in
-    on_err_weaker c.copy_padded.result (λ part. subst (λ (n : ℕ). HasPart (sector_bytes d c.args.area.now c.args.sector) (sector_bytes m c.args.area.now c.args.sector) c.args.to (padded 16 n)) long (bytes_lost d m c.args.area.now c.args.sector c.args.to (source d c.args.area.now c.args.from) c.requires.zms part)) c.copy_padded.ensures.lost;
+      let d : Device = g.F.Flash.device c.args.flash.now in
+      let m : Device = g.F.Flash.device c.copy_padded.new.flash in
+      let size = size_is d c.args.area.now c.args.from.sector c.requires.from_zms (g.met.F.Flash.is_lawful c.args.flash.now) in
+      let from = c.requires.from in
+      let long = length-range (sector_bytes d c.args.area.now c.args.from.sector) c.args.from.offset c.args.from.len (omega (arith, size, from)) in
+      on_err_weaker c.copy_padded.result (λ part. subst (λ (n : ℕ). HasPart (sector_bytes d c.args.area.now c.args.sector) (sector_bytes m c.args.area.now c.args.sector) c.args.to (padded 16 n)) long (bytes_lost d m c.args.area.now c.args.sector c.args.to (source d c.args.area.now c.args.from) c.requires.zms part)) c.copy_padded.ensures.lost;
   spends =
-    let d : Device = g.F.Flash.device c.args.flash.now in
-    let m : Device = g.F.Flash.device c.copy_padded.new.flash in
-    let unit = unit_of d c.args.area.now in
-    let is = unit_is d c.args.area.now c.args.sector c.requires.zms in
-    on_ok_weaker c.copy_padded.result (λ spent. subst (λ (u : ℕ). SpendsBetween d m (padded u c.args.from.len / u) (padded u c.args.from.len / u)) is (between_exact d m (padded unit c.args.from.len / unit) spent)) c.copy_padded.ensures.spent;
+      let d : Device = g.F.Flash.device c.args.flash.now in
+      let m : Device = g.F.Flash.device c.copy_padded.new.flash in
+      let unit = unit_of d c.args.area.now in
+      let is = unit_is d c.args.area.now c.args.sector c.requires.zms in
+      on_ok_weaker c.copy_padded.result (λ spent. subst (λ (u : ℕ). SpendsBetween d m (padded u c.args.from.len / u) (padded u c.args.from.len / u)) is (between_exact d m (padded unit c.args.from.len / unit) spent)) c.copy_padded.ensures.spent;
   in_pieces = c.copy_padded.ensures.in_pieces;
   spends_lost =
-    let d : Device = g.F.Flash.device c.args.flash.now in
-    let m : Device = g.F.Flash.device c.copy_padded.new.flash in
-    let unit = unit_of d c.args.area.now in
-    let is = unit_is d c.args.area.now c.args.sector c.requires.zms in
-    on_err_weaker c.copy_padded.result (λ spent. subst (λ (u : ℕ). SpendsBetween d m 0 (padded u c.args.from.len / u)) is (between_most d m (padded unit c.args.from.len / unit) spent)) c.copy_padded.ensures.spent_at_most;
+      let d : Device = g.F.Flash.device c.args.flash.now in
+      let m : Device = g.F.Flash.device c.copy_padded.new.flash in
+      let unit = unit_of d c.args.area.now in
+      let is = unit_is d c.args.area.now c.args.sector c.requires.zms in
+      on_err_weaker c.copy_padded.result (λ spent. subst (λ (u : ℕ). SpendsBetween d m 0 (padded u c.args.from.len / u)) is (between_most d m (padded unit c.args.from.len / unit) spent)) c.copy_padded.ensures.spent_at_most;
 }

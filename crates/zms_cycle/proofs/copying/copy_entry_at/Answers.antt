@@ -32,42 +32,42 @@ copy_value-requires-clause-len g c =
 pub copy_value-requires-clause-place : goal.copy_value-requires-clause-place
 copy_value-requires-clause-place g c = record {
   fits =
-    let copy = copied (sector_bytes (g.F.Flash.device c.args.flash.now) c.args.area.now c.args.from_sector) c.args.from_slot c.ordinary_entry-from.result c.requires.source.from_sound c.requires.source.from c.requires.source.listed (omega arith) c.ordinary_entry-from.ensures in
-    let same = ap data_len (copy.len ∙ sym copy.listed_len) in
-    let room = c.requires.room in
-    let r = ready (g.F.Flash.device c.args.flash.now) c.args.area.now c.args.sector c.args.opened.now.cycle c.args.opened.now.slots c.args.opened.now.data_end (data_len (length (value_of (sector_bytes (g.F.Flash.device c.args.flash.now) c.args.area.now c.args.from_sector) c.ordinary_entry-from.result))) c.requires.zms (g.met.F.Flash.is_lawful c.args.flash.now) c.requires.sound c.requires.opened.cycle c.requires.opened.slots c.requires.opened.data_end (omega (arith, room, same)) in
-    let fits = ready_fits (g.F.Flash.device c.args.flash.now) c.args.area.now c.args.sector c.args.opened.now.cycle c.args.opened.now.slots c.args.opened.now.data_end (data_len (length (value_of (sector_bytes (g.F.Flash.device c.args.flash.now) c.args.area.now c.args.from_sector) c.ordinary_entry-from.result))) r in let len = ap data_len copy.len in omega (arith, fits, len);
+      let copy = copied (sector_bytes (g.F.Flash.device c.args.flash.now) c.args.area.now c.args.from_sector) c.args.from_slot c.ordinary_entry-from.result c.requires.source.from_sound c.requires.source.from c.requires.source.listed (omega arith) c.ordinary_entry-from.ensures in
+      let same = ap data_len (copy.len ∙ sym copy.listed_len) in
+      let room = c.requires.room in
+      let r = ready (g.F.Flash.device c.args.flash.now) c.args.area.now c.args.sector c.args.opened.now.cycle c.args.opened.now.slots c.args.opened.now.data_end (data_len (length (value_of (sector_bytes (g.F.Flash.device c.args.flash.now) c.args.area.now c.args.from_sector) c.ordinary_entry-from.result))) c.requires.zms (g.met.F.Flash.is_lawful c.args.flash.now) c.requires.sound c.requires.opened.cycle c.requires.opened.slots c.requires.opened.data_end (omega (arith, room, same)) in
+      let fits = ready_fits (g.F.Flash.device c.args.flash.now) c.args.area.now c.args.sector c.args.opened.now.cycle c.args.opened.now.slots c.args.opened.now.data_end (data_len (length (value_of (sector_bytes (g.F.Flash.device c.args.flash.now) c.args.area.now c.args.from_sector) c.ordinary_entry-from.result))) r in let len = ap data_len copy.len in omega (arith, fits, len);
   aligned =
-    let copy = copied (sector_bytes (g.F.Flash.device c.args.flash.now) c.args.area.now c.args.from_sector) c.args.from_slot c.ordinary_entry-from.result c.requires.source.from_sound c.requires.source.from c.requires.source.listed (omega arith) c.ordinary_entry-from.ensures in
-    let same = ap data_len (copy.len ∙ sym copy.listed_len) in
-    let room = c.requires.room in
-    let r = ready (g.F.Flash.device c.args.flash.now) c.args.area.now c.args.sector c.args.opened.now.cycle c.args.opened.now.slots c.args.opened.now.data_end (data_len (length (value_of (sector_bytes (g.F.Flash.device c.args.flash.now) c.args.area.now c.args.from_sector) c.ordinary_entry-from.result))) c.requires.zms (g.met.F.Flash.is_lawful c.args.flash.now) c.requires.sound c.requires.opened.cycle c.requires.opened.slots c.requires.opened.data_end (omega (arith, room, same)) in
-    ready_aligned (g.F.Flash.device c.args.flash.now) c.args.area.now c.args.sector c.args.opened.now.cycle c.args.opened.now.slots c.args.opened.now.data_end (data_len (length (value_of (sector_bytes (g.F.Flash.device c.args.flash.now) c.args.area.now c.args.from_sector) c.ordinary_entry-from.result))) r;
+      let copy = copied (sector_bytes (g.F.Flash.device c.args.flash.now) c.args.area.now c.args.from_sector) c.args.from_slot c.ordinary_entry-from.result c.requires.source.from_sound c.requires.source.from c.requires.source.listed (omega arith) c.ordinary_entry-from.ensures in
+      let same = ap data_len (copy.len ∙ sym copy.listed_len) in
+      let room = c.requires.room in
+      let r = ready (g.F.Flash.device c.args.flash.now) c.args.area.now c.args.sector c.args.opened.now.cycle c.args.opened.now.slots c.args.opened.now.data_end (data_len (length (value_of (sector_bytes (g.F.Flash.device c.args.flash.now) c.args.area.now c.args.from_sector) c.ordinary_entry-from.result))) c.requires.zms (g.met.F.Flash.is_lawful c.args.flash.now) c.requires.sound c.requires.opened.cycle c.requires.opened.slots c.requires.opened.data_end (omega (arith, room, same)) in
+      ready_aligned (g.F.Flash.device c.args.flash.now) c.args.area.now c.args.sector c.args.opened.now.cycle c.args.opened.now.slots c.args.opened.now.data_end (data_len (length (value_of (sector_bytes (g.F.Flash.device c.args.flash.now) c.args.area.now c.args.from_sector) c.ordinary_entry-from.result))) r;
   erased =
-    let copy = copied (sector_bytes (g.F.Flash.device c.args.flash.now) c.args.area.now c.args.from_sector) c.args.from_slot c.ordinary_entry-from.result c.requires.source.from_sound c.requires.source.from c.requires.source.listed (omega arith) c.ordinary_entry-from.ensures in
-    let same = ap data_len (copy.len ∙ sym copy.listed_len) in
-    let room = c.requires.room in
-    let r = ready (g.F.Flash.device c.args.flash.now) c.args.area.now c.args.sector c.args.opened.now.cycle c.args.opened.now.slots c.args.opened.now.data_end (data_len (length (value_of (sector_bytes (g.F.Flash.device c.args.flash.now) c.args.area.now c.args.from_sector) c.ordinary_entry-from.result))) c.requires.zms (g.met.F.Flash.is_lawful c.args.flash.now) c.requires.sound c.requires.opened.cycle c.requires.opened.slots c.requires.opened.data_end (omega (arith, room, same)) in
-    subst (λ (n : ℕ). CanPutAt (g.F.Flash.device c.args.flash.now) c.args.area.now c.args.sector c.args.opened.now.data_end (data_len n)) copy.len (ready_put (g.F.Flash.device c.args.flash.now) c.args.area.now c.args.sector c.args.opened.now.cycle c.args.opened.now.slots c.args.opened.now.data_end (data_len (length (value_of (sector_bytes (g.F.Flash.device c.args.flash.now) c.args.area.now c.args.from_sector) c.ordinary_entry-from.result))) r);
+      let copy = copied (sector_bytes (g.F.Flash.device c.args.flash.now) c.args.area.now c.args.from_sector) c.args.from_slot c.ordinary_entry-from.result c.requires.source.from_sound c.requires.source.from c.requires.source.listed (omega arith) c.ordinary_entry-from.ensures in
+      let same = ap data_len (copy.len ∙ sym copy.listed_len) in
+      let room = c.requires.room in
+      let r = ready (g.F.Flash.device c.args.flash.now) c.args.area.now c.args.sector c.args.opened.now.cycle c.args.opened.now.slots c.args.opened.now.data_end (data_len (length (value_of (sector_bytes (g.F.Flash.device c.args.flash.now) c.args.area.now c.args.from_sector) c.ordinary_entry-from.result))) c.requires.zms (g.met.F.Flash.is_lawful c.args.flash.now) c.requires.sound c.requires.opened.cycle c.requires.opened.slots c.requires.opened.data_end (omega (arith, room, same)) in
+      subst (λ (n : ℕ). CanPutAt (g.F.Flash.device c.args.flash.now) c.args.area.now c.args.sector c.args.opened.now.data_end (data_len n)) copy.len (ready_put (g.F.Flash.device c.args.flash.now) c.args.area.now c.args.sector c.args.opened.now.cycle c.args.opened.now.slots c.args.opened.now.data_end (data_len (length (value_of (sector_bytes (g.F.Flash.device c.args.flash.now) c.args.area.now c.args.from_sector) c.ordinary_entry-from.result))) r);
 }
 
 pub returns-in_err-copy_value-clause-ends : goal.returns-in_err-copy_value-clause-ends
 returns-in_err-copy_value-clause-ends g c = record {
   lost =
-    let copy = copied (sector_bytes (g.F.Flash.device c.args.flash.now) c.args.area.now c.args.from_sector) c.args.from_slot c.ordinary_entry-from.result c.requires.source.from_sound c.requires.source.from c.requires.source.listed (omega arith) c.ordinary_entry-from.ensures in
-    let same = ap data_len (copy.len ∙ sym copy.listed_len) in
-    let room = c.requires.room in
-    let r = ready (g.F.Flash.device c.args.flash.now) c.args.area.now c.args.sector c.args.opened.now.cycle c.args.opened.now.slots c.args.opened.now.data_end (data_len (length (value_of (sector_bytes (g.F.Flash.device c.args.flash.now) c.args.area.now c.args.from_sector) c.ordinary_entry-from.result))) c.requires.zms (g.met.F.Flash.is_lawful c.args.flash.now) c.requires.sound c.requires.opened.cycle c.requires.opened.slots c.requires.opened.data_end (omega (arith, room, same)) in
-    on_err c.from_residual.result
-    (subst (λ (n : ℕ). KeepsList (kind_on (g.F.Flash.device c.args.flash.now) c.args.area.now) (left_over (kind_on (g.F.Flash.device c.args.flash.now) c.args.area.now) (data_len n)) (sector_bytes (g.F.Flash.device c.args.flash.now) c.args.area.now c.args.sector) (sector_bytes (g.F.Flash.device c.copy_value.new.flash) c.args.area.now c.args.sector)) (copy.len ∙ sym copy.listed_len)
-    (ready_part (g.F.Flash.device c.args.flash.now) c.args.area.now c.args.sector c.args.opened.now.cycle c.args.opened.now.slots c.args.opened.now.data_end (data_len (length (value_of (sector_bytes (g.F.Flash.device c.args.flash.now) c.args.area.now c.args.from_sector) c.ordinary_entry-from.result))) r (sector_bytes (g.F.Flash.device c.copy_value.new.flash) c.args.area.now c.args.sector) (data_len-aligned (length (value_of (sector_bytes (g.F.Flash.device c.args.flash.now) c.args.area.now c.args.from_sector) c.ordinary_entry-from.result))) (subst (λ (n : ℕ). HasPart (sector_bytes (g.F.Flash.device c.args.flash.now) c.args.area.now c.args.sector) (sector_bytes (g.F.Flash.device c.copy_value.new.flash) c.args.area.now c.args.sector) c.args.opened.now.data_end (data_len n)) (sym copy.len) c.in_err-copy_value.ensures.ends.lost)));
+      let copy = copied (sector_bytes (g.F.Flash.device c.args.flash.now) c.args.area.now c.args.from_sector) c.args.from_slot c.ordinary_entry-from.result c.requires.source.from_sound c.requires.source.from c.requires.source.listed (omega arith) c.ordinary_entry-from.ensures in
+      let same = ap data_len (copy.len ∙ sym copy.listed_len) in
+      let room = c.requires.room in
+      let r = ready (g.F.Flash.device c.args.flash.now) c.args.area.now c.args.sector c.args.opened.now.cycle c.args.opened.now.slots c.args.opened.now.data_end (data_len (length (value_of (sector_bytes (g.F.Flash.device c.args.flash.now) c.args.area.now c.args.from_sector) c.ordinary_entry-from.result))) c.requires.zms (g.met.F.Flash.is_lawful c.args.flash.now) c.requires.sound c.requires.opened.cycle c.requires.opened.slots c.requires.opened.data_end (omega (arith, room, same)) in
+      on_err c.from_residual.result
+      (subst (λ (n : ℕ). KeepsList (kind_on (g.F.Flash.device c.args.flash.now) c.args.area.now) (left_over (kind_on (g.F.Flash.device c.args.flash.now) c.args.area.now) (data_len n)) (sector_bytes (g.F.Flash.device c.args.flash.now) c.args.area.now c.args.sector) (sector_bytes (g.F.Flash.device c.copy_value.new.flash) c.args.area.now c.args.sector)) (copy.len ∙ sym copy.listed_len)
+      (ready_part (g.F.Flash.device c.args.flash.now) c.args.area.now c.args.sector c.args.opened.now.cycle c.args.opened.now.slots c.args.opened.now.data_end (data_len (length (value_of (sector_bytes (g.F.Flash.device c.args.flash.now) c.args.area.now c.args.from_sector) c.ordinary_entry-from.result))) r (sector_bytes (g.F.Flash.device c.copy_value.new.flash) c.args.area.now c.args.sector) (data_len-aligned (length (value_of (sector_bytes (g.F.Flash.device c.args.flash.now) c.args.area.now c.args.from_sector) c.ordinary_entry-from.result))) (subst (λ (n : ℕ). HasPart (sector_bytes (g.F.Flash.device c.args.flash.now) c.args.area.now c.args.sector) (sector_bytes (g.F.Flash.device c.copy_value.new.flash) c.args.area.now c.args.sector) c.args.opened.now.data_end (data_len n)) (sym copy.len) c.in_err-copy_value.ensures.ends.lost)));
   spends = search rules;
   guards = search rules;
   in_pieces = search rules;
   spends_lost =
-    let copy = copied (sector_bytes (g.F.Flash.device c.args.flash.now) c.args.area.now c.args.from_sector) c.args.from_slot c.ordinary_entry-from.result c.requires.source.from_sound c.requires.source.from c.requires.source.listed (omega arith) c.ordinary_entry-from.ensures in
-    let same = ap data_len copy.listed_len in
-    on_err c.from_residual.result (between_within c.in_err-copy_value.ensures.ends.spends_lost 0 (cost (entry_len (sector_bytes (g.F.Flash.device c.args.flash.now) c.args.area.now c.args.from_sector) c.args.from_slot) / 16) (omega arith) (omega arith));
+      let copy = copied (sector_bytes (g.F.Flash.device c.args.flash.now) c.args.area.now c.args.from_sector) c.args.from_slot c.ordinary_entry-from.result c.requires.source.from_sound c.requires.source.from c.requires.source.listed (omega arith) c.ordinary_entry-from.ensures in
+      let same = ap data_len copy.listed_len in
+      on_err c.from_residual.result (between_within c.in_err-copy_value.ensures.ends.spends_lost 0 (cost (entry_len (sector_bytes (g.F.Flash.device c.args.flash.now) c.args.area.now c.args.from_sector) c.args.from_slot) / 16) (omega arith) (omega arith));
 }
 
 pub overflow_add-opened : goal.overflow_add-opened
@@ -113,35 +113,35 @@ returns-clause-ok g c =
 pub returns-clause-ends : goal.returns-clause-ends
 returns-clause-ends g c = record {
   lost =
-    let copy = copied (sector_bytes (g.F.Flash.device c.args.flash.now) c.args.area.now c.args.from_sector) c.args.from_slot c.ordinary_entry-from.result c.requires.source.from_sound c.requires.source.from c.requires.source.listed (omega arith) c.ordinary_entry-from.ensures in
-    let same = ap data_len (copy.len ∙ sym copy.listed_len) in
-    let room = c.requires.room in
-    let r = ready (g.F.Flash.device c.args.flash.now) c.args.area.now c.args.sector c.args.opened.now.cycle c.args.opened.now.slots c.args.opened.now.data_end (data_len (length (value_of (sector_bytes (g.F.Flash.device c.args.flash.now) c.args.area.now c.args.from_sector) c.ordinary_entry-from.result))) c.requires.zms (g.met.F.Flash.is_lawful c.args.flash.now) c.requires.sound c.requires.opened.cycle c.requires.opened.slots c.requires.opened.data_end (omega (arith, room, same)) in
-    on_err_weaker c.put_slot.result
-    (λ cut. subst (λ (n : ℕ). KeepsList (kind_on (g.F.Flash.device c.args.flash.now) c.args.area.now) (left_over (kind_on (g.F.Flash.device c.args.flash.now) c.args.area.now) (data_len n)) (sector_bytes (g.F.Flash.device c.args.flash.now) c.args.area.now c.args.sector) (sector_bytes (g.F.Flash.device c.put_slot.new.flash) c.args.area.now c.args.sector)) (copy.len ∙ sym copy.listed_len)
-    (ready_cut (g.F.Flash.device c.args.flash.now) c.args.area.now c.args.sector c.args.opened.now.cycle c.args.opened.now.slots c.args.opened.now.data_end (data_len (length (value_of (sector_bytes (g.F.Flash.device c.args.flash.now) c.args.area.now c.args.from_sector) c.ordinary_entry-from.result))) r (sector_bytes (g.F.Flash.device c.copy_value.new.flash) c.args.area.now c.args.sector) (sector_bytes (g.F.Flash.device c.put_slot.new.flash) c.args.area.now c.args.sector) c.moved_entry-entry.result (kind_on (g.F.Flash.device c.copy_value.new.flash) c.args.area.now) (same_kind (g.F.Flash.device c.args.flash.now) (g.F.Flash.device c.copy_value.new.flash) c.args.area.now c.in_ok-copy_value.ensures.touches.banks) (ap (λ (e : ZEntry). e.cycle) c.moved_entry-entry.ensures)
-    (ready_value (g.F.Flash.device c.args.flash.now) c.args.area.now c.args.sector c.args.opened.now.cycle c.args.opened.now.slots c.args.opened.now.data_end (value_of (sector_bytes (g.F.Flash.device c.args.flash.now) c.args.area.now c.args.from_sector) c.ordinary_entry-from.result) (sector_bytes (g.F.Flash.device c.copy_value.new.flash) c.args.area.now c.args.sector) r c.in_ok-copy_value.ensures.ok) cut))
-    c.put_slot.ensures.lost;
+      let copy = copied (sector_bytes (g.F.Flash.device c.args.flash.now) c.args.area.now c.args.from_sector) c.args.from_slot c.ordinary_entry-from.result c.requires.source.from_sound c.requires.source.from c.requires.source.listed (omega arith) c.ordinary_entry-from.ensures in
+      let same = ap data_len (copy.len ∙ sym copy.listed_len) in
+      let room = c.requires.room in
+      let r = ready (g.F.Flash.device c.args.flash.now) c.args.area.now c.args.sector c.args.opened.now.cycle c.args.opened.now.slots c.args.opened.now.data_end (data_len (length (value_of (sector_bytes (g.F.Flash.device c.args.flash.now) c.args.area.now c.args.from_sector) c.ordinary_entry-from.result))) c.requires.zms (g.met.F.Flash.is_lawful c.args.flash.now) c.requires.sound c.requires.opened.cycle c.requires.opened.slots c.requires.opened.data_end (omega (arith, room, same)) in
+      on_err_weaker c.put_slot.result
+      (λ cut. subst (λ (n : ℕ). KeepsList (kind_on (g.F.Flash.device c.args.flash.now) c.args.area.now) (left_over (kind_on (g.F.Flash.device c.args.flash.now) c.args.area.now) (data_len n)) (sector_bytes (g.F.Flash.device c.args.flash.now) c.args.area.now c.args.sector) (sector_bytes (g.F.Flash.device c.put_slot.new.flash) c.args.area.now c.args.sector)) (copy.len ∙ sym copy.listed_len)
+      (ready_cut (g.F.Flash.device c.args.flash.now) c.args.area.now c.args.sector c.args.opened.now.cycle c.args.opened.now.slots c.args.opened.now.data_end (data_len (length (value_of (sector_bytes (g.F.Flash.device c.args.flash.now) c.args.area.now c.args.from_sector) c.ordinary_entry-from.result))) r (sector_bytes (g.F.Flash.device c.copy_value.new.flash) c.args.area.now c.args.sector) (sector_bytes (g.F.Flash.device c.put_slot.new.flash) c.args.area.now c.args.sector) c.moved_entry-entry.result (kind_on (g.F.Flash.device c.copy_value.new.flash) c.args.area.now) (same_kind (g.F.Flash.device c.args.flash.now) (g.F.Flash.device c.copy_value.new.flash) c.args.area.now c.in_ok-copy_value.ensures.touches.banks) (ap (λ (e : ZEntry). e.cycle) c.moved_entry-entry.ensures)
+      (ready_value (g.F.Flash.device c.args.flash.now) c.args.area.now c.args.sector c.args.opened.now.cycle c.args.opened.now.slots c.args.opened.now.data_end (value_of (sector_bytes (g.F.Flash.device c.args.flash.now) c.args.area.now c.args.from_sector) c.ordinary_entry-from.result) (sector_bytes (g.F.Flash.device c.copy_value.new.flash) c.args.area.now c.args.sector) r c.in_ok-copy_value.ensures.ok) cut))
+      c.put_slot.ensures.lost;
   spends =
-    let copy = copied (sector_bytes (g.F.Flash.device c.args.flash.now) c.args.area.now c.args.from_sector) c.args.from_slot c.ordinary_entry-from.result c.requires.source.from_sound c.requires.source.from c.requires.source.listed (omega arith) c.ordinary_entry-from.ensures in
-    let same = ap data_len copy.listed_len in
-    on_ok_weaker c.put_slot.result (λ spends. between_within (between_then c.in_ok-copy_value.ensures.ends.spends spends) (cost (entry_len (sector_bytes (g.F.Flash.device c.args.flash.now) c.args.area.now c.args.from_sector) c.args.from_slot) / 16) (cost (entry_len (sector_bytes (g.F.Flash.device c.args.flash.now) c.args.area.now c.args.from_sector) c.args.from_slot) / 16 + 1) (omega arith) (omega arith)) c.put_slot.ensures.spends;
+      let copy = copied (sector_bytes (g.F.Flash.device c.args.flash.now) c.args.area.now c.args.from_sector) c.args.from_slot c.ordinary_entry-from.result c.requires.source.from_sound c.requires.source.from c.requires.source.listed (omega arith) c.ordinary_entry-from.ensures in
+      let same = ap data_len copy.listed_len in
+      on_ok_weaker c.put_slot.result (λ spends. between_within (between_then c.in_ok-copy_value.ensures.ends.spends spends) (cost (entry_len (sector_bytes (g.F.Flash.device c.args.flash.now) c.args.area.now c.args.from_sector) c.args.from_slot) / 16) (cost (entry_len (sector_bytes (g.F.Flash.device c.args.flash.now) c.args.area.now c.args.from_sector) c.args.from_slot) / 16 + 1) (omega arith) (omega arith)) c.put_slot.ensures.spends;
   guards =
-    let copy = copied (sector_bytes (g.F.Flash.device c.args.flash.now) c.args.area.now c.args.from_sector) c.args.from_slot c.ordinary_entry-from.result c.requires.source.from_sound c.requires.source.from c.requires.source.listed (omega arith) c.ordinary_entry-from.ensures in
-    let same = ap data_len (copy.len ∙ sym copy.listed_len) in
-    let room = c.requires.room in
-    let r = ready (g.F.Flash.device c.args.flash.now) c.args.area.now c.args.sector c.args.opened.now.cycle c.args.opened.now.slots c.args.opened.now.data_end (data_len (length (value_of (sector_bytes (g.F.Flash.device c.args.flash.now) c.args.area.now c.args.from_sector) c.ordinary_entry-from.result))) c.requires.zms (g.met.F.Flash.is_lawful c.args.flash.now) c.requires.sound c.requires.opened.cycle c.requires.opened.slots c.requires.opened.data_end (omega (arith, room, same)) in
-    let under = ap (λ (b : List ℕ). slot_of b (length (valid_slots (sector_bytes (g.F.Flash.device c.args.flash.now) c.args.area.now c.args.sector)) + 2 + 1)) c.in_ok-copy_value.ensures.ok ∙ value_under (kind_on (g.F.Flash.device c.args.flash.now) c.args.area.now) (sector_bytes (g.F.Flash.device c.args.flash.now) c.args.area.now c.args.sector) (value_of (sector_bytes (g.F.Flash.device c.args.flash.now) c.args.area.now c.args.from_sector) c.ordinary_entry-from.result) c.args.opened.now.data_end r.end_is r.fits in
-    let due = ap (λ (k : Kind). guard_units k (Some c.moved_entry-entry.result.cycle) (c.args.opened.now.slots + 2 + 1) (sector_bytes (g.F.Flash.device c.copy_value.new.flash) c.args.area.now c.args.sector)) (same_kind (g.F.Flash.device c.args.flash.now) (g.F.Flash.device c.copy_value.new.flash) c.args.area.now c.in_ok-copy_value.ensures.touches.banks)
-    ∙ entry_guard (g.F.Flash.device c.args.flash.now) c.args.area.now c.args.sector c.args.opened.now.cycle c.args.opened.now.slots c.args.opened.now.data_end (data_len (length (value_of (sector_bytes (g.F.Flash.device c.args.flash.now) c.args.area.now c.args.from_sector) c.ordinary_entry-from.result))) c.moved_entry-entry.result.cycle (sector_bytes (g.F.Flash.device c.copy_value.new.flash) c.args.area.now c.args.sector) r (ap (λ (e : ZEntry). e.cycle) c.moved_entry-entry.ensures) under in
-    let listed = ap data_len copy.listed_len in
-    on_ok_weaker c.put_slot.result (λ spends. between_within (between_then c.in_ok-copy_value.ensures.ends.spends spends) _ _ (omega arith) (omega arith)) c.put_slot.ensures.guards;
+      let copy = copied (sector_bytes (g.F.Flash.device c.args.flash.now) c.args.area.now c.args.from_sector) c.args.from_slot c.ordinary_entry-from.result c.requires.source.from_sound c.requires.source.from c.requires.source.listed (omega arith) c.ordinary_entry-from.ensures in
+      let same = ap data_len (copy.len ∙ sym copy.listed_len) in
+      let room = c.requires.room in
+      let r = ready (g.F.Flash.device c.args.flash.now) c.args.area.now c.args.sector c.args.opened.now.cycle c.args.opened.now.slots c.args.opened.now.data_end (data_len (length (value_of (sector_bytes (g.F.Flash.device c.args.flash.now) c.args.area.now c.args.from_sector) c.ordinary_entry-from.result))) c.requires.zms (g.met.F.Flash.is_lawful c.args.flash.now) c.requires.sound c.requires.opened.cycle c.requires.opened.slots c.requires.opened.data_end (omega (arith, room, same)) in
+      let under = ap (λ (b : List ℕ). slot_of b (length (valid_slots (sector_bytes (g.F.Flash.device c.args.flash.now) c.args.area.now c.args.sector)) + 2 + 1)) c.in_ok-copy_value.ensures.ok ∙ value_under (kind_on (g.F.Flash.device c.args.flash.now) c.args.area.now) (sector_bytes (g.F.Flash.device c.args.flash.now) c.args.area.now c.args.sector) (value_of (sector_bytes (g.F.Flash.device c.args.flash.now) c.args.area.now c.args.from_sector) c.ordinary_entry-from.result) c.args.opened.now.data_end r.end_is r.fits in
+      let due = ap (λ (k : Kind). guard_units k (Some c.moved_entry-entry.result.cycle) (c.args.opened.now.slots + 2 + 1) (sector_bytes (g.F.Flash.device c.copy_value.new.flash) c.args.area.now c.args.sector)) (same_kind (g.F.Flash.device c.args.flash.now) (g.F.Flash.device c.copy_value.new.flash) c.args.area.now c.in_ok-copy_value.ensures.touches.banks)
+      ∙ entry_guard (g.F.Flash.device c.args.flash.now) c.args.area.now c.args.sector c.args.opened.now.cycle c.args.opened.now.slots c.args.opened.now.data_end (data_len (length (value_of (sector_bytes (g.F.Flash.device c.args.flash.now) c.args.area.now c.args.from_sector) c.ordinary_entry-from.result))) c.moved_entry-entry.result.cycle (sector_bytes (g.F.Flash.device c.copy_value.new.flash) c.args.area.now c.args.sector) r (ap (λ (e : ZEntry). e.cycle) c.moved_entry-entry.ensures) under in
+      let listed = ap data_len copy.listed_len in
+      on_ok_weaker c.put_slot.result (λ spends. between_within (between_then c.in_ok-copy_value.ensures.ends.spends spends) _ _ (omega arith) (omega arith)) c.put_slot.ensures.guards;
   in_pieces =
-    let m = g.F.Flash.device c.copy_value.new.flash in
-    let last = g.F.Flash.device c.put_slot.new.flash in
-    on_err_weaker c.put_slot.result (λ within. within_then COPY_PIECE (g.F.Flash.device c.args.flash.now) m last (c.args.area.now ∷ []) c.in_ok-copy_value.ensures.touches (within_most SLOT COPY_PIECE m last (omega arith) within)) c.put_slot.ensures.in_pieces;
+      let m = g.F.Flash.device c.copy_value.new.flash in
+      let last = g.F.Flash.device c.put_slot.new.flash in
+      on_err_weaker c.put_slot.result (λ within. within_then COPY_PIECE (g.F.Flash.device c.args.flash.now) m last (c.args.area.now ∷ []) c.in_ok-copy_value.ensures.touches (within_most SLOT COPY_PIECE m last (omega arith) within)) c.put_slot.ensures.in_pieces;
   spends_lost =
-    let copy = copied (sector_bytes (g.F.Flash.device c.args.flash.now) c.args.area.now c.args.from_sector) c.args.from_slot c.ordinary_entry-from.result c.requires.source.from_sound c.requires.source.from c.requires.source.listed (omega arith) c.ordinary_entry-from.ensures in
-    let same = ap data_len copy.listed_len in
-    on_err_weaker c.put_slot.result (λ spends. between_within (between_then c.in_ok-copy_value.ensures.ends.spends spends) 0 (cost (entry_len (sector_bytes (g.F.Flash.device c.args.flash.now) c.args.area.now c.args.from_sector) c.args.from_slot) / 16) (omega arith) (omega arith)) c.put_slot.ensures.spends_lost;
+      let copy = copied (sector_bytes (g.F.Flash.device c.args.flash.now) c.args.area.now c.args.from_sector) c.args.from_slot c.ordinary_entry-from.result c.requires.source.from_sound c.requires.source.from c.requires.source.listed (omega arith) c.ordinary_entry-from.ensures in
+      let same = ap data_len copy.listed_len in
+      on_err_weaker c.put_slot.result (λ spends. between_within (between_then c.in_ok-copy_value.ensures.ends.spends spends) 0 (cost (entry_len (sector_bytes (g.F.Flash.device c.args.flash.now) c.args.area.now c.args.from_sector) c.args.from_slot) / 16) (omega arith) (omega arith)) c.put_slot.ensures.spends_lost;
 }

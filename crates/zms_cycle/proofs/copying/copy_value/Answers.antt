@@ -36,8 +36,8 @@ copy_bytes-requires-clause-place g c = record {
   fits = let fits = c.requires.place.fits in let len = long_len c.args.from.now.len (omega arith) in omega arith;
   aligned = c.requires.place.aligned;
   erased = λ erasing.
-    let len = long_len c.args.from.now.len (omega arith) in
-    subst (λ (n : ℕ). is_erased (slice_range (sector_bytes (g.F.Flash.device c.args.flash.now) c.args.area.now c.args.sector) c.args.to (c.args.to + n)) ≡ true) len (c.requires.place.erased erasing);
+      let len = long_len c.args.from.now.len (omega arith) in
+      subst (λ (n : ℕ). is_erased (slice_range (sector_bytes (g.F.Flash.device c.args.flash.now) c.args.area.now c.args.sector) c.args.to (c.args.to + n)) ≡ true) len (c.requires.place.erased erasing);
 }
 
 pub returns-clause-ok : goal.returns-clause-ok

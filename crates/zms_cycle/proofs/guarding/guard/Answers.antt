@@ -39,18 +39,18 @@ pub returns-then-is_of_cycle-clause-steps : goal.returns-then-is_of_cycle-clause
 returns-then-is_of_cycle-clause-steps g c = record {
   step = search rules;
   no_step =
-    let kind : kind_on (g.F.Flash.device c.args.flash.now) c.args.area.now ≡ Rewritable = sym (ap (λ (shape : Geometry). shape.kind) c.geometry.ensures) ∙ c.in-Rewritable.is in
-    λ erasing. absurd (never_erasing kind erasing);
+      let kind : kind_on (g.F.Flash.device c.args.flash.now) c.args.area.now ≡ Rewritable = sym (ap (λ (shape : Geometry). shape.kind) c.geometry.ensures) ∙ c.in-Rewritable.is in
+      λ erasing. absurd (never_erasing kind erasing);
 }
 
 pub returns-then-is_of_cycle-clause-ends : goal.returns-then-is_of_cycle-clause-ends
 returns-then-is_of_cycle-clause-ends g c = record {
   lost = c.put_unit.ensures.ends.lost;
   spends =
-    let kind : kind_on (g.F.Flash.device c.args.flash.now) c.args.area.now ≡ Rewritable = sym (ap (λ (shape : Geometry). shape.kind) c.geometry.ensures) ∙ c.in-Rewritable.is in
-    let size = size_is (g.F.Flash.device c.args.flash.now) c.args.area.now c.args.sector c.requires.zms (g.met.F.Flash.is_lawful c.args.flash.now) in
-    let valid = valid_read c.args.cycle (sector_bytes (g.F.Flash.device c.args.flash.now) c.args.area.now c.args.sector) c.args.slot c.area_view.result.now c.decode_zentry-entry.result c.is_of_cycle.result c.decode_zentry-entry.ensures (c.area_view.ensures.bytes ∙ bytes-slot_at 16 (sector_bytes (g.F.Flash.device c.args.flash.now) c.args.area.now c.args.sector) c.args.slot c.slot_start-start.result (omega (arith, size, c.slot_start-start.ensures))) c.is_of_cycle.ensures in
-    on_ok_weaker c.put_unit.result (λ spends. spends_just (g.F.Flash.device c.args.flash.now) (g.F.Flash.device c.put_unit.new.flash) (guard_units (kind_on (g.F.Flash.device c.args.flash.now) c.args.area.now) (Some c.args.cycle) c.args.slot (sector_bytes (g.F.Flash.device c.args.flash.now) c.args.area.now c.args.sector)) 1 (units-valid (kind_on (g.F.Flash.device c.args.flash.now) c.args.area.now) c.args.cycle c.args.slot (sector_bytes (g.F.Flash.device c.args.flash.now) c.args.area.now c.args.sector) kind (valid ∙ c.if-is_of_cycle.true)) spends) c.put_unit.ensures.ends.spends;
+      let kind : kind_on (g.F.Flash.device c.args.flash.now) c.args.area.now ≡ Rewritable = sym (ap (λ (shape : Geometry). shape.kind) c.geometry.ensures) ∙ c.in-Rewritable.is in
+      let size = size_is (g.F.Flash.device c.args.flash.now) c.args.area.now c.args.sector c.requires.zms (g.met.F.Flash.is_lawful c.args.flash.now) in
+      let valid = valid_read c.args.cycle (sector_bytes (g.F.Flash.device c.args.flash.now) c.args.area.now c.args.sector) c.args.slot c.area_view.result.now c.decode_zentry-entry.result c.is_of_cycle.result c.decode_zentry-entry.ensures (c.area_view.ensures.bytes ∙ bytes-slot_at 16 (sector_bytes (g.F.Flash.device c.args.flash.now) c.args.area.now c.args.sector) c.args.slot c.slot_start-start.result (omega (arith, size, c.slot_start-start.ensures))) c.is_of_cycle.ensures in
+      on_ok_weaker c.put_unit.result (λ spends. spends_just (g.F.Flash.device c.args.flash.now) (g.F.Flash.device c.put_unit.new.flash) (guard_units (kind_on (g.F.Flash.device c.args.flash.now) c.args.area.now) (Some c.args.cycle) c.args.slot (sector_bytes (g.F.Flash.device c.args.flash.now) c.args.area.now c.args.sector)) 1 (units-valid (kind_on (g.F.Flash.device c.args.flash.now) c.args.area.now) c.args.cycle c.args.slot (sector_bytes (g.F.Flash.device c.args.flash.now) c.args.area.now c.args.sector) kind (valid ∙ c.if-is_of_cycle.true)) spends) c.put_unit.ensures.ends.spends;
   in_pieces = c.put_unit.ensures.ends.in_pieces;
   spends_lost = c.put_unit.ensures.ends.spends_lost;
 }
@@ -69,8 +69,8 @@ pub returns-in-Erasing-clause-ends : goal.returns-in-Erasing-clause-ends
 returns-in-Erasing-clause-ends g c = record {
   lost = tt;
   spends =
-    let kind : kind_on (g.F.Flash.device c.args.flash.now) c.args.area.now ≡ Erasing = sym (ap (λ (shape : Geometry). shape.kind) c.geometry.ensures) ∙ c.in-Erasing.is in
-    spends_just (g.F.Flash.device c.args.flash.now) (g.F.Flash.device c.args.flash.now) (guard_units (kind_on (g.F.Flash.device c.args.flash.now) c.args.area.now) (Some c.args.cycle) c.args.slot (sector_bytes (g.F.Flash.device c.args.flash.now) c.args.area.now c.args.sector)) 0 (units-erasing (kind_on (g.F.Flash.device c.args.flash.now) c.args.area.now) c.args.cycle c.args.slot (sector_bytes (g.F.Flash.device c.args.flash.now) c.args.area.now c.args.sector) kind) (between_none (g.F.Flash.device c.args.flash.now));
+      let kind : kind_on (g.F.Flash.device c.args.flash.now) c.args.area.now ≡ Erasing = sym (ap (λ (shape : Geometry). shape.kind) c.geometry.ensures) ∙ c.in-Erasing.is in
+      spends_just (g.F.Flash.device c.args.flash.now) (g.F.Flash.device c.args.flash.now) (guard_units (kind_on (g.F.Flash.device c.args.flash.now) c.args.area.now) (Some c.args.cycle) c.args.slot (sector_bytes (g.F.Flash.device c.args.flash.now) c.args.area.now c.args.sector)) 0 (units-erasing (kind_on (g.F.Flash.device c.args.flash.now) c.args.area.now) c.args.cycle c.args.slot (sector_bytes (g.F.Flash.device c.args.flash.now) c.args.area.now c.args.sector) kind) (between_none (g.F.Flash.device c.args.flash.now));
   in_pieces = tt;
   spends_lost = tt;
 }
@@ -78,8 +78,8 @@ returns-in-Erasing-clause-ends g c = record {
 pub returns-in-Erasing-clause-steps : goal.returns-in-Erasing-clause-steps
 returns-in-Erasing-clause-steps g c = record {
   step =
-    let kind : kind_on (g.F.Flash.device c.args.flash.now) c.args.area.now ≡ Erasing = sym (ap (λ (shape : Geometry). shape.kind) c.geometry.ensures) ∙ c.in-Erasing.is in
-    λ rewritable. absurd (never_erasing rewritable kind);
+      let kind : kind_on (g.F.Flash.device c.args.flash.now) c.args.area.now ≡ Erasing = sym (ap (λ (shape : Geometry). shape.kind) c.geometry.ensures) ∙ c.in-Erasing.is in
+      λ rewritable. absurd (never_erasing rewritable kind);
   no_step = search rules;
 }
 
@@ -100,18 +100,18 @@ pub returns-else-is_of_cycle-clause-steps : goal.returns-else-is_of_cycle-clause
 returns-else-is_of_cycle-clause-steps g c = record {
   step = search rules;
   no_step =
-    let kind : kind_on (g.F.Flash.device c.args.flash.now) c.args.area.now ≡ Rewritable = sym (ap (λ (shape : Geometry). shape.kind) c.geometry.ensures) ∙ c.in-Rewritable.is in
-    λ erasing. absurd (never_erasing kind erasing);
+      let kind : kind_on (g.F.Flash.device c.args.flash.now) c.args.area.now ≡ Rewritable = sym (ap (λ (shape : Geometry). shape.kind) c.geometry.ensures) ∙ c.in-Rewritable.is in
+      λ erasing. absurd (never_erasing kind erasing);
 }
 
 pub returns-else-is_of_cycle-clause-ends : goal.returns-else-is_of_cycle-clause-ends
 returns-else-is_of_cycle-clause-ends g c = record {
   lost = tt;
   spends =
-    let kind : kind_on (g.F.Flash.device c.args.flash.now) c.args.area.now ≡ Rewritable = sym (ap (λ (shape : Geometry). shape.kind) c.geometry.ensures) ∙ c.in-Rewritable.is in
-    let size = size_is (g.F.Flash.device c.args.flash.now) c.args.area.now c.args.sector c.requires.zms (g.met.F.Flash.is_lawful c.args.flash.now) in
-    let valid = valid_read c.args.cycle (sector_bytes (g.F.Flash.device c.args.flash.now) c.args.area.now c.args.sector) c.args.slot c.area_view.result.now c.decode_zentry-entry.result c.is_of_cycle.result c.decode_zentry-entry.ensures (c.area_view.ensures.bytes ∙ bytes-slot_at 16 (sector_bytes (g.F.Flash.device c.args.flash.now) c.args.area.now c.args.sector) c.args.slot c.slot_start-start.result (omega (arith, size, c.slot_start-start.ensures))) c.is_of_cycle.ensures in
-    spends_just (g.F.Flash.device c.args.flash.now) (g.F.Flash.device c.args.flash.now) (guard_units (kind_on (g.F.Flash.device c.args.flash.now) c.args.area.now) (Some c.args.cycle) c.args.slot (sector_bytes (g.F.Flash.device c.args.flash.now) c.args.area.now c.args.sector)) 0 (units-other (kind_on (g.F.Flash.device c.args.flash.now) c.args.area.now) c.args.cycle c.args.slot (sector_bytes (g.F.Flash.device c.args.flash.now) c.args.area.now c.args.sector) kind (valid ∙ c.if-is_of_cycle.false)) (between_none (g.F.Flash.device c.args.flash.now));
+      let kind : kind_on (g.F.Flash.device c.args.flash.now) c.args.area.now ≡ Rewritable = sym (ap (λ (shape : Geometry). shape.kind) c.geometry.ensures) ∙ c.in-Rewritable.is in
+      let size = size_is (g.F.Flash.device c.args.flash.now) c.args.area.now c.args.sector c.requires.zms (g.met.F.Flash.is_lawful c.args.flash.now) in
+      let valid = valid_read c.args.cycle (sector_bytes (g.F.Flash.device c.args.flash.now) c.args.area.now c.args.sector) c.args.slot c.area_view.result.now c.decode_zentry-entry.result c.is_of_cycle.result c.decode_zentry-entry.ensures (c.area_view.ensures.bytes ∙ bytes-slot_at 16 (sector_bytes (g.F.Flash.device c.args.flash.now) c.args.area.now c.args.sector) c.args.slot c.slot_start-start.result (omega (arith, size, c.slot_start-start.ensures))) c.is_of_cycle.ensures in
+      spends_just (g.F.Flash.device c.args.flash.now) (g.F.Flash.device c.args.flash.now) (guard_units (kind_on (g.F.Flash.device c.args.flash.now) c.args.area.now) (Some c.args.cycle) c.args.slot (sector_bytes (g.F.Flash.device c.args.flash.now) c.args.area.now c.args.sector)) 0 (units-other (kind_on (g.F.Flash.device c.args.flash.now) c.args.area.now) c.args.cycle c.args.slot (sector_bytes (g.F.Flash.device c.args.flash.now) c.args.area.now c.args.sector) kind (valid ∙ c.if-is_of_cycle.false)) (between_none (g.F.Flash.device c.args.flash.now));
   in_pieces = tt;
   spends_lost = tt;
 }

@@ -24,21 +24,21 @@ cut_closes unit old new place (inr at) done = inr (done at)
 pub returns-clause-ends : goal.returns-clause-ends
 returns-clause-ends g c = record {
   only =
-    let a : Device = g.F.Flash.device c.args.flash.now in
-    let e : Device = g.F.Flash.device c.put_close.new.flash in
-    let area : Area = c.args.area.now in
-    either c.put_close.result (on_ok_weaker c.put_close.result (λ h. h.only) c.put_close.ensures.ok)
-    (on_err_weaker c.put_close.result (λ h. cut_only (unit_of a area) (sectors_of a area) (sectors_of e area) c.args.place h) c.put_close.ensures.lost);
+      let a : Device = g.F.Flash.device c.args.flash.now in
+      let e : Device = g.F.Flash.device c.put_close.new.flash in
+      let area : Area = c.args.area.now in
+      either c.put_close.result (on_ok_weaker c.put_close.result (λ h. h.only) c.put_close.ensures.ok)
+      (on_err_weaker c.put_close.result (λ h. cut_only (unit_of a area) (sectors_of a area) (sectors_of e area) c.args.place h) c.put_close.ensures.lost);
   closes =
-    let a : Device = g.F.Flash.device c.args.flash.now in
-    let e : Device = g.F.Flash.device c.put_close.new.flash in
-    let area : Area = c.args.area.now in
-    on_ok_weaker c.put_close.result (λ h. closes (unit_of a area) (sector_at (sectors_of a area) c.args.place) (sector_at (sectors_of e area) c.args.place) c.requires.used h.closes) c.put_close.ensures.ok;
+      let a : Device = g.F.Flash.device c.args.flash.now in
+      let e : Device = g.F.Flash.device c.put_close.new.flash in
+      let area : Area = c.args.area.now in
+      on_ok_weaker c.put_close.result (λ h. closes (unit_of a area) (sector_at (sectors_of a area) c.args.place) (sector_at (sectors_of e area) c.args.place) c.requires.used h.closes) c.put_close.ensures.ok;
   lost =
-    let a : Device = g.F.Flash.device c.args.flash.now in
-    let e : Device = g.F.Flash.device c.put_close.new.flash in
-    let area : Area = c.args.area.now in
-    on_err_weaker c.put_close.result (λ h. cut_closes (unit_of a area) (sectors_of a area) (sectors_of e area) c.args.place h (λ at. closes (unit_of a area) (sector_at (sectors_of a area) c.args.place) (sector_at (sectors_of e area) c.args.place) c.requires.used at.closes)) c.put_close.ensures.lost;
+      let a : Device = g.F.Flash.device c.args.flash.now in
+      let e : Device = g.F.Flash.device c.put_close.new.flash in
+      let area : Area = c.args.area.now in
+      on_err_weaker c.put_close.result (λ h. cut_closes (unit_of a area) (sectors_of a area) (sectors_of e area) c.args.place h (λ at. closes (unit_of a area) (sector_at (sectors_of a area) c.args.place) (sector_at (sectors_of e area) c.args.place) c.requires.used at.closes)) c.put_close.ensures.lost;
   blank_lost = on_err_weaker c.put_close.result (λ h blank. absurd (false≢true (sym c.requires.used ∙ blank))) c.put_close.ensures.lost;
   spends = search rules;
   spends_lost = search rules;

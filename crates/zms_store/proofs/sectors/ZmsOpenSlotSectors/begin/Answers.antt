@@ -25,12 +25,12 @@ pub returns-then-is_some-clause-ends : goal.returns-then-is_some-clause-ends
 returns-then-is_some-clause-ends g c = record {
   only = search rules;
   begins =
-    let a : Device = g.F.Flash.device c.args.flash.now in
-    let area : Area = c.args.area.now in
-    let u : Geometry = geometry_of a area in
-    let wide = large_there zms_role a area (g.met.F.Flash.is_lawful c.args.flash.now) c.requires.area c.args.place c.requires.inside in
-    let cycle : c.args.self.now.cycle ≡ cycle_of (sector_at (sectors_of a area) c.args.place) = kept_cycle u (sector_at (sectors_of a area) c.args.place) c.args.self.now c.requires.kept in
-    begins_as u (sector_at (sectors_of a area) c.args.place) (sector_at (sectors_of a area) c.args.place) wide (has_cycle (cycle_of (sector_at (sectors_of a area) c.args.place)) c.args.self.now.cycle c.is_some.result cycle c.is_some.ensures c.if-is_some.true) c.requires.sound;
+      let a : Device = g.F.Flash.device c.args.flash.now in
+      let area : Area = c.args.area.now in
+      let u : Geometry = geometry_of a area in
+      let wide = large_there zms_role a area (g.met.F.Flash.is_lawful c.args.flash.now) c.requires.area c.args.place c.requires.inside in
+      let cycle : c.args.self.now.cycle ≡ cycle_of (sector_at (sectors_of a area) c.args.place) = kept_cycle u (sector_at (sectors_of a area) c.args.place) c.args.self.now c.requires.kept in
+      begins_as u (sector_at (sectors_of a area) c.args.place) (sector_at (sectors_of a area) c.args.place) wide (has_cycle (cycle_of (sector_at (sectors_of a area) c.args.place)) c.args.self.now.cycle c.is_some.result cycle c.is_some.ensures c.if-is_some.true) c.requires.sound;
   kept = search rules;
   lost = search rules;
   room_lost = search rules;
@@ -44,20 +44,20 @@ returns-in_err-empty_sector-clause-ends g c = record {
   begins = search rules;
   kept = search rules;
   lost =
-    let a : Device = g.F.Flash.device c.args.flash.now in
-    let area : Area = c.args.area.now in
-    let u : Geometry = geometry_of a area in
-    let e : Device = g.F.Flash.device c.empty_sector.new.flash in
-    let cycle : c.args.self.now.cycle ≡ cycle_of (sector_at (sectors_of a area) c.args.place) = kept_cycle u (sector_at (sectors_of a area) c.args.place) c.args.self.now c.requires.kept in
-    on_err c.from_residual.result (begin_cut u (sector_at (sectors_of a area) c.args.place) (sector_at (sectors_of e area) c.args.place) (no_cycle (cycle_of (sector_at (sectors_of a area) c.args.place)) c.args.self.now.cycle c.is_some.result cycle c.is_some.ensures c.if-is_some.false) c.in_err-empty_sector.ensures.lost);
+      let a : Device = g.F.Flash.device c.args.flash.now in
+      let area : Area = c.args.area.now in
+      let u : Geometry = geometry_of a area in
+      let e : Device = g.F.Flash.device c.empty_sector.new.flash in
+      let cycle : c.args.self.now.cycle ≡ cycle_of (sector_at (sectors_of a area) c.args.place) = kept_cycle u (sector_at (sectors_of a area) c.args.place) c.args.self.now c.requires.kept in
+      on_err c.from_residual.result (begin_cut u (sector_at (sectors_of a area) c.args.place) (sector_at (sectors_of e area) c.args.place) (no_cycle (cycle_of (sector_at (sectors_of a area) c.args.place)) c.args.self.now.cycle c.is_some.result cycle c.is_some.ensures c.if-is_some.false) c.in_err-empty_sector.ensures.lost);
   room_lost =
-    let a : Device = g.F.Flash.device c.args.flash.now in
-    let area : Area = c.args.area.now in
-    let u : Geometry = geometry_of a area in
-    let e : Device = g.F.Flash.device c.empty_sector.new.flash in
-    let cycle : c.args.self.now.cycle ≡ cycle_of (sector_at (sectors_of a area) c.args.place) = kept_cycle u (sector_at (sectors_of a area) c.args.place) c.args.self.now c.requires.kept in
-    on_err c.from_residual.result
-    (begin_room u (sector_at (sectors_of a area) c.args.place) (sector_at (sectors_of e area) c.args.place) (no_cycle (cycle_of (sector_at (sectors_of a area) c.args.place)) c.args.self.now.cycle c.is_some.result cycle c.is_some.ensures c.if-is_some.false) c.in_err-empty_sector.ensures.lost);
+      let a : Device = g.F.Flash.device c.args.flash.now in
+      let area : Area = c.args.area.now in
+      let u : Geometry = geometry_of a area in
+      let e : Device = g.F.Flash.device c.empty_sector.new.flash in
+      let cycle : c.args.self.now.cycle ≡ cycle_of (sector_at (sectors_of a area) c.args.place) = kept_cycle u (sector_at (sectors_of a area) c.args.place) c.args.self.now c.requires.kept in
+      on_err c.from_residual.result
+      (begin_room u (sector_at (sectors_of a area) c.args.place) (sector_at (sectors_of e area) c.args.place) (no_cycle (cycle_of (sector_at (sectors_of a area) c.args.place)) c.args.self.now.cycle c.is_some.result cycle c.is_some.ensures c.if-is_some.false) c.in_err-empty_sector.ensures.lost);
   spends = search rules;
   spends_lost = search rules;
 }
@@ -66,19 +66,19 @@ pub returns-clause-ends : goal.returns-clause-ends
 returns-clause-ends g c = record {
   only = search rules;
   begins =
-    let a : Device = g.F.Flash.device c.args.flash.now in
-    let area : Area = c.args.area.now in
-    let u : Geometry = geometry_of a area in
-    let e : Device = g.F.Flash.device c.empty_sector.new.flash in
-    let cycle : c.args.self.now.cycle ≡ cycle_of (sector_at (sectors_of a area) c.args.place) = kept_cycle u (sector_at (sectors_of a area) c.args.place) c.args.self.now c.requires.kept in
-    begins_empty u (sector_at (sectors_of a area) c.args.place) (sector_at (sectors_of e area) c.args.place) (no_cycle (cycle_of (sector_at (sectors_of a area) c.args.place)) c.args.self.now.cycle c.is_some.result cycle c.is_some.ensures c.if-is_some.false) c.in_ok-empty_sector.ensures.ok;
+      let a : Device = g.F.Flash.device c.args.flash.now in
+      let area : Area = c.args.area.now in
+      let u : Geometry = geometry_of a area in
+      let e : Device = g.F.Flash.device c.empty_sector.new.flash in
+      let cycle : c.args.self.now.cycle ≡ cycle_of (sector_at (sectors_of a area) c.args.place) = kept_cycle u (sector_at (sectors_of a area) c.args.place) c.args.self.now c.requires.kept in
+      begins_empty u (sector_at (sectors_of a area) c.args.place) (sector_at (sectors_of e area) c.args.place) (no_cycle (cycle_of (sector_at (sectors_of a area) c.args.place)) c.args.self.now.cycle c.is_some.result cycle c.is_some.ensures c.if-is_some.false) c.in_ok-empty_sector.ensures.ok;
   kept =
-    let a : Device = g.F.Flash.device c.args.flash.now in
-    let area : Area = c.args.area.now in
-    let u : Geometry = geometry_of a area in
-    let e : Device = g.F.Flash.device c.empty_sector.new.flash in
-    let cycle : c.args.self.now.cycle ≡ cycle_of (sector_at (sectors_of a area) c.args.place) = kept_cycle u (sector_at (sectors_of a area) c.args.place) c.args.self.now c.requires.kept in
-    kept_emptied u.kind (sector_at (sectors_of a area) c.args.place) (sector_at (sectors_of e area) c.args.place) (no_cycle (cycle_of (sector_at (sectors_of a area) c.args.place)) c.args.self.now.cycle c.is_some.result cycle c.is_some.ensures c.if-is_some.false) c.in_ok-empty_sector.ensures.ok;
+      let a : Device = g.F.Flash.device c.args.flash.now in
+      let area : Area = c.args.area.now in
+      let u : Geometry = geometry_of a area in
+      let e : Device = g.F.Flash.device c.empty_sector.new.flash in
+      let cycle : c.args.self.now.cycle ≡ cycle_of (sector_at (sectors_of a area) c.args.place) = kept_cycle u (sector_at (sectors_of a area) c.args.place) c.args.self.now c.requires.kept in
+      kept_emptied u.kind (sector_at (sectors_of a area) c.args.place) (sector_at (sectors_of e area) c.args.place) (no_cycle (cycle_of (sector_at (sectors_of a area) c.args.place)) c.args.self.now.cycle c.is_some.result cycle c.is_some.ensures c.if-is_some.false) c.in_ok-empty_sector.ensures.ok;
   lost = search rules;
   room_lost = search rules;
   spends = search rules;

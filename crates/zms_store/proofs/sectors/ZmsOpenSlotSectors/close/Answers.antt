@@ -48,27 +48,27 @@ pub returns-clause-ends : goal.returns-clause-ends
 returns-clause-ends g c = record {
   only = search rules;
   closes =
-    let a : Device = g.F.Flash.device c.args.flash.now in
-    let area : Area = c.args.area.now in
-    let u : Geometry = geometry_of a area in
-    let b : List ℕ = sector_at (sectors_of a area) c.args.place in
-    let wide = large_there zms_role a area (g.met.F.Flash.is_lawful c.args.flash.now) c.requires.area c.args.place c.requires.inside in
-    let e : Device = g.F.Flash.device c.close_at.new.flash in
-    on_ok_weaker c.close_at.result (λ h. closes u (sector_at (sectors_of a area) c.args.place) (sector_at (sectors_of e area) c.args.place) wide h) c.close_at.ensures.ok;
+      let a : Device = g.F.Flash.device c.args.flash.now in
+      let area : Area = c.args.area.now in
+      let u : Geometry = geometry_of a area in
+      let b : List ℕ = sector_at (sectors_of a area) c.args.place in
+      let wide = large_there zms_role a area (g.met.F.Flash.is_lawful c.args.flash.now) c.requires.area c.args.place c.requires.inside in
+      let e : Device = g.F.Flash.device c.close_at.new.flash in
+      on_ok_weaker c.close_at.result (λ h. closes u (sector_at (sectors_of a area) c.args.place) (sector_at (sectors_of e area) c.args.place) wide h) c.close_at.ensures.ok;
   lost =
-    let a : Device = g.F.Flash.device c.args.flash.now in
-    let area : Area = c.args.area.now in
-    let u : Geometry = geometry_of a area in
-    let b : List ℕ = sector_at (sectors_of a area) c.args.place in
-    let wide = large_there zms_role a area (g.met.F.Flash.is_lawful c.args.flash.now) c.requires.area c.args.place c.requires.inside in
-    let e : Device = g.F.Flash.device c.close_at.new.flash in
-    on_err_weaker c.close_at.result (λ h. inl (keeps u (sector_at (sectors_of a area) c.args.place) (sector_at (sectors_of e area) c.args.place) wide 0 h)) c.close_at.ensures.lost;
+      let a : Device = g.F.Flash.device c.args.flash.now in
+      let area : Area = c.args.area.now in
+      let u : Geometry = geometry_of a area in
+      let b : List ℕ = sector_at (sectors_of a area) c.args.place in
+      let wide = large_there zms_role a area (g.met.F.Flash.is_lawful c.args.flash.now) c.requires.area c.args.place c.requires.inside in
+      let e : Device = g.F.Flash.device c.close_at.new.flash in
+      on_err_weaker c.close_at.result (λ h. inl (keeps u (sector_at (sectors_of a area) c.args.place) (sector_at (sectors_of e area) c.args.place) wide 0 h)) c.close_at.ensures.lost;
   blank_lost =
-    let a : Device = g.F.Flash.device c.args.flash.now in
-    let area : Area = c.args.area.now in
-    let u : Geometry = geometry_of a area in
-    let e : Device = g.F.Flash.device c.close_at.new.flash in
-    close_cut _ u.kind (sector_at (sectors_of a area) c.args.place) (sector_at (sectors_of e area) c.args.place) c.close_at.result c.requires.used c.close_at.ensures.idle_lost;
+      let a : Device = g.F.Flash.device c.args.flash.now in
+      let area : Area = c.args.area.now in
+      let u : Geometry = geometry_of a area in
+      let e : Device = g.F.Flash.device c.close_at.new.flash in
+      close_cut _ u.kind (sector_at (sectors_of a area) c.args.place) (sector_at (sectors_of e area) c.args.place) c.close_at.result c.requires.used c.close_at.ensures.idle_lost;
   spends = search rules;
   spends_lost = search rules;
 }

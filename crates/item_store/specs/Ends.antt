@@ -1,4 +1,4 @@
--- How the steps of a collection end, on a device. `held` is what a store keeps of the sector that is open then.
+-- How the steps of a collection end, on a device. `held` is what a store keeps of the open sector.
 use Rattle.std.specs.Prelude.{◌≡◌, ℕ, ◌<◌, true, List, Option, Result, OnOk, OnErr}
 use Rattle.flash_sim.specs.Device.{Device}
 use Rattle.flash_map.specs.declared.area.Area.{Area}
@@ -15,7 +15,8 @@ use Rattle.item_store.specs.Spending.{open_units, round_units}
 use Rattle.item_store.specs.Standing.{SpendsIn, SpendsUpTo, list_of}
 
 -- A slot of the victim, which is sound and not the open sector.
-pub record IsVictimSlot (kind : Geometry → Kind) (d : Device) (on : Area) (current victim slot : ℕ) : Type 0 where
+pub record IsVictimSlot (kind : Geometry → Kind) (d : Device) (on : Area) (current victim slot : ℕ) :
+    Type 0 where
   pub inside : victim < on.sectors
   pub other : victim ≡ current → ⊥
   pub listed : HasSlotOn kind d on victim slot

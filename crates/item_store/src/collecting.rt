@@ -47,7 +47,8 @@ fn copy_slot<T: SlotSectors, F: Flash, L: Ledger>(
     ensures touches { let d = F.device flash.old in let e = F.device flash.new in
         Touches (area.now ∷ []) d e (is_err result) }
     ensures ends { let d = F.device flash.old in let e = F.device flash.new in
-        let entry = live_in (slots (kind_on T.kind d area.now)) (sectors_of d area.now) victim slot in
+        let entry =
+        live_in (slots (kind_on T.kind d area.now)) (sectors_of d area.now) victim slot in
         CopyEnds T.kind T.kept d e area.now current entry opened.new result }
 {
     match live_in::<T, F, L>(flash, area, victim, slot, live, steps) {

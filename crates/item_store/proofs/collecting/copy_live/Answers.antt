@@ -41,103 +41,103 @@ pub copy_slot-requires-clause-here : goal.copy_slot-requires-clause-here
 copy_slot-requires-clause-here g c = record {
   area = subst (λ (banks : List Bank). IsStoreArea g.T.SlotSectors.role banks c.args.area.now) (sym c.loop-slot.invariant.copying.touches.banks) c.requires.area;
   inside =
-    let a : Device = g.F.Flash.device c.args.flash.now in
-    let area : Area = c.args.area.now in
-    let place : ℕ = c.args.current in
-    let law : IsKind (g.T.SlotSectors.kind (geometry_of a area)) = g.met.T.SlotSectors.lawful (geometry_of a area) (unit_is a area (g.met.F.Flash.is_lawful c.args.flash.now) c.requires.area.lawful) in
-    current_within a area place c.requires.collecting.ring.within;
+      let a : Device = g.F.Flash.device c.args.flash.now in
+      let area : Area = c.args.area.now in
+      let place : ℕ = c.args.current in
+      let law : IsKind (g.T.SlotSectors.kind (geometry_of a area)) = g.met.T.SlotSectors.lawful (geometry_of a area) (unit_is a area (g.met.F.Flash.is_lawful c.args.flash.now) c.requires.area.lawful) in
+      current_within a area place c.requires.collecting.ring.within;
   kept =
-    let a : Device = g.F.Flash.device c.args.flash.now in
-    let area : Area = c.args.area.now in
-    let place : ℕ = c.args.current in
-    let law : IsKind (g.T.SlotSectors.kind (geometry_of a area)) = g.met.T.SlotSectors.lawful (geometry_of a area) (unit_is a area (g.met.F.Flash.is_lawful c.args.flash.now) c.requires.area.lawful) in
-    let d : Device = g.F.Flash.device c.loop-slot.flash in
-    let first_is = c.first_slot-first.ensures.value (geometry_of a area) in
-    let kept = c.loop-slot.invariant in
-    let more : c.loop-slot.slot < c.first_slot-first.result + (g.T.SlotSectors.kind (geometry_of a area)).count (sector_at (sectors_of a area) (next (sectors_of a area) place)) =
-    (let count : c.slots-slots.result ≡ (g.T.SlotSectors.kind (geometry_of a area)).count (sector_at (sectors_of a area) (next (sectors_of a area) place)) = c.slots-slots.ensures.value ∙ ap (λ (v : ℕ). (g.T.SlotSectors.kind (geometry_of a area)).count (sector_at (sectors_of a area) v)) c.requires.victim in omega arith) in
-    kept_there g.T.SlotSectors.kind g.T.SlotSectors.role a d area place c.args.victim c.first_slot-first.result c.loop-slot.slot law (g.met.F.Flash.is_lawful c.args.flash.now) c.requires.area c.requires.collecting c.requires.victim first_is (omega arith) kept.copying g.T.SlotSectors.kept c.loop-slot.opened kept.kept;
+      let a : Device = g.F.Flash.device c.args.flash.now in
+      let area : Area = c.args.area.now in
+      let place : ℕ = c.args.current in
+      let law : IsKind (g.T.SlotSectors.kind (geometry_of a area)) = g.met.T.SlotSectors.lawful (geometry_of a area) (unit_is a area (g.met.F.Flash.is_lawful c.args.flash.now) c.requires.area.lawful) in
+      let d : Device = g.F.Flash.device c.loop-slot.flash in
+      let first_is = c.first_slot-first.ensures.value (geometry_of a area) in
+      let kept = c.loop-slot.invariant in
+      let more : c.loop-slot.slot < c.first_slot-first.result + (g.T.SlotSectors.kind (geometry_of a area)).count (sector_at (sectors_of a area) (next (sectors_of a area) place)) =
+      (let count : c.slots-slots.result ≡ (g.T.SlotSectors.kind (geometry_of a area)).count (sector_at (sectors_of a area) (next (sectors_of a area) place)) = c.slots-slots.ensures.value ∙ ap (λ (v : ℕ). (g.T.SlotSectors.kind (geometry_of a area)).count (sector_at (sectors_of a area) v)) c.requires.victim in omega arith) in
+      kept_there g.T.SlotSectors.kind g.T.SlotSectors.role a d area place c.args.victim c.first_slot-first.result c.loop-slot.slot law (g.met.F.Flash.is_lawful c.args.flash.now) c.requires.area c.requires.collecting c.requires.victim first_is (omega arith) kept.copying g.T.SlotSectors.kept c.loop-slot.opened kept.kept;
   ready =
-    let a : Device = g.F.Flash.device c.args.flash.now in
-    let area : Area = c.args.area.now in
-    let place : ℕ = c.args.current in
-    let law : IsKind (g.T.SlotSectors.kind (geometry_of a area)) = g.met.T.SlotSectors.lawful (geometry_of a area) (unit_is a area (g.met.F.Flash.is_lawful c.args.flash.now) c.requires.area.lawful) in
-    let d : Device = g.F.Flash.device c.loop-slot.flash in
-    let first_is = c.first_slot-first.ensures.value (geometry_of a area) in
-    let kept = c.loop-slot.invariant in
-    let more : c.loop-slot.slot < c.first_slot-first.result + (g.T.SlotSectors.kind (geometry_of a area)).count (sector_at (sectors_of a area) (next (sectors_of a area) place)) =
-    (let count : c.slots-slots.result ≡ (g.T.SlotSectors.kind (geometry_of a area)).count (sector_at (sectors_of a area) (next (sectors_of a area) place)) = c.slots-slots.ensures.value ∙ ap (λ (v : ℕ). (g.T.SlotSectors.kind (geometry_of a area)).count (sector_at (sectors_of a area) v)) c.requires.victim in omega arith) in
-    ready g.T.SlotSectors.kind g.T.SlotSectors.role a d area place c.args.victim c.first_slot-first.result c.loop-slot.slot law (g.met.F.Flash.is_lawful c.args.flash.now) c.requires.area c.requires.collecting c.requires.victim first_is (omega arith) kept.copying;
+      let a : Device = g.F.Flash.device c.args.flash.now in
+      let area : Area = c.args.area.now in
+      let place : ℕ = c.args.current in
+      let law : IsKind (g.T.SlotSectors.kind (geometry_of a area)) = g.met.T.SlotSectors.lawful (geometry_of a area) (unit_is a area (g.met.F.Flash.is_lawful c.args.flash.now) c.requires.area.lawful) in
+      let d : Device = g.F.Flash.device c.loop-slot.flash in
+      let first_is = c.first_slot-first.ensures.value (geometry_of a area) in
+      let kept = c.loop-slot.invariant in
+      let more : c.loop-slot.slot < c.first_slot-first.result + (g.T.SlotSectors.kind (geometry_of a area)).count (sector_at (sectors_of a area) (next (sectors_of a area) place)) =
+      (let count : c.slots-slots.result ≡ (g.T.SlotSectors.kind (geometry_of a area)).count (sector_at (sectors_of a area) (next (sectors_of a area) place)) = c.slots-slots.ensures.value ∙ ap (λ (v : ℕ). (g.T.SlotSectors.kind (geometry_of a area)).count (sector_at (sectors_of a area) v)) c.requires.victim in omega arith) in
+      ready g.T.SlotSectors.kind g.T.SlotSectors.role a d area place c.args.victim c.first_slot-first.result c.loop-slot.slot law (g.met.F.Flash.is_lawful c.args.flash.now) c.requires.area c.requires.collecting c.requires.victim first_is (omega arith) kept.copying;
   opened =
-    let a : Device = g.F.Flash.device c.args.flash.now in
-    let area : Area = c.args.area.now in
-    let place : ℕ = c.args.current in
-    let law : IsKind (g.T.SlotSectors.kind (geometry_of a area)) = g.met.T.SlotSectors.lawful (geometry_of a area) (unit_is a area (g.met.F.Flash.is_lawful c.args.flash.now) c.requires.area.lawful) in
-    let d : Device = g.F.Flash.device c.loop-slot.flash in
-    let first_is = c.first_slot-first.ensures.value (geometry_of a area) in
-    let kept = c.loop-slot.invariant in
-    let more : c.loop-slot.slot < c.first_slot-first.result + (g.T.SlotSectors.kind (geometry_of a area)).count (sector_at (sectors_of a area) (next (sectors_of a area) place)) =
-    (let count : c.slots-slots.result ≡ (g.T.SlotSectors.kind (geometry_of a area)).count (sector_at (sectors_of a area) (next (sectors_of a area) place)) = c.slots-slots.ensures.value ∙ ap (λ (v : ℕ). (g.T.SlotSectors.kind (geometry_of a area)).count (sector_at (sectors_of a area) v)) c.requires.victim in omega arith) in
-    opens g.T.SlotSectors.kind g.T.SlotSectors.role a d area place c.args.victim c.first_slot-first.result c.loop-slot.slot law (g.met.F.Flash.is_lawful c.args.flash.now) c.requires.area c.requires.collecting c.requires.victim first_is (omega arith) kept.copying;
+      let a : Device = g.F.Flash.device c.args.flash.now in
+      let area : Area = c.args.area.now in
+      let place : ℕ = c.args.current in
+      let law : IsKind (g.T.SlotSectors.kind (geometry_of a area)) = g.met.T.SlotSectors.lawful (geometry_of a area) (unit_is a area (g.met.F.Flash.is_lawful c.args.flash.now) c.requires.area.lawful) in
+      let d : Device = g.F.Flash.device c.loop-slot.flash in
+      let first_is = c.first_slot-first.ensures.value (geometry_of a area) in
+      let kept = c.loop-slot.invariant in
+      let more : c.loop-slot.slot < c.first_slot-first.result + (g.T.SlotSectors.kind (geometry_of a area)).count (sector_at (sectors_of a area) (next (sectors_of a area) place)) =
+      (let count : c.slots-slots.result ≡ (g.T.SlotSectors.kind (geometry_of a area)).count (sector_at (sectors_of a area) (next (sectors_of a area) place)) = c.slots-slots.ensures.value ∙ ap (λ (v : ℕ). (g.T.SlotSectors.kind (geometry_of a area)).count (sector_at (sectors_of a area) v)) c.requires.victim in omega arith) in
+      opens g.T.SlotSectors.kind g.T.SlotSectors.role a d area place c.args.victim c.first_slot-first.result c.loop-slot.slot law (g.met.F.Flash.is_lawful c.args.flash.now) c.requires.area c.requires.collecting c.requires.victim first_is (omega arith) kept.copying;
 }
 
 pub copy_slot-requires-clause-victim : goal.copy_slot-requires-clause-victim
 copy_slot-requires-clause-victim g c = record {
   inside =
-    let a : Device = g.F.Flash.device c.args.flash.now in
-    let area : Area = c.args.area.now in
-    let place : ℕ = c.args.current in
-    let law : IsKind (g.T.SlotSectors.kind (geometry_of a area)) = g.met.T.SlotSectors.lawful (geometry_of a area) (unit_is a area (g.met.F.Flash.is_lawful c.args.flash.now) c.requires.area.lawful) in
-    let d : Device = g.F.Flash.device c.loop-slot.flash in
-    let first_is = c.first_slot-first.ensures.value (geometry_of a area) in
-    let kept = c.loop-slot.invariant in
-    let more : c.loop-slot.slot < c.first_slot-first.result + (g.T.SlotSectors.kind (geometry_of a area)).count (sector_at (sectors_of a area) (next (sectors_of a area) place)) =
-    (let count : c.slots-slots.result ≡ (g.T.SlotSectors.kind (geometry_of a area)).count (sector_at (sectors_of a area) (next (sectors_of a area) place)) = c.slots-slots.ensures.value ∙ ap (λ (v : ℕ). (g.T.SlotSectors.kind (geometry_of a area)).count (sector_at (sectors_of a area) v)) c.requires.victim in omega arith) in
-    inside g.T.SlotSectors.kind g.T.SlotSectors.role a d area place c.args.victim c.first_slot-first.result c.loop-slot.slot law (g.met.F.Flash.is_lawful c.args.flash.now) c.requires.area c.requires.collecting c.requires.victim first_is (omega arith) kept.copying;
+      let a : Device = g.F.Flash.device c.args.flash.now in
+      let area : Area = c.args.area.now in
+      let place : ℕ = c.args.current in
+      let law : IsKind (g.T.SlotSectors.kind (geometry_of a area)) = g.met.T.SlotSectors.lawful (geometry_of a area) (unit_is a area (g.met.F.Flash.is_lawful c.args.flash.now) c.requires.area.lawful) in
+      let d : Device = g.F.Flash.device c.loop-slot.flash in
+      let first_is = c.first_slot-first.ensures.value (geometry_of a area) in
+      let kept = c.loop-slot.invariant in
+      let more : c.loop-slot.slot < c.first_slot-first.result + (g.T.SlotSectors.kind (geometry_of a area)).count (sector_at (sectors_of a area) (next (sectors_of a area) place)) =
+      (let count : c.slots-slots.result ≡ (g.T.SlotSectors.kind (geometry_of a area)).count (sector_at (sectors_of a area) (next (sectors_of a area) place)) = c.slots-slots.ensures.value ∙ ap (λ (v : ℕ). (g.T.SlotSectors.kind (geometry_of a area)).count (sector_at (sectors_of a area) v)) c.requires.victim in omega arith) in
+      inside g.T.SlotSectors.kind g.T.SlotSectors.role a d area place c.args.victim c.first_slot-first.result c.loop-slot.slot law (g.met.F.Flash.is_lawful c.args.flash.now) c.requires.area c.requires.collecting c.requires.victim first_is (omega arith) kept.copying;
   other =
-    let a : Device = g.F.Flash.device c.args.flash.now in
-    let area : Area = c.args.area.now in
-    let place : ℕ = c.args.current in
-    let law : IsKind (g.T.SlotSectors.kind (geometry_of a area)) = g.met.T.SlotSectors.lawful (geometry_of a area) (unit_is a area (g.met.F.Flash.is_lawful c.args.flash.now) c.requires.area.lawful) in
-    let d : Device = g.F.Flash.device c.loop-slot.flash in
-    let first_is = c.first_slot-first.ensures.value (geometry_of a area) in
-    let kept = c.loop-slot.invariant in
-    let more : c.loop-slot.slot < c.first_slot-first.result + (g.T.SlotSectors.kind (geometry_of a area)).count (sector_at (sectors_of a area) (next (sectors_of a area) place)) =
-    (let count : c.slots-slots.result ≡ (g.T.SlotSectors.kind (geometry_of a area)).count (sector_at (sectors_of a area) (next (sectors_of a area) place)) = c.slots-slots.ensures.value ∙ ap (λ (v : ℕ). (g.T.SlotSectors.kind (geometry_of a area)).count (sector_at (sectors_of a area) v)) c.requires.victim in omega arith) in
-    apart g.T.SlotSectors.kind g.T.SlotSectors.role a d area place c.args.victim c.first_slot-first.result c.loop-slot.slot law (g.met.F.Flash.is_lawful c.args.flash.now) c.requires.area c.requires.collecting c.requires.victim first_is (omega arith) kept.copying;
+      let a : Device = g.F.Flash.device c.args.flash.now in
+      let area : Area = c.args.area.now in
+      let place : ℕ = c.args.current in
+      let law : IsKind (g.T.SlotSectors.kind (geometry_of a area)) = g.met.T.SlotSectors.lawful (geometry_of a area) (unit_is a area (g.met.F.Flash.is_lawful c.args.flash.now) c.requires.area.lawful) in
+      let d : Device = g.F.Flash.device c.loop-slot.flash in
+      let first_is = c.first_slot-first.ensures.value (geometry_of a area) in
+      let kept = c.loop-slot.invariant in
+      let more : c.loop-slot.slot < c.first_slot-first.result + (g.T.SlotSectors.kind (geometry_of a area)).count (sector_at (sectors_of a area) (next (sectors_of a area) place)) =
+      (let count : c.slots-slots.result ≡ (g.T.SlotSectors.kind (geometry_of a area)).count (sector_at (sectors_of a area) (next (sectors_of a area) place)) = c.slots-slots.ensures.value ∙ ap (λ (v : ℕ). (g.T.SlotSectors.kind (geometry_of a area)).count (sector_at (sectors_of a area) v)) c.requires.victim in omega arith) in
+      apart g.T.SlotSectors.kind g.T.SlotSectors.role a d area place c.args.victim c.first_slot-first.result c.loop-slot.slot law (g.met.F.Flash.is_lawful c.args.flash.now) c.requires.area c.requires.collecting c.requires.victim first_is (omega arith) kept.copying;
   listed =
-    let a : Device = g.F.Flash.device c.args.flash.now in
-    let area : Area = c.args.area.now in
-    let place : ℕ = c.args.current in
-    let law : IsKind (g.T.SlotSectors.kind (geometry_of a area)) = g.met.T.SlotSectors.lawful (geometry_of a area) (unit_is a area (g.met.F.Flash.is_lawful c.args.flash.now) c.requires.area.lawful) in
-    let d : Device = g.F.Flash.device c.loop-slot.flash in
-    let first_is = c.first_slot-first.ensures.value (geometry_of a area) in
-    let kept = c.loop-slot.invariant in
-    let more : c.loop-slot.slot < c.first_slot-first.result + (g.T.SlotSectors.kind (geometry_of a area)).count (sector_at (sectors_of a area) (next (sectors_of a area) place)) =
-    (let count : c.slots-slots.result ≡ (g.T.SlotSectors.kind (geometry_of a area)).count (sector_at (sectors_of a area) (next (sectors_of a area) place)) = c.slots-slots.ensures.value ∙ ap (λ (v : ℕ). (g.T.SlotSectors.kind (geometry_of a area)).count (sector_at (sectors_of a area) v)) c.requires.victim in omega arith) in
-    listed_there g.T.SlotSectors.kind g.T.SlotSectors.role a d area place c.args.victim c.first_slot-first.result c.loop-slot.slot law (g.met.F.Flash.is_lawful c.args.flash.now) c.requires.area c.requires.collecting c.requires.victim first_is (omega arith) kept.copying more;
+      let a : Device = g.F.Flash.device c.args.flash.now in
+      let area : Area = c.args.area.now in
+      let place : ℕ = c.args.current in
+      let law : IsKind (g.T.SlotSectors.kind (geometry_of a area)) = g.met.T.SlotSectors.lawful (geometry_of a area) (unit_is a area (g.met.F.Flash.is_lawful c.args.flash.now) c.requires.area.lawful) in
+      let d : Device = g.F.Flash.device c.loop-slot.flash in
+      let first_is = c.first_slot-first.ensures.value (geometry_of a area) in
+      let kept = c.loop-slot.invariant in
+      let more : c.loop-slot.slot < c.first_slot-first.result + (g.T.SlotSectors.kind (geometry_of a area)).count (sector_at (sectors_of a area) (next (sectors_of a area) place)) =
+      (let count : c.slots-slots.result ≡ (g.T.SlotSectors.kind (geometry_of a area)).count (sector_at (sectors_of a area) (next (sectors_of a area) place)) = c.slots-slots.ensures.value ∙ ap (λ (v : ℕ). (g.T.SlotSectors.kind (geometry_of a area)).count (sector_at (sectors_of a area) v)) c.requires.victim in omega arith) in
+      listed_there g.T.SlotSectors.kind g.T.SlotSectors.role a d area place c.args.victim c.first_slot-first.result c.loop-slot.slot law (g.met.F.Flash.is_lawful c.args.flash.now) c.requires.area c.requires.collecting c.requires.victim first_is (omega arith) kept.copying more;
   source =
-    let a : Device = g.F.Flash.device c.args.flash.now in
-    let area : Area = c.args.area.now in
-    let place : ℕ = c.args.current in
-    let law : IsKind (g.T.SlotSectors.kind (geometry_of a area)) = g.met.T.SlotSectors.lawful (geometry_of a area) (unit_is a area (g.met.F.Flash.is_lawful c.args.flash.now) c.requires.area.lawful) in
-    let d : Device = g.F.Flash.device c.loop-slot.flash in
-    let first_is = c.first_slot-first.ensures.value (geometry_of a area) in
-    let kept = c.loop-slot.invariant in
-    let more : c.loop-slot.slot < c.first_slot-first.result + (g.T.SlotSectors.kind (geometry_of a area)).count (sector_at (sectors_of a area) (next (sectors_of a area) place)) =
-    (let count : c.slots-slots.result ≡ (g.T.SlotSectors.kind (geometry_of a area)).count (sector_at (sectors_of a area) (next (sectors_of a area) place)) = c.slots-slots.ensures.value ∙ ap (λ (v : ℕ). (g.T.SlotSectors.kind (geometry_of a area)).count (sector_at (sectors_of a area) v)) c.requires.victim in omega arith) in
-    source g.T.SlotSectors.kind g.T.SlotSectors.role a d area place c.args.victim c.first_slot-first.result c.loop-slot.slot law (g.met.F.Flash.is_lawful c.args.flash.now) c.requires.area c.requires.collecting c.requires.victim first_is (omega arith) kept.copying;
+      let a : Device = g.F.Flash.device c.args.flash.now in
+      let area : Area = c.args.area.now in
+      let place : ℕ = c.args.current in
+      let law : IsKind (g.T.SlotSectors.kind (geometry_of a area)) = g.met.T.SlotSectors.lawful (geometry_of a area) (unit_is a area (g.met.F.Flash.is_lawful c.args.flash.now) c.requires.area.lawful) in
+      let d : Device = g.F.Flash.device c.loop-slot.flash in
+      let first_is = c.first_slot-first.ensures.value (geometry_of a area) in
+      let kept = c.loop-slot.invariant in
+      let more : c.loop-slot.slot < c.first_slot-first.result + (g.T.SlotSectors.kind (geometry_of a area)).count (sector_at (sectors_of a area) (next (sectors_of a area) place)) =
+      (let count : c.slots-slots.result ≡ (g.T.SlotSectors.kind (geometry_of a area)).count (sector_at (sectors_of a area) (next (sectors_of a area) place)) = c.slots-slots.ensures.value ∙ ap (λ (v : ℕ). (g.T.SlotSectors.kind (geometry_of a area)).count (sector_at (sectors_of a area) v)) c.requires.victim in omega arith) in
+      source g.T.SlotSectors.kind g.T.SlotSectors.role a d area place c.args.victim c.first_slot-first.result c.loop-slot.slot law (g.met.F.Flash.is_lawful c.args.flash.now) c.requires.area c.requires.collecting c.requires.victim first_is (omega arith) kept.copying;
   within =
-    let a : Device = g.F.Flash.device c.args.flash.now in
-    let area : Area = c.args.area.now in
-    let place : ℕ = c.args.current in
-    let law : IsKind (g.T.SlotSectors.kind (geometry_of a area)) = g.met.T.SlotSectors.lawful (geometry_of a area) (unit_is a area (g.met.F.Flash.is_lawful c.args.flash.now) c.requires.area.lawful) in
-    let d : Device = g.F.Flash.device c.loop-slot.flash in
-    let first_is = c.first_slot-first.ensures.value (geometry_of a area) in
-    let kept = c.loop-slot.invariant in
-    let more : c.loop-slot.slot < c.first_slot-first.result + (g.T.SlotSectors.kind (geometry_of a area)).count (sector_at (sectors_of a area) (next (sectors_of a area) place)) =
-    (let count : c.slots-slots.result ≡ (g.T.SlotSectors.kind (geometry_of a area)).count (sector_at (sectors_of a area) (next (sectors_of a area) place)) = c.slots-slots.ensures.value ∙ ap (λ (v : ℕ). (g.T.SlotSectors.kind (geometry_of a area)).count (sector_at (sectors_of a area) v)) c.requires.victim in omega arith) in
-    within g.T.SlotSectors.kind g.T.SlotSectors.role a d area place c.args.victim c.first_slot-first.result c.loop-slot.slot law (g.met.F.Flash.is_lawful c.args.flash.now) c.requires.area c.requires.collecting c.requires.victim first_is (omega arith) kept.copying;
+      let a : Device = g.F.Flash.device c.args.flash.now in
+      let area : Area = c.args.area.now in
+      let place : ℕ = c.args.current in
+      let law : IsKind (g.T.SlotSectors.kind (geometry_of a area)) = g.met.T.SlotSectors.lawful (geometry_of a area) (unit_is a area (g.met.F.Flash.is_lawful c.args.flash.now) c.requires.area.lawful) in
+      let d : Device = g.F.Flash.device c.loop-slot.flash in
+      let first_is = c.first_slot-first.ensures.value (geometry_of a area) in
+      let kept = c.loop-slot.invariant in
+      let more : c.loop-slot.slot < c.first_slot-first.result + (g.T.SlotSectors.kind (geometry_of a area)).count (sector_at (sectors_of a area) (next (sectors_of a area) place)) =
+      (let count : c.slots-slots.result ≡ (g.T.SlotSectors.kind (geometry_of a area)).count (sector_at (sectors_of a area) (next (sectors_of a area) place)) = c.slots-slots.ensures.value ∙ ap (λ (v : ℕ). (g.T.SlotSectors.kind (geometry_of a area)).count (sector_at (sectors_of a area) v)) c.requires.victim in omega arith) in
+      within g.T.SlotSectors.kind g.T.SlotSectors.role a d area place c.args.victim c.first_slot-first.result c.loop-slot.slot law (g.met.F.Flash.is_lawful c.args.flash.now) c.requires.area c.requires.collecting c.requires.victim first_is (omega arith) kept.copying;
 }
 
 pub copy_slot-requires-clause-room : goal.copy_slot-requires-clause-room
@@ -277,27 +277,27 @@ live_slots-requires-clause-none g c =
 pub copy_slot-requires-clause-collects : goal.copy_slot-requires-clause-collects
 copy_slot-requires-clause-collects g c = record {
   collecting =
-    let a : Device = g.F.Flash.device c.args.flash.now in
-    let area : Area = c.args.area.now in
-    let place : ℕ = c.args.current in
-    let law : IsKind (g.T.SlotSectors.kind (geometry_of a area)) = g.met.T.SlotSectors.lawful (geometry_of a area) (unit_is a area (g.met.F.Flash.is_lawful c.args.flash.now) c.requires.area.lawful) in
-    let d : Device = g.F.Flash.device c.loop-slot.flash in
-    let first_is = c.first_slot-first.ensures.value (geometry_of a area) in
-    let kept = c.loop-slot.invariant in
-    let more : c.loop-slot.slot < c.first_slot-first.result + (g.T.SlotSectors.kind (geometry_of a area)).count (sector_at (sectors_of a area) (next (sectors_of a area) place)) =
-    (let count : c.slots-slots.result ≡ (g.T.SlotSectors.kind (geometry_of a area)).count (sector_at (sectors_of a area) (next (sectors_of a area) place)) = c.slots-slots.ensures.value ∙ ap (λ (v : ℕ). (g.T.SlotSectors.kind (geometry_of a area)).count (sector_at (sectors_of a area) v)) c.requires.victim in omega arith) in
-    closed g.T.SlotSectors.kind g.T.SlotSectors.role a d area place c.args.victim c.first_slot-first.result c.loop-slot.slot law (g.met.F.Flash.is_lawful c.args.flash.now) c.requires.area c.requires.collecting c.requires.victim first_is (omega arith) kept.copying;
+      let a : Device = g.F.Flash.device c.args.flash.now in
+      let area : Area = c.args.area.now in
+      let place : ℕ = c.args.current in
+      let law : IsKind (g.T.SlotSectors.kind (geometry_of a area)) = g.met.T.SlotSectors.lawful (geometry_of a area) (unit_is a area (g.met.F.Flash.is_lawful c.args.flash.now) c.requires.area.lawful) in
+      let d : Device = g.F.Flash.device c.loop-slot.flash in
+      let first_is = c.first_slot-first.ensures.value (geometry_of a area) in
+      let kept = c.loop-slot.invariant in
+      let more : c.loop-slot.slot < c.first_slot-first.result + (g.T.SlotSectors.kind (geometry_of a area)).count (sector_at (sectors_of a area) (next (sectors_of a area) place)) =
+      (let count : c.slots-slots.result ≡ (g.T.SlotSectors.kind (geometry_of a area)).count (sector_at (sectors_of a area) (next (sectors_of a area) place)) = c.slots-slots.ensures.value ∙ ap (λ (v : ℕ). (g.T.SlotSectors.kind (geometry_of a area)).count (sector_at (sectors_of a area) v)) c.requires.victim in omega arith) in
+      closed g.T.SlotSectors.kind g.T.SlotSectors.role a d area place c.args.victim c.first_slot-first.result c.loop-slot.slot law (g.met.F.Flash.is_lawful c.args.flash.now) c.requires.area c.requires.collecting c.requires.victim first_is (omega arith) kept.copying;
   not_done =
-    let a : Device = g.F.Flash.device c.args.flash.now in
-    let area : Area = c.args.area.now in
-    let place : ℕ = c.args.current in
-    let law : IsKind (g.T.SlotSectors.kind (geometry_of a area)) = g.met.T.SlotSectors.lawful (geometry_of a area) (unit_is a area (g.met.F.Flash.is_lawful c.args.flash.now) c.requires.area.lawful) in
-    let d : Device = g.F.Flash.device c.loop-slot.flash in
-    let first_is = c.first_slot-first.ensures.value (geometry_of a area) in
-    let kept = c.loop-slot.invariant in
-    let more : c.loop-slot.slot < c.first_slot-first.result + (g.T.SlotSectors.kind (geometry_of a area)).count (sector_at (sectors_of a area) (next (sectors_of a area) place)) =
-    (let count : c.slots-slots.result ≡ (g.T.SlotSectors.kind (geometry_of a area)).count (sector_at (sectors_of a area) (next (sectors_of a area) place)) = c.slots-slots.ensures.value ∙ ap (λ (v : ℕ). (g.T.SlotSectors.kind (geometry_of a area)).count (sector_at (sectors_of a area) v)) c.requires.victim in omega arith) in
-    not_done g.T.SlotSectors.kind g.T.SlotSectors.role a d area place c.args.victim c.first_slot-first.result c.loop-slot.slot law (g.met.F.Flash.is_lawful c.args.flash.now) c.requires.area c.requires.collecting c.requires.victim first_is (omega arith) kept.copying;
+      let a : Device = g.F.Flash.device c.args.flash.now in
+      let area : Area = c.args.area.now in
+      let place : ℕ = c.args.current in
+      let law : IsKind (g.T.SlotSectors.kind (geometry_of a area)) = g.met.T.SlotSectors.lawful (geometry_of a area) (unit_is a area (g.met.F.Flash.is_lawful c.args.flash.now) c.requires.area.lawful) in
+      let d : Device = g.F.Flash.device c.loop-slot.flash in
+      let first_is = c.first_slot-first.ensures.value (geometry_of a area) in
+      let kept = c.loop-slot.invariant in
+      let more : c.loop-slot.slot < c.first_slot-first.result + (g.T.SlotSectors.kind (geometry_of a area)).count (sector_at (sectors_of a area) (next (sectors_of a area) place)) =
+      (let count : c.slots-slots.result ≡ (g.T.SlotSectors.kind (geometry_of a area)).count (sector_at (sectors_of a area) (next (sectors_of a area) place)) = c.slots-slots.ensures.value ∙ ap (λ (v : ℕ). (g.T.SlotSectors.kind (geometry_of a area)).count (sector_at (sectors_of a area) v)) c.requires.victim in omega arith) in
+      not_done g.T.SlotSectors.kind g.T.SlotSectors.role a d area place c.args.victim c.first_slot-first.result c.loop-slot.slot law (g.met.F.Flash.is_lawful c.args.flash.now) c.requires.area c.requires.collecting c.requires.victim first_is (omega arith) kept.copying;
 }
 
 pub returns-clause-touches : goal.returns-clause-touches

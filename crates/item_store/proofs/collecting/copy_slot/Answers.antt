@@ -44,21 +44,21 @@ returns-in-Some-clause-ends g c = record {
   only = search rules;
   lost = search rules;
   spends =
-    let d : Device = g.F.Flash.device c.args.flash.now in
-    let e : Device = g.F.Flash.device c.copy.new.flash in
-    let k : Kind = g.T.SlotSectors.kind (geometry_of d c.args.area.now) in
-    let law : IsKind (g.T.SlotSectors.kind (geometry_of d c.args.area.now)) = g.met.T.SlotSectors.lawful (geometry_of d c.args.area.now) (unit_is d c.args.area.now (g.met.F.Flash.is_lawful c.args.flash.now) c.requires.here.area.lawful) in
-    let b : List ℕ = sector_at (sectors_of d c.args.area.now) c.args.current in
-    let len : ℕ = c.in-Some.placed.len in
-    subst (λ (o : Option Placed). OnOk c.copy.result (SpendsIn d e (copy_units k o))) (sym (sym c.live_in.ensures.entry ∙ c.in-Some.is))
-    (on_ok_weaker c.copy.result (λ s. within-in d e (k.units.copy b len) (k.units.any_copy len) (law.units.copy_in b len) s) c.copy.ensures.spends);
+      let d : Device = g.F.Flash.device c.args.flash.now in
+      let e : Device = g.F.Flash.device c.copy.new.flash in
+      let k : Kind = g.T.SlotSectors.kind (geometry_of d c.args.area.now) in
+      let law : IsKind (g.T.SlotSectors.kind (geometry_of d c.args.area.now)) = g.met.T.SlotSectors.lawful (geometry_of d c.args.area.now) (unit_is d c.args.area.now (g.met.F.Flash.is_lawful c.args.flash.now) c.requires.here.area.lawful) in
+      let b : List ℕ = sector_at (sectors_of d c.args.area.now) c.args.current in
+      let len : ℕ = c.in-Some.placed.len in
+      subst (λ (o : Option Placed). OnOk c.copy.result (SpendsIn d e (copy_units k o))) (sym (sym c.live_in.ensures.entry ∙ c.in-Some.is))
+      (on_ok_weaker c.copy.result (λ s. within-in d e (k.units.copy b len) (k.units.any_copy len) (law.units.copy_in b len) s) c.copy.ensures.spends);
   spends_lost =
-    let d : Device = g.F.Flash.device c.args.flash.now in
-    let e : Device = g.F.Flash.device c.copy.new.flash in
-    let k : Kind = g.T.SlotSectors.kind (geometry_of d c.args.area.now) in
-    let law : IsKind (g.T.SlotSectors.kind (geometry_of d c.args.area.now)) = g.met.T.SlotSectors.lawful (geometry_of d c.args.area.now) (unit_is d c.args.area.now (g.met.F.Flash.is_lawful c.args.flash.now) c.requires.here.area.lawful) in
-    let b : List ℕ = sector_at (sectors_of d c.args.area.now) c.args.current in
-    let len : ℕ = c.in-Some.placed.len in
-    subst (λ (o : Option Placed). OnErr c.copy.result (SpendsUpTo d e (copy_units k o))) (sym (sym c.live_in.ensures.entry ∙ c.in-Some.is))
-    (on_err_weaker c.copy.result (λ s. within-lost d e (k.units.copy b len) (k.units.any_copy len) (law.units.copy_in b len) s) c.copy.ensures.spends_lost);
+      let d : Device = g.F.Flash.device c.args.flash.now in
+      let e : Device = g.F.Flash.device c.copy.new.flash in
+      let k : Kind = g.T.SlotSectors.kind (geometry_of d c.args.area.now) in
+      let law : IsKind (g.T.SlotSectors.kind (geometry_of d c.args.area.now)) = g.met.T.SlotSectors.lawful (geometry_of d c.args.area.now) (unit_is d c.args.area.now (g.met.F.Flash.is_lawful c.args.flash.now) c.requires.here.area.lawful) in
+      let b : List ℕ = sector_at (sectors_of d c.args.area.now) c.args.current in
+      let len : ℕ = c.in-Some.placed.len in
+      subst (λ (o : Option Placed). OnErr c.copy.result (SpendsUpTo d e (copy_units k o))) (sym (sym c.live_in.ensures.entry ∙ c.in-Some.is))
+      (on_err_weaker c.copy.result (λ s. within-lost d e (k.units.copy b len) (k.units.any_copy len) (law.units.copy_in b len) s) c.copy.ensures.spends_lost);
 }

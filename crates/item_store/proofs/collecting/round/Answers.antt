@@ -53,22 +53,22 @@ pub returns-in_err-close-clause-ends : goal.returns-in_err-close-clause-ends
 returns-in_err-close-clause-ends g c = record {
   rested = search rules;
   list_lost =
-    let a : Device = g.F.Flash.device c.args.flash.now in
-    let area : Area = c.args.area.now in
-    let place : ℕ = c.args.current in
-    let law : IsKind (g.T.SlotSectors.kind (geometry_of a area)) = g.met.T.SlotSectors.lawful (geometry_of a area) (unit_is a area (g.met.F.Flash.is_lawful c.args.flash.now) c.requires.stands.area.lawful) in
-    let b : Device = g.F.Flash.device c.close.new.flash in
-    on_err c.from_residual.result (close_lost_list g.T.SlotSectors.kind g.T.SlotSectors.role a area place law (g.met.F.Flash.is_lawful c.args.flash.now) c.requires.stands.area c.requires.stands.undamaged c.requires.stands.current c.requires.stands.rested b c.in_err-close.ensures.touches.banks c.in_err-close.ensures.ends.only c.in_err-close.ensures.ends.lost);
+      let a : Device = g.F.Flash.device c.args.flash.now in
+      let area : Area = c.args.area.now in
+      let place : ℕ = c.args.current in
+      let law : IsKind (g.T.SlotSectors.kind (geometry_of a area)) = g.met.T.SlotSectors.lawful (geometry_of a area) (unit_is a area (g.met.F.Flash.is_lawful c.args.flash.now) c.requires.stands.area.lawful) in
+      let b : Device = g.F.Flash.device c.close.new.flash in
+      on_err c.from_residual.result (close_lost_list g.T.SlotSectors.kind g.T.SlotSectors.role a area place law (g.met.F.Flash.is_lawful c.args.flash.now) c.requires.stands.area c.requires.stands.undamaged c.requires.stands.current c.requires.stands.rested b c.in_err-close.ensures.touches.banks c.in_err-close.ensures.ends.only c.in_err-close.ensures.ends.lost);
   kept = search rules;
   turns = search rules;
   spends = search rules;
   spends_lost =
-    let a : Device = g.F.Flash.device c.args.flash.now in
-    let k : Kind = g.T.SlotSectors.kind (geometry_of a c.args.area.now) in
-    let old = sectors_of a c.args.area.now in
-    let opened = next old c.args.current in
-    on_err c.from_residual.result
-    (first-lost a (g.F.Flash.device c.close.new.flash) (k.units.close (sector_at old c.args.current)) (cond (has_victim k old c.args.current) (again_units k old opened) (cond k.opens_ready (ready_units k old opened) none)) c.in_err-close.ensures.ends.spends_lost);
+      let a : Device = g.F.Flash.device c.args.flash.now in
+      let k : Kind = g.T.SlotSectors.kind (geometry_of a c.args.area.now) in
+      let old = sectors_of a c.args.area.now in
+      let opened = next old c.args.current in
+      on_err c.from_residual.result
+      (first-lost a (g.F.Flash.device c.close.new.flash) (k.units.close (sector_at old c.args.current)) (cond (has_victim k old c.args.current) (again_units k old opened) (cond k.opens_ready (ready_units k old opened) none)) c.in_err-close.ensures.ends.spends_lost);
 }
 
 pub next-place-requires : goal.next-place-requires
@@ -117,28 +117,28 @@ pub returns-in_err-open_next-clause-ends : goal.returns-in_err-open_next-clause-
 returns-in_err-open_next-clause-ends g c = record {
   rested = search rules;
   list_lost =
-    let a : Device = g.F.Flash.device c.args.flash.now in
-    let area : Area = c.args.area.now in
-    let place : ℕ = c.args.current in
-    let law : IsKind (g.T.SlotSectors.kind (geometry_of a area)) = g.met.T.SlotSectors.lawful (geometry_of a area) (unit_is a area (g.met.F.Flash.is_lawful c.args.flash.now) c.requires.stands.area.lawful) in
-    let b : Device = g.F.Flash.device c.close.new.flash in
-    let did = c.in_ok-close.ensures in
-    let at : c.next-place.result ≡ next (sectors_of a area) place = c.next-place.ensures.value ∙ next_there a area place in
-    let e : Device = g.F.Flash.device c.open_next.new.flash in
-    on_err c.from_residual-in_err-open_next.result (next_lost_list g.T.SlotSectors.kind g.T.SlotSectors.role a area place law (g.met.F.Flash.is_lawful c.args.flash.now) c.requires.stands.area c.requires.stands.undamaged c.requires.stands.current c.requires.stands.rested b did.touches.banks did.ends.only did.ends.closes c.next-place.result at e c.in_err-open_next.ensures.ends.list_lost);
+      let a : Device = g.F.Flash.device c.args.flash.now in
+      let area : Area = c.args.area.now in
+      let place : ℕ = c.args.current in
+      let law : IsKind (g.T.SlotSectors.kind (geometry_of a area)) = g.met.T.SlotSectors.lawful (geometry_of a area) (unit_is a area (g.met.F.Flash.is_lawful c.args.flash.now) c.requires.stands.area.lawful) in
+      let b : Device = g.F.Flash.device c.close.new.flash in
+      let did = c.in_ok-close.ensures in
+      let at : c.next-place.result ≡ next (sectors_of a area) place = c.next-place.ensures.value ∙ next_there a area place in
+      let e : Device = g.F.Flash.device c.open_next.new.flash in
+      on_err c.from_residual-in_err-open_next.result (next_lost_list g.T.SlotSectors.kind g.T.SlotSectors.role a area place law (g.met.F.Flash.is_lawful c.args.flash.now) c.requires.stands.area c.requires.stands.undamaged c.requires.stands.current c.requires.stands.rested b did.touches.banks did.ends.only did.ends.closes c.next-place.result at e c.in_err-open_next.ensures.ends.list_lost);
   kept = search rules;
   turns = search rules;
   spends = search rules;
   spends_lost =
-    let a : Device = g.F.Flash.device c.args.flash.now in
-    let area : Area = c.args.area.now in
-    let place : ℕ = c.args.current in
-    let law : IsKind (g.T.SlotSectors.kind (geometry_of a area)) = g.met.T.SlotSectors.lawful (geometry_of a area) (unit_is a area (g.met.F.Flash.is_lawful c.args.flash.now) c.requires.stands.area.lawful) in
-    let b : Device = g.F.Flash.device c.close.new.flash in
-    let did = c.in_ok-close.ensures in
-    let at : c.next-place.result ≡ next (sectors_of a area) place = c.next-place.ensures.value ∙ next_there a area place in
-    let e : Device = g.F.Flash.device c.open_next.new.flash in
-    on_err c.from_residual-in_err-open_next.result (round_spends_lost g.T.SlotSectors.kind g.T.SlotSectors.role a area place law (g.met.F.Flash.is_lawful c.args.flash.now) c.requires.stands.area c.requires.stands.undamaged c.requires.stands.current c.requires.stands.rested b did.touches.banks did.ends.only did.ends.closes c.next-place.result at e did.ends.spends c.in_err-open_next.ensures.ends.spends_lost);
+      let a : Device = g.F.Flash.device c.args.flash.now in
+      let area : Area = c.args.area.now in
+      let place : ℕ = c.args.current in
+      let law : IsKind (g.T.SlotSectors.kind (geometry_of a area)) = g.met.T.SlotSectors.lawful (geometry_of a area) (unit_is a area (g.met.F.Flash.is_lawful c.args.flash.now) c.requires.stands.area.lawful) in
+      let b : Device = g.F.Flash.device c.close.new.flash in
+      let did = c.in_ok-close.ensures in
+      let at : c.next-place.result ≡ next (sectors_of a area) place = c.next-place.ensures.value ∙ next_there a area place in
+      let e : Device = g.F.Flash.device c.open_next.new.flash in
+      on_err c.from_residual-in_err-open_next.result (round_spends_lost g.T.SlotSectors.kind g.T.SlotSectors.role a area place law (g.met.F.Flash.is_lawful c.args.flash.now) c.requires.stands.area c.requires.stands.undamaged c.requires.stands.current c.requires.stands.rested b did.touches.banks did.ends.only did.ends.closes c.next-place.result at e did.ends.spends c.in_err-open_next.ensures.ends.spends_lost);
 }
 
 pub returns-clause-opened : goal.returns-clause-opened
@@ -155,47 +155,47 @@ returns-clause-opened g c =
 pub returns-clause-ends : goal.returns-clause-ends
 returns-clause-ends g c = record {
   rested =
-    let a : Device = g.F.Flash.device c.args.flash.now in
-    let area : Area = c.args.area.now in
-    let place : ℕ = c.args.current in
-    let law : IsKind (g.T.SlotSectors.kind (geometry_of a area)) = g.met.T.SlotSectors.lawful (geometry_of a area) (unit_is a area (g.met.F.Flash.is_lawful c.args.flash.now) c.requires.stands.area.lawful) in
-    let b : Device = g.F.Flash.device c.close.new.flash in
-    let did = c.in_ok-close.ensures in
-    let at : c.next-place.result ≡ next (sectors_of a area) place = c.next-place.ensures.value ∙ next_there a area place in
-    let e : Device = g.F.Flash.device c.open_next.new.flash in
-    (next_turns g.T.SlotSectors.kind g.T.SlotSectors.role a area place law (g.met.F.Flash.is_lawful c.args.flash.now) c.requires.stands.area c.requires.stands.undamaged c.requires.stands.current c.requires.stands.rested b did.touches.banks did.ends.only did.ends.closes c.next-place.result at e (g.met.F.Flash.is_lawful c.close.new.flash) c.in_ok-open_next.ensures.ends.opens c.in_ok-open_next.ensures.ends.collects).round.form;
+      let a : Device = g.F.Flash.device c.args.flash.now in
+      let area : Area = c.args.area.now in
+      let place : ℕ = c.args.current in
+      let law : IsKind (g.T.SlotSectors.kind (geometry_of a area)) = g.met.T.SlotSectors.lawful (geometry_of a area) (unit_is a area (g.met.F.Flash.is_lawful c.args.flash.now) c.requires.stands.area.lawful) in
+      let b : Device = g.F.Flash.device c.close.new.flash in
+      let did = c.in_ok-close.ensures in
+      let at : c.next-place.result ≡ next (sectors_of a area) place = c.next-place.ensures.value ∙ next_there a area place in
+      let e : Device = g.F.Flash.device c.open_next.new.flash in
+      (next_turns g.T.SlotSectors.kind g.T.SlotSectors.role a area place law (g.met.F.Flash.is_lawful c.args.flash.now) c.requires.stands.area c.requires.stands.undamaged c.requires.stands.current c.requires.stands.rested b did.touches.banks did.ends.only did.ends.closes c.next-place.result at e (g.met.F.Flash.is_lawful c.close.new.flash) c.in_ok-open_next.ensures.ends.opens c.in_ok-open_next.ensures.ends.collects).round.form;
   list_lost = search rules;
   kept =
-    let a : Device = g.F.Flash.device c.args.flash.now in
-    let area : Area = c.args.area.now in
-    let place : ℕ = c.args.current in
-    let law : IsKind (g.T.SlotSectors.kind (geometry_of a area)) = g.met.T.SlotSectors.lawful (geometry_of a area) (unit_is a area (g.met.F.Flash.is_lawful c.args.flash.now) c.requires.stands.area.lawful) in
-    let b : Device = g.F.Flash.device c.close.new.flash in
-    let did = c.in_ok-close.ensures in
-    let at : c.next-place.result ≡ next (sectors_of a area) place = c.next-place.ensures.value ∙ next_there a area place in
-    let e : Device = g.F.Flash.device c.open_next.new.flash in
-    subst (λ (p : ℕ). c.open_next.new.opened ≡ g.T.SlotSectors.kept (geometry_of a area) (sector_at (sectors_of e area) p)) at
-    (to_geometry (λ u. c.open_next.new.opened ≡ g.T.SlotSectors.kept u (sector_at (sectors_of e area) c.next-place.result)) a b area did.touches.banks c.in_ok-open_next.ensures.ends.kept);
+      let a : Device = g.F.Flash.device c.args.flash.now in
+      let area : Area = c.args.area.now in
+      let place : ℕ = c.args.current in
+      let law : IsKind (g.T.SlotSectors.kind (geometry_of a area)) = g.met.T.SlotSectors.lawful (geometry_of a area) (unit_is a area (g.met.F.Flash.is_lawful c.args.flash.now) c.requires.stands.area.lawful) in
+      let b : Device = g.F.Flash.device c.close.new.flash in
+      let did = c.in_ok-close.ensures in
+      let at : c.next-place.result ≡ next (sectors_of a area) place = c.next-place.ensures.value ∙ next_there a area place in
+      let e : Device = g.F.Flash.device c.open_next.new.flash in
+      subst (λ (p : ℕ). c.open_next.new.opened ≡ g.T.SlotSectors.kept (geometry_of a area) (sector_at (sectors_of e area) p)) at
+      (to_geometry (λ u. c.open_next.new.opened ≡ g.T.SlotSectors.kept u (sector_at (sectors_of e area) c.next-place.result)) a b area did.touches.banks c.in_ok-open_next.ensures.ends.kept);
   turns =
-    let a : Device = g.F.Flash.device c.args.flash.now in
-    let area : Area = c.args.area.now in
-    let place : ℕ = c.args.current in
-    let law : IsKind (g.T.SlotSectors.kind (geometry_of a area)) = g.met.T.SlotSectors.lawful (geometry_of a area) (unit_is a area (g.met.F.Flash.is_lawful c.args.flash.now) c.requires.stands.area.lawful) in
-    let b : Device = g.F.Flash.device c.close.new.flash in
-    let did = c.in_ok-close.ensures in
-    let at : c.next-place.result ≡ next (sectors_of a area) place = c.next-place.ensures.value ∙ next_there a area place in
-    let e : Device = g.F.Flash.device c.open_next.new.flash in
-    next_turns g.T.SlotSectors.kind g.T.SlotSectors.role a area place law (g.met.F.Flash.is_lawful c.args.flash.now) c.requires.stands.area c.requires.stands.undamaged c.requires.stands.current c.requires.stands.rested b did.touches.banks did.ends.only did.ends.closes c.next-place.result at e (g.met.F.Flash.is_lawful c.close.new.flash) c.in_ok-open_next.ensures.ends.opens c.in_ok-open_next.ensures.ends.collects;
+      let a : Device = g.F.Flash.device c.args.flash.now in
+      let area : Area = c.args.area.now in
+      let place : ℕ = c.args.current in
+      let law : IsKind (g.T.SlotSectors.kind (geometry_of a area)) = g.met.T.SlotSectors.lawful (geometry_of a area) (unit_is a area (g.met.F.Flash.is_lawful c.args.flash.now) c.requires.stands.area.lawful) in
+      let b : Device = g.F.Flash.device c.close.new.flash in
+      let did = c.in_ok-close.ensures in
+      let at : c.next-place.result ≡ next (sectors_of a area) place = c.next-place.ensures.value ∙ next_there a area place in
+      let e : Device = g.F.Flash.device c.open_next.new.flash in
+      next_turns g.T.SlotSectors.kind g.T.SlotSectors.role a area place law (g.met.F.Flash.is_lawful c.args.flash.now) c.requires.stands.area c.requires.stands.undamaged c.requires.stands.current c.requires.stands.rested b did.touches.banks did.ends.only did.ends.closes c.next-place.result at e (g.met.F.Flash.is_lawful c.close.new.flash) c.in_ok-open_next.ensures.ends.opens c.in_ok-open_next.ensures.ends.collects;
   spends =
-    let a : Device = g.F.Flash.device c.args.flash.now in
-    let area : Area = c.args.area.now in
-    let place : ℕ = c.args.current in
-    let law : IsKind (g.T.SlotSectors.kind (geometry_of a area)) = g.met.T.SlotSectors.lawful (geometry_of a area) (unit_is a area (g.met.F.Flash.is_lawful c.args.flash.now) c.requires.stands.area.lawful) in
-    let b : Device = g.F.Flash.device c.close.new.flash in
-    let did = c.in_ok-close.ensures in
-    let at : c.next-place.result ≡ next (sectors_of a area) place = c.next-place.ensures.value ∙ next_there a area place in
-    let e : Device = g.F.Flash.device c.open_next.new.flash in
-    round_spends g.T.SlotSectors.kind g.T.SlotSectors.role a area place law (g.met.F.Flash.is_lawful c.args.flash.now) c.requires.stands.area c.requires.stands.undamaged c.requires.stands.current c.requires.stands.rested b did.touches.banks did.ends.only did.ends.closes c.next-place.result at e did.ends.spends c.in_ok-open_next.ensures.ends.spends;
+      let a : Device = g.F.Flash.device c.args.flash.now in
+      let area : Area = c.args.area.now in
+      let place : ℕ = c.args.current in
+      let law : IsKind (g.T.SlotSectors.kind (geometry_of a area)) = g.met.T.SlotSectors.lawful (geometry_of a area) (unit_is a area (g.met.F.Flash.is_lawful c.args.flash.now) c.requires.stands.area.lawful) in
+      let b : Device = g.F.Flash.device c.close.new.flash in
+      let did = c.in_ok-close.ensures in
+      let at : c.next-place.result ≡ next (sectors_of a area) place = c.next-place.ensures.value ∙ next_there a area place in
+      let e : Device = g.F.Flash.device c.open_next.new.flash in
+      round_spends g.T.SlotSectors.kind g.T.SlotSectors.role a area place law (g.met.F.Flash.is_lawful c.args.flash.now) c.requires.stands.area c.requires.stands.undamaged c.requires.stands.current c.requires.stands.rested b did.touches.banks did.ends.only did.ends.closes c.next-place.result at e did.ends.spends c.in_ok-open_next.ensures.ends.spends;
   spends_lost = search rules;
 }
 

@@ -61,7 +61,8 @@ fn written(alloc: Global, image: &Image) -> Result<Vec<u8>, NoMemory>
 fn file_of(alloc: Global, word: &str) -> Result<Vec<u8>, NoMemory> {
     match read_spec(alloc, word) {
         Ok(image) => written(alloc, &image),
-        Err(_) => Ok(Vec::new(alloc)),
+        Err(SpecFault::BadSpec { item: _ }) => Ok(Vec::new(alloc)),
+        Err(SpecFault::NoMemory) => Err(NoMemory),
     }
 }
 

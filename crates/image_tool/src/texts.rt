@@ -101,23 +101,46 @@ fn many_sets(alloc: Global, count: u32) -> Result<String, AllocError> {
     Ok(all)
 }
 
-/// The text with what stands for longer texts written out: `BYTE*COUNT ` for a value, and lines and
-/// answers that are repeated.
-pub(crate) fn spelled(alloc: Global, text: &str) -> Result<String, AllocError> {
+// The text with each `BYTE*COUNT ` written out.
+fn with_values(alloc: Global, text: &str) -> Result<String, AllocError> {
     let mut all = String::from_str(alloc, text)?;
     for byte in ["11", "22", "33", "44", "55", "66", "77", "88", "99"] {
         for count in [100, 160, 180, 253, 256, 257, 2048, 2049] {
             let short = format!(in alloc; "{byte}*{count} ")?;
-            let digits = byte.repeat(alloc, count)?;
-            all = all.replace(alloc, short.as_str(), digits.as_str())?;
+            if all.contains(short.as_str()) {
+                let digits = byte.repeat(alloc, count)?;
+                all = all.replace(alloc, short.as_str(), digits.as_str())?;
+            }
         }
     }
+    Ok(all)
+}
+
+// The text with each of the texts that are repeated written out.
+fn with_repeated(alloc: Global, text: &str) -> Result<String, AllocError> {
+    let mut all = String::from_str(alloc, text)?;
     for (short, unit, count) in &REPEATED {
-        let long = unit.repeat(alloc, *count)?;
-        all = all.replace(alloc, short, long.as_str())?;
+        if all.contains(short) {
+            let long = unit.repeat(alloc, *count)?;
+            all = all.replace(alloc, short, long.as_str())?;
+        }
     }
-    let names = many_sets(alloc, 512)?;
-    all.replace(alloc, "(set n0 01 to n511 01)\n", names.as_str())
+    let short = "(set n0 01 to n511 01)\n";
+    if all.contains(short) {
+        let names = many_sets(alloc, 512)?;
+        all = all.replace(alloc, short, names.as_str())?;
+    }
+    Ok(all)
+}
+
+/// The text with what stands for longer texts written out: `BYTE*COUNT ` for a value, and lines and
+/// answers that are repeated.
+pub(crate) fn spelled(alloc: Global, text: &str) -> Result<String, AllocError> {
+    if text.contains('*') || text.contains('(') {
+        let repeated = with_repeated(alloc, text)?;
+        return with_values(alloc, repeated.as_str());
+    }
+    String::from_str(alloc, text)
 }
 
 // ---- long scripts

@@ -1,9 +1,9 @@
 // The rows of settings over each store.
 ghost use Rattle.std.specs.Prelude.{◌≡◌, ◌<◌};
 
-use crate::counted::{CountedSim, Views};
 use crate::cuts::cuts_of_each_role;
 use crate::stores::{among_strays, is_absent, of_each_role};
+use counted_sim::{CountedSim, Views};
 use flash_map::Role;
 use flash_sim::{Kind, Steps};
 use std::alloc::Global;

@@ -7,7 +7,6 @@ ghost use Rattle.any_backend.specs.ByRole.{any_serves, serves_as};
 ghost use Rattle.any_backend.specs.Standing.{IsReady};
 ghost use Rattle.named_items.specs.Looking.{HasIds};
 
-use crate::counted::Views;
 use crate::rows::{
     Call, FCB, FCB_LONG, FCB_LONGER, Item, Left, NVS, NVS_STRAYS, NVS_TOLD, Play, Told, ZMS,
     ZMS_ERASING,
@@ -16,6 +15,7 @@ use any_backend::*;
 use arrayvec::ArrayString;
 use backend_api::{Backend, SetFault};
 use backend_nvs::NvsNumbers;
+use counted_sim::Views;
 use flash_map::{Area, Role};
 use flash_sim::{Bank, Bench, Kind, Steps};
 use named_items::{ItemStore, Numbers, value_of};

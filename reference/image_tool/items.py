@@ -1,9 +1,10 @@
 """Lines on numbered items, and on the older values that an NVS or a ZMS area still has."""
 
 from . import nvs, zms
-from .flash import AreaFlash, Bench, PowerLost
+from .flash import AreaFlash, Bench
 from .image import Area
-from .lines import Answer, Line, lost, ok, value
+from .line_session import LineSession
+from .lines import Answer, Line, ok, value
 from .nvs import StoreFull
 
 
@@ -12,44 +13,29 @@ def mount_store(bench: Bench, area: Area):
     return zms.Zms(flash) if area.role == "zms" else nvs.Nvs(flash)
 
 
-class ItemSession:
+class ItemSession(LineSession):
     def __init__(self, bench: Bench, area: Area) -> None:
-        self.bench, self.area, self.store = bench, area, None
+        super().__init__(bench)
+        self.area, self.store = area, None
 
-    def run(self, lines: list[Line]) -> list[Answer]:
-        return [self.step(line) for line in [Line("mount")] + lines]
+    def _mount(self) -> None:
+        self.store = mount_store(self.bench, self.area)
 
-    def step(self, line: Line) -> Answer:
-        if not self.bench.on and line.word not in ("mount", "cut", "uncut"):
-            return Answer("off")
-        before = self.bench.spent
-        try:
-            return self._step(line, before)
-        except PowerLost:
-            return lost(self.bench.spent - before)
-
-    def _step(self, line: Line, before: int) -> Answer:
-        if line.word == "cut":
-            self.bench.arm(line.number)
-        elif line.word == "uncut":
-            self.bench.disarm()
-        elif line.word == "mount":
-            self.bench.restore()
-            self.store = mount_store(self.bench, self.area)
-        elif line.word == "get":
+    def _line(self, line: Line, before: int) -> Answer:
+        if line.word == "get":
             return value(self.store.get(line.ident))
-        elif line.word == "del":
-            self.store.delete(line.ident)
-        elif line.word == "older":
+        if line.word == "older":
             return self._older(line)
-        elif line.word == "space":
+        if line.word == "space":
             return self._space()
-        else:
-            try:
+        try:
+            if line.word == "set":
                 self.store.write(line.ident, line.value)
-            except StoreFull:
-                units = self.bench.spent - before
-                return Answer(f"nospace {units}", units)
+            else:
+                self.store.delete(line.ident)
+        except StoreFull:
+            units = self.bench.spent - before
+            return Answer(f"nospace {units}", units)
         return ok(self.bench.spent - before)
 
     def _older(self, line: Line) -> Answer:

@@ -4,10 +4,11 @@ from typing import Optional
 
 from . import fcb
 from .backends import Backend, BACKENDS, NoSpace, TooMany, chance, mount_backend
-from .flash import AreaFlash, Bench, PowerLost
+from .flash import AreaFlash, Bench
 from .handlers import Registry
 from .image import Area
-from .lines import Answer, Line, dash, lost, names_text, ok, value
+from .line_session import LineSession
+from .lines import Answer, Line, dash, names_text, ok, value
 from .names import match
 from .nvs import Damaged
 
@@ -67,26 +68,19 @@ def next_store(areas: list[Area], active: int) -> Optional[int]:
     return stores[(stores.index(active) + 1) % len(stores)]
 
 
-class Session:
+class Session(LineSession):
+    """Settings over the areas of an image."""
+
     def __init__(self, bench: Bench, areas: list[Area]) -> None:
-        self.bench, self.areas = bench, areas
+        super().__init__(bench)
+        self.areas = areas
         self.registry = Registry()
         self.selector: Optional[Selector] = None
         self.backend: Optional[Backend] = None
         self.active = stores_of(areas)[0]
 
-    def run(self, lines: list[Line]) -> list[Answer]:
-        return [self.step(line) for line in [Line("mount")] + lines]
-
-    def step(self, line: Line) -> Answer:
-        """One line; `lost` where power went away in it, `off` where it was away already."""
-        if not self.bench.on and line.word not in ("mount", "cut", "uncut"):
-            return Answer("off")
-        before = self.bench.spent
-        try:
-            return getattr(self, "_" + line.word)(line, before)
-        except PowerLost:
-            return lost(self.bench.spent - before, self._by_chance(line))
+    def _line(self, line: Line, before: int) -> Answer:
+        return getattr(self, "_" + line.word)(line, before)
 
     def _by_chance(self, line: Line) -> bool:
         if line.word not in ("set", "del", "save"):
@@ -105,8 +99,7 @@ class Session:
 
     # The lines
 
-    def _mount(self, line: Line, before: int) -> Answer:
-        self.bench.restore()
+    def _mount(self) -> None:
         self.backend = None
         selector = next((i for i, area in enumerate(self.areas) if area.role == "sel"), None)
         if selector is not None:
@@ -114,7 +107,6 @@ class Session:
             named = self.selector.active()
             self.active = stores_of(self.areas)[0] if named is None else named
         self.backend = self._mounted(self.active, mount_backend)
-        return ok(self._units(before))
 
     def _mounted(self, index: int, mount):
         try:
@@ -198,14 +190,6 @@ class Session:
 
     def _names(self, line: Line, before: int) -> Answer:
         return Answer(names_text(self.areas[self.active].label, self.backend.pairs()))
-
-    def _cut(self, line: Line, before: int) -> Answer:
-        self.bench.arm(line.number)
-        return ok()
-
-    def _uncut(self, line: Line, before: int) -> Answer:
-        self.bench.disarm()
-        return ok()
 
     def _migrate(self, line: Line, before: int) -> Answer:
         target = next_store(self.areas, self.active)

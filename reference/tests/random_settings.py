@@ -98,48 +98,62 @@ def random_line(rng: random.Random, names: list[bytes], on: bool) -> Line:
                        Line("get", name=name), Line("rget", name=name)])
 
 
+def foreign_nvs_entry(rng: random.Random, unit: int) -> bytes:
+    ident = rng.choice([0xFFFF, 0x8000, 0x8001, 0xC001, 0x8002, 0xC002, 0x8003, 5])
+    offset = rng.choice([0, unit * rng.randrange(40), rng.randrange(512)])
+    return encode_entry(ident, offset, rng.choice([0, 0, 1, 2, 3, rng.randrange(300)]))
+
+
+def foreign_zms_entry(rng: random.Random) -> bytes:
+    cycle, length = rng.choice([1, 1, 2, 3, 0, 255]), rng.choice([0, 1, 5, 9, 20, 200])
+    ident = rng.choice([1, 0x80002920, 0xC0002920, 0x80002921, 0xC0002921, 0xFFFFFFFF])
+    tail = (bytes(8) if length == 0 else b"a" + bytes(7) if length < 9 else
+            (16 * rng.randrange(20)).to_bytes(4, "little") + bytes(4))
+    return rng.choice([encode(ZEntry(cycle, length, ident, tail)), empty_entry(cycle),
+                       close_entry(cycle, rng.randrange(512)), done_entry(cycle, rng.randrange(512)), FILL,
+                       rng.randbytes(16)])
+
+
+def foreign_record(rng: random.Random, unit: int) -> bytes:
+    bodies = [b"a=", b"a=1", b"bad", b"\x00\xff", b"\x01\xfe", b"b=" + bytes(200)]
+    return rng.choice([encode_header(unit, rng.choice([0, 1, 2, 0xFFFF, 5])), b"\xee\xee\xff\xc0",
+                       encode_record(unit, rng.choice(bodies))])
+
+
+def put_foreign(rng: random.Random, image: Image, data: list[bytearray]) -> None:
+    """Change one sector of one area: a byte, the whole sector, or an entry in it."""
+    area = rng.choice(image.areas)
+    bank, raw = image.banks[area.bank], data[area.bank]
+    start = (area.first + rng.randrange(area.sectors)) * bank.sector
+    end, slot = start + bank.sector, max(8, bank.unit)
+    place = end - (rng.choice([0, 1, 1, 2, 3, rng.randrange(bank.sector // slot)]) + 1) * slot
+    low = start + rng.randrange(bank.sector // bank.unit) * bank.unit
+    choice = rng.random()
+    if choice < 0.15:
+        raw[rng.choice([low, start + rng.randrange(bank.sector)])] = rng.choice([0, 0xFF, rng.randrange(256)])
+        return
+    if choice < 0.2:
+        chunk, at = b"\xff" * bank.sector, start
+    elif choice < 0.3:
+        other = area.first + rng.randrange(area.sectors)
+        chunk, at = bytes(raw[other * bank.sector:(other + 1) * bank.sector]), start
+    elif area.role == "nvs":
+        chunk, at = foreign_nvs_entry(rng, bank.unit), place
+    elif area.role == "zms":
+        chunk = foreign_zms_entry(rng)
+        at = rng.choice([place, end - 16 if chunk[3:8] == b"\xff" * 5 else place])
+    else:
+        chunk = foreign_record(rng, bank.unit)
+        at = start if chunk[0] == 0xEE else low
+    chunk = chunk[:end - at]
+    raw[at:at + len(chunk)] = chunk
+
+
 def mutate(rng: random.Random, image: Image) -> list[bytes]:
     """Change bytes as a foreign writer might: stray bytes, whole entries, headers, records."""
     data = [bytearray(raw) for raw in image.data]
     for _ in range(rng.choice([1, 1, 2, 3, 5])):
-        area = rng.choice(image.areas)
-        bank, raw = image.banks[area.bank], data[area.bank]
-        sector = area.first + rng.randrange(area.sectors)
-        start, slot = sector * bank.sector, max(8, bank.unit)
-        k = rng.randrange(bank.sector // slot)
-        place = start + (bank.sector - (rng.choice([0, 1, 1, 2, 3, k]) + 1) * slot)
-        low = start + rng.randrange(bank.sector // bank.unit) * bank.unit
-        choice = rng.random()
-        if choice < 0.15:
-            raw[rng.choice([low, start + rng.randrange(bank.sector)])] = rng.choice([0, 0xFF, rng.randrange(256)])
-        elif choice < 0.2:
-            raw[start:start + bank.sector] = b"\xff" * bank.sector
-        elif choice < 0.3:
-            other = area.first + rng.randrange(area.sectors)
-            raw[start:start + bank.sector] = raw[other * bank.sector:(other + 1) * bank.sector]
-        elif area.role == "nvs":
-            ident = rng.choice([0xFFFF, 0x8000, 0x8001, 0xC001, 0x8002, 0xC002, 0x8003, 5])
-            entry = encode_entry(ident, rng.choice([0, bank.unit * rng.randrange(40), rng.randrange(512)]),
-                                 rng.choice([0, 0, 1, 2, 3, rng.randrange(300)]))
-            raw[place:place + 8] = entry
-        elif area.role == "zms":
-            cycle = rng.choice([1, 1, 2, 3, 0, 255])
-            ident = rng.choice([1, 0x80002920, 0xC0002920, 0x80002921, 0xC0002921, 0xFFFFFFFF])
-            length = rng.choice([0, 1, 5, 9, 20, 200])
-            tail = (bytes(8) if length == 0 else b"a" + bytes(7) if length < 9 else
-                    (16 * rng.randrange(20)).to_bytes(4, "little") + bytes(4))
-            unit = rng.choice([encode(ZEntry(cycle, length, ident, tail)), empty_entry(cycle),
-                               close_entry(cycle, rng.randrange(512)), done_entry(cycle, rng.randrange(512)),
-                               FILL, rng.randbytes(16)])
-            at = rng.choice([place, start + bank.sector - 16 if unit[3:8] == b"\xff" * 5 else place])
-            raw[at:at + 16] = unit
-        else:
-            chunk = rng.choice([encode_header(bank.unit, rng.choice([0, 1, 2, 0xFFFF, 5])), b"\xee\xee\xff\xc0",
-                                encode_record(bank.unit, rng.choice([b"a=", b"a=1", b"bad", b"\x00\xff", b"\x01\xfe",
-                                                                     b"b=" + bytes(200)]))])
-            at = start if chunk[0] == 0xEE else low
-            chunk = chunk[:start + bank.sector - at]
-            raw[at:at + len(chunk)] = chunk
+        put_foreign(rng, image, data)
     return [bytes(raw) for raw in data]
 
 

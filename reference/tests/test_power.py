@@ -3,7 +3,7 @@
 import random
 import unittest
 
-from tests import random_settings
+from tests import random_others, random_settings
 from tests.helpers import FCB, NVS, ZMS, run, times
 
 H = times
@@ -63,9 +63,13 @@ class LongRuns(unittest.TestCase):
 
 
 class RandomScripts(unittest.TestCase):
-    def test_some_random_cases(self):
+    def test_settings(self):
         for seed in range(40):
             random_settings.one_case(seed)
+
+    def test_the_other_commands(self):
+        for seed in range(15):
+            random_others.one_case(seed)
 
 
 if __name__ == "__main__":

@@ -12,3 +12,4 @@ mod record;
 mod writing;
 
 pub use backend::FcbBackend;
+pub use fcb_ring::chance;

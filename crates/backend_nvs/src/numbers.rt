@@ -59,6 +59,16 @@ impl Numbers for NvsNumbers {
         lookup::has_count(store, flash, steps)
     }
 
+    fn place_of<S: ItemStore, F: Flash, L: Ledger>(
+        store: &S,
+        flash: &F,
+        index: &S::Index,
+        name: &Name,
+        steps: &mut Steps<L>,
+    ) -> Option<u32> {
+        lookup::place_of(store, flash, index, name, steps)
+    }
+
     fn is_kept<S: ItemStore, F: Flash, L: Ledger>(
         store: &S,
         flash: &F,

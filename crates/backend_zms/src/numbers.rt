@@ -71,6 +71,16 @@ impl Numbers for ZmsNumbers {
         may_stand(store, name)
     }
 
+    fn place_of<S: ItemStore, F: Flash, L: Ledger>(
+        store: &S,
+        flash: &F,
+        index: &S::Index,
+        name: &Name,
+        steps: &mut Steps<L>,
+    ) -> Option<u32> {
+        place_of(store, flash, index, name, steps)
+    }
+
     fn is_kept<S: ItemStore, F: Flash, L: Ledger>(
         store: &S,
         flash: &F,

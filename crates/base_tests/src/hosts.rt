@@ -1,6 +1,7 @@
 // The two hosts, each called once for each of its answers.
 use std::alloc::Global;
 use std::fs;
+use std::os::unix::fs::symlink;
 use std::process::Abort;
 use std::test::Fail;
 use zs_host::{Host, HostFault, MemHost, RealHost};
@@ -9,7 +10,7 @@ use zs_host::{Host, HostFault, MemHost, RealHost};
 fn memory(rt: HostRuntime) -> Result<(), Fail> {
     let alloc = rt.alloc();
     let mut host = MemHost::new(alloc);
-    host.put_file(alloc, "a", b"123")?;
+    host.put_file("a", b"123")?;
     host.write_whole(alloc, "b", b"67")?;
     host.print(alloc, b"8")?;
     host.print(alloc, b"9")?;
@@ -29,7 +30,10 @@ fn memory(rt: HostRuntime) -> Result<(), Fail> {
 
 const NAME: &str = "zs_host_test.bin";
 
-const TAKEN: &str = "zs_host_test.bin.part";
+const LINK: &str = "zs_host_test.link";
+
+// The first name that is tried for a new file.
+const TAKEN: &str = ".image_tool-0";
 
 // There is no such file, one is too long, and a folder can be opened and not read.
 fn refuses_to_read<H: Host, R: Abort>(rt: &R, alloc: Global, host: &mut H) {
@@ -42,10 +46,9 @@ fn refuses_to_read<H: Host, R: Abort>(rt: &R, alloc: Global, host: &mut H) {
     }
 }
 
-// A file in no folder can't be written, nor one whose other name is taken by a folder; what stood
-// there stands.
+// A file in no folder can't be written, nor a folder.
 fn refuses_to_write<H: Host, R: Abort>(rt: &R, alloc: Global, host: &mut H) {
-    for name in ["no_folder/a", NAME] {
+    for name in ["no_folder/a", "."] {
         let written = host.write_whole(alloc, name, b"def");
         assert_eq!(rt; written.err(), Some(HostFault::Failed));
     }
@@ -54,19 +57,23 @@ fn refuses_to_write<H: Host, R: Abort>(rt: &R, alloc: Global, host: &mut H) {
 #[test]
 fn real_files(rt: HostRuntime) -> Result<(), Fail> {
     let alloc = rt.alloc();
-    let _ = fs::remove_file(&rt, NAME);
+    for name in [NAME, LINK] {
+        let _ = fs::remove_file(&rt, name);
+    }
+    fs::write(&rt, TAKEN, "mine")?;
     let mut host = RealHost::new(&rt);
     host.write_whole(alloc, NAME, vec![in alloc; 7u8; 10000]?.as_slice())?;
     let long = host.read_whole(alloc, NAME, 10000)?.len();
-    host.write_whole(alloc, NAME, b"abc")?;
+    symlink(&rt, NAME, LINK)?;
+    host.write_whole(alloc, LINK, b"abc")?;
     refuses_to_read(&rt, alloc, &mut host);
-    fs::create_dir(&rt, TAKEN)?;
     refuses_to_write(&rt, alloc, &mut host);
-    fs::remove_dir(&rt, TAKEN)?;
-    let kept = host.read_whole(alloc, NAME, 3)?;
+    let short = host.read_whole(alloc, NAME, 3)?.as_slice() == b"abc".as_slice();
+    let kept = host.read_whole(alloc, TAKEN, 4)?.as_slice() == b"mine".as_slice();
     host.print(alloc, b"printed\n")?;
-    let short = kept.as_slice() == b"abc".as_slice();
-    assert_eq!(rt; (long, short, host.faults()), (10000, true, 3));
-    fs::remove_file(&rt, NAME)?;
+    assert_eq!(rt; (long, short, kept, host.faults()), (10000, true, true, 3));
+    for name in [NAME, LINK, TAKEN] {
+        fs::remove_file(&rt, name)?;
+    }
     Ok(())
 }

@@ -61,7 +61,8 @@ fn written(alloc: Global, image: &Image) -> Result<Vec<u8>, NoMemory>
 fn file_of(alloc: Global, word: &str) -> Result<Vec<u8>, NoMemory> {
     match read_spec(alloc, word) {
         Ok(image) => written(alloc, &image),
-        Err(_) => Ok(Vec::new(alloc)),
+        Err(SpecFault::BadSpec { item: _ }) => Ok(Vec::new(alloc)),
+        Err(SpecFault::NoMemory) => Err(NoMemory),
     }
 }
 
@@ -195,6 +196,29 @@ fn unlawful_words(rt: HostRuntime) -> Result<(), Fail> {
     for (word, item) in WORDS.iter() {
         let fault = read_spec(rt.alloc(), word).err();
         assert_eq!(rt; fault, Some(SpecFault::BadSpec { item: *item }), "{word}");
+    }
+    Ok(())
+}
+
+// What keeps an image from being read or made, and its message.
+#[test]
+fn messages(rt: HostRuntime) -> Result<(), Fail> {
+    let alloc = rt.alloc();
+    let bad = ImageFault::Bad {
+        at: 4,
+        why: ImageWhy::BadVersion,
+    };
+    for (fault, message) in [
+        (bad, "no image file: byte 4 departs from the format"),
+        (ImageFault::NoMemory, "out of memory"),
+    ] {
+        assert!(rt; fault.to_string(alloc)?.as_str() == message);
+    }
+    for (fault, message) in [
+        (SpecFault::BadSpec { item: 2 }, "item 2 is refused"),
+        (SpecFault::NoMemory, "out of memory"),
+    ] {
+        assert!(rt; fault.to_string(alloc)?.as_str() == message);
     }
     Ok(())
 }

@@ -6,6 +6,7 @@ ghost use Rattle.image_file.specs.declared.image.SpecFault.TheVariants.{NoMemory
 use flash_map::FlashMap;
 use flash_sim::Bank;
 use std::alloc::{AllocError, AllocFailed};
+use thiserror::Error;
 
 /// Banks, the areas on them, and the bytes of each bank.
 #[derive(Drop)]
@@ -34,11 +35,13 @@ pub enum ImageWhy {
 }
 
 /// Why no image was read from bytes.
-#[derive(Clone, Copy, Debug, PartialEq, Eq)]
+#[derive(Clone, Copy, Debug, PartialEq, Eq, Error)]
 pub enum ImageFault {
     /// The first place of the file that departs from the format, in bytes, and how it does.
+    #[error("no image file: byte {at} departs from the format")]
     Bad { at: u64, why: ImageWhy },
     /// Memory ran out; nothing is said of the bytes.
+    #[error("out of memory")]
     NoMemory,
 }
 
@@ -67,12 +70,14 @@ impl From<flash_sim::NoMemory> for ImageFault {
 }
 
 /// Why no image was made of a word.
-#[derive(Clone, Copy, Debug, PartialEq, Eq)]
+#[derive(Clone, Copy, Debug, PartialEq, Eq, Error)]
 pub enum SpecFault {
     /// The first item that may not be added to those before it, counted from 1, or the number of
     /// items and one more where an area is missing that the whole needs.
+    #[error("item {item} is refused")]
     BadSpec { item: u32 },
     /// Memory ran out; nothing is said of the word.
+    #[error("out of memory")]
     NoMemory,
 }
 

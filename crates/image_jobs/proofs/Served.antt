@@ -1,9 +1,10 @@
 -- The longest value of a map of areas, and lines that it takes.
 use Rattle.std.proofs.Common.{◌≡◌, ◌≤◌, ℕ, zero, suc, ◌+◌, ◌%◌, ◌/◌, ◌^◌, Bool, true, false, cond, eqb, List, [], ◌∷◌, ◌++◌, length, Some, None, refl, ap, arith}
-use Rattle.std.specs.Prelude.{All, IfOk, Result, Ok, Err}
+use Rattle.std.specs.Prelude.{All, IfOk, Result, Ok, Err, map}
 use Rattle.std.specs.Global.{Vec}
-use Rattle.std.specs.List.{slice_get}
+use Rattle.std.specs.List.{slice_get, range_with_len}
 use Rattle.std.proofs.lemmas.Bool.{false≢true}
+use Rattle.std.proofs.lemmas.List.FromFn.{length-map-range_with_len}
 use Rattle.std.proofs.lemmas.List.Elements.{All-nil, All-cons, All-append}
 use Rattle.flash_map.specs.Area.{value_limit}
 use Rattle.flash_map.specs.declared.area.Area.{Area}
@@ -11,7 +12,7 @@ use Rattle.flash_map.specs.declared.area.TheConstants.{VALUE_LIMIT, LONG_VALUE_L
 use Rattle.migrator.specs.Areas.{first_store, is_store_at}
 use Rattle.script_lines.specs.declared.line.Line.{Line}
 use Rattle.script_lines.specs.declared.line.Line.TheVariants.{Set, Get, Del, Names, Mount, Migrate}
-use Rattle.script_lines.specs.Generator.{bytes_from, generated, line_by, lines_from, name_of, next_state}
+use Rattle.script_lines.specs.Generator.{bytes_of, generated, line_by, name_of, state_after}
 use Rattle.session_table.specs.Bench.{area_at}
 use Rattle.session.specs.OnMap.{IsServed, limit_of}
 use Rattle.zs_host.specs.Outside.{Outside}
@@ -54,24 +55,21 @@ served_script limit host host' name Q (Err stop) reads = tt
 
 -- ---- generated lines
 
-length_bytes : (i from count : ℕ) → length (bytes_from i from count) ≡ count
-length_bytes i from zero = refl
-length_bytes i from (suc count) = ap suc (length_bytes i (from + 1) count)
-
 module _ (limit : ℕ) (enough : VALUE_LIMIT ≤ limit) where
-  served_by : (del get : Bool) (i s : ℕ) → IsServed limit (cond del (Del (name_of s)) (cond get (Get (name_of s)) (Set (name_of s) (bytes_from i 0 (1 + s / 2 ^ 16 % 32)))))
+  served_by : (del get : Bool) (i s : ℕ) → IsServed limit (cond del (Del (name_of s)) (cond get (Get (name_of s)) (Set (name_of s) (bytes_of i (1 + s / 2 ^ 16 % 32)))))
   served_by true get i s = tt
   served_by false true i s = tt
   served_by false false i s =
-      let long = length_bytes i 0 (1 + s / 2 ^ 16 % 32) in
+      let long = length-map-range_with_len (λ (j : ℕ). (i + j) % 256) 0 (1 + s / 2 ^ 16 % 32) in
       omega (arith, long, enough)
 
-  served_from : (count i s : ℕ) → All (IsServed limit) (lines_from count i s)
-  served_from zero i s = All-nil (IsServed limit)
-  served_from (suc count) i s =
-      All-cons (IsServed limit) (line_by i (next_state s)) (lines_from count (i + 1) (next_state s))
-      (served_by (eqb (next_state s / 2 ^ 24 % 8) 0) (eqb (next_state s / 2 ^ 24 % 8) 1) i (next_state s))
-      (served_from count (i + 1) (next_state s))
+  served_from : (seed from count : ℕ) → All (IsServed limit) (map (λ i. line_by i (state_after seed i)) (range_with_len from count))
+  served_from seed from zero = All-nil (IsServed limit)
+  served_from seed from (suc count) =
+      let line : ℕ → Line = λ i. line_by i (state_after seed i) in
+      All-cons (IsServed limit) (line from) (map line (range_with_len (from + 1) count))
+      (served_by (eqb (state_after seed from / 2 ^ 24 % 8) 0) (eqb (state_after seed from / 2 ^ 24 % 8) 1) from (state_after seed from))
+      (served_from seed (from + 1) count)
 
   pub served_generated : (n : ℕ) → All (IsServed limit) (generated n ++ Names ∷ [])
   served_generated n = All-append (IsServed limit) (generated n) (Names ∷ []) (served_from n 1 n) (All-cons (IsServed limit) Names [] tt (All-nil (IsServed limit)))

@@ -166,4 +166,14 @@ fn main(rt: HostRuntime) -> ExitCode {
 }
 
 #[cfg(test)]
+mod loss_rows;
+#[cfg(test)]
+mod refused_rows;
+#[cfg(test)]
+mod session_rows;
+#[cfg(test)]
+mod settings_rows;
+#[cfg(test)]
 mod tests;
+#[cfg(test)]
+mod texts;

@@ -1,5 +1,4 @@
--- How the steps of a collection end, on a device. `held` is what a store keeps of the sector that is open
--- then.
+-- How the steps of a collection end, on a device. `held` is what a store keeps of the open sector.
 use Rattle.std.specs.Prelude.{◌≡◌, ℕ, ◌<◌, true, List, Option, Result, OnOk, OnErr}
 use Rattle.flash_sim.specs.Device.{Device}
 use Rattle.flash_map.specs.declared.area.Area.{Area}

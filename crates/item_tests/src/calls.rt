@@ -5,7 +5,7 @@ ghost use Rattle.item_store.specs.Listed.{kind_on};
 ghost use Rattle.item_store.specs.Standing.{IsStoreArea};
 ghost use Rattle.item_store.specs.Stands.{StandsOn};
 
-use crate::counted::Views;
+use counted_sim::Views;
 use flash_map::{Area, WriteFault};
 use flash_sim::{Bench, PowerLost, Steps};
 use item_store::{LastSlots, Placed, SlotSectors, Store};

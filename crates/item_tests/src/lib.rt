@@ -4,8 +4,6 @@
 #[cfg(test)]
 mod calls;
 #[cfg(test)]
-mod counted;
-#[cfg(test)]
 mod history;
 #[cfg(test)]
 mod nvs;

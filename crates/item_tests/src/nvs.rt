@@ -7,9 +7,9 @@ ghost use Rattle.item_store.specs.Standing.{IsStoreArea};
 use crate::calls::{
     Call, asks, close_is_cut, closes, looks_up, mounted, plays, shows, walks, write_is_cut,
 };
-use crate::counted::{CountedSim, Views};
 use crate::history::{Told, tells};
 use arrayvec::ArrayString;
+use counted_sim::{CountedSim, Views};
 use flash_map::{Area, Role, sector_view};
 use flash_sim::{Bank, Bench, FlatSim, Kind, Steps};
 use item_history::Space;

@@ -1,5 +1,5 @@
 -- Looking whether settings fit, and repairing the other area.
-use Rattle.std.proofs.Common.{◌≡◌, ◌⊎◌, ℕ, ◌<◌, ◌≤◌, Bool, true, false, min, max, List, [], ◌∷◌, length, Option, Some, None, Result, Ok, Err, refl, sym, ap, subst, ◌∙◌, inl, inr, arith}
+use Rattle.std.proofs.Common.{◌≡◌, ℕ, ◌≤◌, Bool, true, false, min, max, List, [], ◌∷◌, length, Option, Some, None, Result, Ok, Err, sym, ap, subst, ◌∙◌, inl, inr, arith}
 use Rattle.std.specs.Prelude.{All, IfOk}
 use Rattle.std.specs.List.{list_any, slice_get}
 use Rattle.std.specs.FinMap as maps
@@ -11,9 +11,10 @@ use Rattle.flash_sim.specs.Device.{Device}
 use Rattle.flash_map.specs.declared.area.Area.{Area}
 use Rattle.flash_map.specs.declared.area.Geometry.{Geometry}
 use Rattle.flash_map.specs.declared.faults.Damaged.{Damaged}
-use Rattle.flash_map.specs.Area.{geometry_of, value_limit}
+use Rattle.flash_sim.specs.declared.flash.Bank.{Bank}
+use Rattle.flash_map.specs.Area.{geometry_of, sectors_of, value_limit}
+use Rattle.flash_map.specs.Lawful.{IsLawfulFor}
 use Rattle.flash_map.specs.On.{on, StandsOn}
-use Rattle.flash_map.specs.Touches.{Touches}
 use Rattle.setting_name.specs.Name.{IsName}
 use Rattle.record_settings.specs.declared.laws.TheConstants.{NAME_LIMIT}
 use Rattle.backend_api.specs.Map.{Map, IsSettings, IsStored}
@@ -22,11 +23,12 @@ use Rattle.backend_api.proofs.LeastLemmas.{cmp}
 use Rattle.backend_api.proofs.MapLemmas.{ties_same}
 use Rattle.migrator.specs.declared.migrating.MigrateFault.{MigrateFault}
 use Rattle.migrator.specs.declared.migrating.MigrateFault.TheVariants.{NoTarget, NoSpace, TooManyNames, PowerLost as MoveLost, NoMemory as MoveNoMemory}
-use Rattle.migrator.specs.Migrating.{FillEnds, migrate_lost, room_on}
+use Rattle.migrator.specs.Migrating.{FillEnds, migrate_lost}
+use Rattle.migrator.proofs.Copies.{geometry-same, stands-still}
+use Rattle.migrator.proofs.Moving.{still}
 use Rattle.mirror.specs.declared.mounting.MirrorMount.{MirrorMount}
-use Rattle.mirror.specs.declared.mounting.MirrorMount.TheVariants.{PowerLost, NoMemory}
-use Rattle.mirror.specs.Mounting.{FitsAt, HoldEnds, IsKeptIf, IsNotRefused, OtherEnds, RepairsAs, UnfitAt, mount_lost}
-use Rattle.mirror.specs.Room.{Fits, FitsOn, IsRoomBy, Prices, prices_on}
+use Rattle.mirror.specs.Mounting.{FitsAt, HoldEnds, IsKeptIf, IsNotRefused, MayCopyTrusted, OtherEnds, RepairsAs, mount_lost}
+use Rattle.mirror.specs.Room.{Fits, FitsOn, IsRoomBy, Prices}
 use Rattle.mirror.proofs.FitLemmas.{none-full, none-many}
 use Rattle.mirror.proofs.ReadLemmas.{stored-short}
 
@@ -108,3 +110,24 @@ hold-ends mounted stands damage contents d m area source store (Some kept) here 
     (on_it, subst (λ x. StandsOn mounted stands m x) (sym is.0) up, ap (on contents m) (sym here) ∙ is.1 ∙ same)
 hold-ends mounted stands damage contents d m area source store None here up same keeps differs =
     λ holds. differs (ap (on contents m) here ∙ keeps holds.sound ∙ holds.reads ∙ sym same)
+
+-- It stays so on another device with the same banks, where the trusted area's sectors are as they were.
+pub may-copy-still : {S : Type 0} (serves : Area → Geometry → Type 0) (mounted_on : S → Area)
+    (stands : S → Geometry → List (List ℕ) → Type 0) (contents : Area → Geometry → List (List ℕ) → Map)
+    (room : Area → Geometry → Room) (prices : Area → Geometry → Prices) (a d : Device) (trusted : S) (other : Area)
+    → d.banks ≡ a.banks → sectors_of d (mounted_on trusted) ≡ sectors_of a (mounted_on trusted)
+    → MayCopyTrusted serves mounted_on stands contents room prices a trusted other
+    → MayCopyTrusted serves mounted_on stands contents room prices d trusted other
+may-copy-still serves mounted_on stands contents room prices a d trusted other banks same may =
+    let geometry : geometry_of d other ≡ geometry_of a other = geometry-same a d other banks in
+    record {
+      lawful_trusted = subst (λ (b : List Bank). IsLawfulFor b (mounted_on trusted)) (sym banks) may.lawful_trusted;
+      stands_trusted = stands-still mounted_on stands contents room a d trusted banks same may.stands_trusted;
+      lawful = subst (λ (b : List Bank). IsLawfulFor b other) (sym banks) may.lawful;
+      role = may.role;
+      served = subst (λ (g : Geometry). serves other g) (sym geometry) may.served;
+      apart = may.apart;
+      version = may.version;
+      fits = subst (λ (m : Map). FitsOn room prices d other m) (sym (still contents a d (mounted_on trusted) banks same))
+          (subst (λ (g : Geometry). Fits (room other g) (prices other g) other.sectors (value_limit other) (on contents a (mounted_on trusted))) (sym geometry) may.fits);
+    }

@@ -1,9 +1,9 @@
 // Mounting a mirror, and repairing the area that is not trusted.
-ghost use Rattle.std.specs.Prelude.{◌≡◌, ◌≢◌, ◌+◌, ◌<◌, ◌∷◌, [], true, false, is_err, length, None, Some, IfOk, OnOk, option_map};
+ghost use Rattle.std.specs.Prelude.{◌≡◌, ◌+◌, ◌<◌, ◌∷◌, [], true, false, length, None, Some, OnOk};
 ghost use Rattle.std.specs.FinMap as finite;
 ghost use Rattle.std.specs.List.{slice_get};
 ghost use Rattle.flash_map.specs.declared.area.Area.{Area as area_type};
-ghost use Rattle.flash_map.specs.Area.{AreApart, geometry_of, sectors_of, value_limit};
+ghost use Rattle.flash_map.specs.Area.{AreApart, geometry_of, sectors_of};
 ghost use Rattle.flash_map.specs.Lawful.{IsLawfulFor};
 ghost use Rattle.flash_map.specs.On.{on, HoldsOn, StandsOn};
 ghost use Rattle.flash_map.specs.Spending.{SpendsAtMost};
@@ -15,7 +15,7 @@ ghost use Rattle.migrator.specs.Areas.{is_store_at, selector_of};
 ghost use Rattle.migrator.specs.Migrating.{fill_units};
 ghost use Rattle.mirror.specs.Mirrored.{SideStands};
 ghost use Rattle.mirror.specs.Mounting.{BothEnds, BothFitEnds, FitEnds, HoldEnds, HoldsMap, IsAtRest, IsKeptIf, IsNotRefused, MayCopyTrusted, MirrorMounts, OtherEnds, RepairsAs, SideEnds, SparesBoth, both_units, fault_at, mount_lost, other_place, other_units, trust_units, worked_on};
-ghost use Rattle.mirror.specs.Room.{FitsOn, IsMirrored};
+ghost use Rattle.mirror.specs.Room.{IsMirrored};
 ghost use Rattle.mirror.specs.Trusted.{IsMirrorMap, MirrorReads, trusted_on};
 
 use crate::comparing::hold_one_map;

@@ -5,12 +5,12 @@ ghost use Rattle.mirror.specs.Laws.{blank-empty, blank-reads, blank-rests, is-ro
 ghost use Rattle.mirror.specs.Prices.{mirror_prices};
 ghost use Rattle.mirror.specs.Standing.{area_of, Stands, is_up, stands-up, stands-serves, stands-reads, stands-rests};
 
+use crate::Priced;
 use any_backend::AnyBackend;
 use backend_api::{Backend, SetFault};
 use backend_zms::{FIRST, GROUP_SIZE, first_of};
 use flash_map::{Area, MountFault, Role, geometry};
 use flash_sim::{Flash, Loss, PowerLost, Steps};
-use mirror::Priced;
 use nvs_store::{capacity as nvs_capacity, cost as nvs_cost};
 use setting_name::Name;
 use std::alloc::Global;

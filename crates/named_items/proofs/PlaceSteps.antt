@@ -1,5 +1,5 @@
 -- Names by their bytes: which items of the ids of names are the names of settings that count, where items are strays and where none is.
-use Rattle.std.proofs.Common.{◌≡◌, ℕ, zero, suc, ◌+◌, ◌-◌, ◌^◌, ◌<◌, ◌≤◌, true, List, Option, Some, None, is_some, refl, sym, ap, subst, ◌∙◌, inl, inr, arith}
+use Rattle.std.proofs.Common.{◌≡◌, ℕ, ◌+◌, ◌<◌, ◌≤◌, true, List, Option, Some, None, is_some, refl, sym, ap, subst, ◌∙◌, inl, inr, arith}
 use Rattle.std.specs.FinMap.{get, contains_key}
 use Rattle.std.proofs.lemmas.Bool.{false≢true}
 use Rattle.setting_name.specs.Name.{IsName}
@@ -29,22 +29,16 @@ past-behind (Some text) name = refl
 
 -- ---- also where items are strays
 
--- each of these ids is for names, is the store's, and has one behind it
-pub among-own : (n : Numbering) (top : ℕ) (ids : Ids) → AreOfNames n top ids → (id : ℕ) → ids.least ≤ id → id < ids.most + 1 → IsForName n id
+-- each of these ids is for names
+among-own : (n : Numbering) (top : ℕ) (ids : Ids) → AreOfNames n top ids → (id : ℕ) → ids.least ≤ id → id < ids.most + 1 → IsForName n id
 among-own n top ids own id low high =
     let first : n.first ≤ ids.least = own.from in
     let last : ids.most < n.first + n.step = own.to in
     record { from = omega arith; to = omega arith }
 
-pub among-below : (n : Numbering) (top : ℕ) (ids : Ids) → AreOfNames n top ids → (id : ℕ) → id < ids.most + 1 → id < top
-among-below n top ids own id high = let most : ids.most < top = own.most in omega arith
-
-pub among-small : (n : Numbering) (top : ℕ) (ids : Ids) → AreOfNames n top ids → top < 2 ^ 32 → ids.most + 1 < 2 ^ 32
-among-small n top ids own small = let most : ids.most < top = own.most in omega arith
-
 module _ (n : Numbering) (items : Items) where
   -- an id for names that is kept is the place of the setting whose name is there
-  pub kept-at : (laws : IsNumbering n) (name : List ℕ) (id : ℕ) → IsForName n id → get items id ≡ Some name → IsKept n items id → IsAt n items name id
+  kept-at : (laws : IsNumbering n) (name : List ℕ) (id : ℕ) → IsForName n id → get items id ≡ Some name → IsKept n items id → IsAt n items name id
   kept-at laws name id own has kept =
       let low : n.first ≤ id = own.from in
       let high : id < n.first + n.step = own.to in
@@ -63,32 +57,6 @@ module _ (n : Numbering) (items : Items) where
               absurd (omega arith)
         ]
       ]
-
-  pub at-kept : (name : List ℕ) (place : ℕ) → IsAt n items name place → IsKept n items place
-  at-kept name place at = inr (record { name = name; place = place; at = at; is = inl refl })
-
-  -- of the places that have a name, the lowest counts
-  lowest-by : (m : ℕ) (name : List ℕ) (place : ℕ) → place < n.first + m → IsInside n items place → HasName (pair_at n items place) name → (low : ℕ) × IsAt n items name low
-  lowest-by zero name place under inside has = let from : n.first ≤ place = inside.from in absurd (omega arith)
-  lowest-by (suc m) name place under inside has =
-      let from : n.first ≤ place = inside.from in
-      let to : place < n.first + count_in n items = inside.to in
-      elim (seek (pair_at n items) name n.first (place - n.first)) [
-        | inl lower ↦
-            let low : n.first ≤ lower.0 = lower.1 in
-            let high : lower.0 < n.first + (place - n.first) = lower.2 in
-            lowest-by m name lower.0 (omega arith) (record { from = low; to = omega arith }) lower.3
-        | inr none ↦ (place, record { inside = inside; here = has; lowest = λ other low less. none other low (omega arith) })
-      ]
-
-  -- where the setting stands at none of the ids of the name, there is none
-  pub none-among : (name : List ℕ) (ids : Ids) → HasHomes n name ids → ((id : ℕ) → ids.least ≤ id → id < ids.most + 1 → ¬ IsAt n items name id) → IsPlaceOf n items name None
-  none-among name ids homes none = λ other inside has.
-      let to : other < n.first + count_in n items = inside.to in
-      let low = lowest-by (count_in n items) name other to inside has in
-      let among = homes items low.0 low.1.inside (at-home n items name low.0 low.1.here) in
-      let high : low.0 ≤ ids.most = among.to in
-      none low.0 among.from (omega arith) low.1
 
 -- ---- where none is
 

@@ -26,8 +26,8 @@ pub record IsMountedOn {S : Type 0} (mounted_on : S → Area) (stands : S → Ge
   pub up : StandsOn mounted_on stands d store
   pub clean : HasNoStrays (numbers area) (on contents d area)
 
--- The store keeps its area, which shows no damage. The store knows it as it is; where power was lost, the
--- store is down.
+-- The store keeps its area, which shows no damage. It knows the area as it is; where power was lost, it is
+-- down.
 pub record StaysMounted {S : Type 0} (mounted_on : S → Area) (stands : S → Geometry → List (List ℕ) → Type 0)
     (runs : S → Bool) (damage : Area → Geometry → List (List ℕ) → Option Damaged) (e : Device) (old new : S)
     (lost : Bool) : Type 0 where

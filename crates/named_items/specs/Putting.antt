@@ -12,10 +12,10 @@ use Rattle.backend_api.specs.Ends.{set_lost, SetEnds, DeleteEnds}
 use Rattle.backend_api.specs.Map.{Map}
 use Rattle.backend_api.specs.Room.{Room}
 use Rattle.item_laws.specs.Items.{Items}
-use Rattle.named_items.specs.Ends.{IsFree}
+use Rattle.named_items.specs.Ends.{AltersTwo, IsFree}
 use Rattle.named_items.specs.Numbering.{Numbering}
 use Rattle.named_items.specs.PairRoom.{pair_room}
-use Rattle.named_items.specs.Pairs.{settings_in, HasNoStrays, IsInside, IsPlaceOf}
+use Rattle.named_items.specs.Pairs.{settings_in, HasNoStrays, IsAt, IsInside, IsPlaceOf}
 
 -- by what a count costs and which name is one too many, and by the store's price and what a sector has
 abbrev pub room_in : ((ℕ → ℕ) → ℕ) → (Map → List ℕ → Bool) → (Geometry → ℕ → ℕ) → (Geometry → ℕ) → Geometry
@@ -67,6 +67,11 @@ pub record DeleteLeaves {T : Type 0} (n : Numbering) (old new : Device) (before 
       → (settings_in n after ≡ settings_in n before)
       ⊎ (settings_in n after ≡ remove (settings_in n before) name)
   pub clean : is_err result ≡ false → HasNoStrays n after
+
+-- no item changed but the two of the name's setting
+abbrev pub AltersOnlySetting : Numbering → Items → Items → List ℕ → Type 0
+AltersOnlySetting n before after name =
+    (id : ℕ) → IsAt n before name id → AltersTwo before after id (id + n.step)
 
 abbrev pub DeleteLeavesOn : {T : Type 0} → (Area → Numbering) → (Area → Geometry → List (List ℕ) → Items)
     → Device → Device → Area → List ℕ → Result T Lost → Type 0

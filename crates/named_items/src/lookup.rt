@@ -1,14 +1,14 @@
 // Looking at two items as a name and its value.
-ghost use Rattle.std.specs.Prelude.{◌≡◌, ◌+◌, ◌<◌, ◌≤◌, true, false, Some, option_map};
+ghost use Rattle.std.specs.Prelude.{◌≡◌, true, false, Some, option_map};
 ghost use Rattle.std.specs.Bool.{MatchBool};
 ghost use Rattle.std.specs.FinMap as finite;
 ghost use Rattle.setting_name.specs.Name.{IsName};
 ghost use Rattle.flash_map.specs.Area.{value_limit};
 ghost use Rattle.flash_map.specs.Lawful.{IsLawfulFor};
 ghost use Rattle.flash_map.specs.On.{on, HoldsOn, StandsOn};
-ghost use Rattle.named_items.specs.Pairs.{settings_in, HasNoStrays, IsAt, IsPlaceOf};
+ghost use Rattle.named_items.specs.Pairs.{settings_in, HasNoStrays, IsPlaceOf};
 ghost use Rattle.named_items.specs.Ends.{IsFree};
-ghost use Rattle.named_items.specs.Looking.{is_value, HasIds, IsForName, StandsHere};
+ghost use Rattle.named_items.specs.Looking.{is_value, HasIds, StandsHere};
 
 use crate::numbers::Numbers;
 use crate::store::ItemStore;
@@ -141,59 +141,6 @@ pub fn standing_value<'a, N: Numbers, S: ItemStore, F: Flash, L: Ledger>(
     store.get(flash, place + N::step(), steps)
 }
 
-// Whether the setting of a name that counts stands at an id, which is one for names.
-fn counts_at<N: Numbers, S: ItemStore, F: Flash, L: Ledger>(
-    store: &S,
-    flash: &F,
-    index: &S::Index,
-    name: &Name,
-    place: u32,
-    steps: &mut Steps<L>,
-) -> bool
-    requires ids { HasIds N.top S.is_id }
-    requires lawful { IsLawfulFor (F.device flash.now).banks (S.mounted_on store.now) }
-    requires stands { StandsOn S.mounted_on S.stands (F.device flash.now) store.now }
-    requires tells { HoldsOn (S.tells index.now) (F.device flash.now) (S.mounted_on store.now) }
-    requires known { place < N.top }
-    requires own { IsForName (N.numbers (S.mounted_on store.now)) place }
-    ensures yes_it { let area = S.mounted_on store.now in
-        let items = on S.contents (F.device flash.now) area in
-        result ≡ true → IsAt (N.numbers area) items name.now place }
-    ensures not_it { let area = S.mounted_on store.now in
-        let items = on S.contents (F.device flash.now) area in
-        result ≡ false → ¬ IsAt (N.numbers area) items name.now place }
-{
-    if !is_named(store.get_by(flash, index, place, steps), name) {
-        return false;
-    }
-    N::is_kept(store, flash, index, place, steps)
-}
-
-// Where the setting of a name stands, if the name has a value, also where items are strays. It
-// looks at each id of the name.
-fn place_among<N: Numbers, S: ItemStore, F: Flash, L: Ledger>(
-    store: &S,
-    flash: &F,
-    index: &S::Index,
-    name: &Name,
-    steps: &mut Steps<L>,
-) -> Option<u32>
-    requires ids { HasIds N.top S.is_id }
-    requires lawful { IsLawfulFor (F.device flash.now).banks (S.mounted_on store.now) }
-    requires stands { StandsOn S.mounted_on S.stands (F.device flash.now) store.now }
-    requires tells { HoldsOn (S.tells index.now) (F.device flash.now) (S.mounted_on store.now) }
-    ensures { let area = S.mounted_on store.now in
-        IsPlaceOf (N.numbers area) (on S.contents (F.device flash.now) area) name.now result }
-{
-    let ids = N::homes_of(name);
-    for place in ids.least..ids.most + 1 {
-        if counts_at::<N, S, F, L>(store, flash, index, name, place, steps) {
-            return Some(place);
-        }
-    }
-    None
-}
-
 /// The value of a name; none where it has no value. Items may be strays, as before a mount has
 /// removed them: none of them is told as a value. Where the name can have no item by what the store
 /// keeps in memory, the entries are not gone over. Else an index is made, and each id of the name
@@ -217,6 +164,6 @@ pub fn value_of<'a, N: Numbers, S: ItemStore, F: Flash, L: Ledger>(
     }
     let mut index = S::new_index();
     store.tell(flash, &mut index, steps);
-    let place = place_among::<N, S, F, L>(store, flash, &index, name, steps)?;
+    let place = N::place_of(store, flash, &index, name, steps)?;
     store.get_by(flash, &index, place + N::step(), steps)
 }

@@ -64,6 +64,22 @@ pub trait Numbers {
             result ≡ false
             → IsPlaceOf (numbers area) (on S.contents (F.device flash.now) area) name.now None };
 
+    /// Where the setting of a name stands, if the name has a value, also where items are strays. It
+    /// looks at each id of the name up to there.
+    fn place_of<S: ItemStore, F: Flash, L: Ledger>(
+        store: &S,
+        flash: &F,
+        index: &S::Index,
+        name: &Name,
+        steps: &mut Steps<L>,
+    ) -> Option<u32>
+        requires ids { HasIds top S.is_id }
+        requires lawful { IsLawfulFor (F.device flash.now).banks (S.mounted_on store.now) }
+        requires stands { StandsOn S.mounted_on S.stands (F.device flash.now) store.now }
+        requires tells { HoldsOn (S.tells index.now) (F.device flash.now) (S.mounted_on store.now) }
+        ensures { let area = S.mounted_on store.now in
+            IsPlaceOf (numbers area) (on S.contents (F.device flash.now) area) name.now result };
+
     /// Whether an item is a count, or a part of a setting that counts.
     fn is_kept<S: ItemStore, F: Flash, L: Ledger>(
         store: &S,

@@ -1,5 +1,5 @@
 // Writing and deleting the two items of a setting.
-ghost use Rattle.std.specs.Prelude.{◌≡◌, ℕ, ◌+◌, ◌*◌, ◌<◌, ◌∷◌, [], None, is_err, length};
+ghost use Rattle.std.specs.Prelude.{◌≡◌, ◌*◌, ◌<◌, ◌∷◌, [], None, is_err, length};
 ghost use Rattle.std.specs.FinMap as finite;
 ghost use Rattle.flash_map.specs.Area.{geometry_of};
 ghost use Rattle.flash_map.specs.Faults.{write_lost};
@@ -9,11 +9,10 @@ ghost use Rattle.flash_map.specs.Touches.{Touches};
 ghost use Rattle.flash_map.specs.On.{on, StandsOn};
 ghost use Rattle.backend_api.specs.Room.{most_units};
 ghost use Rattle.named_items.specs.StoreEnds as items;
-ghost use Rattle.named_items.specs.Pairs.{IsAt};
-ghost use Rattle.named_items.specs.Ends.{AltersTwo, DeletesPair, PutsPair};
+ghost use Rattle.named_items.specs.Ends.{DeletesPair, PutsPair};
 ghost use Rattle.named_items.specs.Looking.{HasIds};
 ghost use Rattle.named_items.specs.Mounted.{IsMounted, StaysMounted};
-ghost use Rattle.named_items.specs.Putting.{DeleteLeavesOn};
+ghost use Rattle.named_items.specs.Putting.{AltersOnlySetting, DeleteLeavesOn};
 
 use crate::lookup::standing_place;
 use crate::numbers::Numbers;
@@ -77,10 +76,8 @@ pub fn delete_name<N: Numbers, S: ItemStore, F: Flash, L: Ledger>(
     ensures ends { DeleteLeavesOn N.numbers S.contents (F.device flash.old) (F.device flash.new)
         (S.mounted_on store.old) name.now result }
     ensures others { let area = S.mounted_on store.old in
-        let before = on S.contents (F.device flash.old) area in
-        let after = on S.contents (F.device flash.new) area in
-        (place : ℕ) → IsAt (N.numbers area) before name.now place
-        → AltersTwo before after place (place + (N.numbers area).step) }
+        AltersOnlySetting (N.numbers area) (on S.contents (F.device flash.old) area)
+        (on S.contents (F.device flash.new) area) name.now }
     ensures at_most { let d = F.device flash.old in
         SpendsAtMost d (F.device flash.new) (most_units (geometry_of d (S.mounted_on store.old))) }
 {

@@ -149,8 +149,7 @@ pub record IsSource (d : Device) (on : Area) (held : Scan) (from : Found) : Type
   pub ordinary : from.entry.id < 0xFFFF
   pub inside : from.entry.offset + from.entry.len ≤ sector_size d on
 
--- How a call ends that puts a pair in the open sector. `before` is the scan that it got, `after` the one it
--- left.
+-- How a call ends that puts a pair in the open sector. It got the scan `before` and left `after`.
 pub record PairEnds {X E : Type 0} (old new : Device) (on : Area) (before after : Scan) (id len : ℕ)
     (bytes : List ℕ) (result : Result X E) : Type 0 where
   pub ok : OnOk result (AddsPairOn old new on before.current id bytes)

@@ -1,11 +1,12 @@
 -- The generated script, line by line.
-use Rattle.std.proofs.Common.{◌≡◌, ◌⊎◌, inl, inr, ℕ, zero, suc, ◌+◌, ◌-◌, ◌/◌, ◌%◌, ◌^◌, ◌<◌, ◌≤◌, ◌&&◌, Bool, true, false, List, [], ◌∷◌, ◌++◌, codes, append-nil, append_assoc, refl, sym, ◌∙◌, ap, subst, arith}
+use Rattle.std.proofs.Common.{◌≡◌, ◌⊎◌, inl, inr, ℕ, zero, suc, ◌+◌, ◌-◌, ◌/◌, ◌%◌, ◌^◌, ◌<◌, ◌≤◌, ◌&&◌, Bool, true, false, List, [], ◌∷◌, ◌++◌, codes, refl, sym, ◌∙◌, ap, subst, arith}
 use Rattle.std.specs.Fmt.{decimal, digits}
 use Rattle.std.proofs.lemmas.Bool.{and_parts, cases_lt}
+use Rattle.std.proofs.lemmas.List.FromFn.{map-range_with_len_more}
 use Rattle.setting_name.specs.Name.{IsName, is_name, is_name_byte, parts_of}
 use Rattle.setting_name.proofs.NameTest.{is_name-sound}
 use Rattle.script_lines.specs.declared.line.Line.{Line}
-use Rattle.script_lines.specs.Generator.{next_state, bytes_from, line_by, lines_from, generated}
+use Rattle.script_lines.specs.Generator.{next_state, state_after, bytes_of, line_by, first_lines}
 
 -- a test of every number below another
 unfoldable pub all_below : ℕ → (ℕ → Bool) → Bool
@@ -30,27 +31,30 @@ all_keys = refl
 pub key_is_name : (k : ℕ) → k < 40 → IsName (codes "app/k" ++ decimal k)
 key_is_name k below = is_name-sound (codes "app/k" ++ decimal k) (at_below 40 k (λ k. is_name (codes "app/k" ++ decimal k)) all_keys below)
 
-pub bytes_step : (i j count : ℕ) (old new whole : List ℕ) → j < count → new ≡ old ++ (i + j) % 256 ∷ [] → old ++ bytes_from i j (count - j) ≡ whole → new ++ bytes_from i (j + 1) (count - (j + 1)) ≡ whole
-bytes_step i j count old new whole within more so_far =
-    let e : count - j ≡ suc (count - (j + 1)) = omega arith in
-    ap (λ (bytes : List ℕ). bytes ++ bytes_from i (j + 1) (count - (j + 1))) more ∙ append_assoc old ((i + j) % 256 ∷ []) (bytes_from i (j + 1) (count - (j + 1)))
-    ∙ ap (λ (n : ℕ). old ++ bytes_from i j n) (sym e) ∙ so_far
+pub bytes_step : (i j : ℕ) (old new : List ℕ) → new ≡ old ++ (i + j) % 256 ∷ [] → old ≡ bytes_of i j → new ≡ bytes_of i (j + 1)
+bytes_step i j old new more so_far =
+    let e : 0 + j ≡ j = omega arith in
+    more ∙ ap (λ (bytes : List ℕ). bytes ++ (i + j) % 256 ∷ []) so_far
+    ∙ sym (map-range_with_len_more (λ (j : ℕ). (i + j) % 256) 0 j j e)
 
-pub bytes_end : (i j count : ℕ) (all whole : List ℕ) → count ≤ j → all ++ bytes_from i j (count - j) ≡ whole → all ≡ whole
-bytes_end i j count all whole past so_far =
-    let e : count - j ≡ 0 = omega arith in
-    sym (append-nil all) ∙ ap (λ (n : ℕ). all ++ bytes_from i j n) (sym e) ∙ so_far
+pub bytes_end : (i j count : ℕ) (all : List ℕ) → count ≤ j → j ≤ count → all ≡ bytes_of i j → all ≡ bytes_of i count
+bytes_end i j count all past within so_far =
+    let e : j ≡ count = omega arith in
+    so_far ∙ ap (bytes_of i) e
 
-pub lines_step : (n i s next : ℕ) (line : Line) (old new whole : List Line) → i < n → next ≡ next_state s → line ≡ line_by (i + 1) next → new ≡ old ++ line ∷ [] → old ++ lines_from (n - i) (i + 1) s ≡ whole
-    → new ++ lines_from (n - (i + 1)) (i + 1 + 1) next ≡ whole
-lines_step n i s next line old new whole within steps is more so_far =
-    let e : n - i ≡ suc (n - (i + 1)) = omega arith in
-    let rest = lines_from (n - (i + 1)) (i + 1 + 1) in
-    ap (λ (lines : List Line). lines ++ rest next) more ∙ append_assoc old (line ∷ []) (rest next)
-    ∙ ap (λ (l : Line). old ++ l ∷ rest next) is ∙ ap (λ (t : ℕ). old ++ line_by (i + 1) t ∷ rest t) steps
-    ∙ ap (λ (m : ℕ). old ++ lines_from m (i + 1) s) (sym e) ∙ so_far
+pub state_step : (seed i s next : ℕ) → next ≡ next_state s → s ≡ state_after seed i → next ≡ state_after seed (i + 1)
+state_step seed i s next steps so_far =
+    let e : suc i ≡ i + 1 = omega arith in
+    steps ∙ ap next_state so_far ∙ ap (state_after seed) e
 
-pub lines_end : (n i s : ℕ) (all whole : List Line) → n ≤ i → all ++ lines_from (n - i) (i + 1) s ≡ whole → all ≡ whole
-lines_end n i s all whole past so_far =
-    let e : n - i ≡ 0 = omega arith in
-    sym (append-nil all) ∙ ap (λ (m : ℕ). all ++ lines_from m (i + 1) s) (sym e) ∙ so_far
+pub lines_step : (seed i next : ℕ) (line : Line) (old new : List Line) → next ≡ state_after seed (i + 1) → line ≡ line_by (i + 1) next → new ≡ old ++ line ∷ [] → old ≡ first_lines seed i → new ≡ first_lines seed (i + 1)
+lines_step seed i next line old new state is more so_far =
+    let e : 1 + i ≡ i + 1 = omega arith in
+    more ∙ ap (λ (lines : List Line). lines ++ line ∷ []) so_far
+    ∙ ap (λ (line : Line). first_lines seed i ++ line ∷ []) (is ∙ ap (line_by (i + 1)) state)
+    ∙ sym (map-range_with_len_more (λ (i : ℕ). line_by i (state_after seed i)) 1 i (i + 1) e)
+
+pub lines_end : (seed i count : ℕ) (all : List Line) → count ≤ i → i ≤ count → all ≡ first_lines seed i → all ≡ first_lines seed count
+lines_end seed i count all past within so_far =
+    let e : i ≡ count = omega arith in
+    so_far ∙ ap (first_lines seed) e

@@ -1,5 +1,6 @@
 -- The generated script.
-use Rattle.std.specs.Prelude.{◌≡◌, ℕ, zero, suc, ◌+◌, ◌-◌, ◌*◌, ◌/◌, ◌%◌, ◌^◌, ◌<◌, ◌==◌, if◌then◌else◌, Result, Ok, Err, List, [], ◌∷◌, ◌++◌, codes}
+use Rattle.std.specs.Prelude.{◌≡◌, ℕ, zero, suc, ◌+◌, ◌-◌, ◌*◌, ◌/◌, ◌%◌, ◌^◌, ◌<◌, ◌==◌, if◌then◌else◌, Result, Ok, Err, List, ◌++◌, map, codes}
+use Rattle.std.specs.List.{range_with_len}
 use Rattle.std.specs.Fmt.{decimal}
 use Rattle.script_lines.specs.declared.line.Line.{Line}
 use Rattle.script_lines.specs.declared.line.Line.TheVariants.{Set, Get, Del}
@@ -7,10 +8,14 @@ use Rattle.script_lines.specs.declared.line.Line.TheVariants.{Set, Get, Del}
 abbrev pub next_state : ℕ → ℕ
 next_state s = (s * 1664525 + 1013904223) % 2 ^ 32
 
--- the bytes i + j modulo 256, for each j from `from`, so many
-abbrev pub bytes_from : ℕ → ℕ → ℕ → List ℕ
-bytes_from i from zero = []
-bytes_from i from (suc count) = (i + from) % 256 ∷ bytes_from i (from + 1) count
+-- the state of the generator after so many steps
+abbrev pub state_after : ℕ → ℕ → ℕ
+state_after seed zero = seed
+state_after seed (suc steps) = next_state (state_after seed steps)
+
+-- the bytes i + j modulo 256, for each j below the count
+abbrev pub bytes_of : ℕ → ℕ → List ℕ
+bytes_of i count = map (λ j. (i + j) % 256) (range_with_len 0 count)
 
 abbrev pub name_of : ℕ → List ℕ
 name_of s = codes "app/k" ++ decimal (s / 2 ^ 8 % 40)
@@ -20,12 +25,11 @@ abbrev pub line_by : ℕ → ℕ → Line
 line_by i s =
     if s / 2 ^ 24 % 8 == 0 then Del (name_of s)
     else if s / 2 ^ 24 % 8 == 1 then Get (name_of s)
-    else Set (name_of s) (bytes_from i 0 (1 + s / 2 ^ 16 % 32))
+    else Set (name_of s) (bytes_of i (1 + s / 2 ^ 16 % 32))
 
--- so many lines from the i-th on, by the state before it
-abbrev pub lines_from : ℕ → ℕ → ℕ → List Line
-lines_from zero i s = []
-lines_from (suc count) i s = line_by i (next_state s) ∷ lines_from count (i + 1) (next_state s)
+-- the first lines of the generator that starts at a seed, counted from 1
+abbrev pub first_lines : ℕ → ℕ → List Line
+first_lines seed count = map (λ i. line_by i (state_after seed i)) (range_with_len 1 count)
 
 abbrev pub generated : ℕ → List Line
-generated n = lines_from n 1 n
+generated n = first_lines n n

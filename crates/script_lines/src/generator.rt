@@ -1,6 +1,6 @@
 // The generated script.
 ghost use Rattle.std.specs.Prelude.{◌≡◌, ◌+◌, ◌/◌, ◌%◌, ◌^◌, ◌<◌, ◌≤◌, IfOk, IfSome};
-ghost use Rattle.script_lines.specs.Generator.{next_state, bytes_from, name_of, line_by, generated};
+ghost use Rattle.script_lines.specs.Generator.{next_state, bytes_of, name_of, line_by, generated};
 
 use crate::bytes::Bytes;
 use crate::line::Line;
@@ -26,7 +26,7 @@ fn name_by(alloc: Global, s: u32) -> Result<Name, AllocError>
 }
 
 fn value_by(alloc: Global, i: u32, s: u32) -> Result<Bytes, AllocError>
-    ensures { IfOk result (λ value. value ≡ bytes_from i 0 (1 + s / 2 ^ 16 % 32)) }
+    ensures { IfOk result (λ value. value ≡ bytes_of i (1 + s / 2 ^ 16 % 32)) }
 {
     let count = 1 + (s >> 16) % 32;
     let mut value = Vec::new(alloc);

@@ -125,7 +125,7 @@ pub fn play_mirror<'a, H: Host, B: Bench>(
         Err(stop) => return Err(stop),
     };
     let limit = longest_value(&opened.map);
-    let lines = match read_mirror_lines(alloc, script, limit, host) {
+    let lines = match read_mirror_lines(alloc, script, limit as usize, host) {
         Ok(lines) => lines,
         Err(stop) => return Err(stop),
     };

@@ -2,7 +2,9 @@
 #![tactic(auto)]
 
 #[cfg(test)]
-mod counted;
+mod cuts;
+#[cfg(test)]
+mod each_store;
 #[cfg(test)]
 mod handling;
 #[cfg(test)]

@@ -16,14 +16,15 @@ pub(crate) struct Play {
     pub(crate) left: &'static [Left],
 }
 
-// Behind these calls on a blank area power is lost in a set. After how many of its units, and how
-// many the next mount spends then, each time on a new area; whether such a loss spells another
-// record by chance, and the value that the name has then, none where it is empty.
+// Behind these calls on a blank area power is lost in a set: after each number of its units from
+// the first to the second, each time on a new area, and the next mount spends so many then. Whether
+// such a loss spells another record by chance, and the value that the name has then, none where it
+// is empty.
 pub(crate) struct Cut {
     pub(crate) calls: &'static [Call],
     pub(crate) name: &'static [u8],
     pub(crate) value: &'static [u8],
-    pub(crate) losses: &'static [(u64, u64)],
+    pub(crate) losses: &'static [(u64, u64, u64)],
     pub(crate) chance: bool,
     pub(crate) left: &'static [u8],
 }
@@ -32,7 +33,7 @@ const N: &[u8] = &[b'n'; 64];
 
 const M: &[u8] = &[b'm'; 64];
 
-pub(crate) static NVS: [Play; 5] = [
+pub(crate) static NVS: [Play; 6] = [
     Play {
         at: 0,
         bytes: b"",
@@ -69,6 +70,20 @@ pub(crate) static NVS: [Play; 5] = [
         ],
         left: &[(b"a", 0x55, 100)],
     },
+    // neither the value that was deleted nor its delete marks are copied
+    Play {
+        at: 0,
+        bytes: b"",
+        calls: &[
+            (b"a", 1, 1, 9, None),
+            (b"b", 0x11, 100, 33, None),
+            (b"a", 0, 0, 4, None),
+            (b"b", 0x22, 100, 27, None),
+            (b"b", 0x33, 100, 27, None),
+            (b"b", 0x44, 100, 65, None),
+        ],
+        left: &[(b"b", 0x44, 100)],
+    },
     Play {
         at: 0,
         bytes: b"",
@@ -92,12 +107,12 @@ pub(crate) static NVS: [Play; 5] = [
     },
 ];
 
-pub(crate) static NVS_CUTS: [Cut; 2] = [
+pub(crate) static NVS_CUTS: [Cut; 3] = [
     Cut {
         calls: &[],
         name: b"a",
         value: &[1],
-        losses: &[(6, 2)],
+        losses: &[(6, 6, 2)],
         chance: false,
         left: b"",
     },
@@ -105,9 +120,24 @@ pub(crate) static NVS_CUTS: [Cut; 2] = [
         calls: &[(b"a", 0x11, 256, 72, None)],
         name: b"b",
         value: &[1; 180],
-        losses: &[(252, 126)],
+        losses: &[(252, 252, 126)],
         chance: false,
         left: b"",
+    },
+    // in the set that closes a sector and collects the other: inside the close entry, in the
+    // copies and gc-done, before the erase, and behind it
+    Cut {
+        calls: &[
+            (b"a", 0x11, 100, 33, None),
+            (b"a", 0x22, 100, 27, None),
+            (b"a", 0x33, 100, 27, None),
+            (b"a", 0x44, 100, 27, None),
+        ],
+        name: b"a",
+        value: &[0x55; 100],
+        losses: &[(0, 0, 0), (1, 2, 36), (3, 36, 37), (37, 37, 1), (38, 64, 0)],
+        chance: false,
+        left: &[0x44; 100],
     },
 ];
 
@@ -154,14 +184,37 @@ pub(crate) static ZMS: [Play; 4] = [
 ];
 
 // The empty entry of cycle 1, which the first set puts, stays.
-pub(crate) static ZMS_CUTS: [Cut; 1] = [Cut {
-    calls: &[],
-    name: b"a",
-    value: &[1, 2, 3, 4, 5, 6, 7, 8],
-    losses: &[(0, 0), (1, 0), (2, 1)],
-    chance: false,
-    left: b"",
-}];
+pub(crate) static ZMS_CUTS: [Cut; 2] = [
+    Cut {
+        calls: &[],
+        name: b"a",
+        value: &[1, 2, 3, 4, 5, 6, 7, 8],
+        losses: &[(0, 1, 0), (2, 2, 1)],
+        chance: false,
+        left: b"",
+    },
+    // in the fill and the close, before the new sector is open, in the copies, before the victim is
+    // emptied, and behind that
+    Cut {
+        calls: &[
+            (b"a", 0x11, 100, 10, None),
+            (b"a", 0x22, 100, 8, None),
+            (b"a", 0x33, 100, 8, None),
+        ],
+        name: b"a",
+        value: &[0x44; 100],
+        losses: &[
+            (0, 5, 0),
+            (6, 6, 12),
+            (7, 7, 11),
+            (8, 16, 12),
+            (17, 17, 1),
+            (18, 25, 0),
+        ],
+        chance: false,
+        left: &[0x33; 100],
+    },
+];
 
 // On a bank that is erased.
 pub(crate) static ZMS_ERASING: [Play; 7] = [
@@ -252,7 +305,7 @@ pub(crate) static ZMS_ERASING_CUTS: [Cut; 2] = [
         calls: &[],
         name: b"a",
         value: &[0x11; 100],
-        losses: &[(0, 0), (1, 0), (3, 0), (9, 1)],
+        losses: &[(0, 8, 0), (9, 9, 1)],
         chance: false,
         left: b"",
     },
@@ -267,28 +320,12 @@ pub(crate) static ZMS_ERASING_CUTS: [Cut; 2] = [
         name: b"a",
         value: &[0x44; 100],
         losses: &[
-            (0, 0),
-            (1, 13),
-            (2, 12),
-            (3, 14),
-            (4, 14),
-            (5, 14),
-            (6, 14),
-            (7, 14),
-            (8, 14),
-            (9, 14),
-            (10, 14),
-            (11, 14),
-            (12, 2),
-            (13, 0),
-            (14, 0),
-            (15, 0),
-            (16, 0),
-            (17, 0),
-            (18, 0),
-            (19, 0),
-            (20, 0),
-            (21, 0),
+            (0, 0, 0),
+            (1, 1, 13),
+            (2, 2, 12),
+            (3, 11, 14),
+            (12, 12, 2),
+            (13, 21, 0),
         ],
         chance: false,
         left: &[0x33; 100],
@@ -343,12 +380,12 @@ pub(crate) static FCB: [Play; 4] = [
     },
 ];
 
-pub(crate) static FCB_CUTS: [Cut; 3] = [
+pub(crate) static FCB_CUTS: [Cut; 4] = [
     Cut {
         calls: &[],
         name: b"a",
         value: &[0, 0xA4, 1, 2, 3, 4],
-        losses: &[(3, 0)],
+        losses: &[(3, 3, 0)],
         chance: false,
         left: b"",
     },
@@ -356,7 +393,7 @@ pub(crate) static FCB_CUTS: [Cut; 3] = [
         calls: &[],
         name: b"a",
         value: &[0, 0xA4, 1, 2, 3, 4],
-        losses: &[(4, 0)],
+        losses: &[(4, 4, 0)],
         chance: true,
         left: &[0, 0xA4, 0xFF, 0xFF, 0xFF, 0xFF],
     },
@@ -364,9 +401,23 @@ pub(crate) static FCB_CUTS: [Cut; 3] = [
         calls: &[],
         name: b"a",
         value: &[0, 0xA4, 1, 2, 3, 4],
-        losses: &[(5, 0)],
+        losses: &[(5, 5, 0)],
         chance: false,
         left: b"",
+    },
+    // in the set that collects: in the header of the new sector, in the copy, and once the oldest
+    // sector is erased
+    Cut {
+        calls: &[
+            (b"a", 0x11, 100, 30, None),
+            (b"a", 0x22, 100, 28, None),
+            (b"a", 0x33, 100, 28, None),
+        ],
+        name: b"a",
+        value: &[0x44; 100],
+        losses: &[(0, 0, 0), (1, 30, 1), (31, 58, 0)],
+        chance: false,
+        left: &[0x33; 100],
     },
 ];
 

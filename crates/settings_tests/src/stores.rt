@@ -7,28 +7,27 @@ ghost use Rattle.any_backend.specs.ByRole.{any_serves, serves_as};
 ghost use Rattle.any_backend.specs.Standing.{IsReady};
 ghost use Rattle.named_items.specs.Looking.{HasIds};
 
-use crate::counted::{CountedSim, Views};
 use crate::rows::{
-    Call, Cut, FCB, FCB_CUTS, FCB_LONG, FCB_LONGER, Item, Left, NVS, NVS_CUTS, NVS_STRAYS,
-    NVS_TOLD, Play, Told, ZMS, ZMS_CUTS, ZMS_ERASING, ZMS_ERASING_CUTS,
+    Call, FCB, FCB_LONG, FCB_LONGER, Item, Left, NVS, NVS_STRAYS, NVS_TOLD, Play, Told, ZMS,
+    ZMS_ERASING,
 };
 use any_backend::*;
 use arrayvec::ArrayString;
 use backend_api::{Backend, SetFault};
 use backend_nvs::NvsNumbers;
+use counted_sim::Views;
 use flash_map::{Area, Role};
 use flash_sim::{Bank, Bench, Kind, Steps};
 use named_items::{ItemStore, Numbers, value_of};
 use nvs_gc::Nvs;
 use setting_name::Name;
 use std::alloc::{AllocError, Global};
-use std::marker::Brand;
 use std::process::Abort;
-use std::sync::ledger::{Blank, Ledger};
+use std::sync::ledger::Ledger;
 use std::test::Fail;
 
 // Two sectors of 512 bytes that are erased but for these bytes from a place on.
-fn image(alloc: Global, at: usize, bytes: &[u8]) -> Result<Vec<u8>, AllocError>
+pub(crate) fn image(alloc: Global, at: usize, bytes: &[u8]) -> Result<Vec<u8>, AllocError>
     ensures { IfOk result (λ image. vec_len image ≡ 1024) }
 {
     let mut image = vec![in alloc; 255u8; 1024]?;
@@ -64,7 +63,7 @@ fn load<B: Bench>(
 }
 
 // An area for a store of this role on these bytes.
-fn bed<B: Bench>(
+pub(crate) fn bed<B: Bench>(
     alloc: Global,
     bench: &mut B,
     role: Role,
@@ -85,7 +84,7 @@ fn bed<B: Bench>(
 }
 
 // A backend on an area.
-fn mounted<B: Bench, L: Ledger>(
+pub(crate) fn mounted<B: Bench, L: Ledger>(
     alloc: Global,
     bench: &mut B,
     area: &Area,
@@ -100,7 +99,7 @@ fn mounted<B: Bench, L: Ledger>(
     Ok(backend)
 }
 
-fn put<B: Bench, L: Ledger>(
+pub(crate) fn put<B: Bench, L: Ledger>(
     backend: &mut AnyBackend,
     bench: &mut B,
     name: &Name,
@@ -220,7 +219,7 @@ fn shows<B: Bench, L: Ledger, R: Abort>(
 }
 
 // A backend on an area, behind these calls.
-fn carried<B: Bench, L: Ledger, R: Abort>(
+pub(crate) fn carried<B: Bench, L: Ledger, R: Abort>(
     rt: &R,
     alloc: Global,
     bench: &mut B,
@@ -260,68 +259,6 @@ fn plays<B: Bench, L: Ledger, R: Abort>(
     shows(rt, &backend, bench, &[], steps)
 }
 
-// Whether the last loss spells another record.
-fn by_chance<B: Bench, L: Ledger>(bench: &B, area: &Area, steps: &mut Steps<L>) -> bool
-    requires lawful { IsLawfulFor (B.device bench.now).banks area.now }
-    requires serves { any_serves area.now (geometry_of (B.device bench.now) area.now) }
-{
-    match bench.last_loss() {
-        Some(loss) => AnyBackend::chance(bench, area, loss, steps),
-        None => false,
-    }
-}
-
-// Loses power in a set after so many units.
-fn loses<B: Bench, L: Ledger, R: Abort>(
-    rt: &R,
-    backend: &mut AnyBackend,
-    bench: &mut B,
-    cut: &Cut,
-    units: u64,
-    steps: &mut Steps<L>,
-) -> Result<(), Fail>
-    requires { IsReady (B.device bench.old) backend.old }
-    ensures banks { OnOk result ((B.device bench.new).banks ≡ (B.device bench.old).banks) }
-{
-    let name = Name::read(cut.name)?;
-    if cut.value.is_empty() || cut.value.len() > 256 {
-        return Err(Fail::new("no value of a row"));
-    }
-    let start = bench.spent();
-    bench.arm(units);
-    let lost = put(backend, bench, &name, cut.value, steps);
-    let spent = bench.spent().saturating_sub(start);
-    assert_eq!(rt;
-        (lost, backend.is_up(), spent),
-        (Err(SetFault::PowerLost), false, units)
-    );
-    Ok(())
-}
-
-// The next mount spends so many units. What it finds.
-fn finds<B: Bench, L: Ledger, R: Abort>(
-    rt: &R,
-    alloc: Global,
-    bench: &mut B,
-    area: &Area,
-    cut: &Cut,
-    units: u64,
-    steps: &mut Steps<L>,
-) -> Result<(), Fail>
-    requires lawful { IsLawfulFor (B.device bench.old).banks area.now }
-    requires serves { any_serves area.now (geometry_of (B.device bench.old) area.now) }
-{
-    let chance = by_chance(bench, area, steps);
-    bench.restore();
-    let start = bench.spent();
-    let backend = mounted(alloc, bench, area, steps)?;
-    let spent = bench.spent().saturating_sub(start);
-    let name = Name::read(cut.name)?;
-    let got = backend.get(bench, &name, steps).unwrap_or(b"") == cut.left;
-    assert_eq!(rt; (chance, spent, got), (cut.chance, units, true));
-    Ok(())
-}
-
 // The rows of a store of this role on such a bank.
 fn of_role<B: Bench, L: Ledger, R: Abort>(
     rt: &R,
@@ -345,54 +282,9 @@ fn of_role<B: Bench, L: Ledger, R: Abort>(
     Ok(())
 }
 
-// The losses of one row, each on a new area.
-fn cuts_of_row<B: Bench, L: Ledger, R: Abort>(
-    rt: &R,
-    alloc: Global,
-    bench: &mut B,
-    role: Role,
-    kind: Kind,
-    unit: u32,
-    cut: &Cut,
-    steps: &mut Steps<L>,
-) -> Result<(), Fail>
-    requires kind { HasKind role kind }
-    requires unit { HasUnit role unit }
-    requires serves { serves_as role }
-{
-    for (units, mount) in cut.losses {
-        let image = image(alloc, 0, b"")?;
-        let area = bed(alloc, bench, role, kind, unit, image)?;
-        let mut backend = carried(rt, alloc, bench, &area, cut.calls, steps)?;
-        loses(rt, &mut backend, bench, cut, *units, steps)?;
-        finds(rt, alloc, bench, &area, cut, *mount, steps)?;
-    }
-    Ok(())
-}
-
-fn cuts_of_role<B: Bench, L: Ledger, R: Abort>(
-    rt: &R,
-    alloc: Global,
-    bench: &mut B,
-    role: Role,
-    kind: Kind,
-    unit: u32,
-    cuts: &[Cut],
-    steps: &mut Steps<L>,
-) -> Result<(), Fail>
-    requires kind { HasKind role kind }
-    requires unit { HasUnit role unit }
-    requires serves { serves_as role }
-{
-    for cut in cuts {
-        cuts_of_row(rt, alloc, bench, role, kind, unit, cut, steps)?;
-    }
-    Ok(())
-}
-
 // A name that was never set, on an area where `a` has so many bytes: that is told with no view of
 // the flash.
-fn is_absent<B: Views, L: Ledger, R: Abort>(
+pub(crate) fn is_absent<B: Views, L: Ledger, R: Abort>(
     rt: &R,
     alloc: Global,
     bench: &mut B,
@@ -466,7 +358,7 @@ fn tells<N: Numbers, S: ItemStore, B: Bench, L: Ledger, R: Abort>(
     Ok(())
 }
 
-fn among_strays<B: Bench, L: Ledger, R: Abort>(
+pub(crate) fn among_strays<B: Bench, L: Ledger, R: Abort>(
     rt: &R,
     alloc: Global,
     bench: &mut B,
@@ -479,7 +371,7 @@ fn among_strays<B: Bench, L: Ledger, R: Abort>(
 }
 
 // The rows of each store.
-fn of_each_role<B: Bench, L: Ledger, R: Abort>(
+pub(crate) fn of_each_role<B: Bench, L: Ledger, R: Abort>(
     rt: &R,
     alloc: Global,
     bench: &mut B,
@@ -493,46 +385,4 @@ fn of_each_role<B: Bench, L: Ledger, R: Abort>(
     of_role(rt, alloc, bench, fcb, erasing, 4, &FCB, steps)?;
     of_role(rt, alloc, bench, fcb, erasing, 8, &FCB_LONG, steps)?;
     of_role(rt, alloc, bench, fcb, erasing, 16, &FCB_LONGER, steps)
-}
-
-// The losses of each store.
-fn cuts_of_each_role<B: Bench, L: Ledger, R: Abort>(
-    rt: &R,
-    alloc: Global,
-    bench: &mut B,
-    steps: &mut Steps<L>,
-) -> Result<(), Fail> {
-    let (nvs, zms, fcb) = (Role::Nvs, Role::Zms, Role::Fcb);
-    let (erasing, rewritable) = (Kind::Erasing, Kind::Rewritable);
-    cuts_of_role(rt, alloc, bench, nvs, erasing, 4, &NVS_CUTS, steps)?;
-    cuts_of_role(rt, alloc, bench, zms, rewritable, 16, &ZMS_CUTS, steps)?;
-    cuts_of_role(rt, alloc, bench, zms, erasing, 16, &ZMS_ERASING_CUTS, steps)?;
-    cuts_of_role(rt, alloc, bench, fcb, erasing, 4, &FCB_CUTS, steps)
-}
-
-fn exercise<B: Views, L: Ledger, R: Abort>(
-    rt: &R,
-    alloc: Global,
-    bench: &mut B,
-    blank: Blank,
-) -> Result<(), Fail>
-    requires name { blank.name ≡ L.name }
-    requires parts { blank.parts ≡ L.parts }
-    requires some { 0 < L.parts }
-{
-    let mut steps = Steps::<L>::new(blank);
-    of_each_role(rt, alloc, bench, &mut steps)?;
-    cuts_of_each_role(rt, alloc, bench, &mut steps)?;
-    among_strays(rt, alloc, bench, &mut steps)?;
-    let (nvs, zms) = (Role::Nvs, Role::Zms);
-    let (erasing, rewritable) = (Kind::Erasing, Kind::Rewritable);
-    is_absent(rt, alloc, bench, nvs, erasing, 4, 0, b"a", &mut steps)?;
-    is_absent(rt, alloc, bench, zms, rewritable, 16, 1, b"c", &mut steps)
-}
-
-#[test]
-fn settings_over_each_store(rt: HostRuntime) -> Result<(), Fail> {
-    let alloc = rt.alloc();
-    let mut sim = CountedSim::new(alloc);
-    exercise::<CountedSim, Brand, HostRuntime>(&rt, alloc, &mut sim, Blank::new(1))
 }

@@ -1,20 +1,20 @@
 // Entries with their values.
-ghost use Rattle.std.specs.Prelude.{◌≡◌, ◌+◌, ◌-◌, ◌*◌, ◌/◌, ◌%◌, ◌^◌, ◌<◌, ◌≤◌, ◌∷◌, [], ◌++◌, nat_le, length, replicate, is_err, IsTrue, IsSome, OnOk, OnErr, if◌then◌else◌};
+ghost use Rattle.std.specs.Prelude.{◌≡◌, ◌+◌, ◌-◌, ◌/◌, ◌^◌, ◌<◌, ◌≤◌, ◌∷◌, [], ◌++◌, nat_le, length, replicate, is_err, OnOk, OnErr, if◌then◌else◌};
 ghost use Rattle.std.specs.Int.{w32, to_le_bytes};
 ghost use Rattle.flash_sim.specs.Device.{overwritten};
-ghost use Rattle.flash_map.specs.Area.{sector_size, sector_bytes, OthersStay};
+ghost use Rattle.flash_map.specs.Area.{sector_bytes, OthersStay};
 ghost use Rattle.flash_map.specs.Units.{padded, padded_bytes};
 ghost use Rattle.flash_map.specs.Pieces.{LosesWithin};
 ghost use Rattle.flash_map.specs.Spending.{SpendsBetween};
 ghost use Rattle.flash_map.specs.Touches.{Touches};
 ghost use Rattle.flash_map.specs.declared.pieces.TheConstants.{PIECE};
-ghost use Rattle.zms_cycle.specs.Areas.{IsZmsSector, HasSlot, CanPutAt};
-ghost use Rattle.zms_cycle.specs.Changes.{with_value, HasPart, MarksDone};
+ghost use Rattle.zms_cycle.specs.Areas.{IsZmsSector};
+ghost use Rattle.zms_cycle.specs.Changes.{with_value, MarksDone};
 ghost use Rattle.zms_cycle.specs.OnArea.{IsUsedOn, IsSoundOn, FitsOn, free_on, Makes, Keeps, Adds, next_guard, HasPlace, BytesEnd, EntryEnds};
 ghost use Rattle.zms_cycle.specs.States.{IsOpenedOn};
 ghost use Rattle.zms_cycle.specs.Entries.{value_entry, done_entry};
 ghost use Rattle.zms_cycle.specs.declared.reading.TheConstants.{SLOT};
-ghost use Rattle.zms_cycle.specs.Sector.{cycle_of, valid_slots, data_len, cost, free, is_sound, fits};
+ghost use Rattle.zms_cycle.specs.Sector.{data_len, free};
 
 use crate::ZEntry;
 use crate::guarding::put_slot;

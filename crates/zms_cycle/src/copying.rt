@@ -1,19 +1,17 @@
 // Copying an entry into another sector.
-ghost use Rattle.std.specs.Prelude.{◌≡◌, ◌≢◌, ◌+◌, ◌*◌, ◌/◌, ◌%◌, ◌<◌, ◌≤◌, ◌∷◌, [], length, is_err, slice_range, Some, IsTrue, IsSome, OnOk, OnErr};
+ghost use Rattle.std.specs.Prelude.{◌≡◌, ◌≢◌, ◌+◌, ◌/◌, ◌<◌, ◌≤◌, ◌∷◌, [], length, is_err, Some, OnOk};
 ghost use Rattle.flash_sim.specs.Device.{overwritten};
 ghost use Rattle.flash_map.specs.Area.{sector_size, sector_bytes, OthersStay};
 ghost use Rattle.flash_map.specs.Copies.{source};
-ghost use Rattle.flash_map.specs.Pieces.{LosesWithin};
-ghost use Rattle.flash_map.specs.Spending.{SpendsBetween};
 ghost use Rattle.flash_map.specs.Touches.{Touches};
 ghost use Rattle.flash_map.specs.declared.copies.TheConstants.{COPY_PIECE};
 ghost use Rattle.flash_map.specs.Units.{padded, padded_bytes};
-ghost use Rattle.zms_cycle.specs.Areas.{IsZmsSector, HasSlot, CanPutAt};
-ghost use Rattle.zms_cycle.specs.Changes.{with_value, HasPart};
+ghost use Rattle.zms_cycle.specs.Areas.{IsZmsSector, HasSlot};
+ghost use Rattle.zms_cycle.specs.Changes.{with_value};
 ghost use Rattle.zms_cycle.specs.OnArea.{IsUsedOn, IsSoundOn, IsSource, HasPlace, BytesEnd, EntryEnds, entry_len_on, free_on, Copies};
 ghost use Rattle.zms_cycle.specs.States.{IsOpenedOn};
 ghost use Rattle.zms_cycle.specs.Entries.{moved_entry};
-ghost use Rattle.zms_cycle.specs.Sector.{slot_of, cycle_of, valid_slots, entry_in, entry_len, pair_at, value_of, data_len, cost, free, is_sound};
+ghost use Rattle.zms_cycle.specs.Sector.{slot_of, entry_in, entry_len, value_of, data_len, cost, free};
 
 use crate::appending::{long_tail, short_tail};
 use crate::guarding::{put_slot, slot_start};

@@ -1,5 +1,5 @@
 // Single units of a sector: the guard, and an entry above its guard.
-ghost use Rattle.std.specs.Prelude.{◌≡◌, ◌⊎◌, ◌+◌, ◌-◌, ◌*◌, ◌<◌, ◌≤◌, ◌∷◌, [], false, length, is_err, Some, OnOk, OnErr};
+ghost use Rattle.std.specs.Prelude.{◌≡◌, ◌⊎◌, ◌+◌, ◌-◌, ◌*◌, ◌<◌, ◌∷◌, [], false, length, is_err, Some, OnOk, OnErr};
 ghost use Rattle.flash_map.specs.Area.{IsLawfulArea, sector_size, sector_bytes, OthersStay};
 ghost use Rattle.flash_map.specs.Pieces.{LosesWithin};
 ghost use Rattle.flash_map.specs.Spending.{SpendsBetween};

@@ -1,11 +1,11 @@
-use Rattle.std.proofs.Common.{◌≡◌, ◌+◌, ◌<◌, ◌∷◌, [], ℕ, List, false, Some, None, Err, refl, sym, ap, subst, ◌∙◌, inl, inr, arith}
+use Rattle.std.proofs.Common.{◌≡◌, ◌+◌, ◌<◌, ◌≤◌, ◌∷◌, [], ℕ, List, length, false, Some, None, Err, refl, sym, ap, subst, ◌∙◌, inl, inr, arith}
 use Rattle.std.specs.FinMap.{get, insert}
 use Rattle.std.proofs.lemmas.Bool.{false≢true}
 use Rattle.flash_sim.specs.Device.{Device}
 use Rattle.flash_map.specs.declared.area.Area.{Area}
 use Rattle.flash_map.specs.declared.area.Geometry.{Geometry}
 use Rattle.flash_map.specs.declared.faults.WriteFault.{WriteFault}
-use Rattle.flash_map.specs.Area.{geometry_of, value_limit}
+use Rattle.flash_map.specs.Area.{geometry_of, sectors_of, value_limit}
 use Rattle.flash_map.specs.Faults.{write_lost}
 use Rattle.item_laws.specs.Items.{Items}
 use Rattle.backend_api.specs.declared.backend.SetFault.{SetFault}
@@ -23,6 +23,7 @@ use Rattle.named_items.proofs.SpendSteps.{spends-some, one-call, spends-both, ca
 use Rattle.backend_nvs.specs.Numbers.{count_of, numbers_in, settings_of, nvs_counted, nvs_room, nvs-counts, nvs-numbers, too_many}
 use Rattle.backend_nvs.proofs.CountSteps.{few-free, count-leaves, count-refused, raised-same, raised-kept, raised-inside, raised-free}
 use Rattle.flash_map.proofs.Touches.{then}
+use Rattle.named_items.specs.Limits.{limit-least}
 use Rattle.named_items.proofs.NameLemmas.{get-nowhere, nowhere-none}
 use Rattle.backend_nvs.proofs.putting.add_name.Goals as goal
 
@@ -214,3 +215,20 @@ returns-in-Err-NoSpace-clause-ends g c =
       cut = λ lost. absurd {A = IsPut (settings_of own before) (settings_of own mid) c.args.name.now c.args.value.now} (false≢true (sym still ∙ lost));
       clean = λ kept. subst (HasNoStrays (numbers_in own)) (sym ended.items) c.requires.here.clean;
     }
+
+-- a count fits a sector
+pub unreachable-requires : goal.unreachable-requires
+unreachable-requires g c =
+    let d : Device = g.F.Flash.device c.args.flash.now in
+    let b : Device = g.F.Flash.device c.write.new.flash in
+    let own : Area = g.S.ItemStore.mounted_on c.args.store.now in
+    let k : Geometry = geometry_of d own in
+    let bytes : List ℕ = c.bytes_of_count-bytes.result in
+    let ended = subst (λ (w : WriteFault). ends.WriteEnds {T = Unit {0}} (g.S.ItemStore.price k) (g.S.ItemStore.cap k) own.sectors d b (on g.S.ItemStore.contents d own) (on g.S.ItemStore.contents b own) 0x8000 bytes (Err w)) c.in-Err-TooLong.field-0-is c.in-Err-TooLong.ensures.ends in
+    let two : length bytes ≡ 2 = c.bytes_of_count-bytes.ensures.two in
+    let least : 256 ≤ value_limit own = limit-least own in
+    let short : length bytes ≤ value_limit own = omega arith in
+    let serves = g.met.S.ItemStore.stands_serves c.args.store.now k (sectors_of d own) c.requires.here.up in
+    let fits : g.S.ItemStore.price k (length bytes) ≤ g.S.ItemStore.cap k = g.met.S.ItemStore.fits d own (length bytes) c.requires.here.lawful serves short in
+    let long : g.S.ItemStore.cap k < g.S.ItemStore.price k (length bytes) = ended.0 in
+    omega arith

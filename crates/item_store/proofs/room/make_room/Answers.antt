@@ -51,7 +51,7 @@ returns-in_err-place-clause-stops g c =
     let area : Area = c.args.area.now in
     let law : IsKind (g.T.SlotSectors.kind (geometry_of a area)) = g.met.T.SlotSectors.lawful (geometry_of a area) (unit_is a area (g.met.F.Flash.is_lawful c.args.flash.now) c.requires.stands.area.lawful) in
     let did = c.in_err-place.ensures in
-    on_err c.from_residual.result (stops_now g.T.SlotSectors.role g.T.SlotSectors.kind g.T.SlotSectors.kept a d area c.args.current.now c.args.opened.now c.loop-round.current c.loop-round.opened c.args.len (c.loop-round._round - 1) law (g.met.F.Flash.is_lawful c.args.flash.now) c.requires.stands c.loop-round.invariant.searching (g.met.F.Flash.is_lawful c.loop-round.flash) (sym c.fits.ensures ∙ c.if-fits.false) (g.F.Flash.device c.round.new.flash) (omega arith) did.items did.list_lost did.spends_lost)
+    on_err c.from_residual.result (stops_now g.T.SlotSectors.role g.T.SlotSectors.kind g.T.SlotSectors.kept a d area c.args.current.now c.args.opened.now c.loop-round.current c.loop-round.opened c.args.len (c.loop-round._round - 1) law (g.met.F.Flash.is_lawful c.args.flash.now) c.requires.stands c.loop-round.invariant.searching (g.met.F.Flash.is_lawful c.loop-round.flash) (sym c.fits.ensures ∙ c.if-fits.false) (g.F.Flash.device c.round.new.flash) (omega arith) did.items did.ends.list_lost did.ends.spends_lost)
 
 pub loop-round-preserved : goal.loop-round-preserved
 loop-round-preserved g c =
@@ -66,10 +66,10 @@ loop-round-preserved g c =
     let law_here : IsKind (g.T.SlotSectors.kind (geometry_of d area)) = g.met.T.SlotSectors.lawful (geometry_of d area) (unit_is d area (g.met.F.Flash.is_lawful c.loop-round.flash) standing.area.lawful) in
     record {
       cached = cache-follows g.T.SlotSectors.kind d e area c.loop-round.current c.in_ok-place.place did.touches.banks
-          (rest_on g.T.SlotSectors.role g.T.SlotSectors.kind g.T.SlotSectors.kept d area c.loop-round.current c.loop-round.opened law_here (g.met.F.Flash.is_lawful c.loop-round.flash) standing) did.turns did.opened
+          (rest_on g.T.SlotSectors.role g.T.SlotSectors.kind g.T.SlotSectors.kept d area c.loop-round.current c.loop-round.opened law_here (g.met.F.Flash.is_lawful c.loop-round.flash) standing) did.ends.turns did.opened
           c.loop-round.cache c.follow_round.new.cache c.loop-round.invariant.cached c.follow_round.ensures;
       searching = subst (λ (n : ℕ). IsSearching g.T.SlotSectors.role g.T.SlotSectors.kind g.T.SlotSectors.kept a e area c.in_ok-place.place c.round.new.opened c.args.len n) same
-          (searching_more g.T.SlotSectors.role g.T.SlotSectors.kind g.T.SlotSectors.kept a d area c.args.current.now c.args.opened.now c.loop-round.current c.loop-round.opened c.args.len (c.loop-round._round - 1) law (g.met.F.Flash.is_lawful c.args.flash.now) c.requires.stands c.loop-round.invariant.searching (g.met.F.Flash.is_lawful c.loop-round.flash) (sym c.fits.ensures ∙ c.if-fits.false) e c.in_ok-place.place c.round.new.opened did.touches did.opened did.rested did.kept did.turns did.spends);
+          (searching_more g.T.SlotSectors.role g.T.SlotSectors.kind g.T.SlotSectors.kept a d area c.args.current.now c.args.opened.now c.loop-round.current c.loop-round.opened c.args.len (c.loop-round._round - 1) law (g.met.F.Flash.is_lawful c.args.flash.now) c.requires.stands c.loop-round.invariant.searching (g.met.F.Flash.is_lawful c.loop-round.flash) (sym c.fits.ensures ∙ c.if-fits.false) e c.in_ok-place.place c.round.new.opened did.touches did.opened did.ends.rested did.ends.kept did.ends.turns did.ends.spends);
       written = λ written. to_geometry (λ u. IsWritten (g.T.SlotSectors.kind u) (sectors_of d area) → IsWritten (g.T.SlotSectors.kind u) (sectors_of e area)) a d area c.loop-round.invariant.searching.touches.banks did.written (c.loop-round.invariant.written written);
     }
 

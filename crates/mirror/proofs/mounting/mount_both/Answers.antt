@@ -1,8 +1,8 @@
-use Rattle.std.proofs.Common.{◌≡◌, ◌<◌, ℕ, Bool, true, false, List, [], ◌∷◌, length, Err, Some, None, sym, ap, subst, ◌∙◌}
+use Rattle.std.proofs.Common.{◌≡◌, ℕ, Bool, false, List, [], ◌∷◌, Err, None, sym, ap, subst, ◌∙◌}
 use Rattle.std.specs.FinMap as maps
 use Rattle.std.specs.List.{slice_get}
 use Rattle.flash_sim.specs.declared.flash.Bank.{Bank}
-use Rattle.flash_map.specs.Area.{AreApart, geometry_of, sectors_of}
+use Rattle.flash_map.specs.Area.{AreApart, sectors_of}
 use Rattle.flash_map.specs.Lawful.{IsLawfulFor}
 use Rattle.flash_map.specs.On.{on}
 use Rattle.flash_map.proofs.Apart.{same_apart}
@@ -84,24 +84,28 @@ area_at-requires-2 g c = store-within c.args.map.now c.other_place-other.result 
 pub area_at-requires-in-Ok-opened : goal.area_at-requires-in-Ok-opened
 area_at-requires-in-Ok-opened g c = store-within c.args.map.now c.other_place-other.result (ap (is_store_at c.args.map.now) c.other_place-other.ensures ∙ (other-is g.K.Backend.serves c.args.map.now (g.F.Flash.device c.args.flash.now) c.requires.map c.args.place).stores)
 
-pub open_other-opened-requires-clause-lawful : goal.open_other-opened-requires-clause-lawful
-open_other-opened-requires-clause-lawful g c =
-    subst (λ (b : List Bank). IsLawfulFor b c.area_at-2.result) (sym c.in-Ok.ensures.touches.banks) (c.requires.map.lawful.each c.other_place-other.result c.area_at-2.result c.area_at-2.ensures)
-
-pub open_other-opened-requires-clause-role : goal.open_other-opened-requires-clause-role
-open_other-opened-requires-clause-role g c =
-    c.requires.map.roles c.other_place-other.result c.area_at-2.result c.area_at-2.ensures (store-of c.args.map.now c.other_place-other.result c.area_at-2.result c.area_at-2.ensures (ap (is_store_at c.args.map.now) c.other_place-other.ensures ∙ (other-is g.K.Backend.serves c.args.map.now (g.F.Flash.device c.args.flash.now) c.requires.map c.args.place).stores))
-
-pub open_other-opened-requires-clause-serves : goal.open_other-opened-requires-clause-serves
-open_other-opened-requires-clause-serves g c =
-    (map-still g.K.Backend.serves c.args.map.now (g.F.Flash.device c.args.flash.now) c.requires.map (g.F.Flash.device c.mount_side-side.new.flash) c.in-Ok.ensures.touches.banks).served c.other_place-other.result c.area_at-2.result c.area_at-2.ensures
-    (store-of c.args.map.now c.other_place-other.result c.area_at-2.result c.area_at-2.ensures (ap (is_store_at c.args.map.now) c.other_place-other.ensures ∙ (other-is g.K.Backend.serves c.args.map.now (g.F.Flash.device c.args.flash.now) c.requires.map c.args.place).stores))
-
-pub open_other-opened-requires-clause-apart : goal.open_other-opened-requires-clause-apart
-open_other-opened-requires-clause-apart g c =
+pub open_other-opened-requires-clause-other : goal.open_other-opened-requires-clause-other
+open_other-opened-requires-clause-other g c =
     let others = other-is g.K.Backend.serves c.args.map.now (g.F.Flash.device c.args.flash.now) c.requires.map c.args.place in
-    subst (λ (x : Area). AreApart c.area_at-2.result x) (sym (c.in-Ok.ensures.ends.3.here ∙ c.in-Ok.ensures.ends.1))
-    (c.requires.map.lawful.apart c.other_place-other.result c.args.place c.area_at-2.result c.area_at.result c.area_at-2.ensures c.area_at.ensures (λ e. others.differs (sym c.other_place-other.ensures ∙ e)))
+    let m : Device = g.F.Flash.device c.mount_side-side.new.flash in
+    record {
+      lawful_trusted = subst (λ (x : Area). IsLawfulFor (g.F.Flash.device c.mount_side-side.new.flash).banks x) (sym c.in-Ok.ensures.ends.3.here) c.in-Ok.ensures.ends.3.lawful;
+      stands_trusted = c.in-Ok.ensures.ends.3.up;
+      lawful = subst (λ (b : List Bank). IsLawfulFor b c.area_at-2.result) (sym c.in-Ok.ensures.touches.banks) (c.requires.map.lawful.each c.other_place-other.result c.area_at-2.result c.area_at-2.ensures);
+      role = c.requires.map.roles c.other_place-other.result c.area_at-2.result c.area_at-2.ensures (store-of c.args.map.now c.other_place-other.result c.area_at-2.result c.area_at-2.ensures (ap (is_store_at c.args.map.now) c.other_place-other.ensures ∙ (other-is g.K.Backend.serves c.args.map.now (g.F.Flash.device c.args.flash.now) c.requires.map c.args.place).stores));
+      served =
+          (map-still g.K.Backend.serves c.args.map.now (g.F.Flash.device c.args.flash.now) c.requires.map (g.F.Flash.device c.mount_side-side.new.flash) c.in-Ok.ensures.touches.banks).served c.other_place-other.result c.area_at-2.result c.area_at-2.ensures
+          (store-of c.args.map.now c.other_place-other.result c.area_at-2.result c.area_at-2.ensures (ap (is_store_at c.args.map.now) c.other_place-other.ensures ∙ (other-is g.K.Backend.serves c.args.map.now (g.F.Flash.device c.args.flash.now) c.requires.map c.args.place).stores));
+      apart =
+          subst (λ (x : Area). AreApart c.area_at-2.result x) (sym (c.in-Ok.ensures.ends.3.here ∙ c.in-Ok.ensures.ends.1))
+          (c.requires.map.lawful.apart c.other_place-other.result c.args.place c.area_at-2.result c.area_at.result c.area_at-2.ensures c.area_at.ensures (λ e. others.differs (sym c.other_place-other.ensures ∙ e)));
+      version =
+          c.requires.map.lawful.versions c.other_place-other.result c.args.place c.area_at-2.result c.area_at.result c.area_at-2.ensures c.area_at.ensures
+          ∙ sym (ap (λ (x : Area). x.version) (c.in-Ok.ensures.ends.3.here ∙ c.in-Ok.ensures.ends.1));
+      fits =
+          subst (λ (x : Area). FitsOn g.K.Backend.room g.K.Priced.prices m c.area_at-2.result (on g.K.Backend.contents m x)) (sym c.in-Ok.ensures.ends.3.here)
+          (c.in-Ok-look_for_both.ensures.1 c.area_at-2.result c.area_at-2.ensures);
+    }
 
 pub returns-in-Ok-opened-clause-touches : goal.returns-in-Ok-opened-clause-touches
 returns-in-Ok-opened-clause-touches g c trusted other there beside =
@@ -329,14 +333,3 @@ returns-in-Err-opened-clause-ends g c trusted other there beside =
     other-stops g.K.Backend.damage g.K.Backend.contents g.K.Backend.rests g.K.Backend.mounted_on g.K.Backend.stands g.K.Backend.room g.K.Priced.prices c.args.map.now d m trusted other c.args.place one e two c.area_at-2.result (on g.K.Backend.contents e c.area_at-2.result ≡ on g.K.Backend.contents m (g.K.Backend.mounted_on c.in-Ok.side.store)) c.in-Err-opened.fault was c.in-Err-opened.ensures.ends
     (subst (λ (x : Map). FitsAt g.K.Backend.room g.K.Priced.prices c.args.map.now m c.args.place x) settings (subst (λ (n : ℕ). FitsAt g.K.Backend.room g.K.Priced.prices c.args.map.now m n (on g.K.Backend.contents m c.in-Ok.side.area)) c.in-Ok.ensures.ends.2 fits.0))
     (subst (λ (x : Map). FitsAt g.K.Backend.room g.K.Priced.prices c.args.map.now m (other_place c.args.map.now c.args.place) x) settings (subst (λ (n : ℕ). FitsAt g.K.Backend.room g.K.Priced.prices c.args.map.now m n (on g.K.Backend.contents m c.in-Ok.side.area)) c.other_place-other.ensures fits.1))
-
-pub open_other-opened-requires-clause-version : goal.open_other-opened-requires-clause-version
-open_other-opened-requires-clause-version g c =
-    c.requires.map.lawful.versions c.other_place-other.result c.args.place c.area_at-2.result c.area_at.result c.area_at-2.ensures c.area_at.ensures
-    ∙ sym (ap (λ (x : Area). x.version) (c.in-Ok.ensures.ends.3.here ∙ c.in-Ok.ensures.ends.1))
-
-pub open_other-opened-requires-clause-fits : goal.open_other-opened-requires-clause-fits
-open_other-opened-requires-clause-fits g c =
-    let m : Device = g.F.Flash.device c.mount_side-side.new.flash in
-    subst (λ (x : Area). FitsOn g.K.Backend.room g.K.Priced.prices m c.area_at-2.result (on g.K.Backend.contents m x)) (sym c.in-Ok.ensures.ends.3.here)
-    (c.in-Ok-look_for_both.ensures.1 c.area_at-2.result c.area_at-2.ensures)

@@ -1,4 +1,4 @@
-use Rattle.std.proofs.Common.{◌≡◌, ℕ, false, List, [], ◌∷◌, sym, ap, subst, ◌∙◌}
+use Rattle.std.proofs.Common.{false, [], ◌∷◌, sym, subst}
 use Rattle.std.specs.FinMap as maps
 use Rattle.flash_sim.specs.Device.{Device}
 use Rattle.flash_map.proofs.Touches.{then}
@@ -6,12 +6,10 @@ use Rattle.flash_map.specs.declared.area.Area.{Area}
 use Rattle.flash_map.specs.Area.{geometry_of, AreApart}
 use Rattle.flash_map.specs.Lawful.{IsLawfulFor}
 use Rattle.flash_map.specs.On.{on, HoldsOn}
-use Rattle.flash_map.specs.Spending.{SpendsAtMost}
 use Rattle.flash_map.specs.Touches.{Touches}
-use Rattle.backend_api.specs.Map.{Map}
-use Rattle.backend_api.specs.Room.{mount_units}
 use Rattle.migrator.proofs.Moving.{still}
 use Rattle.mirror.specs.Mounting.{HoldsMap}
+use Rattle.mirror.proofs.RepairSteps.{may-copy-still}
 use Rattle.mirror.proofs.SideSteps.{is-due, opened-first, opened-then}
 use Rattle.mirror.proofs.mounting.open_other.Goals as goal
 

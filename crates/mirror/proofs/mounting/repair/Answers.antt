@@ -1,4 +1,4 @@
-use Rattle.std.proofs.Common.{◌≡◌, Bool, ℕ, [], ◌∷◌, ap, subst, sym, ◌∙◌}
+use Rattle.std.proofs.Common.{Bool, ℕ, [], ◌∷◌, subst, sym}
 use Rattle.flash_sim.specs.Device.{Device}
 use Rattle.flash_map.specs.Area.{geometry_of, sectors_of, value_limit}
 use Rattle.flash_map.specs.On.{on}

@@ -130,7 +130,7 @@ returns-in-Err-PowerLost-clause-spends g c =
     let ends : PutEnds {T = Unit {0}} d e ring c.put.new.ring c.as_slice.result.now 0 1 (Err PowerLost) = rw c.in-Err-PowerLost.field-0-is at c.in-Err-PowerLost.ensures.ends in
     record {
       exact = tt;
-      no_more = subst (λ (b : List ℕ). SpendsUpToCost d e ring b 0) body ends.1;
+      no_more = λ stopped. subst (λ (b : List ℕ). SpendsUpToCost d e ring b 0) body ends.1;
       few = c.in-Err-PowerLost.ensures.at_most;
     }
 

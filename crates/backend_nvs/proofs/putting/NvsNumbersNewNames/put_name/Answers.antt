@@ -18,7 +18,7 @@ put_new-requires-clause-place g c =
     let before : Items = on g.S.ItemStore.contents d own in
     record {
       absent = c.requires.absent;
-      few = few-free (settings_of own before) c.args.name.now (free-few (value_limit own) before c.requires.here.clean c.in-Some.free c.in-Some.ensures.0 c.in-Some.ensures.1)  -- no place is free;
+      few = few-free (settings_of own before) c.args.name.now (free-few (value_limit own) before c.requires.here.clean c.in-Some.free c.in-Some.ensures.0 c.in-Some.ensures.1);
       inside = c.in-Some.ensures.0;
       home = refl;
       free = c.in-Some.ensures.1;

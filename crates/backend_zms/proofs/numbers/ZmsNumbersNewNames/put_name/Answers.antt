@@ -25,8 +25,8 @@ put_new-requires-clause-place g c =
     }
 
 -- there is none
-pub returns-in-None-clause-ends : goal.returns-in-None-clause-ends
-returns-in-None-clause-ends g c =
+pub returns-clause-ends : goal.returns-clause-ends
+returns-clause-ends g c =
     let area : Area = g.S.ItemStore.mounted_on c.args.store.now in
     let before : Items = on g.S.ItemStore.contents (g.F.Flash.device c.args.flash.now) area in
     record {
@@ -35,8 +35,8 @@ returns-in-None-clause-ends g c =
       clean = λ kept. c.requires.here.clean;
     }
 
-pub returns-in-None-clause-store : goal.returns-in-None-clause-store
-returns-in-None-clause-store g c =
+pub returns-clause-store : goal.returns-clause-store
+returns-clause-store g c =
     let d : Device = g.F.Flash.device c.args.flash.now in
     let area : Area = g.S.ItemStore.mounted_on c.args.store.now in
     record {

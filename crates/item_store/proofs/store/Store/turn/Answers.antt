@@ -25,11 +25,11 @@ returns-clause-stands g c =
     let did = c.in_ok-self.ensures in
     let at : StandsAt g.T.SlotSectors.role g.T.SlotSectors.kind g.T.SlotSectors.kept d area c.in_ok-self.field-0 c.round.new.opened =
     stands g.T.SlotSectors.role g.T.SlotSectors.kind g.T.SlotSectors.kept a d area c.in_ok-self.field-0 c.round.new.opened law did.touches.banks on.area
-    (subst (λ (p : ℕ). AtRest (g.T.SlotSectors.kind (geometry_of a area)).reading (sectors_of d area) p) (sym did.opened) did.rested)
-    (subst (λ (p : ℕ). c.round.new.opened ≡ g.T.SlotSectors.kept (geometry_of a area) (sector_at (sectors_of d area) p)) (sym did.opened) did.kept) in
+    (subst (λ (p : ℕ). AtRest (g.T.SlotSectors.kind (geometry_of a area)).reading (sectors_of d area) p) (sym did.opened) did.ends.rested)
+    (subst (λ (p : ℕ). c.round.new.opened ≡ g.T.SlotSectors.kept (geometry_of a area) (sector_at (sectors_of d area) p)) (sym did.opened) did.ends.kept) in
     let before = rests g.T.SlotSectors.kind g.T.SlotSectors.role a area c.args.self.now.current law (g.met.F.Flash.is_lawful c.args.flash.now) on.area on.undamaged on.current on.rested in
     let cached : IsCacheOn g.T.SlotSectors.kind d area c.follow_round.new.cache =
-    cache-follows g.T.SlotSectors.kind a d area c.args.self.now.current c.in_ok-self.field-0 did.touches.banks before did.turns did.opened c.args.self.now.cache c.follow_round.new.cache on.cached c.follow_round.ensures in
+    cache-follows g.T.SlotSectors.kind a d area c.args.self.now.current c.in_ok-self.field-0 did.touches.banks before did.ends.turns did.opened c.args.self.now.cache c.follow_round.new.cache on.cached c.follow_round.ensures in
     stands_with g.T.SlotSectors.role g.T.SlotSectors.kind g.T.SlotSectors.kept d area c.in_ok-self.field-0 c.round.new.opened c.follow_round.new.cache at cached
 
 pub follow_round-requires-clause-area : goal.follow_round-requires-clause-area
@@ -50,7 +50,7 @@ follow_round-requires-clause-inside g c =
 pub returns-clause-ends : goal.returns-clause-ends
 returns-clause-ends g c =
     let did = c.in_ok-self.ensures in
-    record { used = c.requires.used; turns = did.turns; units = did.spends }
+    record { used = c.requires.used; turns = did.ends.turns; units = did.ends.spends }
 
 pub returns-in_err-self-clause-ends : goal.returns-in_err-self-clause-ends
 returns-in_err-self-clause-ends g c =
@@ -58,4 +58,4 @@ returns-in_err-self-clause-ends g c =
     let area : Area = c.args.self.now.area in
     let did = c.in_err-self.ensures in
     turn-stops (g.T.SlotSectors.kind (geometry_of a area)) a (g.F.Flash.device c.round.new.flash) area c.args.self.now.current c.from_residual.result c.from_residual.ensures.0
-    (record { used = c.requires.used; list = did.list_lost; bound = did.spends_lost })
+    (record { used = c.requires.used; list = did.ends.list_lost; bound = did.ends.spends_lost })

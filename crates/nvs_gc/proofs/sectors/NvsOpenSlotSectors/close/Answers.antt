@@ -1,9 +1,10 @@
-use Rattle.std.proofs.Common.{rules, ◌≡◌, ℕ, List, ◌⊎◌, sym, ap, ◌∙◌, inl, inr}
+use Rattle.std.proofs.Common.{◌≡◌, ℕ, List, ◌⊎◌, sym, ap, ◌∙◌, inl, inr}
 use Rattle.std.proofs.lemmas.Bool.{false≢true}
 use Rattle.std.proofs.lemmas.Result.{on_ok_weaker, on_err_weaker}
 use Rattle.flash_sim.specs.Device.{Device}
 use Rattle.flash_map.specs.declared.area.Area.{Area}
 use Rattle.flash_map.specs.Area.{unit_of, sectors_of, sector_at, ChangesOnly}
+use Rattle.flash_map.proofs.SpendingBounds.{between_exact, between_most}
 use Rattle.nvs_store.specs.Scans.{ClosesAt}
 use Rattle.item_store.specs.Steps.{Keeps, Closes}
 use Rattle.item_store.proofs.Areas.{only_none}
@@ -40,6 +41,12 @@ returns-clause-ends g c = record {
       let area : Area = c.args.area.now in
       on_err_weaker c.put_close.result (λ h. cut_closes (unit_of a area) (sectors_of a area) (sectors_of e area) c.args.place h (λ at. closes (unit_of a area) (sector_at (sectors_of a area) c.args.place) (sector_at (sectors_of e area) c.args.place) c.requires.used at.closes)) c.put_close.ensures.lost;
   blank_lost = on_err_weaker c.put_close.result (λ h blank. absurd (false≢true (sym c.requires.used ∙ blank))) c.put_close.ensures.lost;
-  spends = search rules;
-  spends_lost = search rules;
+  spends =
+      let a : Device = g.F.Flash.device c.args.flash.now in
+      let e : Device = g.F.Flash.device c.put_close.new.flash in
+      on_ok_weaker c.put_close.result (λ h. between_exact a e _ h) c.put_close.ensures.spent;
+  spends_lost =
+      let a : Device = g.F.Flash.device c.args.flash.now in
+      let e : Device = g.F.Flash.device c.put_close.new.flash in
+      on_err_weaker c.put_close.result (λ h. between_most a e _ h) c.put_close.ensures.spent_at_most;
 }

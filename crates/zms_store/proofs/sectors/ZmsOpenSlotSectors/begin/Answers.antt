@@ -4,7 +4,7 @@ use Rattle.flash_sim.specs.Device.{Device}
 use Rattle.flash_map.specs.declared.area.Area.{Area}
 use Rattle.flash_map.specs.declared.area.Geometry.{Geometry}
 use Rattle.flash_map.specs.Area.{geometry_of, sectors_of, sector_at}
-use Rattle.item_store.proofs.Areas.{large_there}
+use Rattle.item_store.proofs.Areas.{large_there, only_none}
 use Rattle.zms_format.proofs.StepLemmas.{begins_as, begins_empty, begin_cut, begin_room}
 use Rattle.flash_map.specs.declared.area.Role.TheVariants.{Zms as zms_role}
 use Rattle.std.specs.Prelude.{IsSome, is_some}
@@ -23,7 +23,9 @@ no_cycle (Some x) kept some cycle is none = absurd (false≢true (sym none ∙ i
 
 pub returns-then-is_some-clause-ends : goal.returns-then-is_some-clause-ends
 returns-then-is_some-clause-ends g c = record {
-  only = search rules;
+  only =
+      let sectors = sectors_of (g.F.Flash.device c.args.flash.now) c.args.area.now in
+      only_none sectors sectors c.args.place refl;
   begins =
       let a : Device = g.F.Flash.device c.args.flash.now in
       let area : Area = c.args.area.now in

@@ -1,4 +1,6 @@
-// A flash in memory that counts its views, also where steps have no bytes.
+//! A flash in memory that counts its views, for tests.
+#![tactic(auto)]
+
 ghost use Rattle.flash_sim.specs.FlatSim.{device_of};
 
 use flash_sim::{At, Bank, Bench, Flash, FlatSim, Loss, NoMemory, PowerLost, Steps};
@@ -8,6 +10,7 @@ use std::sync::ledger::Ledger;
 
 /// A bench that tells how many views it gave.
 pub trait Views: Bench {
+    /// How many views were taken of it.
     fn views(&self) -> u64;
 }
 
@@ -19,6 +22,7 @@ pub struct CountedSim {
 }
 
 impl CountedSim {
+    /// A flash with no banks, of which no view was taken.
     pub fn new(alloc: Global) -> CountedSim {
         CountedSim {
             sim: FlatSim::new(alloc),

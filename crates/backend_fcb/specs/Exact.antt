@@ -1,10 +1,12 @@
 -- What a command spends whose record fits.
 use Rattle.std.specs.Prelude.{◌≡◌, ℕ, ◌+◌, ◌*◌, Bool, true, Result, OnOk}
 use Rattle.flash_sim.specs.Device.{Device}
+use Rattle.flash_map.specs.Area.{geometry_of}
 use Rattle.flash_map.specs.Spending.{Spends, SpendsAtMost}
 use Rattle.flash_map.specs.declared.area.Area.{Area}
 use Rattle.backend_api.specs.Commands.{Command, applied}
 use Rattle.backend_api.specs.Commands.Command.{Put, Del}
+use Rattle.backend_api.specs.Room.{most_units}
 use Rattle.fcb_ring.specs.Standing.{erases_on}
 use Rattle.backend_fcb.specs.Changing.{SpendsCost, SpendsUpToCost, collect_units}
 use Rattle.backend_fcb.specs.Standing.{settings_on}
@@ -32,10 +34,12 @@ SpendsUpToCostOf old new backend command =
 abbrev pub SpendsRounds : Device → Device → FcbBackend → ℕ → Type 0
 SpendsRounds old new backend rounds = SpendsAtMost old new ((rounds + 1) * collect_units old backend.ring)
 
--- What a set or delete spends. Where its record fits behind those of the newest sector, just the units of
--- that record, and up to a loss no more; else no more than so many collections and one append take.
+-- What a set or delete spends: never more than any command may in an area of this geometry. Where its
+-- record fits behind those of the newest sector, just the units of that record, and up to a loss no more;
+-- else no more than so many collections and one append take.
 pub record SpendsFor {X E : Type 0} (old new : Device) (backend : FcbBackend) (command : Command)
     (rounds : ℕ) (result : Result X E) (stopped : Bool) : Type 0 where
+  pub at_most : SpendsAtMost old new (most_units (geometry_of old backend.ring.area))
   pub exact : OnOk result (SpendsCostOf old new backend command)
   pub no_more : stopped ≡ true → SpendsUpToCostOf old new backend command
   pub few : SpendsRounds old new backend rounds

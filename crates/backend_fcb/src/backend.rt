@@ -16,7 +16,7 @@ ghost use Rattle.backend_api.specs.Commands.{StopsOn};
 ghost use Rattle.backend_api.specs.Commands.Command.{Put, Del};
 ghost use Rattle.backend_api.specs.Ends.{set_lost, MountEnds, SetEndsOn, DeleteEndsOn};
 ghost use Rattle.backend_api.specs.Map.{IsStored};
-ghost use Rattle.backend_api.specs.Room.{most_units, mount_units};
+ghost use Rattle.backend_api.specs.Room.{mount_units};
 ghost use Rattle.backend_api.specs.Written.{StaysWritten};
 ghost use Rattle.backend_fcb.specs.Exact.{SpendsFor, SpendsErases};
 ghost use Rattle.backend_fcb.specs.Members.{damage_by, settings_by, room_by, TearsBy, area_of, StandsBy, is_running};
@@ -170,8 +170,6 @@ impl Backend for FcbBackend {
         ensures area { area_of self.new ≡ area_of self.old }
         ensures ends { let d = F.device flash.old in let e = F.device flash.new in
             SetEndsOn room_by settings_by d e (area_of self.old) name.now value.now result }
-        ensures at_most { let d = F.device flash.old in
-            SpendsAtMost d (F.device flash.new) (most_units (geometry_of d (area_of self.old))) }
         ensures sound { on damage_by (F.device flash.new) (area_of self.old) ≡ None }
         ensures cut { let d = F.device flash.old in let e = F.device flash.new in
             d.is_on ≡ true → set_lost result ≡ true
@@ -223,8 +221,6 @@ impl Backend for FcbBackend {
         ensures area { area_of self.new ≡ area_of self.old }
         ensures ends { let d = F.device flash.old in let e = F.device flash.new in
             DeleteEndsOn settings_by d e (area_of self.old) name.now result }
-        ensures at_most { let d = F.device flash.old in
-            SpendsAtMost d (F.device flash.new) (most_units (geometry_of d (area_of self.old))) }
         ensures sound { on damage_by (F.device flash.new) (area_of self.old) ≡ None }
         ensures cut { let d = F.device flash.old in let e = F.device flash.new in
             d.is_on ≡ true → is_err result ≡ true

@@ -35,11 +35,6 @@ returns-then-is_none-clause-touches g c = untouched (c.args.self.now.ring.area �
 pub returns-then-is_none-clause-area : goal.returns-then-is_none-clause-area
 returns-then-is_none-clause-area g c = refl
 
-pub returns-then-is_none-clause-at_most : goal.returns-then-is_none-clause-at_most
-returns-then-is_none-clause-at_most g c =
-    let d : Device = g.F.Flash.device c.args.flash.now in
-    none-more d (most_units (geometry_of d c.args.self.now.ring.area))
-
 pub returns-then-is_none-clause-sound : goal.returns-then-is_none-clause-sound
 returns-then-is_none-clause-sound g c = c.requires.stands.undamaged
 
@@ -54,6 +49,9 @@ returns-then-is_none-clause-down g c lost = absurd (false≢true lost)
 
 pub returns-then-is_none-clause-spends : goal.returns-then-is_none-clause-spends
 returns-then-is_none-clause-spends g c = record {
+  at_most =
+      let d : Device = g.F.Flash.device c.args.flash.now in
+      none-more d (most_units (geometry_of d c.args.self.now.ring.area));
   exact =
       λ changes.
       let d : Device = g.F.Flash.device c.args.flash.now in
@@ -89,6 +87,15 @@ returns-in-Ok-clause-down g c lost = absurd (false≢true lost)
 
 pub returns-in-Ok-clause-spends : goal.returns-in-Ok-clause-spends
 returns-in-Ok-clause-spends g c = record {
+  at_most =
+      let d : Device = g.F.Flash.device c.args.flash.now in
+      let ring : Ring = c.args.self.now.ring in
+      let area : Area = c.args.self.now.ring.area in
+      let name : List ℕ = c.args.name.now in
+      let e : Device = g.F.Flash.device c.put.new.flash in
+      let body : c.as_slice.result.now ≡ body_of c.args.name.now [] = c.as_slice.ensures.value ∙ c.body_of-body.ensures.items in
+      let few = two-rounds d ring c.requires.lawful.several in
+      most_weaker d e ((1 + 1) * collect_units d ring) (most_units (geometry_of d area)) few c.in-Ok.ensures.at_most;
   exact =
       λ changes.
       let d : Device = g.F.Flash.device c.args.flash.now in
@@ -129,8 +136,17 @@ returns-in-Err-PowerLost-clause-spends g c =
     let body : c.as_slice.result.now ≡ body_of c.args.name.now [] = c.as_slice.ensures.value ∙ c.body_of-body.ensures.items in
     let ends : PutEnds {T = Unit {0}} d e ring c.put.new.ring c.as_slice.result.now 0 1 (Err PowerLost) = rw c.in-Err-PowerLost.field-0-is at c.in-Err-PowerLost.ensures.ends in
     record {
+      at_most =
+          let d : Device = g.F.Flash.device c.args.flash.now in
+          let ring : Ring = c.args.self.now.ring in
+          let area : Area = c.args.self.now.ring.area in
+          let name : List ℕ = c.args.name.now in
+          let e : Device = g.F.Flash.device c.put.new.flash in
+          let body : c.as_slice.result.now ≡ body_of c.args.name.now [] = c.as_slice.ensures.value ∙ c.body_of-body.ensures.items in
+          let few = two-rounds d ring c.requires.lawful.several in
+          most_weaker d e ((1 + 1) * collect_units d ring) (most_units (geometry_of d area)) few c.in-Err-PowerLost.ensures.at_most;
       exact = tt;
-      no_more = λ stopped. subst (λ (b : List ℕ). SpendsUpToCost d e ring b 0) body ends.1;
+      no_more = λ lost. subst (λ (b : List ℕ). SpendsUpToCost d e ring b 0) body ends.1;
       few = c.in-Err-PowerLost.ensures.at_most;
     }
 
@@ -160,28 +176,6 @@ returns-in-Ok-clause-ends g c =
     let few = two-rounds d ring c.requires.lawful.several in
     let ends = c.in-Ok.ensures.ends in
     deletes-one d e area name c.body_of-body.ensures.name (absent-not (λ b. b.now) c.get.result (finite.get (settings_on d area) name) c.get.ensures (c.is_none.ensures ∙ ap not c.if-is_none.false)) (ends.1 ∙ ap (λ (b : List ℕ). with_setting (settings_on d area) (setting_of (value_limit c.args.self.now.ring.area) b)) body) ends.3
-
-pub returns-in-Ok-clause-at_most : goal.returns-in-Ok-clause-at_most
-returns-in-Ok-clause-at_most g c =
-    let d : Device = g.F.Flash.device c.args.flash.now in
-    let ring : Ring = c.args.self.now.ring in
-    let area : Area = c.args.self.now.ring.area in
-    let name : List ℕ = c.args.name.now in
-    let e : Device = g.F.Flash.device c.put.new.flash in
-    let body : c.as_slice.result.now ≡ body_of c.args.name.now [] = c.as_slice.ensures.value ∙ c.body_of-body.ensures.items in
-    let few = two-rounds d ring c.requires.lawful.several in
-    most_weaker d e ((1 + 1) * collect_units d ring) (most_units (geometry_of d area)) few c.in-Ok.ensures.at_most
-
-pub returns-in-Err-PowerLost-clause-at_most : goal.returns-in-Err-PowerLost-clause-at_most
-returns-in-Err-PowerLost-clause-at_most g c =
-    let d : Device = g.F.Flash.device c.args.flash.now in
-    let ring : Ring = c.args.self.now.ring in
-    let area : Area = c.args.self.now.ring.area in
-    let name : List ℕ = c.args.name.now in
-    let e : Device = g.F.Flash.device c.put.new.flash in
-    let body : c.as_slice.result.now ≡ body_of c.args.name.now [] = c.as_slice.ensures.value ∙ c.body_of-body.ensures.items in
-    let few = two-rounds d ring c.requires.lawful.several in
-    most_weaker d e ((1 + 1) * collect_units d ring) (most_units (geometry_of d area)) few c.in-Err-PowerLost.ensures.at_most
 
 pub unreachable-requires : goal.unreachable-requires
 unreachable-requires g c =

@@ -37,11 +37,6 @@ returns-then-holds-clause-touches g c = untouched (c.args.self.now.ring.area ∷
 pub returns-then-holds-clause-area : goal.returns-then-holds-clause-area
 returns-then-holds-clause-area g c = refl
 
-pub returns-then-holds-clause-at_most : goal.returns-then-holds-clause-at_most
-returns-then-holds-clause-at_most g c =
-    let d : Device = g.F.Flash.device c.args.flash.now in
-    none-more d (most_units (geometry_of d c.args.self.now.ring.area))
-
 pub returns-then-holds-clause-sound : goal.returns-then-holds-clause-sound
 returns-then-holds-clause-sound g c = c.requires.stands.undamaged
 
@@ -56,6 +51,9 @@ returns-then-holds-clause-down g c lost = absurd (false≢true lost)
 
 pub returns-then-holds-clause-spends : goal.returns-then-holds-clause-spends
 returns-then-holds-clause-spends g c = record {
+  at_most =
+      let d : Device = g.F.Flash.device c.args.flash.now in
+      none-more d (most_units (geometry_of d c.args.self.now.ring.area));
   exact =
       λ changes.
       let d : Device = g.F.Flash.device c.args.flash.now in
@@ -110,6 +108,18 @@ returns-in-Ok-clause-spends g c =
     let e : Device = g.F.Flash.device c.put.new.flash in
     let sectors : c.geometry-geometry.result.sectors ≡ ring.area.sectors = ap (λ (x : Geometry). x.sectors) c.geometry-geometry.ensures ∙ ap (λ (x : Area). x.sectors) c.area.ensures in
     record {
+      at_most =
+          let d : Device = g.F.Flash.device c.args.flash.now in
+          let ring : Ring = c.args.self.now.ring in
+          let area : Area = c.args.self.now.ring.area in
+          let name : List ℕ = c.args.name.now in
+          let value : List ℕ = c.args.value.now in
+          let e : Device = g.F.Flash.device c.put.new.flash in
+          let body : c.as_slice.result.now ≡ body_of c.args.name.now c.args.value.now = c.as_slice.ensures.value ∙ c.body_of-body.ensures.items in
+          let other = c.holds.ensures.not_it c.if-holds.false in
+          let sectors : c.geometry-geometry.result.sectors ≡ area.sectors = ap (λ (x : Geometry). x.sectors) c.geometry-geometry.ensures ∙ ap (λ (x : Area). x.sectors) c.area.ensures in
+          let few = few-rounds d ring (c.geometry-geometry.result.sectors - 1) (omega (arith, c.requires.lawful.several)) in
+          most_weaker d e ((c.geometry-geometry.result.sectors - 1 + 1) * collect_units d ring) (most_units (geometry_of d area)) few c.in-Ok.ensures.at_most;
       exact =
           λ changes.
           let d : Device = g.F.Flash.device c.args.flash.now in
@@ -150,6 +160,18 @@ returns-in-Err-PowerLost-clause-spends g c =
     let e : Device = g.F.Flash.device c.put.new.flash in
     let sectors : c.geometry-geometry.result.sectors ≡ ring.area.sectors = ap (λ (x : Geometry). x.sectors) c.geometry-geometry.ensures ∙ ap (λ (x : Area). x.sectors) c.area.ensures in
     record {
+      at_most =
+          let d : Device = g.F.Flash.device c.args.flash.now in
+          let ring : Ring = c.args.self.now.ring in
+          let area : Area = c.args.self.now.ring.area in
+          let name : List ℕ = c.args.name.now in
+          let value : List ℕ = c.args.value.now in
+          let e : Device = g.F.Flash.device c.put.new.flash in
+          let body : c.as_slice.result.now ≡ body_of c.args.name.now c.args.value.now = c.as_slice.ensures.value ∙ c.body_of-body.ensures.items in
+          let other = c.holds.ensures.not_it c.if-holds.false in
+          let sectors : c.geometry-geometry.result.sectors ≡ area.sectors = ap (λ (x : Geometry). x.sectors) c.geometry-geometry.ensures ∙ ap (λ (x : Area). x.sectors) c.area.ensures in
+          let few = few-rounds d ring (c.geometry-geometry.result.sectors - 1) (omega (arith, c.requires.lawful.several)) in
+          most_weaker d e ((c.geometry-geometry.result.sectors - 1 + 1) * collect_units d ring) (most_units (geometry_of d area)) few c.in-Err-PowerLost.ensures.at_most;
       exact = tt;
       no_more =
           λ lost.
@@ -181,6 +203,18 @@ returns-in-Err-Full-clause-spends g c =
     let e : Device = g.F.Flash.device c.put.new.flash in
     let sectors : c.geometry-geometry.result.sectors ≡ ring.area.sectors = ap (λ (x : Geometry). x.sectors) c.geometry-geometry.ensures ∙ ap (λ (x : Area). x.sectors) c.area.ensures in
     record {
+      at_most =
+          let d : Device = g.F.Flash.device c.args.flash.now in
+          let ring : Ring = c.args.self.now.ring in
+          let area : Area = c.args.self.now.ring.area in
+          let name : List ℕ = c.args.name.now in
+          let value : List ℕ = c.args.value.now in
+          let e : Device = g.F.Flash.device c.put.new.flash in
+          let body : c.as_slice.result.now ≡ body_of c.args.name.now c.args.value.now = c.as_slice.ensures.value ∙ c.body_of-body.ensures.items in
+          let other = c.holds.ensures.not_it c.if-holds.false in
+          let sectors : c.geometry-geometry.result.sectors ≡ area.sectors = ap (λ (x : Geometry). x.sectors) c.geometry-geometry.ensures ∙ ap (λ (x : Area). x.sectors) c.area.ensures in
+          let few = few-rounds d ring (c.geometry-geometry.result.sectors - 1) (omega (arith, c.requires.lawful.several)) in
+          most_weaker d e ((c.geometry-geometry.result.sectors - 1 + 1) * collect_units d ring) (most_units (geometry_of d area)) few c.in-Err-Full.ensures.at_most;
       exact = tt;
       no_more =
           λ lost.
@@ -211,34 +245,6 @@ returns-in-Ok-clause-ends g c =
     let few = few-rounds d ring (c.geometry-geometry.result.sectors - 1) (omega (arith, c.requires.lawful.several)) in
     let ends = c.in-Ok.ensures.ends in
     sets-new d e area name value (unit_of d area) (sector_size d area) c.body_of-body.ensures.name c.requires.some c.requires.short other (ends.1 ∙ ap (λ (b : List ℕ). with_setting (settings_on d area) (setting_of (value_limit c.args.self.now.ring.area) b)) body) ends.3
-
-pub returns-in-Ok-clause-at_most : goal.returns-in-Ok-clause-at_most
-returns-in-Ok-clause-at_most g c =
-    let d : Device = g.F.Flash.device c.args.flash.now in
-    let ring : Ring = c.args.self.now.ring in
-    let area : Area = c.args.self.now.ring.area in
-    let name : List ℕ = c.args.name.now in
-    let value : List ℕ = c.args.value.now in
-    let e : Device = g.F.Flash.device c.put.new.flash in
-    let body : c.as_slice.result.now ≡ body_of c.args.name.now c.args.value.now = c.as_slice.ensures.value ∙ c.body_of-body.ensures.items in
-    let other = c.holds.ensures.not_it c.if-holds.false in
-    let sectors : c.geometry-geometry.result.sectors ≡ area.sectors = ap (λ (x : Geometry). x.sectors) c.geometry-geometry.ensures ∙ ap (λ (x : Area). x.sectors) c.area.ensures in
-    let few = few-rounds d ring (c.geometry-geometry.result.sectors - 1) (omega (arith, c.requires.lawful.several)) in
-    most_weaker d e ((c.geometry-geometry.result.sectors - 1 + 1) * collect_units d ring) (most_units (geometry_of d area)) few c.in-Ok.ensures.at_most
-
-pub returns-in-Err-PowerLost-clause-at_most : goal.returns-in-Err-PowerLost-clause-at_most
-returns-in-Err-PowerLost-clause-at_most g c =
-    let d : Device = g.F.Flash.device c.args.flash.now in
-    let ring : Ring = c.args.self.now.ring in
-    let area : Area = c.args.self.now.ring.area in
-    let name : List ℕ = c.args.name.now in
-    let value : List ℕ = c.args.value.now in
-    let e : Device = g.F.Flash.device c.put.new.flash in
-    let body : c.as_slice.result.now ≡ body_of c.args.name.now c.args.value.now = c.as_slice.ensures.value ∙ c.body_of-body.ensures.items in
-    let other = c.holds.ensures.not_it c.if-holds.false in
-    let sectors : c.geometry-geometry.result.sectors ≡ area.sectors = ap (λ (x : Geometry). x.sectors) c.geometry-geometry.ensures ∙ ap (λ (x : Area). x.sectors) c.area.ensures in
-    let few = few-rounds d ring (c.geometry-geometry.result.sectors - 1) (omega (arith, c.requires.lawful.several)) in
-    most_weaker d e ((c.geometry-geometry.result.sectors - 1 + 1) * collect_units d ring) (most_units (geometry_of d area)) few c.in-Err-PowerLost.ensures.at_most
 
 pub unreachable-requires : goal.unreachable-requires
 unreachable-requires g c =
@@ -275,20 +281,6 @@ returns-in-Err-Full-clause-ends g c =
     finds-no_space d e ring c.put.new.ring name value ring.reserve (c.geometry-geometry.result.sectors - 1) c.from.result c.live_cost.result (stands-ready d c.args.self.now c.requires.lawful c.requires.stands) other c.requires.stands.reserve (omega (arith, c.requires.lawful.several)) c.in-Err-Full.ensures.area is-full
     (c.from.ensures ∙ c.record_cost.ensures ∙ ap (λ (u : ℕ). record_cost u c.len.result) unit ∙ ap (record_cost (unit_of d area)) len)
     (c.live_cost.ensures ∙ ap (sum_by (pair_cost (unit_of e c.put.new.ring.area))) (ap entries settings) ∙ ap (λ (u : ℕ). sum_by (pair_cost u) (entries (settings_on d area))) new-unit)
-
-pub returns-in-Err-Full-clause-at_most : goal.returns-in-Err-Full-clause-at_most
-returns-in-Err-Full-clause-at_most g c =
-    let d : Device = g.F.Flash.device c.args.flash.now in
-    let ring : Ring = c.args.self.now.ring in
-    let area : Area = c.args.self.now.ring.area in
-    let name : List ℕ = c.args.name.now in
-    let value : List ℕ = c.args.value.now in
-    let e : Device = g.F.Flash.device c.put.new.flash in
-    let body : c.as_slice.result.now ≡ body_of c.args.name.now c.args.value.now = c.as_slice.ensures.value ∙ c.body_of-body.ensures.items in
-    let other = c.holds.ensures.not_it c.if-holds.false in
-    let sectors : c.geometry-geometry.result.sectors ≡ area.sectors = ap (λ (x : Geometry). x.sectors) c.geometry-geometry.ensures ∙ ap (λ (x : Area). x.sectors) c.area.ensures in
-    let few = few-rounds d ring (c.geometry-geometry.result.sectors - 1) (omega (arith, c.requires.lawful.several)) in
-    most_weaker d e ((c.geometry-geometry.result.sectors - 1 + 1) * collect_units d ring) (most_units (geometry_of d area)) few c.in-Err-Full.ensures.at_most
 
 pub returns-in-Err-Full-clause-stands : goal.returns-in-Err-Full-clause-stands
 returns-in-Err-Full-clause-stands g c =

@@ -46,7 +46,7 @@ fn played<B: Bench>(alloc: Global, bench: &mut B, row: &Row) -> Result<MemHost, 
     let mut host = host_with(alloc, row.spec, script.as_str())?;
     for command in row.commands.split(',') {
         if ends(alloc, &mut host, bench, command)? != 0 {
-            return Err(Fail::new("a command is refused"));
+            return Err(Fail::new(row.shows));
         }
     }
     Ok(host)
@@ -135,8 +135,10 @@ fn summed(alloc: Global, printed: &[u8]) -> Result<(u64, Vec<u8>), Fail> {
     let mut units = 0u64;
     let mut others = Vec::new(alloc);
     for line in printed.split(|byte| *byte == b'\n') {
+        if line.is_empty() {
+            continue;
+        }
         match line.strip_prefix(b"ok ") {
-            None if line.is_empty() => {}
             Some(count) => {
                 let count = read_number(alloc, count, 1_000_000)?.unwrap_or(0);
                 units = units.saturating_add(count);

@@ -3,7 +3,7 @@ use super::*;
 use crate::loss_rows::{LOSSES, Loss, Losses};
 use crate::refused_rows::{REFUSED, Refused};
 use crate::session_rows::SESSIONS;
-use crate::settings_rows::SETTINGS;
+use crate::settings_rows::{GENERATED, MANY_MOUNTS, MANY_NAMES, SETTINGS};
 use crate::texts::{
     ALL, FOUR, LOG, LONG, LONG_RUNS, LONG_TOLD, MIRROR, NVS, RUN, RUN_ITEMS, RUN_LOG, RUN_MIRROR,
     Row, long_script, spelled,
@@ -84,8 +84,27 @@ fn agree<R: Abort>(rt: &R, alloc: Global, rows: &[Row]) -> Result<(), Fail> {
 
 #[test]
 fn rows(rt: HostRuntime) -> Result<(), Fail> {
-    agree(&rt, rt.alloc(), &SETTINGS)?;
+    agree(&rt, rt.alloc(), &SETTINGS)
+}
+
+#[test]
+fn rows_of_sessions(rt: HostRuntime) -> Result<(), Fail> {
     agree(&rt, rt.alloc(), &SESSIONS)
+}
+
+#[test]
+fn many_names(rt: HostRuntime) -> Result<(), Fail> {
+    agree(&rt, rt.alloc(), &MANY_NAMES)
+}
+
+#[test]
+fn many_mounts(rt: HostRuntime) -> Result<(), Fail> {
+    agree(&rt, rt.alloc(), &MANY_MOUNTS)
+}
+
+#[test]
+fn generated_scripts(rt: HostRuntime) -> Result<(), Fail> {
+    agree(&rt, rt.alloc(), &GENERATED)
 }
 
 // ---- losses

@@ -1,7 +1,7 @@
 // Rows of settings: scripts on a blank image, dumps, migrations and generated scripts.
 use crate::texts::{ALL, ERASED, FCB, FOUR, GROUP, LONG, LONG_RING, MANY, NVS, RUN, Row, ZMS};
 
-pub(crate) static SETTINGS: [Row; 41] = [
+pub(crate) static SETTINGS: [Row; 37] = [
     Row {
         shows: "a first set, its bytes, and a dump",
         spec: NVS,
@@ -134,17 +134,6 @@ pub(crate) static SETTINGS: [Row; 41] = [
         script: "set a 11*100 \nset a 22*100 \nset a 33*100 \nset a 44*100 \nget a\n",
         commands: RUN,
         printed: "ok 0\nok 10\nok 8\nok 8\nok 26\nvalue 44*100 \n",
-        same: false,
-        left: &[],
-    },
-    Row {
-        shows: "256 mounts that are cut, until the cycle of a sector comes round",
-        spec: ZMS,
-        script: "set a 11*100 \nset a 22*100 \nset a 33*100 \ncut 8\nset a 44*100 \ncut 10\nmount\n\
-            (cut 2, mount)*255\nmount\nget a\n",
-        commands: RUN,
-        printed: "ok 0\nok 10\nok 8\nok 8\nok 0\nlost 8\nok 0\nlost 10\n(ok 0, lost 2)*255\nok 13\n\
-            value 33*100 \n",
         same: false,
         left: &[],
     },
@@ -287,28 +276,6 @@ pub(crate) static SETTINGS: [Row; 41] = [
         left: &[],
     },
     Row {
-        shows: "511 names over NVS, and one more is refused",
-        spec: MANY,
-        script: "(set n0 01 to n511 01)\nget n510\nget n511\n",
-        commands: RUN,
-        printed: "ok 0\n(ok 9)*112\nok 11\n(ok 9)*112\nok 11\n(ok 9)*112\nok 11\n(ok 9)*111\nok 11\n\
-            (ok 9)*60\ntoomany 0\nvalue 01\nnone\n",
-        same: false,
-        left: &[],
-    },
-    Row {
-        shows: "16 names of one hash group over ZMS, and one more is refused",
-        spec: GROUP,
-        script: "set n0 01\nset n5455 01\nset n11263 01\nset n11648 01\nset n15491 01\nset n31070 01\n\
-            set n34466 01\nset n34582 01\nset n43176 01\nset n44222 01\nset n48421 01\n\
-            set n57901 01\nset n58124 01\nset n59535 01\nset n59673 01\nset n68439 01\n\
-            set n72680 01\nget n72680\n",
-        commands: RUN,
-        printed: "ok 0\nok 3\n(ok 2)*15\ntoomany 0\nnone\n",
-        same: false,
-        left: &[],
-    },
-    Row {
         shows: "a migration moves the settings to the next area, round the map",
         spec: ALL,
         script: "set a 01\nmigrate\nnames\nmigrate\nmigrate\nnames\n",
@@ -395,15 +362,53 @@ pub(crate) static SETTINGS: [Row; 41] = [
         same: false,
         left: &[(0, b"Z")],
     },
+];
+
+pub(crate) static MANY_NAMES: [Row; 2] = [
     Row {
-        shows: "a generated script of 500 lines has the same end on each store",
-        spec: NVS,
-        script: "",
-        commands: "gen y.img nvs 500,dump y.img,gen y.img zms 500,dump y.img,gen y.img fcb 500,dump y.img",
-        printed: "gen nvs 500: set 379 del 55 get 66 names 33 bytes 541 refused 0\n(generated)\n\
-            gen zms 500: set 379 del 55 get 66 names 33 bytes 541 refused 0\n(generated)\n\
-            gen fcb 500: set 379 del 55 get 66 names 33 bytes 541 refused 0\n(generated)\n",
+        shows: "511 names over NVS, and one more is refused",
+        spec: MANY,
+        script: "(set n0 01 to n511 01)\nget n510\nget n511\n",
+        commands: RUN,
+        printed: "ok 0\n(ok 9)*112\nok 11\n(ok 9)*112\nok 11\n(ok 9)*112\nok 11\n(ok 9)*111\nok 11\n\
+            (ok 9)*60\ntoomany 0\nvalue 01\nnone\n",
+        same: false,
+        left: &[],
+    },
+    Row {
+        shows: "16 names of one hash group over ZMS, and one more is refused",
+        spec: GROUP,
+        script: "set n0 01\nset n5455 01\nset n11263 01\nset n11648 01\nset n15491 01\nset n31070 01\n\
+            set n34466 01\nset n34582 01\nset n43176 01\nset n44222 01\nset n48421 01\n\
+            set n57901 01\nset n58124 01\nset n59535 01\nset n59673 01\nset n68439 01\n\
+            set n72680 01\nget n72680\n",
+        commands: RUN,
+        printed: "ok 0\nok 3\n(ok 2)*15\ntoomany 0\nnone\n",
         same: false,
         left: &[],
     },
 ];
+
+pub(crate) static MANY_MOUNTS: [Row; 1] = [Row {
+    shows: "256 mounts that are cut, until the cycle of a sector comes round",
+    spec: ZMS,
+    script: "set a 11*100 \nset a 22*100 \nset a 33*100 \ncut 8\nset a 44*100 \ncut 10\nmount\n\
+            (cut 2, mount)*255\nmount\nget a\n",
+    commands: RUN,
+    printed: "ok 0\nok 10\nok 8\nok 8\nok 0\nlost 8\nok 0\nlost 10\n(ok 0, lost 2)*255\nok 13\n\
+            value 33*100 \n",
+    same: false,
+    left: &[],
+}];
+
+pub(crate) static GENERATED: [Row; 1] = [Row {
+    shows: "a generated script of 500 lines has the same end on each store",
+    spec: NVS,
+    script: "",
+    commands: "gen y.img nvs 500,dump y.img,gen y.img zms 500,dump y.img,gen y.img fcb 500,dump y.img",
+    printed: "gen nvs 500: set 379 del 55 get 66 names 33 bytes 541 refused 0\n(generated)\n\
+            gen zms 500: set 379 del 55 get 66 names 33 bytes 541 refused 0\n(generated)\n\
+            gen fcb 500: set 379 del 55 get 66 names 33 bytes 541 refused 0\n(generated)\n",
+    same: false,
+    left: &[],
+}];

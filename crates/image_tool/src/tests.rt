@@ -3,7 +3,7 @@ use super::*;
 use crate::loss_rows::{LOSSES, Loss, Losses};
 use crate::refused_rows::{REFUSED, Refused};
 use crate::session_rows::SESSIONS;
-use crate::settings_rows::SETTINGS;
+use crate::settings_rows::{GENERATED, MANY_MOUNTS, MANY_NAMES, SETTINGS};
 use crate::texts::{
     ALL, FOUR, LOG, LONG, LONG_RUNS, LONG_TOLD, MIRROR, NVS, RUN, RUN_ITEMS, RUN_LOG, RUN_MIRROR,
     Row, long_script, spelled,
@@ -46,7 +46,7 @@ fn played<B: Bench>(alloc: Global, bench: &mut B, row: &Row) -> Result<MemHost, 
     let mut host = host_with(alloc, row.spec, script.as_str())?;
     for command in row.commands.split(',') {
         if ends(alloc, &mut host, bench, command)? != 0 {
-            return Err(Fail::new("a command is refused"));
+            return Err(Fail::new(row.shows));
         }
     }
     Ok(host)
@@ -84,32 +84,68 @@ fn agree<R: Abort>(rt: &R, alloc: Global, rows: &[Row]) -> Result<(), Fail> {
 
 #[test]
 fn rows(rt: HostRuntime) -> Result<(), Fail> {
-    agree(&rt, rt.alloc(), &SETTINGS)?;
+    agree(&rt, rt.alloc(), &SETTINGS)
+}
+
+#[test]
+fn rows_of_sessions(rt: HostRuntime) -> Result<(), Fail> {
     agree(&rt, rt.alloc(), &SESSIONS)
+}
+
+#[test]
+fn many_names(rt: HostRuntime) -> Result<(), Fail> {
+    agree(&rt, rt.alloc(), &MANY_NAMES)
+}
+
+#[test]
+fn many_mounts(rt: HostRuntime) -> Result<(), Fail> {
+    agree(&rt, rt.alloc(), &MANY_MOUNTS)
+}
+
+#[test]
+fn generated_scripts(rt: HostRuntime) -> Result<(), Fail> {
+    agree(&rt, rt.alloc(), &GENERATED)
 }
 
 // ---- losses
 
-// A row's script and what it prints, with the longer texts written out.
-type Texts = (String, String);
+// The blank image of a row, its script, and what is printed where the loss is this one.
+#[derive(Drop)]
+struct Case {
+    image: Vec<u8>,
+    script: String,
+    printed: String,
+}
+
+fn case_of(alloc: Global, row: &Losses, loss: &Loss) -> Result<Case, Fail> {
+    let blank = host_with(alloc, row.spec, "")?;
+    let image = Vec::from_slice(alloc, blank.file("x.img").unwrap_or(&[]))?;
+    let script = spelled(alloc, row.script)?;
+    let printed = row.printed.replace(alloc, "MOUNT", loss.2)?;
+    let printed = printed.replace(alloc, "VALUE", loss.3)?;
+    let printed = spelled(alloc, printed.as_str())?;
+    Ok(Case {
+        image,
+        script,
+        printed,
+    })
+}
 
 // Power is lost once so many units of the line were spent that the row cuts.
 fn loses<R: Abort>(
     rt: &R,
     alloc: Global,
     row: &Losses,
-    texts: &Texts,
-    loss: &Loss,
+    case: &Case,
     units: u64,
 ) -> Result<(), Fail> {
-    let value = spelled(alloc, loss.3)?;
     let cut = format!(in alloc; "{}", row.before.saturating_add(units))?;
     let lost = format!(in alloc; "{units}")?;
-    let script = texts.0.replace(alloc, "CUT", cut.as_str())?;
-    let printed = texts.1.replace(alloc, "LOST", lost.as_str())?;
-    let printed = printed.replace(alloc, "MOUNT", loss.2)?;
-    let printed = printed.replace(alloc, "VALUE", value.as_str())?;
-    let mut host = host_with(alloc, row.spec, script.as_str())?;
+    let script = case.script.replace(alloc, "CUT", cut.as_str())?;
+    let printed = case.printed.replace(alloc, "LOST", lost.as_str())?;
+    let mut host = MemHost::new(alloc);
+    host.put_file("s.txt", script.as_bytes())?;
+    host.put_file("x.img", case.image.as_slice())?;
     let status = ends(alloc, &mut host, &mut FlatSim::new(alloc), row.command)?;
     let told = host.printed() == printed.as_bytes();
     assert_eq!(rt; (status, told), (0, true), "{}, {units} units", row.shows);
@@ -120,10 +156,10 @@ fn loses<R: Abort>(
 fn losses(rt: HostRuntime) -> Result<(), Fail> {
     let alloc = rt.alloc();
     for row in &LOSSES {
-        let texts = (spelled(alloc, row.script)?, spelled(alloc, row.printed)?);
         for loss in row.losses {
+            let case = case_of(alloc, row, loss)?;
             for units in loss.0..loss.1.saturating_add(1) {
-                loses(&rt, alloc, row, &texts, loss, units)?;
+                loses(&rt, alloc, row, &case, units)?;
             }
         }
     }
@@ -135,8 +171,10 @@ fn summed(alloc: Global, printed: &[u8]) -> Result<(u64, Vec<u8>), Fail> {
     let mut units = 0u64;
     let mut others = Vec::new(alloc);
     for line in printed.split(|byte| *byte == b'\n') {
+        if line.is_empty() {
+            continue;
+        }
         match line.strip_prefix(b"ok ") {
-            None if line.is_empty() => {}
             Some(count) => {
                 let count = read_number(alloc, count, 1_000_000)?.unwrap_or(0);
                 units = units.saturating_add(count);

@@ -84,27 +84,30 @@ area_at-requires-2 g c = store-within c.args.map.now c.other_place-other.result 
 pub area_at-requires-in-Ok-opened : goal.area_at-requires-in-Ok-opened
 area_at-requires-in-Ok-opened g c = store-within c.args.map.now c.other_place-other.result (ap (is_store_at c.args.map.now) c.other_place-other.ensures ∙ (other-is g.K.Backend.serves c.args.map.now (g.F.Flash.device c.args.flash.now) c.requires.map c.args.place).stores)
 
-pub open_other-opened-requires-clause-other : goal.open_other-opened-requires-clause-other
-open_other-opened-requires-clause-other g c =
+pub open_other-opened-requires : goal.open_other-opened-requires
+open_other-opened-requires g c =
     let others = other-is g.K.Backend.serves c.args.map.now (g.F.Flash.device c.args.flash.now) c.requires.map c.args.place in
     let m : Device = g.F.Flash.device c.mount_side-side.new.flash in
     record {
-      lawful_trusted = subst (λ (x : Area). IsLawfulFor (g.F.Flash.device c.mount_side-side.new.flash).banks x) (sym c.in-Ok.ensures.ends.3.here) c.in-Ok.ensures.ends.3.lawful;
-      stands_trusted = c.in-Ok.ensures.ends.3.up;
-      lawful = subst (λ (b : List Bank). IsLawfulFor b c.area_at-2.result) (sym c.in-Ok.ensures.touches.banks) (c.requires.map.lawful.each c.other_place-other.result c.area_at-2.result c.area_at-2.ensures);
-      role = c.requires.map.roles c.other_place-other.result c.area_at-2.result c.area_at-2.ensures (store-of c.args.map.now c.other_place-other.result c.area_at-2.result c.area_at-2.ensures (ap (is_store_at c.args.map.now) c.other_place-other.ensures ∙ (other-is g.K.Backend.serves c.args.map.now (g.F.Flash.device c.args.flash.now) c.requires.map c.args.place).stores));
-      served =
-          (map-still g.K.Backend.serves c.args.map.now (g.F.Flash.device c.args.flash.now) c.requires.map (g.F.Flash.device c.mount_side-side.new.flash) c.in-Ok.ensures.touches.banks).served c.other_place-other.result c.area_at-2.result c.area_at-2.ensures
-          (store-of c.args.map.now c.other_place-other.result c.area_at-2.result c.area_at-2.ensures (ap (is_store_at c.args.map.now) c.other_place-other.ensures ∙ (other-is g.K.Backend.serves c.args.map.now (g.F.Flash.device c.args.flash.now) c.requires.map c.args.place).stores));
-      apart =
-          subst (λ (x : Area). AreApart c.area_at-2.result x) (sym (c.in-Ok.ensures.ends.3.here ∙ c.in-Ok.ensures.ends.1))
-          (c.requires.map.lawful.apart c.other_place-other.result c.args.place c.area_at-2.result c.area_at.result c.area_at-2.ensures c.area_at.ensures (λ e. others.differs (sym c.other_place-other.ensures ∙ e)));
-      version =
-          c.requires.map.lawful.versions c.other_place-other.result c.args.place c.area_at-2.result c.area_at.result c.area_at-2.ensures c.area_at.ensures
-          ∙ sym (ap (λ (x : Area). x.version) (c.in-Ok.ensures.ends.3.here ∙ c.in-Ok.ensures.ends.1));
-      fits =
-          subst (λ (x : Area). FitsOn g.K.Backend.room g.K.Priced.prices m c.area_at-2.result (on g.K.Backend.contents m x)) (sym c.in-Ok.ensures.ends.3.here)
-          (c.in-Ok-look_for_both.ensures.1 c.area_at-2.result c.area_at-2.ensures);
+      other =
+          record {
+            lawful_trusted = subst (λ (x : Area). IsLawfulFor (g.F.Flash.device c.mount_side-side.new.flash).banks x) (sym c.in-Ok.ensures.ends.3.here) c.in-Ok.ensures.ends.3.lawful;
+            stands_trusted = c.in-Ok.ensures.ends.3.up;
+            lawful = subst (λ (b : List Bank). IsLawfulFor b c.area_at-2.result) (sym c.in-Ok.ensures.touches.banks) (c.requires.map.lawful.each c.other_place-other.result c.area_at-2.result c.area_at-2.ensures);
+            role = c.requires.map.roles c.other_place-other.result c.area_at-2.result c.area_at-2.ensures (store-of c.args.map.now c.other_place-other.result c.area_at-2.result c.area_at-2.ensures (ap (is_store_at c.args.map.now) c.other_place-other.ensures ∙ (other-is g.K.Backend.serves c.args.map.now (g.F.Flash.device c.args.flash.now) c.requires.map c.args.place).stores));
+            served =
+                (map-still g.K.Backend.serves c.args.map.now (g.F.Flash.device c.args.flash.now) c.requires.map (g.F.Flash.device c.mount_side-side.new.flash) c.in-Ok.ensures.touches.banks).served c.other_place-other.result c.area_at-2.result c.area_at-2.ensures
+                (store-of c.args.map.now c.other_place-other.result c.area_at-2.result c.area_at-2.ensures (ap (is_store_at c.args.map.now) c.other_place-other.ensures ∙ (other-is g.K.Backend.serves c.args.map.now (g.F.Flash.device c.args.flash.now) c.requires.map c.args.place).stores));
+            apart =
+                subst (λ (x : Area). AreApart c.area_at-2.result x) (sym (c.in-Ok.ensures.ends.3.here ∙ c.in-Ok.ensures.ends.1))
+                (c.requires.map.lawful.apart c.other_place-other.result c.args.place c.area_at-2.result c.area_at.result c.area_at-2.ensures c.area_at.ensures (λ e. others.differs (sym c.other_place-other.ensures ∙ e)));
+            version =
+                c.requires.map.lawful.versions c.other_place-other.result c.args.place c.area_at-2.result c.area_at.result c.area_at-2.ensures c.area_at.ensures
+                ∙ sym (ap (λ (x : Area). x.version) (c.in-Ok.ensures.ends.3.here ∙ c.in-Ok.ensures.ends.1));
+            fits =
+                subst (λ (x : Area). FitsOn g.K.Backend.room g.K.Priced.prices m c.area_at-2.result (on g.K.Backend.contents m x)) (sym c.in-Ok.ensures.ends.3.here)
+                (c.in-Ok-look_for_both.ensures.1 c.area_at-2.result c.area_at-2.ensures);
+          };
     }
 
 pub returns-in-Ok-opened-clause-touches : goal.returns-in-Ok-opened-clause-touches

@@ -91,6 +91,9 @@ mount_other-mounted-requires-clause-apart g c =
 
 pub repair-requires : goal.repair-requires
 repair-requires g c =
-    may-copy-still g.K.Backend.serves g.K.Backend.mounted_on g.K.Backend.stands g.K.Backend.contents g.K.Backend.room g.K.Priced.prices
-    (g.F.Flash.device c.args.flash.now) (g.F.Flash.device c.mount_other-mounted.new.flash) c.args.trusted.now c.args.area
-    c.in-Ok-None.ensures.touches.banks c.mount_other-mounted.ensures.trusted c.requires.other
+    record {
+      other =
+          may-copy-still g.K.Backend.serves g.K.Backend.mounted_on g.K.Backend.stands g.K.Backend.contents g.K.Backend.room g.K.Priced.prices
+          (g.F.Flash.device c.args.flash.now) (g.F.Flash.device c.mount_other-mounted.new.flash) c.args.trusted.now c.args.area
+          c.in-Ok-None.ensures.touches.banks c.mount_other-mounted.ensures.trusted c.requires.other;
+    }

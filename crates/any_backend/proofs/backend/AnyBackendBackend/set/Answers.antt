@@ -173,7 +173,7 @@ pub returns-in-Fcb-clause-at_most : goal.returns-in-Fcb-clause-at_most
 returns-in-Fcb-clause-at_most g c =
     let d : Device = g.F.Flash.device c.args.flash.now in
     let e : Device = g.F.Flash.device c.set-in-Fcb.new.flash in
-    subst (λ (s : AnyBackend). SpendsAtMost d e (most_units (geometry_of d (area_of s)))) (sym c.in-Fcb.is) c.set-in-Fcb.ensures.at_most
+    subst (λ (s : AnyBackend). SpendsAtMost d e (most_units (geometry_of d (area_of s)))) (sym c.in-Fcb.is) c.set-in-Fcb.ensures.spends.at_most
 
 pub returns-in-Fcb-clause-sound : goal.returns-in-Fcb-clause-sound
 returns-in-Fcb-clause-sound g c =

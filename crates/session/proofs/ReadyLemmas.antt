@@ -1,5 +1,5 @@
 -- The session behind a line.
-use Rattle.std.proofs.Common.{◌≡◌, ℕ, Bool, true, false, List, [], ◌∷◌, Option, Some, None, Result, Ok, Err, refl, sym, ap, subst, ◌∙◌, inl, arith}
+use Rattle.std.proofs.Common.{◌≡◌, ℕ, Bool, true, false, List, [], ◌∷◌, Option, Some, None, Result, Ok, Err, refl, sym, ap, subst, ◌∙◌, arith}
 use Rattle.std.specs.Prelude.{IfOk, IfErr, OnErr}
 use Rattle.std.specs.List.{slice_get}
 use Rattle.std.proofs.lemmas.Bool.{false≢true}
@@ -11,7 +11,7 @@ use Rattle.flash_map.specs.declared.area.Geometry.{Geometry}
 use Rattle.flash_map.specs.declared.faults.Damaged.{Damaged}
 use Rattle.flash_map.specs.Area.{geometry_of, sectors_of, unit_of}
 use Rattle.flash_map.specs.On.{on, HoldsOn, StandsOn}
-use Rattle.flash_map.specs.Touches.{SameOutside}
+use Rattle.flash_map.specs.Touches.{Ends, SameOutside, Touches}
 use Rattle.handlers.specs.declared.handler.HandlerKind.{HandlerKind}
 use Rattle.handlers.specs.Registry.{Registered}
 use Rattle.migrator.specs.declared.selecting.Selector.{Selector}
@@ -31,7 +31,7 @@ use Rattle.session_table.proofs.PlaceLemmas.{IsWithin}
 use Rattle.session_table.proofs.RunLemmas.{keeps_within}
 use Rattle.session.specs.declared.fault.SessionFault.{SessionFault}
 use Rattle.session.specs.declared.fault.SessionFault.TheVariants.{NoMemory}
-use Rattle.session.specs.OnMap.{BeginsLine, CarriedBeside, DoneBeside, DoneWithin, HasSelector, IsAtRest, IsReady, IsServedMap, LineCarried, LineStops, StandsOnMap, active_area, damage_in, is_local, moment, takes_memory}
+use Rattle.session.specs.OnMap.{BeginsLine, CarriedBeside, DoneBeside, DoneWithin, HasSelector, IsAtRest, IsReady, IsServedMap, LineCarried, LineStops, StandsOnActive, StandsOnMap, StaysOnArea, StopsUnchanged, active_area, damage_in, is_local, moment, takes_memory}
 use Rattle.session.proofs.ActiveAreas.{active_still, selector_still, has_still, selector_beside, active_beside, area_there}
 use Rattle.session.proofs.DamageLemmas.{damage_none, none_damage, none_beside}
 
@@ -183,6 +183,11 @@ module _ (m : Meanings) (damage : Area → Geometry → List (List ℕ) → Opti
   carried_if (Ok answer) r others p left other sound done = record { done = done.done; touches = done.touches; most = done.most; finds = λ is. absurd (other is); few = λ is. absurd (other is); undamaged = sound }
   carried_if (Err fault) r others p left other sound done = tt
 
+-- for want of memory a line that changes no bench stopped
+pub never_changed : {T E : Type 0} (line : Line) (d : Device) (result : Result T E) → takes_memory line ≡ true → OnErr result (StopsUnchanged line d d)
+never_changed line d (Ok x) takes = tt
+never_changed line d (Err e) takes = record { takes = takes; same = refl }
+
 -- for want of memory a line on the active area stopped
 pub stops_unchanged : (damage : Area → Geometry → List (List ℕ) → Option Damaged) (areas : List Area) (line : Line) (d e : Device) (result : Result Answer SessionFault)
     → is_local line ≡ true → d.is_on ≡ true → IfErr result (λ fault. fault ≡ NoMemory) → OnErr result (takes_memory line ≡ true) → OnErr result (e ≡ d)
@@ -233,3 +238,19 @@ module _ (m : Meanings) (damage : Area → Geometry → List (List ℕ) → Opti
   pub carried_if_beside : (result : Result Answer SessionFault) → IfOk result (λ answer. CarriedBeside m damage areas other answer d e) → IfOk result (λ answer. LineCarried m damage areas line answer (moment d r p) (moment e r p))
   carried_if_beside (Ok answer) done = subst (λ (l : Line). LineCarried m damage areas l answer (moment d r p) (moment e r p)) (sym is) (done r p)
   carried_if_beside (Err fault) done = tt
+
+-- ---- the settings behind a call that changed them
+
+module _ {K : Type 0} (mounted_on : K → Area) (stands : K → Geometry → List (List ℕ) → Type 0) (runs : K → Bool) (areas : List Area) (d e : Device) (area : Area) (was now : K)
+    (here : StandsOnActive mounted_on stands runs areas d area was) (same : mounted_on now ≡ mounted_on was) (standing : runs now ≡ true → StandsOn mounted_on stands e now) where
+  pub stays_up : runs now ≡ runs was → StaysOnArea mounted_on stands runs e area now
+  stays_up up = record { mounted = same ∙ here.mounted; up = λ powered. up ∙ here.up; standing = λ powered. standing (up ∙ here.up) }
+
+  pub stays_off : (lost : Bool) → lost ≡ true → Touches (mounted_on was ∷ []) d e lost → StaysOnArea mounted_on stands runs e area now
+  stays_off lost is touches =
+      let cut = subst (λ (b : Bool). Ends (mounted_on was ∷ []) d e touches.units b) is touches.ends here.powered in
+      record {
+        mounted = same ∙ here.mounted;
+        up = λ powered. absurd (false≢true (sym cut.off ∙ powered));
+        standing = λ powered. absurd (false≢true (sym cut.off ∙ powered));
+      }

@@ -1,5 +1,5 @@
 -- A session on the settings of a map of areas, of which one is active.
-use Rattle.std.specs.Prelude.{◌≡◌, ◌⊎◌, ℕ, ◌+◌, ◌≤◌, ⊤, Bool, true, false, not, List, [], ◌∷◌, ◌++◌, length, map, find, Option, Some, None, Result, Ok, Err, unwrap_or, option_map}
+use Rattle.std.specs.Prelude.{◌≡◌, ◌⊎◌, All, ℕ, ◌+◌, ◌≤◌, ⊤, Bool, true, false, not, List, [], ◌∷◌, ◌++◌, length, map, find, Option, Some, None, Result, Ok, Err, unwrap_or, option_map}
 use Rattle.std.specs.List.{range_with_len, slice_get}
 use Rattle.std.specs.Option.{ForSome, option_or, option_map_or}
 use Rattle.std.specs.FinMap.{len}
@@ -26,7 +26,7 @@ use Rattle.migrator.specs.Choosing.{IsOpen}
 use Rattle.migrator.specs.Migrating.{worked_on, migrate_units}
 use Rattle.settings_core.specs.declared.settings.Settings.{Settings}
 use Rattle.settings_core.specs.Carrying.{due_units}
-use Rattle.settings_core.specs.Saving.{exported}
+use Rattle.settings_core.specs.Saving.{AreLawful, exported}
 use Rattle.script_lines.specs.declared.line.Line.{Line}
 use Rattle.script_lines.specs.declared.line.Line.TheVariants.{Set, Del, Register, Load, Save, Commit, RunSet, RunGet, Mount, Cut, Uncut, Migrate}
 use Rattle.script_lines.specs.declared.answer.Answer.{Answer}
@@ -58,6 +58,12 @@ module _ {B : Type 0} where
   -- a handler that holds nothing and was never committed
   abbrev pub IsFresh : (B → HandlerState) → B → Type 0
   IsFresh state b = state b ≡ fresh (state b).kind
+
+  -- The handlers that are registered hold settings that the areas take; those that are left hold nothing.
+  pub record HandlersFit (state : B → HandlerState) (limit : ℕ) (handlers : List Registered) (left : List B) :
+      Type 0 where
+    pub registry : AreLawful limit handlers
+    pub pool : All (IsFresh state) left
 
 -- ---- maps
 
@@ -299,6 +305,31 @@ abbrev pub IsReady : {K : Type 0} → (K → Area) → (K → Geometry → List 
 IsReady mounted_on stands runs areas d selector active None = d.is_on ≡ false
 IsReady mounted_on stands runs areas d selector active (Some settings) =
     d.is_on ≡ true → StandsOnMap mounted_on stands runs areas d selector active settings
+
+-- ---- a line with power on
+
+-- Power is on, and settings stand on this area, which is the active one.
+pub record StandsOnActive {K : Type 0} (mounted_on : K → Area)
+    (stands : K → Geometry → List (List ℕ) → Type 0) (runs : K → Bool)
+    (areas : List Area) (d : Device) (area : Area) (backend : K) : Type 0 where
+  pub powered : d.is_on ≡ true
+  pub active : area ≡ active_area areas d
+  pub mounted : mounted_on backend ≡ area
+  pub up : runs backend ≡ true
+  pub standing : StandsOn mounted_on stands d backend
+
+-- The settings are still those of this area, and stand on it unless power was lost.
+pub record StaysOnArea {K : Type 0} (mounted_on : K → Area)
+    (stands : K → Geometry → List (List ℕ) → Type 0) (runs : K → Bool)
+    (d : Device) (area : Area) (backend : K) : Type 0 where
+  pub mounted : mounted_on backend ≡ area
+  pub up : d.is_on ≡ true → runs backend ≡ true
+  pub standing : d.is_on ≡ true → StandsOn mounted_on stands d backend
+
+-- Memory was wanting for a line that takes some, and nothing changed.
+pub record StopsUnchanged (line : Line) (old new : Device) : Type 0 where
+  pub takes : takes_memory line ≡ true
+  pub same : new ≡ old
 
 -- ---- all lines
 

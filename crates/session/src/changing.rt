@@ -1,11 +1,11 @@
 // Lines that change settings, with power on.
-ghost use Rattle.std.specs.Prelude.{◌≡◌, ◌≤◌, true, None, Some, length};
+ghost use Rattle.std.specs.Prelude.{◌≡◌, ◌≤◌, None, Some, length};
 ghost use Rattle.flash_sim.specs.declared.flash.Loss.{Loss as loss_type};
 ghost use Rattle.flash_map.specs.Area.{geometry_of, value_limit};
 ghost use Rattle.flash_map.specs.Lawful.{IsLawfulFor};
-ghost use Rattle.flash_map.specs.On.{on, StandsOn};
+ghost use Rattle.flash_map.specs.On.{on};
 ghost use Rattle.script_lines.specs.declared.line.Line.TheVariants.{Set, Del};
-ghost use Rattle.session.specs.OnMap.{DoneBeside, IsServedMap, active_area, meanings};
+ghost use Rattle.session.specs.OnMap.{DoneBeside, IsServedMap, meanings, StandsOnActive, StaysOnArea};
 
 use backend_api::Backend;
 use flash_map::{Area, FlashMap};
@@ -17,7 +17,7 @@ use std::sync::ledger::Ledger;
 
 // Whether the units that were put before the last loss spell, by chance, another record in the
 // area.
-pub(crate) fn spells_another<K: Backend, B: Bench, L: Ledger>(
+pub fn spells_another<K: Backend, B: Bench, L: Ledger>(
     bench: &B,
     area: &Area,
     steps: &mut Steps<L>,
@@ -34,7 +34,7 @@ pub(crate) fn spells_another<K: Backend, B: Bench, L: Ledger>(
 }
 
 // Sets a setting, or deletes it where the value is empty.
-pub(crate) fn set_setting<K: Backend, B: Bench, L: Ledger>(
+pub fn set_setting<K: Backend, B: Bench, L: Ledger>(
     bench: &mut B,
     settings: &mut Settings<K>,
     map: &FlashMap,
@@ -44,23 +44,16 @@ pub(crate) fn set_setting<K: Backend, B: Bench, L: Ledger>(
     steps: &mut Steps<L>,
 ) -> Answer
     requires map { IsServedMap K.serves map.now (B.device bench.old) }
-    requires on { (B.device bench.old).is_on ≡ true }
-    requires active { area.now ≡ active_area map.now (B.device bench.old) }
-    requires area { K.mounted_on settings.old.backend ≡ area.now }
-    requires lawful { IsLawfulFor (B.device bench.old).banks area.now }
-    requires serves { K.serves area.now (geometry_of (B.device bench.old) area.now) }
-    requires up { K.runs settings.old.backend ≡ true }
-    requires stands { StandsOn K.mounted_on K.stands (B.device bench.old) settings.old.backend }
+    requires here { let d = B.device bench.old in
+        StandsOnActive K.mounted_on K.stands K.runs map.now d area.now settings.old.backend }
     requires short { length value.now ≤ value_limit area.now }
 
     ensures done { let d = B.device bench.old in
         DoneBeside (meanings K.contents K.room K.chance K.tears) map.now (Set name.now value.now)
         result d (B.device bench.new) }
     ensures sound { on K.damage (B.device bench.new) area.now ≡ None }
-    ensures area { K.mounted_on settings.new.backend ≡ area.now }
-    ensures ready { (B.device bench.new).is_on ≡ true → K.runs settings.new.backend ≡ true }
-    ensures stands { let e = B.device bench.new in
-        e.is_on ≡ true → StandsOn K.mounted_on K.stands e settings.new.backend }
+    ensures stays { let e = B.device bench.new in
+        StaysOnArea K.mounted_on K.stands K.runs e area.now settings.new.backend }
 {
     let before = bench.spent();
     let end = settings.save_one(bench, name, value.as_slice(), steps);
@@ -78,7 +71,7 @@ pub(crate) fn set_setting<K: Backend, B: Bench, L: Ledger>(
 }
 
 // Deletes a setting.
-pub(crate) fn delete_setting<K: Backend, B: Bench, L: Ledger>(
+pub fn delete_setting<K: Backend, B: Bench, L: Ledger>(
     bench: &mut B,
     settings: &mut Settings<K>,
     map: &FlashMap,
@@ -87,22 +80,15 @@ pub(crate) fn delete_setting<K: Backend, B: Bench, L: Ledger>(
     steps: &mut Steps<L>,
 ) -> Answer
     requires map { IsServedMap K.serves map.now (B.device bench.old) }
-    requires on { (B.device bench.old).is_on ≡ true }
-    requires active { area.now ≡ active_area map.now (B.device bench.old) }
-    requires area { K.mounted_on settings.old.backend ≡ area.now }
-    requires lawful { IsLawfulFor (B.device bench.old).banks area.now }
-    requires serves { K.serves area.now (geometry_of (B.device bench.old) area.now) }
-    requires up { K.runs settings.old.backend ≡ true }
-    requires stands { StandsOn K.mounted_on K.stands (B.device bench.old) settings.old.backend }
+    requires here { let d = B.device bench.old in
+        StandsOnActive K.mounted_on K.stands K.runs map.now d area.now settings.old.backend }
 
     ensures done { let d = B.device bench.old in
         DoneBeside (meanings K.contents K.room K.chance K.tears) map.now (Del name.now) result d
         (B.device bench.new) }
     ensures sound { on K.damage (B.device bench.new) area.now ≡ None }
-    ensures area { K.mounted_on settings.new.backend ≡ area.now }
-    ensures ready { (B.device bench.new).is_on ≡ true → K.runs settings.new.backend ≡ true }
-    ensures stands { let e = B.device bench.new in
-        e.is_on ≡ true → StandsOn K.mounted_on K.stands e settings.new.backend }
+    ensures stays { let e = B.device bench.new in
+        StaysOnArea K.mounted_on K.stands K.runs e area.now settings.new.backend }
 {
     let before = bench.spent();
     let end = settings.delete(bench, name, steps);

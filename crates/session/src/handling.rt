@@ -12,7 +12,7 @@ ghost use Rattle.script_lines.specs.declared.line.Line.TheVariants.{Save};
 ghost use Rattle.session_table.specs.State.{State};
 ghost use Rattle.session_table.specs.Step.{Registers, Loads, Commits, Offers, Asks, same_kind};
 ghost use Rattle.session.specs.Handling.{beside, FirstAt, TakeEnds};
-ghost use Rattle.session.specs.OnMap.{meanings, moment, kinds, DoneWithin, IsFresh, IsServedMap, IsServed, active_area, is_handled, limit_of, takes_memory};
+ghost use Rattle.session.specs.OnMap.{meanings, moment, kinds, DoneWithin, IsFresh, IsServedMap, IsServed, is_handled, limit_of, StandsOnActive, StaysOnArea, HandlersFit, StopsUnchanged};
 
 use crate::changing::spells_another;
 use crate::telling::copied;
@@ -265,11 +265,8 @@ fn save_settings<K: Backend, B: Bench, L: Ledger>(
     steps: &mut Steps<L>,
 ) -> Answer
     requires map { IsServedMap K.serves map.now (B.device bench.old) }
-    requires on { (B.device bench.old).is_on ≡ true }
-    requires area { area.now ≡ active_area map.now (B.device bench.old) }
-    requires mounted { K.mounted_on settings.old.backend ≡ area.now }
-    requires up { K.runs settings.old.backend ≡ true }
-    requires stands { StandsOn K.mounted_on K.stands (B.device bench.old) settings.old.backend }
+    requires here { let d = B.device bench.old in
+        StandsOnActive K.mounted_on K.stands K.runs map.now d area.now settings.old.backend }
     requires registry { AreLawful (limit_of map.now) (registered state registry.now) }
 
     ensures done { let m = meanings K.contents K.room K.chance K.tears in
@@ -277,10 +274,8 @@ fn save_settings<K: Backend, B: Bench, L: Ledger>(
         (moment (B.device bench.old) (registered state registry.now) pool)
         (moment (B.device bench.new) (registered state registry.now) pool) }
     ensures sound { on K.damage (B.device bench.new) area.now ≡ None }
-    ensures area { K.mounted_on settings.new.backend ≡ area.now }
-    ensures ready { (B.device bench.new).is_on ≡ true → K.runs settings.new.backend ≡ true }
-    ensures stands { (B.device bench.new).is_on ≡ true
-        → StandsOn K.mounted_on K.stands (B.device bench.new) settings.new.backend }
+    ensures stays { let e = B.device bench.new in
+        StaysOnArea K.mounted_on K.stands K.runs e area.now settings.new.backend }
 {
     let before = bench.spent();
     let saved = settings.save(bench, registry, subtree.as_ref(), steps);
@@ -313,7 +308,7 @@ fn save_settings<K: Backend, B: Bench, L: Ledger>(
 // ---- all of them
 
 // Carries out a line on handlers.
-pub(crate) fn with_handlers<K: Backend, B: Bench, L: Ledger>(
+pub fn with_handlers<K: Backend, B: Bench, L: Ledger>(
     alloc: Global,
     line: &Line,
     bench: &mut B,
@@ -325,15 +320,12 @@ pub(crate) fn with_handlers<K: Backend, B: Bench, L: Ledger>(
     steps: &mut Steps<L>,
 ) -> Result<Answer, NoMemory>
     requires map { IsServedMap K.serves map.now (B.device bench.old) }
-    requires on { (B.device bench.old).is_on ≡ true }
+    requires here { let d = B.device bench.old in
+        StandsOnActive K.mounted_on K.stands K.runs map.now d area.now settings.old.backend }
     requires handled { is_handled line.now ≡ true }
-    requires area { area.now ≡ active_area map.now (B.device bench.old) }
-    requires mounted { K.mounted_on settings.old.backend ≡ area.now }
-    requires up { K.runs settings.old.backend ≡ true }
-    requires stands { StandsOn K.mounted_on K.stands (B.device bench.old) settings.old.backend }
     requires line { IsServed (limit_of map.now) line.now }
-    requires pool { All (IsFresh state) pool.old.items }
-    requires registry { AreLawful (limit_of map.now) (registered state registry.old) }
+    requires handlers { let hs = registered state registry.old in
+        HandlersFit state (limit_of map.now) hs pool.old.items }
 
     ensures done { let m = meanings K.contents K.room K.chance K.tears in
         IfOk result
@@ -343,14 +335,12 @@ pub(crate) fn with_handlers<K: Backend, B: Bench, L: Ledger>(
         (kinds state pool.new.items))) }
     ensures sound { on K.damage (B.device bench.old) area.now ≡ None
         → on K.damage (B.device bench.new) area.now ≡ None }
-    ensures none { OnErr result (B.device bench.new ≡ B.device bench.old) }
-    ensures takes { OnErr result (takes_memory line.now ≡ true) }
-    ensures area { K.mounted_on settings.new.backend ≡ area.now }
-    ensures ready { (B.device bench.new).is_on ≡ true → K.runs settings.new.backend ≡ true }
-    ensures stands { (B.device bench.new).is_on ≡ true
-        → StandsOn K.mounted_on K.stands (B.device bench.new) settings.new.backend }
-    ensures pool { All (IsFresh state) pool.new.items }
-    ensures registry { AreLawful (limit_of map.now) (registered state registry.new) }
+    ensures stops { OnErr result
+        (StopsUnchanged line.now (B.device bench.old) (B.device bench.new)) }
+    ensures stays { let e = B.device bench.new in
+        StaysOnArea K.mounted_on K.stands K.runs e area.now settings.new.backend }
+    ensures handlers { let hs = registered state registry.new in
+        HandlersFit state (limit_of map.now) hs pool.new.items }
 {
     match line {
         Line::Register { subtree, kind } => register_handler(subtree, *kind, pool, registry),

@@ -14,7 +14,7 @@ use std::alloc::Global;
 use std::sync::ledger::Ledger;
 
 // Moves all settings to the next area, where the map has a selector.
-pub(crate) fn move_settings<K: Backend, B: Bench, L: Ledger>(
+pub fn move_settings<K: Backend, B: Bench, L: Ledger>(
     alloc: Global,
     bench: &mut B,
     map: &FlashMap,

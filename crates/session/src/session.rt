@@ -1,16 +1,12 @@
 // A session, and carrying out one line in it.
-ghost use Rattle.std.specs.Prelude.{◌≡◌, true, false, None, Some, All, IfOk, IfErr, OnErr, OnOk};
-ghost use Rattle.flash_map.specs.Area.{geometry_of, value_limit};
-ghost use Rattle.flash_map.specs.Lawful.{IsLawfulFor};
-ghost use Rattle.flash_map.specs.On.{on, StandsOn};
+ghost use Rattle.std.specs.Prelude.{◌≡◌, true, false, None, Some, IfOk, IfErr, OnErr, OnOk};
+ghost use Rattle.flash_map.specs.On.{on};
 ghost use Rattle.handlers.specs.Registry.{registered};
 ghost use Rattle.script_lines.specs.declared.answer.Answer.TheVariants.{Done};
 ghost use Rattle.script_lines.specs.declared.line.Line.TheVariants.{Mount, Migrate};
 ghost use Rattle.session_table.specs.Step.{needs_power};
-ghost use Rattle.settings_core.specs.Saving.{AreLawful};
-ghost use Rattle.session.specs.declared.fault.SessionFault.TheVariants.{NoMemory as OutOfMemory};
 ghost use Rattle.session.specs.Mounting.{down};
-ghost use Rattle.session.specs.OnMap.{CarriedBeside, DoneWithin, IsAtRest, IsFresh, IsReady, IsServed, IsServedMap, LineCarried, LineStops, active_area, damage_in, is_local, kinds, limit_of, meanings, moment, takes_memory};
+ghost use Rattle.session.specs.OnMap.{CarriedBeside, DoneWithin, IsAtRest, IsReady, IsServed, IsServedMap, LineCarried, LineStops, damage_in, is_local, kinds, limit_of, meanings, moment, StandsOnActive, StaysOnArea, HandlersFit, StopsUnchanged};
 
 use crate::areas::area_at;
 use crate::changing::{delete_setting, set_setting};
@@ -115,8 +111,8 @@ impl<K: Backend> Session<K> {
             IsReady K.mounted_on K.stands K.runs map.now d self.old.selector self.old.active
             self.old.settings }
         requires line { IsServed (limit_of map.now) line.now }
-        requires pool { All (IsFresh state) pool.old.items }
-        requires registry { AreLawful (limit_of map.now) (registered state registry.old) }
+        requires handlers { let hs = registered state registry.old in
+            HandlersFit state (limit_of map.now) hs pool.old.items }
 
         ensures done { let m = meanings K.contents K.room K.chance K.tears in
             IfOk result
@@ -136,8 +132,8 @@ impl<K: Backend> Session<K> {
             OnOk result
             (IsReady K.mounted_on K.stands K.runs map.now e self.new.selector self.new.active
             self.new.settings) }
-        ensures pool { All (IsFresh state) pool.new.items }
-        ensures registry { AreLawful (limit_of map.now) (registered state registry.new) }
+        ensures handlers { let hs = registered state registry.new in
+            HandlersFit state (limit_of map.now) hs pool.new.items }
     {
         if !needs_power(line) {
             return self.without_power(alloc, line, bench, map, steps);
@@ -280,8 +276,8 @@ impl<K: Backend> Session<K> {
             IsReady K.mounted_on K.stands K.runs map.now d self.old.selector self.old.active
             self.old.settings }
         requires line { IsServed (limit_of map.now) line.now }
-        requires pool { All (IsFresh state) pool.old.items }
-        requires registry { AreLawful (limit_of map.now) (registered state registry.old) }
+        requires handlers { let hs = registered state registry.old in
+            HandlersFit state (limit_of map.now) hs pool.old.items }
 
         ensures done { let m = meanings K.contents K.room K.chance K.tears in
             IfOk result
@@ -292,15 +288,14 @@ impl<K: Backend> Session<K> {
             (kinds state pool.new.items))) }
         ensures undamaged { let d = B.device bench.old in let e = B.device bench.new in
             damage_in K.damage map.now d ≡ None → damage_in K.damage map.now e ≡ None }
-        ensures none { OnErr result (B.device bench.new ≡ B.device bench.old) }
-        ensures takes { OnErr result (takes_memory line.now ≡ true) }
-        ensures memory { IfErr result (λ fault. fault ≡ OutOfMemory) }
+        ensures stops { let d = B.device bench.old in let e = B.device bench.new in
+            IfErr result (λ fault. LineStops K.damage map.now line.now d e fault) }
         ensures ready { let e = B.device bench.new in
             OnOk result
             (IsReady K.mounted_on K.stands K.runs map.now e self.new.selector self.new.active
             self.new.settings) }
-        ensures pool { All (IsFresh state) pool.new.items }
-        ensures registry { AreLawful (limit_of map.now) (registered state registry.new) }
+        ensures handlers { let hs = registered state registry.new in
+            HandlersFit state (limit_of map.now) hs pool.new.items }
     {
         match &mut self.settings {
             Some(settings) => {
@@ -344,18 +339,12 @@ fn with_power<K: Backend, B: Bench, L: Ledger>(
     steps: &mut Steps<L>,
 ) -> Result<Answer, NoMemory>
     requires map { IsServedMap K.serves map.now (B.device bench.old) }
-    requires on { (B.device bench.old).is_on ≡ true }
+    requires here { let d = B.device bench.old in
+        StandsOnActive K.mounted_on K.stands K.runs map.now d area.now settings.old.backend }
     requires local { is_local line.now ≡ true }
-    requires active { area.now ≡ active_area map.now (B.device bench.old) }
-    requires area { K.mounted_on settings.old.backend ≡ area.now }
-    requires lawful { IsLawfulFor (B.device bench.old).banks area.now }
-    requires serves { K.serves area.now (geometry_of (B.device bench.old) area.now) }
-    requires up { K.runs settings.old.backend ≡ true }
-    requires stands { StandsOn K.mounted_on K.stands (B.device bench.old) settings.old.backend }
-    requires limit { value_limit area.now ≡ limit_of map.now }
     requires line { IsServed (limit_of map.now) line.now }
-    requires pool { All (IsFresh state) pool.old.items }
-    requires registry { AreLawful (limit_of map.now) (registered state registry.old) }
+    requires handlers { let hs = registered state registry.old in
+        HandlersFit state (limit_of map.now) hs pool.old.items }
 
     ensures done { let m = meanings K.contents K.room K.chance K.tears in
         IfOk result
@@ -365,14 +354,12 @@ fn with_power<K: Backend, B: Bench, L: Ledger>(
         (kinds state pool.new.items))) }
     ensures sound { let d = B.device bench.old in let e = B.device bench.new in
         on K.damage d area.now ≡ None → on K.damage e area.now ≡ None }
-    ensures none { OnErr result (B.device bench.new ≡ B.device bench.old) }
-    ensures takes { OnErr result (takes_memory line.now ≡ true) }
-    ensures area { K.mounted_on settings.new.backend ≡ area.now }
-    ensures ready { (B.device bench.new).is_on ≡ true → K.runs settings.new.backend ≡ true }
-    ensures stands { let e = B.device bench.new in
-        e.is_on ≡ true → StandsOn K.mounted_on K.stands e settings.new.backend }
-    ensures pool { All (IsFresh state) pool.new.items }
-    ensures registry { AreLawful (limit_of map.now) (registered state registry.new) }
+    ensures stops { OnErr result
+        (StopsUnchanged line.now (B.device bench.old) (B.device bench.new)) }
+    ensures stays { let e = B.device bench.new in
+        StaysOnArea K.mounted_on K.stands K.runs e area.now settings.new.backend }
+    ensures handlers { let hs = registered state registry.new in
+        HandlersFit state (limit_of map.now) hs pool.new.items }
 {
     match line {
         Line::Set { name, value } => Ok(set_setting(

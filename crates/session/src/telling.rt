@@ -4,7 +4,7 @@ ghost use Rattle.flash_map.specs.Lawful.{IsLawfulFor};
 ghost use Rattle.flash_map.specs.On.{on, StandsOn};
 ghost use Rattle.script_lines.specs.declared.line.Line.TheVariants.{Get, Direct, Names};
 ghost use Rattle.session.specs.Lists.{pairs_under};
-ghost use Rattle.session.specs.OnMap.{DoneBeside, active_area, meanings};
+ghost use Rattle.session.specs.OnMap.{DoneBeside, meanings, StandsOnActive};
 
 use backend_api::Backend;
 use flash_map::{Area, FlashMap};
@@ -38,7 +38,7 @@ impl Each for Told {
 }
 
 // The same bytes.
-pub(crate) fn copied(alloc: Global, bytes: &[u8]) -> Result<Bytes, NoMemory>
+pub fn copied(alloc: Global, bytes: &[u8]) -> Result<Bytes, NoMemory>
     ensures { IfOk result (λ copy. copy ≡ bytes.now) }
 {
     match Vec::from_slice(alloc, bytes) {
@@ -48,7 +48,7 @@ pub(crate) fn copied(alloc: Global, bytes: &[u8]) -> Result<Bytes, NoMemory>
 }
 
 // The value of a name.
-pub(crate) fn get_setting<K: Backend, B: Bench, L: Ledger>(
+pub fn get_setting<K: Backend, B: Bench, L: Ledger>(
     alloc: Global,
     bench: &B,
     settings: &Settings<K>,
@@ -57,12 +57,9 @@ pub(crate) fn get_setting<K: Backend, B: Bench, L: Ledger>(
     name: &Name,
     steps: &mut Steps<L>,
 ) -> Result<Answer, NoMemory>
-    requires on { (B.device bench.now).is_on ≡ true }
-    requires active { area.now ≡ active_area map.now (B.device bench.now) }
-    requires area { K.mounted_on settings.now.backend ≡ area.now }
+    requires here { let d = B.device bench.now in
+        StandsOnActive K.mounted_on K.stands K.runs map.now d area.now settings.now.backend }
     requires lawful { IsLawfulFor (B.device bench.now).banks area.now }
-    requires up { K.runs settings.now.backend ≡ true }
-    requires stands { StandsOn K.mounted_on K.stands (B.device bench.now) settings.now.backend }
 
     ensures { IfOk result
         (λ answer. let d = B.device bench.now in DoneBeside
@@ -107,7 +104,7 @@ fn settings_under<K: Backend, B: Bench, L: Ledger>(
 }
 
 // The settings of a subtree, or all of them.
-pub(crate) fn tell_settings<K: Backend, B: Bench, L: Ledger>(
+pub fn tell_settings<K: Backend, B: Bench, L: Ledger>(
     alloc: Global,
     bench: &B,
     settings: &Settings<K>,
@@ -116,12 +113,9 @@ pub(crate) fn tell_settings<K: Backend, B: Bench, L: Ledger>(
     subtree: &Option<Name>,
     steps: &mut Steps<L>,
 ) -> Result<Answer, NoMemory>
-    requires on { (B.device bench.now).is_on ≡ true }
-    requires active { area.now ≡ active_area map.now (B.device bench.now) }
-    requires area { K.mounted_on settings.now.backend ≡ area.now }
+    requires here { let d = B.device bench.now in
+        StandsOnActive K.mounted_on K.stands K.runs map.now d area.now settings.now.backend }
     requires lawful { IsLawfulFor (B.device bench.now).banks area.now }
-    requires up { K.runs settings.now.backend ≡ true }
-    requires stands { StandsOn K.mounted_on K.stands (B.device bench.now) settings.now.backend }
 
     ensures { IfOk result
         (λ answer. let d = B.device bench.now in DoneBeside
@@ -147,7 +141,7 @@ fn label_of(alloc: Global, area: &Area) -> Result<Label, NoMemory>
 }
 
 // The label of the area and all settings.
-pub(crate) fn tell_all<K: Backend, B: Bench, L: Ledger>(
+pub fn tell_all<K: Backend, B: Bench, L: Ledger>(
     alloc: Global,
     bench: &B,
     settings: &Settings<K>,
@@ -155,12 +149,9 @@ pub(crate) fn tell_all<K: Backend, B: Bench, L: Ledger>(
     area: &Area,
     steps: &mut Steps<L>,
 ) -> Result<Answer, NoMemory>
-    requires on { (B.device bench.now).is_on ≡ true }
-    requires active { area.now ≡ active_area map.now (B.device bench.now) }
-    requires area { K.mounted_on settings.now.backend ≡ area.now }
+    requires here { let d = B.device bench.now in
+        StandsOnActive K.mounted_on K.stands K.runs map.now d area.now settings.now.backend }
     requires lawful { IsLawfulFor (B.device bench.now).banks area.now }
-    requires up { K.runs settings.now.backend ≡ true }
-    requires stands { StandsOn K.mounted_on K.stands (B.device bench.now) settings.now.backend }
 
     ensures { IfOk result (λ answer. let d = B.device bench.now in
         DoneBeside (meanings K.contents K.room K.chance K.tears) map.now Names answer d d) }

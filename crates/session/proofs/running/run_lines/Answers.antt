@@ -48,7 +48,7 @@ pub loop-line-preserved : goal.loop-line-preserved
 loop-line-preserved g c =
     let done = c.in-Ok-carry_out.ensures.done in
     let here = one_more (meanings g.K.Backend.contents g.K.Backend.room g.K.Backend.chance g.K.Backend.tears) g.K.Backend.damage c.args.map.now c.args.lines.now c.loop-line.line-index c.line-item.result c.loop-line.answers c.in-Ok-carry_out.answer (moment (g.B.Flash.device c.args.bench.now) (registered (λ b. (goal.Handler-dyn g (b.vtable, b.value)).state b.value) c.args.registry.now) (kinds (λ b. (goal.Handler-dyn g (b.vtable, b.value)).state b.value) c.args.pool.items)) (moment (g.B.Flash.device c.loop-line.bench) (registered (λ b. (goal.Handler-dyn g (b.vtable, b.value)).state b.value) c.loop-line.registry) (kinds (λ b. (goal.Handler-dyn g (b.vtable, b.value)).state b.value) c.loop-line.pool.items)) (moment (g.B.Flash.device c.carry_out.new.bench) (registered (λ b. (goal.Handler-dyn g (b.vtable, b.value)).state b.value) c.carry_out.new.registry) (kinds (λ b. (goal.Handler-dyn g (b.vtable, b.value)).state b.value) c.carry_out.new.pool.items)) c.loop-line-test.true c.line-item.is c.loop-line.invariant.0 done in
-    (rw (c.in-Ok-push-2.ensures.ok) here, done.done.keeps.banks ∙ c.loop-line.invariant.1, c.in-Ok-carry_out.ensures.ready, c.carry_out.ensures.pool, c.carry_out.ensures.registry)
+    (rw (c.in-Ok-push-2.ensures.ok) here, done.done.keeps.banks ∙ c.loop-line.invariant.1, c.in-Ok-carry_out.ensures.ready, c.carry_out.ensures.handlers.pool, c.carry_out.ensures.handlers.registry)
 
 pub returns-clause-ends : goal.returns-clause-ends
 returns-clause-ends g c =
@@ -60,3 +60,6 @@ returns-clause-undamaged g c = λ was. undamaged (meanings g.K.Backend.contents 
 
 pub returns-clause-rests : goal.returns-clause-rests
 returns-clause-rests g c = ready_rests g.K.Backend.mounted_on g.K.Backend.stands g.K.Backend.runs g.K.Backend.rests g.met.K.Backend.stands_rests c.args.map.now (g.B.Flash.device c.loop-line.bench) c.loop-line.session.selector c.loop-line.session.active c.loop-line.session.settings c.loop-line.invariant.2
+
+pub carry_out-requires-clause-handlers : goal.carry_out-requires-clause-handlers
+carry_out-requires-clause-handlers g c = record { registry = c.loop-line.invariant.4; pool = c.loop-line.invariant.3 }

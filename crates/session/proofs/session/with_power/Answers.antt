@@ -1,6 +1,12 @@
 -- each line is carried out by the function for it
-use Rattle.session.specs.OnMap.{meanings}
-use Rattle.session.proofs.ReadyLemmas.{beside_done, beside_if}
+use Rattle.std.proofs.Common.{◌≡◌, ◌≤◌, ◌∙◌, ℕ, length, ap, subst, sym}
+use Rattle.flash_map.specs.declared.area.Area.{Area}
+use Rattle.flash_map.specs.Area.{value_limit}
+use Rattle.flash_map.specs.Lawful.{IsLawfulFor}
+use Rattle.script_lines.specs.declared.line.Line.{Line}
+use Rattle.session.specs.OnMap.{IsServed, limit_of, meanings, takes_memory}
+use Rattle.session.proofs.ActiveArea.{active-lawful, active-limit}
+use Rattle.session.proofs.ReadyLemmas.{beside_done, beside_if, never_changed}
 use Rattle.session.proofs.session.with_power.Goals as goal
 
 pub returns-in-Set-clause-done : goal.returns-in-Set-clause-done
@@ -18,125 +24,100 @@ returns-in-Direct-clause-done g c = beside_if (meanings g.K.Backend.contents g.K
 pub returns-in-Names-clause-done : goal.returns-in-Names-clause-done
 returns-in-Names-clause-done g c = beside_if (meanings g.K.Backend.contents g.K.Backend.room g.K.Backend.chance g.K.Backend.tears) c.args.map.now c.args.line.now _ (g.B.Flash.device c.args.bench.now) (g.B.Flash.device c.args.bench.now) _ _ c.in-Names.is c.tell_all.result c.tell_all.ensures
 
-pub delete_setting-requires-clause-active : goal.delete_setting-requires-clause-active
-delete_setting-requires-clause-active g c = c.requires.active
+pub set_setting-requires-clause-map : goal.set_setting-requires-clause-map
+set_setting-requires-clause-map g c = c.requires.map
 
-pub delete_setting-requires-clause-area : goal.delete_setting-requires-clause-area
-delete_setting-requires-clause-area g c = c.requires.area
-
-pub delete_setting-requires-clause-lawful : goal.delete_setting-requires-clause-lawful
-delete_setting-requires-clause-lawful g c = c.requires.lawful
+pub set_setting-requires-clause-here : goal.set_setting-requires-clause-here
+set_setting-requires-clause-here g c = c.requires.here
 
 pub delete_setting-requires-clause-map : goal.delete_setting-requires-clause-map
 delete_setting-requires-clause-map g c = c.requires.map
 
-pub delete_setting-requires-clause-on : goal.delete_setting-requires-clause-on
-delete_setting-requires-clause-on g c = c.requires.on
+pub delete_setting-requires-clause-here : goal.delete_setting-requires-clause-here
+delete_setting-requires-clause-here g c = c.requires.here
 
-pub delete_setting-requires-clause-serves : goal.delete_setting-requires-clause-serves
-delete_setting-requires-clause-serves g c = c.requires.serves
+pub set_setting-requires-clause-short : goal.set_setting-requires-clause-short
+set_setting-requires-clause-short g c =
+    let limit : value_limit c.args.area.now ≡ limit_of c.args.map.now = ap value_limit c.requires.here.active ∙ active-limit g.K.Backend.serves c.args.map.now (g.B.Flash.device c.args.bench.now) c.requires.map in
+    subst (λ (most : ℕ). length c.in-Set.value ≤ most) (sym limit) (subst (λ (line : Line). IsServed (limit_of c.args.map.now) line) c.in-Set.is c.requires.line)
 
-pub delete_setting-requires-clause-stands : goal.delete_setting-requires-clause-stands
-delete_setting-requires-clause-stands g c = c.requires.stands
-
-pub delete_setting-requires-clause-up : goal.delete_setting-requires-clause-up
-delete_setting-requires-clause-up g c = c.requires.up
-
-pub get_setting-requires-clause-active : goal.get_setting-requires-clause-active
-get_setting-requires-clause-active g c = c.requires.active
-
-pub get_setting-requires-clause-area : goal.get_setting-requires-clause-area
-get_setting-requires-clause-area g c = c.requires.area
+pub get_setting-requires-clause-here : goal.get_setting-requires-clause-here
+get_setting-requires-clause-here g c = c.requires.here
 
 pub get_setting-requires-clause-lawful : goal.get_setting-requires-clause-lawful
-get_setting-requires-clause-lawful g c = c.requires.lawful
+get_setting-requires-clause-lawful g c = subst (λ (a : Area). IsLawfulFor (g.B.Flash.device c.args.bench.now).banks a) (sym c.requires.here.active) (active-lawful g.K.Backend.serves c.args.map.now (g.B.Flash.device c.args.bench.now) c.requires.map)
 
-pub get_setting-requires-clause-on : goal.get_setting-requires-clause-on
-get_setting-requires-clause-on g c = c.requires.on
-
-pub get_setting-requires-clause-stands : goal.get_setting-requires-clause-stands
-get_setting-requires-clause-stands g c = c.requires.stands
-
-pub get_setting-requires-clause-up : goal.get_setting-requires-clause-up
-get_setting-requires-clause-up g c = c.requires.up
-
-pub set_setting-requires-clause-active : goal.set_setting-requires-clause-active
-set_setting-requires-clause-active g c = c.requires.active
-
-pub set_setting-requires-clause-area : goal.set_setting-requires-clause-area
-set_setting-requires-clause-area g c = c.requires.area
-
-pub set_setting-requires-clause-lawful : goal.set_setting-requires-clause-lawful
-set_setting-requires-clause-lawful g c = c.requires.lawful
-
-pub set_setting-requires-clause-map : goal.set_setting-requires-clause-map
-set_setting-requires-clause-map g c = c.requires.map
-
-pub set_setting-requires-clause-on : goal.set_setting-requires-clause-on
-set_setting-requires-clause-on g c = c.requires.on
-
-pub set_setting-requires-clause-serves : goal.set_setting-requires-clause-serves
-set_setting-requires-clause-serves g c = c.requires.serves
-
-pub set_setting-requires-clause-stands : goal.set_setting-requires-clause-stands
-set_setting-requires-clause-stands g c = c.requires.stands
-
-pub set_setting-requires-clause-up : goal.set_setting-requires-clause-up
-set_setting-requires-clause-up g c = c.requires.up
-
-pub tell_all-requires-clause-active : goal.tell_all-requires-clause-active
-tell_all-requires-clause-active g c = c.requires.active
-
-pub tell_all-requires-clause-area : goal.tell_all-requires-clause-area
-tell_all-requires-clause-area g c = c.requires.area
-
-pub tell_all-requires-clause-lawful : goal.tell_all-requires-clause-lawful
-tell_all-requires-clause-lawful g c = c.requires.lawful
-
-pub tell_all-requires-clause-on : goal.tell_all-requires-clause-on
-tell_all-requires-clause-on g c = c.requires.on
-
-pub tell_all-requires-clause-stands : goal.tell_all-requires-clause-stands
-tell_all-requires-clause-stands g c = c.requires.stands
-
-pub tell_all-requires-clause-up : goal.tell_all-requires-clause-up
-tell_all-requires-clause-up g c = c.requires.up
-
-pub tell_settings-requires-clause-active : goal.tell_settings-requires-clause-active
-tell_settings-requires-clause-active g c = c.requires.active
-
-pub tell_settings-requires-clause-area : goal.tell_settings-requires-clause-area
-tell_settings-requires-clause-area g c = c.requires.area
+pub tell_settings-requires-clause-here : goal.tell_settings-requires-clause-here
+tell_settings-requires-clause-here g c = c.requires.here
 
 pub tell_settings-requires-clause-lawful : goal.tell_settings-requires-clause-lawful
-tell_settings-requires-clause-lawful g c = c.requires.lawful
+tell_settings-requires-clause-lawful g c = subst (λ (a : Area). IsLawfulFor (g.B.Flash.device c.args.bench.now).banks a) (sym c.requires.here.active) (active-lawful g.K.Backend.serves c.args.map.now (g.B.Flash.device c.args.bench.now) c.requires.map)
 
-pub tell_settings-requires-clause-on : goal.tell_settings-requires-clause-on
-tell_settings-requires-clause-on g c = c.requires.on
+pub tell_all-requires-clause-here : goal.tell_all-requires-clause-here
+tell_all-requires-clause-here g c = c.requires.here
 
-pub tell_settings-requires-clause-stands : goal.tell_settings-requires-clause-stands
-tell_settings-requires-clause-stands g c = c.requires.stands
-
-pub tell_settings-requires-clause-up : goal.tell_settings-requires-clause-up
-tell_settings-requires-clause-up g c = c.requires.up
-
-pub with_handlers-requires-clause-area : goal.with_handlers-requires-clause-area
-with_handlers-requires-clause-area g c = c.requires.active
+pub tell_all-requires-clause-lawful : goal.tell_all-requires-clause-lawful
+tell_all-requires-clause-lawful g c = subst (λ (a : Area). IsLawfulFor (g.B.Flash.device c.args.bench.now).banks a) (sym c.requires.here.active) (active-lawful g.K.Backend.serves c.args.map.now (g.B.Flash.device c.args.bench.now) c.requires.map)
 
 pub with_handlers-requires-clause-map : goal.with_handlers-requires-clause-map
 with_handlers-requires-clause-map g c = c.requires.map
 
-pub with_handlers-requires-clause-on : goal.with_handlers-requires-clause-on
-with_handlers-requires-clause-on g c = c.requires.on
+pub with_handlers-requires-clause-here : goal.with_handlers-requires-clause-here
+with_handlers-requires-clause-here g c = c.requires.here
 
-pub with_handlers-requires-clause-pool : goal.with_handlers-requires-clause-pool
-with_handlers-requires-clause-pool g c = c.requires.pool
+pub with_handlers-requires-clause-line : goal.with_handlers-requires-clause-line
+with_handlers-requires-clause-line g c = c.requires.line
 
-pub with_handlers-requires-clause-registry : goal.with_handlers-requires-clause-registry
-with_handlers-requires-clause-registry g c = c.requires.registry
+pub with_handlers-requires-clause-handlers : goal.with_handlers-requires-clause-handlers
+with_handlers-requires-clause-handlers g c = c.requires.handlers
 
-pub with_handlers-requires-clause-stands : goal.with_handlers-requires-clause-stands
-with_handlers-requires-clause-stands g c = c.requires.stands
+pub returns-in-Set-clause-stays : goal.returns-in-Set-clause-stays
+returns-in-Set-clause-stays g c = c.set_setting.ensures.stays
 
-pub with_handlers-requires-clause-up : goal.with_handlers-requires-clause-up
-with_handlers-requires-clause-up g c = c.requires.up
+pub returns-in-Del-clause-stays : goal.returns-in-Del-clause-stays
+returns-in-Del-clause-stays g c = c.delete_setting.ensures.stays
+
+pub returns-in-Get-clause-stays : goal.returns-in-Get-clause-stays
+returns-in-Get-clause-stays g c = record {
+  mounted = c.requires.here.mounted;
+  up = λ powered. c.requires.here.up;
+  standing = λ powered. c.requires.here.standing;
+}
+
+pub returns-in-Direct-clause-stays : goal.returns-in-Direct-clause-stays
+returns-in-Direct-clause-stays g c = record {
+  mounted = c.requires.here.mounted;
+  up = λ powered. c.requires.here.up;
+  standing = λ powered. c.requires.here.standing;
+}
+
+pub returns-in-Names-clause-stays : goal.returns-in-Names-clause-stays
+returns-in-Names-clause-stays g c = record {
+  mounted = c.requires.here.mounted;
+  up = λ powered. c.requires.here.up;
+  standing = λ powered. c.requires.here.standing;
+}
+
+pub returns-in-Get-clause-stops : goal.returns-in-Get-clause-stops
+returns-in-Get-clause-stops g c = never_changed c.args.line.now (g.B.Flash.device c.args.bench.now) c.get_setting.result (ap takes_memory c.in-Get.is)
+
+pub returns-in-Direct-clause-stops : goal.returns-in-Direct-clause-stops
+returns-in-Direct-clause-stops g c = never_changed c.args.line.now (g.B.Flash.device c.args.bench.now) c.tell_settings.result (ap takes_memory c.in-Direct.is)
+
+pub returns-in-Names-clause-stops : goal.returns-in-Names-clause-stops
+returns-in-Names-clause-stops g c = never_changed c.args.line.now (g.B.Flash.device c.args.bench.now) c.tell_all.result (ap takes_memory c.in-Names.is)
+
+pub returns-in-Set-clause-handlers : goal.returns-in-Set-clause-handlers
+returns-in-Set-clause-handlers g c = c.requires.handlers
+
+pub returns-in-Del-clause-handlers : goal.returns-in-Del-clause-handlers
+returns-in-Del-clause-handlers g c = c.requires.handlers
+
+pub returns-in-Get-clause-handlers : goal.returns-in-Get-clause-handlers
+returns-in-Get-clause-handlers g c = c.requires.handlers
+
+pub returns-in-Direct-clause-handlers : goal.returns-in-Direct-clause-handlers
+returns-in-Direct-clause-handlers g c = c.requires.handlers
+
+pub returns-in-Names-clause-handlers : goal.returns-in-Names-clause-handlers
+returns-in-Names-clause-handlers g c = c.requires.handlers

@@ -4,7 +4,7 @@ use Rattle.script_lines.specs.declared.answer.Answer.TheVariants.{Off}
 use Rattle.session_table.specs.Step.{needs_power}
 use Rattle.session.specs.OnMap.{is_local, meanings}
 use Rattle.session.proofs.QuietLemmas.{off}
-use Rattle.session.proofs.ReadyLemmas.{carried, carried_if, carried_if_beside, mount_needs_none, mount_not_local, not_local, stops_unchanged}
+use Rattle.session.proofs.ReadyLemmas.{carried, carried_if, carried_if_beside, mount_needs_none, mount_not_local, not_local}
 use Rattle.session.proofs.session.Session.carry_out.Goals as goal
 
 pub returns-then-not-needs_power-clause-done : goal.returns-then-not-needs_power-clause-done
@@ -31,7 +31,16 @@ returns-else-is_local-clause-done g c =
     carried_if_beside (meanings g.K.Backend.contents g.K.Backend.room g.K.Backend.chance g.K.Backend.tears) g.K.Backend.damage c.args.map.now c.args.line.now Migrate (g.B.Flash.device c.args.bench.now) (g.B.Flash.device c.migrate.new.bench) _ _ (not_local c.args.line.now needs local) c.migrate.result c.migrate.ensures.done
 
 pub returns-then-is_local-clause-stops : goal.returns-then-is_local-clause-stops
-returns-then-is_local-clause-stops g c =
-    let local : is_local c.args.line.now ≡ true = search rules in
-    let powered : (g.B.Flash.device c.args.bench.now).is_on ≡ true = search rules in
-    stops_unchanged g.K.Backend.damage c.args.map.now c.args.line.now (g.B.Flash.device c.args.bench.now) (g.B.Flash.device c.on_active.new.bench) c.on_active.result local powered c.on_active.ensures.memory c.on_active.ensures.takes c.on_active.ensures.none
+returns-then-is_local-clause-stops g c = c.on_active.ensures.stops
+
+pub returns-then-is_local-clause-handlers : goal.returns-then-is_local-clause-handlers
+returns-then-is_local-clause-handlers g c = c.on_active.ensures.handlers
+
+pub returns-then-not-needs_power-clause-handlers : goal.returns-then-not-needs_power-clause-handlers
+returns-then-not-needs_power-clause-handlers g c = c.requires.handlers
+
+pub returns-then-not-is_on-clause-handlers : goal.returns-then-not-is_on-clause-handlers
+returns-then-not-is_on-clause-handlers g c = c.requires.handlers
+
+pub returns-else-is_local-clause-handlers : goal.returns-else-is_local-clause-handlers
+returns-else-is_local-clause-handlers g c = c.requires.handlers

@@ -1,16 +1,15 @@
-use Rattle.std.proofs.Common.{◌≡◌, ◌∙◌, ℕ, Bool, List, Option, Some, None, true, sym, ap, subst}
+use Rattle.std.proofs.Common.{◌≡◌, ◌∙◌, ℕ, Bool, List, Option, Some, None, Err, true, refl, sym, subst}
 use Rattle.std.proofs.lemmas.Bool.{false≢true}
 use Rattle.std.proofs.lemmas.Option.{slice_get_within}
 use Rattle.flash_sim.specs.Device.{Device}
-use Rattle.flash_map.specs.Area.{geometry_of, value_limit}
 use Rattle.flash_map.specs.declared.area.Area.{Area}
 use Rattle.flash_map.specs.declared.area.Geometry.{Geometry}
 use Rattle.migrator.specs.declared.selecting.Selector.{Selector}
 use Rattle.settings_core.specs.declared.settings.Settings.{Settings}
 use Rattle.session.specs.OnMap.{IsReady, damage_in, meanings}
-use Rattle.session.proofs.ActiveAreas.{active_limit, active_serves}
+use Rattle.session.specs.declared.fault.SessionFault.TheVariants.{NoMemory}
 use Rattle.session.proofs.MountLemmas.{at_active}
-use Rattle.session.proofs.ReadyLemmas.{outside_local, ready_beside, ready_some, undamaged_beside}
+use Rattle.session.proofs.ReadyLemmas.{outside_local, ready_beside, ready_some, stops_unchanged, undamaged_beside}
 use Rattle.session.proofs.session.Session.on_active.Goals as goal
 
 -- what stands at one place
@@ -33,39 +32,10 @@ pub returns-in-Ok-clause-ready : goal.returns-in-Ok-clause-ready
 returns-in-Ok-clause-ready g c = λ powered.
     let was = ready_some g.K.Backend.mounted_on g.K.Backend.stands g.K.Backend.runs c.args.map.now (g.B.Flash.device c.args.bench.now) c.args.self.now.selector c.args.self.now.active c.args.self.now.settings c.in-Some.settings c.in-Some.is c.requires.on c.requires.ready in
     let outside = outside_local (meanings g.K.Backend.contents g.K.Backend.room g.K.Backend.chance g.K.Backend.tears) c.args.map.now c.args.line.now c.in-Ok.answer (g.B.Flash.device c.args.bench.now) (g.B.Flash.device c.with_power.new.bench) _ _ _ _ c.requires.local c.in-Ok.ensures.done in
-    ready_beside g.K.Backend.serves g.K.Backend.mounted_on g.K.Backend.stands g.K.Backend.runs g.K.Backend.damage c.args.map.now (g.B.Flash.device c.args.bench.now) (g.B.Flash.device c.with_power.new.bench) c.requires.map (g.met.B.Flash.is_lawful c.args.bench.now) (g.met.B.Flash.is_lawful c.with_power.new.bench) c.in-Ok.ensures.done.done.keeps.banks outside c.args.self.now.selector c.args.self.now.active c.area_at-area.result c.in-Some.settings c.with_power.new.settings was c.area_at-area.ensures c.in-Ok.ensures.area (c.in-Ok.ensures.ready powered) (c.in-Ok.ensures.stands powered)
+    ready_beside g.K.Backend.serves g.K.Backend.mounted_on g.K.Backend.stands g.K.Backend.runs g.K.Backend.damage c.args.map.now (g.B.Flash.device c.args.bench.now) (g.B.Flash.device c.with_power.new.bench) c.requires.map (g.met.B.Flash.is_lawful c.args.bench.now) (g.met.B.Flash.is_lawful c.with_power.new.bench) c.in-Ok.ensures.done.done.keeps.banks outside c.args.self.now.selector c.args.self.now.active c.area_at-area.result c.in-Some.settings c.with_power.new.settings was c.area_at-area.ensures c.in-Ok.ensures.stays.mounted (c.in-Ok.ensures.stays.up powered) (c.in-Ok.ensures.stays.standing powered)
 
 pub area_at-area-requires : goal.area_at-area-requires
 area_at-area-requires g c = slice_get_within c.args.map.now c.args.self.now.active _ (ready_some g.K.Backend.mounted_on g.K.Backend.stands g.K.Backend.runs c.args.map.now (g.B.Flash.device c.args.bench.now) c.args.self.now.selector c.args.self.now.active c.args.self.now.settings c.in-Some.settings c.in-Some.is c.requires.on c.requires.ready).there
-
-pub with_power-requires-clause-active : goal.with_power-requires-clause-active
-with_power-requires-clause-active g c =
-    let was = ready_some g.K.Backend.mounted_on g.K.Backend.stands g.K.Backend.runs c.args.map.now (g.B.Flash.device c.args.bench.now) c.args.self.now.selector c.args.self.now.active c.args.self.now.settings c.in-Some.settings c.in-Some.is c.requires.on c.requires.ready in
-    at_active c.args.map.now (g.B.Flash.device c.args.bench.now) c.args.self.now.active c.area_at-area.result was.is_active c.area_at-area.ensures
-
-pub with_power-requires-clause-area : goal.with_power-requires-clause-area
-with_power-requires-clause-area g c =
-    let was = ready_some g.K.Backend.mounted_on g.K.Backend.stands g.K.Backend.runs c.args.map.now (g.B.Flash.device c.args.bench.now) c.args.self.now.selector c.args.self.now.active c.args.self.now.settings c.in-Some.settings c.in-Some.is c.requires.on c.requires.ready in
-    same_there _ (g.K.Backend.mounted_on c.in-Some.settings.backend) c.area_at-area.result was.there c.area_at-area.ensures
-
-pub with_power-requires-clause-lawful : goal.with_power-requires-clause-lawful
-with_power-requires-clause-lawful g c = c.requires.map.lawful.each c.args.self.now.active c.area_at-area.result c.area_at-area.ensures
-
-pub with_power-requires-clause-limit : goal.with_power-requires-clause-limit
-with_power-requires-clause-limit g c =
-    let was = ready_some g.K.Backend.mounted_on g.K.Backend.stands g.K.Backend.runs c.args.map.now (g.B.Flash.device c.args.bench.now) c.args.self.now.selector c.args.self.now.active c.args.self.now.settings c.in-Some.settings c.in-Some.is c.requires.on c.requires.ready in
-    ap value_limit (at_active c.args.map.now (g.B.Flash.device c.args.bench.now) c.args.self.now.active c.area_at-area.result was.is_active c.area_at-area.ensures) ∙ active_limit g.K.Backend.serves c.args.map.now (g.B.Flash.device c.args.bench.now) c.requires.map (g.B.Flash.device c.args.bench.now)
-
-pub with_power-requires-clause-serves : goal.with_power-requires-clause-serves
-with_power-requires-clause-serves g c =
-    let was = ready_some g.K.Backend.mounted_on g.K.Backend.stands g.K.Backend.runs c.args.map.now (g.B.Flash.device c.args.bench.now) c.args.self.now.selector c.args.self.now.active c.args.self.now.settings c.in-Some.settings c.in-Some.is c.requires.on c.requires.ready in
-    subst (λ (a : Area). g.K.Backend.serves a (geometry_of (g.B.Flash.device c.args.bench.now) a)) (sym (at_active c.args.map.now (g.B.Flash.device c.args.bench.now) c.args.self.now.active c.area_at-area.result was.is_active c.area_at-area.ensures)) (active_serves g.K.Backend.serves c.args.map.now (g.B.Flash.device c.args.bench.now) c.requires.map (g.B.Flash.device c.args.bench.now))
-
-pub with_power-requires-clause-up : goal.with_power-requires-clause-up
-with_power-requires-clause-up g c = (ready_some g.K.Backend.mounted_on g.K.Backend.stands g.K.Backend.runs c.args.map.now (g.B.Flash.device c.args.bench.now) c.args.self.now.selector c.args.self.now.active c.args.self.now.settings c.in-Some.settings c.in-Some.is c.requires.on c.requires.ready).up
-
-pub with_power-requires-clause-stands : goal.with_power-requires-clause-stands
-with_power-requires-clause-stands g c = (ready_some g.K.Backend.mounted_on g.K.Backend.stands g.K.Backend.runs c.args.map.now (g.B.Flash.device c.args.bench.now) c.args.self.now.selector c.args.self.now.active c.args.self.now.settings c.in-Some.settings c.in-Some.is c.requires.on c.requires.ready).standing
 
 pub with_power-requires-clause-line : goal.with_power-requires-clause-line
 with_power-requires-clause-line g c = c.requires.line
@@ -76,38 +46,34 @@ with_power-requires-clause-local g c = c.requires.local
 pub with_power-requires-clause-map : goal.with_power-requires-clause-map
 with_power-requires-clause-map g c = c.requires.map
 
-pub with_power-requires-clause-on : goal.with_power-requires-clause-on
-with_power-requires-clause-on g c = c.requires.on
-
-pub with_power-requires-clause-pool : goal.with_power-requires-clause-pool
-with_power-requires-clause-pool g c = c.requires.pool
-
-pub with_power-requires-clause-registry : goal.with_power-requires-clause-registry
-with_power-requires-clause-registry g c = c.requires.registry
-
 pub returns-in-Ok-clause-done : goal.returns-in-Ok-clause-done
 returns-in-Ok-clause-done g c = c.in-Ok.ensures.done
 
-pub returns-in-Ok-clause-pool : goal.returns-in-Ok-clause-pool
-returns-in-Ok-clause-pool g c = c.in-Ok.ensures.pool
-
-pub returns-in-Ok-clause-registry : goal.returns-in-Ok-clause-registry
-returns-in-Ok-clause-registry g c = c.in-Ok.ensures.registry
-
 pub returns-in-Err-clause-undamaged : goal.returns-in-Err-clause-undamaged
-returns-in-Err-clause-undamaged g c = λ none. subst (λ (x : Device). damage_in g.K.Backend.damage c.args.map.now x ≡ None) (sym c.in-Err.ensures.none) none
-
-pub returns-in-Err-clause-takes : goal.returns-in-Err-clause-takes
-returns-in-Err-clause-takes g c = c.in-Err.ensures.takes
-
-pub returns-in-Err-clause-none : goal.returns-in-Err-clause-none
-returns-in-Err-clause-none g c = c.in-Err.ensures.none
-
-pub returns-in-Err-clause-pool : goal.returns-in-Err-clause-pool
-returns-in-Err-clause-pool g c = c.in-Err.ensures.pool
-
-pub returns-in-Err-clause-registry : goal.returns-in-Err-clause-registry
-returns-in-Err-clause-registry g c = c.in-Err.ensures.registry
+returns-in-Err-clause-undamaged g c = λ none. subst (λ (x : Device). damage_in g.K.Backend.damage c.args.map.now x ≡ None) (sym c.in-Err.ensures.stops.same) none
 
 pub unreachable-requires : goal.unreachable-requires
 unreachable-requires g c = never_none g.K.Backend.mounted_on g.K.Backend.stands g.K.Backend.runs c.args.map.now (g.B.Flash.device c.args.bench.now) c.args.self.now.selector c.args.self.now.active c.args.self.now.settings c.in-None.is c.requires.on c.requires.ready
+
+pub with_power-requires-clause-here : goal.with_power-requires-clause-here
+with_power-requires-clause-here g c =
+    let was = ready_some g.K.Backend.mounted_on g.K.Backend.stands g.K.Backend.runs c.args.map.now (g.B.Flash.device c.args.bench.now) c.args.self.now.selector c.args.self.now.active c.args.self.now.settings c.in-Some.settings c.in-Some.is c.requires.on c.requires.ready in
+    record {
+      powered = c.requires.on;
+      active = at_active c.args.map.now (g.B.Flash.device c.args.bench.now) c.args.self.now.active c.area_at-area.result was.is_active c.area_at-area.ensures;
+      mounted = same_there _ (g.K.Backend.mounted_on c.in-Some.settings.backend) c.area_at-area.result was.there c.area_at-area.ensures;
+      up = was.up;
+      standing = was.standing;
+    }
+
+pub with_power-requires-clause-handlers : goal.with_power-requires-clause-handlers
+with_power-requires-clause-handlers g c = c.requires.handlers
+
+pub returns-in-Ok-clause-handlers : goal.returns-in-Ok-clause-handlers
+returns-in-Ok-clause-handlers g c = c.in-Ok.ensures.handlers
+
+pub returns-in-Err-clause-handlers : goal.returns-in-Err-clause-handlers
+returns-in-Err-clause-handlers g c = c.in-Err.ensures.handlers
+
+pub returns-in-Err-clause-stops : goal.returns-in-Err-clause-stops
+returns-in-Err-clause-stops g c = stops_unchanged g.K.Backend.damage c.args.map.now c.args.line.now (g.B.Flash.device c.args.bench.now) (g.B.Flash.device c.with_power.new.bench) (Err NoMemory) c.requires.local c.requires.on refl c.in-Err.ensures.stops.takes c.in-Err.ensures.stops.same

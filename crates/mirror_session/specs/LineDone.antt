@@ -21,7 +21,7 @@ use Rattle.mirror.specs.Trusted.{BothRead, damage_shown, trusted_on}
 use Rattle.script_lines.specs.declared.answer.Answer.TheVariants as settings
 use Rattle.script_lines.specs.Plan.Replan.{keeps as keeps_plan}
 use Rattle.session.specs.OnMap.{turned_on}
-use Rattle.session_table.specs.Bench.{area_at, geometry_in}
+use Rattle.session_table.specs.Bench.{area_at, geometry_in, StaysUnplanned}
 use Rattle.mirror_session.specs.declared.line.Line.{Line}
 use Rattle.mirror_session.specs.declared.line.Line.TheVariants.{Set, Del, Mount, Blank}
 use Rattle.mirror_session.specs.declared.answer.Answer.{Answer}

@@ -1,42 +1,50 @@
-#!/usr/bin/env python3
-"""Draws the sectors of an image file: where entries and data stand, what is free, and what a loss of power left half done.
+"""What the bytes of sectors say, by the rules of docs/formats.md: entries, data, free space, and what a power loss left half done.
 
-    examples/picture IMAGE [--bars]
-
-Each sector is a bar of 64 columns, its first byte at the left; a column shows what most of its bytes are that are not erased.
-Under the bar stands a line for each slot or record, with its offset in the sector (--bars leaves them out), and under each area
-the settings that it reads as, where it shows no damage: `image_tool dump` tells damage, this script does not look for it. The
-bytes are those of docs/formats.md. It needs Python 3.9 and nothing else.
+Each byte of a sector gets one letter; KINDS says what they mean. Damage is not looked for: `image_tool dump` tells it.
 """
-import argparse
-import json
-import sys
+from dataclasses import dataclass, field
 
-COLUMNS = 64
-LEGEND = """\
-E D  the entry or record that decides, with its data     C G  close entry, gc-done entry     H  header of FCB
-e d  an older one, or a delete                           O F  empty entry and fill unit of ZMS
-x    cut, or it does not check                           ~    belongs to nothing             .  erased"""
+from .images import number
 
-
-def number(raw):
-    return int.from_bytes(raw, "little")
+KINDS = {
+    "E": "entry that counts",
+    "D": "data that counts",
+    "e": "obsolete entry",
+    "d": "obsolete data",
+    "x": "torn entry",
+    "~": "data without an entry",
+    "H": "sector header",
+    "C": "close entry",
+    "G": "gc-done entry",
+    "F": "fill unit",
+    ".": "free (erased)",
+}
 
 
 def up(length, unit):
     return -(-length // unit) * unit
 
 
-def erased(raw):
-    return all(byte == 0xFF for byte in raw)
+def is_erased(raw):
+    return raw.count(0xFF) == len(raw)
+
+
+def crc_table():
+    table = []
+    for byte in range(256):
+        for _ in range(8):
+            byte = (byte << 1 ^ 0x07) & 0xFF if byte & 0x80 else byte << 1
+        table.append(byte)
+    return table
+
+
+CRC = crc_table()
 
 
 def crc8(raw):
     crc = 0xFF
     for byte in raw:
-        crc ^= byte
-        for _ in range(8):
-            crc = (crc << 1 ^ 0x07) & 0xFF if crc & 0x80 else crc << 1
+        crc = CRC[crc ^ byte]
     return crc
 
 
@@ -45,6 +53,10 @@ def shown(raw):
     front = raw[:16]
     text = f"'{front.decode('latin-1')}'" if len(raw) > 2 and all(0x20 < byte < 0x7F for byte in front) else front.hex().upper()
     return (text or "nothing") + (".." if len(raw) > 16 else "")
+
+
+def counted(count, noun):
+    return f"{count} {noun}" + ("" if count == 1 else "s")
 
 
 def shown_body(body):
@@ -64,7 +76,7 @@ class Sector:
     def __init__(self, raw, unit):
         self.raw, self.state, self.has_done, self.entries, self.lines = raw, "blank", False, [], []
         units = [raw[at:at + unit] for at in range(0, len(raw), unit)]
-        self.kinds = [kind for each in units for kind in ("." if erased(each) else "~") * unit]
+        self.kinds = [kind for each in units for kind in ("." if is_erased(each) else "~") * unit]
 
     def mark(self, at, length, kind):
         self.kinds[at:at + length] = kind * len(self.kinds[at:at + length])
@@ -73,27 +85,27 @@ class Sector:
         self.mark(at, length, kind)
         self.lines.append((at, words))
 
-    def bar(self):
-        columns, width = [], len(self.raw) // COLUMNS
+    def bar(self, columns=64):
+        bar, width = [], max(1, len(self.raw) // columns)
         for at in range(0, len(self.raw), width):
             kinds = [kind for kind in self.kinds[at:at + width] if kind != "."] or ["."]
-            columns.append(max(kinds, key=kinds.count))
-        return "".join(columns)
+            bar.append(max(kinds, key=kinds.count))
+        return "".join(bar)
 
 
 # ---- sectors by role
 
 def nvs_sector(raw, unit):
     sector, slot = Sector(raw, unit), up(8, unit)
-    if erased(raw):
+    if is_erased(raw):
         return sector
     close, *slots = range(len(raw) - slot, -1, -slot)
-    sector.state = "in use" if erased(raw[close:]) else "closed"
+    sector.state = "in use" if is_erased(raw[close:]) else "closed"
     if sector.state == "closed":
         sector.put(close, slot, "C", "close entry")
     for at in slots:
         entry = raw[at:at + 8]
-        if erased(raw[at:at + slot]):
+        if is_erased(raw[at:at + slot]):
             break
         ident, offset, length = (number(entry[i:i + 2]) for i in (0, 2, 4))
         checks = crc8(entry[:7]) == entry[7]
@@ -102,7 +114,7 @@ def nvs_sector(raw, unit):
             sector.put(at, slot, "G", "gc-done entry")
         elif checks and ident != 0xFFFF and offset % unit == 0 and offset + length <= at:
             value, places = raw[offset:offset + length], [(at, slot, "E"), (offset, up(length, unit), "D")]
-            words = f"id {ident:04X}, {length} bytes at {offset}: {shown(value)}"
+            words = f"id {ident:04X}%s, {counted(length, 'byte')} at {offset}: {shown(value)}"
             sector.entries.append(Entry(ident, value, places, words))
         else:
             sector.put(at, slot, "x", f"does not count: {entry.hex(' ').upper()}")
@@ -115,6 +127,31 @@ def zms_entry(raw, cycle=None):
     return (number(raw[2:4]), number(raw[4:8]), raw[8:]) if checks else (None, None, raw[8:])
 
 
+def zms_item(raw, at, ident, length, tail):
+    offset = number(tail[:4])
+    value = tail[:length] if length <= 8 else raw[offset:offset + length]
+    places = [(at, 16, "E"), (offset, up(length, 16) if length > 8 else 0, "D")]
+    where = f"at {offset}" if length > 8 else "in the entry"
+    return Entry(ident, value, places, f"id {ident:08X}%s, {counted(length, 'byte')} {where}: {shown(value)}")
+
+
+def zms_slots(sector, slots, cycle):
+    """Reads the slots from the second on, down to the first that is not valid under the cycle."""
+    raw = sector.raw
+    for at in slots:
+        length, ident, tail = zms_entry(raw[at:at + 16], cycle)
+        if length is None:
+            sector.lines.append((at, "guard slot: not valid under the cycle"))
+            return
+        sector.state = "in use"
+        if ident != 0xFFFFFFFF:
+            sector.entries.append(zms_item(raw, at, ident, length, tail))
+            continue
+        is_done = (length, number(tail[4:])) == (0, 2)
+        sector.has_done |= is_done
+        sector.put(at, 16, "G" if is_done else "x", "gc-done entry" if is_done else "a special entry")
+
+
 def zms_sector(raw, unit):
     sector, own, (empty, close, *slots) = Sector(raw, unit), 0xFFFFFFFF, range(len(raw) - 16, -1, -16)
     for at in range(0, len(raw), 16):
@@ -123,55 +160,46 @@ def zms_sector(raw, unit):
     if zms_entry(raw[empty:]) != (0xFFFF, own, bytes(8)):
         return sector
     cycle, sector.state = raw[empty + 1], "empty"
-    sector.put(empty, 16, "O", f"empty entry of cycle {cycle}")
+    sector.put(empty, 16, "H", f"empty entry of cycle {cycle}")
     length, ident, tail = zms_entry(raw[close:empty], cycle)
     is_closed = (length, ident, number(tail[4:])) == (0, own, 1)
     if is_closed:
         sector.put(close, 16, "C", "close entry")
-    for at in slots:
-        length, ident, tail = zms_entry(raw[at:at + 16], cycle)
-        if length is None:
-            sector.lines.append((at, "guard slot: not valid under the cycle"))
-            break
-        sector.state = "in use"
-        if ident == own:
-            is_done = (length, number(tail[4:])) == (0, 2)
-            sector.has_done |= is_done
-            sector.put(at, 16, "G" if is_done else "x", "gc-done entry" if is_done else "a special entry")
-            continue
-        offset = number(tail[:4])
-        value = tail[:length] if length <= 8 else raw[offset:offset + length]
-        places = [(at, 16, "E"), (offset, up(length, 16) if length > 8 else 0, "D")]
-        where = f"at {offset}" if length > 8 else "in the entry"
-        sector.entries.append(Entry(ident, value, places, f"id {ident:08X}, {length} bytes {where}: {shown(value)}"))
+    zms_slots(sector, slots, cycle)
     sector.state = "closed" if is_closed else sector.state
     return sector
 
 
+def fcb_record(sector, at, unit, says):
+    """Reads the record at this place, and tells where the next one begins."""
+    raw = sector.raw
+    width = 1 if raw[at] < 0x80 else 2
+    length = raw[at] if width == 1 else (raw[at] & 0x7F) + 128 * raw[at + 1]
+    body, check = raw[at + unit:at + unit + length], at + unit + up(length, unit)
+    words = f"record of {counted(length, 'byte')}: {shown_body(body)}"
+    if check >= len(raw):
+        sector.put(at, len(raw) - at, "x", "a record that passes the sector's end")
+    elif crc8(raw[at:at + width] + body) != raw[check]:
+        sector.put(at, check + unit - at, "x", words + ", does not check")
+    else:
+        key, value = says(body)
+        places = [(at, unit, "E"), (at + unit, check - at - unit, "D"), (check, unit, "E")]
+        sector.entries.append(Entry(key, value, places, words))
+    return check + unit
+
+
 def fcb_sector(raw, unit, says):
     sector, at = Sector(raw, unit), up(8, unit)
-    if erased(raw):
+    if is_erased(raw):
         return sector
-    if raw[:4] == b"\xEE\xEE\xFF\xC0" and erased(raw[4:]):
+    if raw[:4] == b"\xEE\xEE\xFF\xC0" and is_erased(raw[4:]):
         sector.state = "free"
         sector.put(0, 4, "x", "torn header")
         return sector
     sector.state = "in use"
     sector.put(0, at, "H", f"header with id {number(raw[6:8])}")
     while at < len(raw) and raw[at:at + 2] != b"\xFF\xFF":
-        field = 1 if raw[at] < 0x80 else 2
-        length = raw[at] if field == 1 else (raw[at] & 0x7F) + 128 * raw[at + 1]
-        body, check = raw[at + unit:at + unit + length], at + unit + up(length, unit)
-        words = f"record of {length} bytes: {shown_body(body)}"
-        if check >= len(raw):
-            sector.put(at, len(raw) - at, "x", "a record that passes the sector's end")
-        elif crc8(raw[at:at + field] + body) != raw[check]:
-            sector.put(at, check + unit - at, "x", words + ", does not check")
-        else:
-            key, value = says(body)
-            places = [(at, unit, "E"), (at + unit, check - at - unit, "D"), (check, unit, "E")]
-            sector.entries.append(Entry(key, value, places, words))
-        at = check + unit
+        at = fcb_record(sector, at, unit, says)
     return sector
 
 
@@ -209,10 +237,15 @@ def group_of(name):
     return code & 0xFFF0
 
 
+def steps_of(role):
+    """The first id of a name, and how much greater that of its value is."""
+    return (0x8001, 0x4000) if role == "nvs" else (0x80000000, 0x40000000)
+
+
 def pairs_in(items, role, limit):
     """The settings that items stand for: names with the values one step above them. Of two equal names the lower id counts."""
     count, found = items.get(0x8000, b""), {}
-    first, step = (0x8001, 0x4000) if role == "nvs" else (0x80000000, 0x40000000)
+    first, step = steps_of(role)
     end = 0x80010000 if role == "zms" else first + (min(number(count), 511) if len(count) == 2 else 0)
     for ident in sorted(items, reverse=True):
         name, value = items[ident], items.get(ident + step, b"")
@@ -220,6 +253,17 @@ def pairs_in(items, role, limit):
         if there and is_name(name) and 0 < len(value) <= limit:
             found[name] = value
     return found
+
+
+def meaning_of(ident, items, role):
+    """What an id stands for among settings; nothing for a numbered item."""
+    first, step = steps_of(role)
+    if role == "nvs" and ident == 0x8000:
+        return " (count of names)"
+    if first <= ident < first + (511 if role == "nvs" else 0x10000):
+        return " (a name)"
+    name = items.get(ident - step, b"")
+    return f" (value of {name.decode()})" if ident >= first + step and name and is_name(name) else ""
 
 
 def setting_in(body, limit):
@@ -231,60 +275,54 @@ def choice_in(body, stores):
     return ("area", body[:1]) if len(body) == 2 and body[0] + body[1] == 0xFF and body[0] in stores else (None, b"")
 
 
-def draw(role, raws, unit, limit, stores, bars):
-    """Prints the sectors of one area, and what it reads as."""
+@dataclass
+class SectorView:
+    """One sector as it is drawn: a letter for each byte, a line of words for each slot or record, and its state."""
+    number: int
+    kinds: list
+    lines: list
+    state: str
+    bar: str
+
+
+@dataclass
+class AreaView:
+    area: object
+    sectors: list
+    items: dict
+    settings: dict
+    active: int = field(default=0)
+
+
+def finish(sector, last, items, role):
+    """Marks the entries of a sector by whether they decide, and adds their words."""
+    for entry in sector.entries:
+        decides = last.get(entry.key) is entry and entry.value
+        for at, length, kind in reversed(entry.places):
+            sector.mark(at, length, kind if decides else kind.lower())
+        words = entry.words.replace("%s", meaning_of(entry.key, items, role), 1) if role in ("nvs", "zms") else entry.words
+        aside = "" if decides else " (a delete)" if not entry.value else " (older)"
+        sector.lines.append((entry.places[0][0], words + aside))
+
+
+def state_of(place, sector, ring, newest):
+    used = sector.state in ("in use", "closed")
+    newer = ", the open one" if place == newest else ""
+    return sector.state + newer + (", counts for nothing" if used and place not in ring else "")
+
+
+def view_of(area, image):
+    """The sectors of an area as they are drawn, and what it reads as."""
+    role, stores, limit = area.role, image.store_places(), image.longest_value()
     says = (lambda body: choice_in(body, stores)) if role == "sel" else (lambda body: setting_in(body, limit))
     read = {"nvs": nvs_sector, "zms": zms_sector}.get(role, lambda raw, unit: fcb_sector(raw, unit, says))
-    sectors = [read(raw, unit) for raw in raws]
+    sectors = [read(raw, area.bank.unit) for raw in area.sectors]
     ring, newest = (ring_of_slots if role in ("nvs", "zms") else ring_of_records)(sectors)
-    used = [i for i, sector in enumerate(sectors) if sector.state in ("in use", "closed")]
     last = {entry.key: entry for i in ring for entry in sectors[i].entries if entry.key is not None}
-    for i, sector in enumerate(sectors):
-        for entry in sector.entries:
-            decides = last.get(entry.key) is entry and entry.value
-            for at, length, kind in reversed(entry.places):
-                sector.mark(at, length, kind if decides else kind.lower())
-            aside = "" if decides else " (a delete)" if not entry.value else " (older)"
-            sector.lines.append((entry.places[0][0], entry.words + aside))
-        newer = ", the open one" if i == newest else ""
-        print(f"  sector {i:<2} {sector.bar()}  {sector.state}{newer}{'' if i in ring or i not in used else ', counts for nothing'}")
-        for at, words in [] if bars else sorted(sector.lines):
-            print(f"      {at:5}  {words}")
     items = {key: entry.value for key, entry in last.items() if entry.value}
+    for sector in sectors:
+        finish(sector, last, items, role)
+    views = [SectorView(i, each.kinds, sorted(each.lines), state_of(i, each, ring, newest), each.bar()) for i, each in enumerate(sectors)]
     if role == "sel":
-        print(f"  the active area is the one at place {items['area'][0] if items else stores[0]}")
-    else:
-        settings = items if role == "fcb" else pairs_in(items, role, limit)
-        texts = {name.decode(): settings[name].hex() for name in sorted(settings)}
-        print("  settings " + json.dumps(texts, separators=(",", ":")))
-
-
-def main():
-    parser = argparse.ArgumentParser(description=__doc__, formatter_class=argparse.RawDescriptionHelpFormatter)
-    parser.add_argument("image")
-    parser.add_argument("--bars", action="store_true", help="leave out the line of each slot and record")
-    words = parser.parse_args()
-    with open(words.image, "rb") as file:
-        raw = file.read()
-    if raw[:4] != b"ZSIM":
-        sys.exit(f"picture: {words.image} is no image file")
-    limit, banks, areas = 2048 if raw[4] == 2 else 256, raw[5], raw[6]
-    fields = [raw[8 + 12 * i:20 + 12 * i] for i in range(banks)]
-    rows = [raw[8 + 12 * banks + 16 * i:24 + 12 * banks + 16 * i] for i in range(areas)]
-    starts, at = [], 8 + 12 * banks + 16 * areas
-    for field in fields:
-        starts.append(at)
-        at += number(field[4:8]) * number(field[8:12])
-    stores = [place for place, row in enumerate(rows) if row[0] != 4]
-    print(LEGEND)
-    for place, row in enumerate(rows):
-        role, label, bank = ("", "nvs", "zms", "fcb", "sel")[row[0]], row[8:8 + row[6]].decode(), row[1]
-        first, count = number(row[2:4]), number(row[4:6])
-        kind, unit, size = ("erasing", "rewritable")[fields[bank][0]], fields[bank][1], number(fields[bank][4:8])
-        print(f"\narea {place}, {label}: {role}, {count} sectors of {size} bytes, in bank {bank} ({kind}, unit {unit}) from sector {first}")
-        base = starts[bank] + first * size
-        draw(role, [raw[base + i * size:base + (i + 1) * size] for i in range(count)], unit, limit, stores, words.bars)
-
-
-if __name__ == "__main__":
-    main()
+        return AreaView(area, views, {}, {}, items["area"][0] if items else stores[0])
+    return AreaView(area, views, items, items if role == "fcb" else pairs_in(items, role, limit))

@@ -48,11 +48,10 @@ def crc8(raw):
     return crc
 
 
-def shown(raw):
-    """Bytes in hexadecimal digits, or as text where they are longer than two and all print; of many the first."""
-    front = raw[:16]
-    text = f"'{front.decode('latin-1')}'" if len(raw) > 2 and all(0x20 < byte < 0x7F for byte in front) else front.hex().upper()
-    return (text or "nothing") + (".." if len(raw) > 16 else "")
+def shown(raw, is_text=False):
+    """Bytes in hexadecimal digits, or a name as text; of many the first."""
+    text = f"'{raw.decode('latin-1')}'" if is_text and is_name(raw) else raw[:16].hex().upper() + (".." if len(raw) > 16 else "")
+    return text or "nothing"
 
 
 def counted(count, noun):
@@ -75,8 +74,8 @@ class Entry:
 class Sector:
     def __init__(self, raw, unit):
         self.raw, self.state, self.has_done, self.entries, self.lines = raw, "blank", False, [], []
-        units = [raw[at:at + unit] for at in range(0, len(raw), unit)]
-        self.kinds = [kind for each in units for kind in ("." if is_erased(each) else "~") * unit]
+        units = [] if is_erased(raw) else [raw[at:at + unit] for at in range(0, len(raw), unit)]
+        self.kinds = [kind for each in units for kind in ("." if is_erased(each) else "~") * unit] or list("." * len(raw))
 
     def mark(self, at, length, kind):
         self.kinds[at:at + length] = kind * len(self.kinds[at:at + length])
@@ -114,8 +113,7 @@ def nvs_sector(raw, unit):
             sector.put(at, slot, "G", "gc-done entry")
         elif checks and ident != 0xFFFF and offset % unit == 0 and offset + length <= at:
             value, places = raw[offset:offset + length], [(at, slot, "E"), (offset, up(length, unit), "D")]
-            words = f"id {ident:04X}%s, {counted(length, 'byte')} at {offset}: {shown(value)}"
-            sector.entries.append(Entry(ident, value, places, words))
+            sector.entries.append(Entry(ident, value, places, f"id {ident:04X}%s, {counted(length, 'byte')} at {offset}: "))
         else:
             sector.put(at, slot, "x", f"does not count: {entry.hex(' ').upper()}")
     return sector
@@ -132,7 +130,7 @@ def zms_item(raw, at, ident, length, tail):
     value = tail[:length] if length <= 8 else raw[offset:offset + length]
     places = [(at, 16, "E"), (offset, up(length, 16) if length > 8 else 0, "D")]
     where = f"at {offset}" if length > 8 else "in the entry"
-    return Entry(ident, value, places, f"id {ident:08X}%s, {counted(length, 'byte')} {where}: {shown(value)}")
+    return Entry(ident, value, places, f"id {ident:08X}%s, {counted(length, 'byte')} {where}: ")
 
 
 def zms_slots(sector, slots, cycle):
@@ -255,13 +253,16 @@ def pairs_in(items, role, limit):
     return found
 
 
+NAME = " (a name)"
+
+
 def meaning_of(ident, items, role):
     """What an id stands for among settings; nothing for a numbered item."""
     first, step = steps_of(role)
     if role == "nvs" and ident == 0x8000:
         return " (count of names)"
     if first <= ident < first + (511 if role == "nvs" else 0x10000):
-        return " (a name)"
+        return NAME
     name = items.get(ident - step, b"")
     return f" (value of {name.decode()})" if ident >= first + step and name and is_name(name) else ""
 
@@ -300,7 +301,10 @@ def finish(sector, last, items, role):
         decides = last.get(entry.key) is entry and entry.value
         for at, length, kind in reversed(entry.places):
             sector.mark(at, length, kind if decides else kind.lower())
-        words = entry.words.replace("%s", meaning_of(entry.key, items, role), 1) if role in ("nvs", "zms") else entry.words
+        words = entry.words
+        if role in ("nvs", "zms"):
+            meaning = meaning_of(entry.key, items, role)
+            words = words.replace("%s", meaning) + shown(entry.value, meaning == NAME)
         aside = "" if decides else " (a delete)" if not entry.value else " (older)"
         sector.lines.append((entry.places[0][0], words + aside))
 

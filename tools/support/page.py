@@ -24,9 +24,11 @@ def look(path):
 
 
 def looks_of(paths):
-    """The looks of many images, each file once."""
+    """The looks of many images; each file is read once."""
+    files = list(dict.fromkeys(paths))
     with concurrent.futures.ProcessPoolExecutor() as pool:
-        return list(pool.map(look, paths, chunksize=8))
+        found = dict(zip(files, pool.map(look, files, chunksize=8)))
+    return [found[path] for path in paths]
 
 
 class Texts:

@@ -99,10 +99,12 @@ class Unproved:
     """The program by examples/unproved: the plays of one call are made one after another, by one build."""
 
     def __init__(self, program, folder):
-        self.program, self.folder, self.built = os.path.abspath(program), folder, {}
+        self.program, self.folder, self.builds = os.path.abspath(program), folder, []
 
     def build(self, image, spec):
-        return self.calls([["build", image, spec]])[0]
+        """Notes the call: it is made in front of the next ones, since each build of the program takes half a minute."""
+        self.builds.append(["build", image, spec])
+        return Ended(0, "")
 
     def chain(self, plays):
         return self.plays(plays)
@@ -120,6 +122,15 @@ class Unproved:
         return ended
 
     def calls(self, words):
+        """Makes the calls, and those to `build` before them."""
+        builds, self.builds = self.builds, []
+        ended = self.calls_at_once([*builds, *words])
+        for build, each in zip(builds, ended):
+            if each.status != 0:
+                raise ProgramFailed(f"{build[2]} is no SPEC that image_tool builds")
+        return ended[len(builds):]
+
+    def calls_at_once(self, words):
         given = script_of(" ".join(each) for each in words)
         ran = subprocess.run([self.program], cwd=self.folder, input=given, capture_output=True, text=True, check=False)
         parts = re.split(r"^\$ image_tool .*\n", ran.stdout, flags=re.MULTILINE)[1:]

@@ -50,14 +50,19 @@ def units_of(answer):
     return int(words[place[words[0]]]) if words[0] in place else 0
 
 
+def is_id(text):
+    """Whether a script may ask for this id; another one is refused where the script itself has it."""
+    return text.isdigit() and text.isascii() and str(int(text)) == text and int(text) < 0xFFFF_FFFF
+
+
 # ---- looks: the lines that ask for all there is, and what their answers say
 
 def looks_of(command, lines, known_ids=()):
     if command == "log":
         return ["all"]
     if command == "items":
-        ids = [line.text.split(" ")[1] for line in lines if line.word() in ("set", "del", "get", "older")]
-        return [f"get {ident}" for ident in dict.fromkeys([*map(str, known_ids), *ids])]
+        ids = [line.text.split(" ")[1] for line in lines if line.word() in ("set", "del", "get", "older") and " " in line.text]
+        return [f"get {ident}" for ident in dict.fromkeys([*map(str, known_ids), *ids]) if is_id(ident)]
     return ["names"]
 
 
@@ -79,12 +84,13 @@ def refused(program_said, lines_name):
     return f"{lines_name}: {found.group(1)}" if found else program_said.strip().splitlines()[-1]
 
 
-def play_whole(program, image, text, name, command):
-    """Runs the script as it stands, so that a refusal has the numbers of its own file."""
-    ended = program.plays([Play(image, text.split("\n"), "whole.img", command)])[0]
-    if ended.status != 0:
-        raise BadScript(refused(ended.text or f"status {ended.status}", name))
-    return ended.answers()
+def play_whole(program, image, text, name, command, looks=()):
+    """Runs the script as it stands, so that a refusal has the numbers of its own file, and beside it the looks alone, on the same image."""
+    plays = [Play(image, text.split("\n"), "whole.img", command), Play(image, [*looks], MOUNTED, command)]
+    for ended in program.plays(plays):
+        if ended.status != 0:
+            raise BadScript(refused(ended.text or f"status {ended.status}", name))
+        yield ended.answers()
 
 
 def chained(program, lines, image, command, looks):
@@ -109,9 +115,8 @@ def from_beginning(program, lines, image, command, looks):
 def run_lines(program, image, text, name, command, known_ids=()):
     """Runs a script, and tells of each line its answer, its units, what is read before and after it, and where a play of it alone begins."""
     lines = lines_in(text)
-    answers = play_whole(program, image, text, name, command)
     looks = looks_of(command, lines, known_ids)
-    opening = program.plays([Play(image, looks, MOUNTED, command)])[0].answers()
+    answers, opening = play_whole(program, image, text, name, command, looks)
     before = state_in(command, looks, opening[1:])
     told = None
     if not any(line.word() in IN_MEMORY for line in lines):

@@ -1,5 +1,5 @@
 // Losses of power in settings over each store: what the next mount spends, and what is left.
-ghost use Rattle.std.specs.Prelude.{◌≡◌};
+ghost use Rattle.std.specs.Prelude.{◌≡◌, OnOk};
 ghost use Rattle.flash_map.specs.Area.{geometry_of};
 ghost use Rattle.flash_map.specs.Lawful.{IsLawfulFor, HasKind, HasUnit};
 ghost use Rattle.any_backend.specs.ByRole.{any_serves, serves_as};

@@ -39,13 +39,13 @@ use Rattle.record_settings.specs.Numbers.{cap}
 use Rattle.record_settings.specs.Settings.{settings_of}
 use Rattle.record_settings.proofs.BodyLemmas.{settings-none}
 use Rattle.named_items.specs.Numbering.{Numbering}
-use Rattle.named_items.specs.Pairs.{HasNoStrays}
+use Rattle.named_items.specs.Pairs.{HasNoOrphans}
 use Rattle.named_items.specs.Blank.{nvs-undamaged, nvs-empty, zms-undamaged, zms-empty}
 use Rattle.named_items.specs.NvsStore.{nvs_items}
 use Rattle.named_items.specs.ZmsStore.{zms_items}
 use Rattle.named_items.proofs.EmptySteps.{no-settings}
-use Rattle.backend_nvs.specs.Numbers.{numbers_in as nvs_numbers}
-use Rattle.backend_zms.specs.Numbers.{numbers_in as zms_numbers}
+use Rattle.backend_nvs.specs.IdLayout.{numbering_of as nvs_numbering_of}
+use Rattle.backend_zms.specs.IdLayout.{numbering_of as zms_numbering_of}
 use Rattle.backend_fcb.specs.Reading.{puts_cost, first_overfull, damage_of, settings_in}
 use Rattle.backend_fcb.proofs.Blank.{blank-has}
 use Rattle.backend_fcb.proofs.PutsCosts.{damage-costs, overfull_at, puts-none}
@@ -65,9 +65,9 @@ next-free reading sectors several free =
     let within : open_sector reading sectors < length sectors = open_within reading sectors (omega arith) in
     free (next sectors (open_sector reading sectors)) (next-within sectors (open_sector reading sectors) within)
 
--- no items have a stray
-no-strays : (n : Numbering) (items : Items) → items ≡ maps.empty → HasNoStrays n items
-no-strays n items none id = inl (ap (λ (m : Items). maps.get m id) none ∙ maps.get-empty nat_cmp id)
+-- no items have an orphan
+no-orphans : (n : Numbering) (items : Items) → items ≡ maps.empty → HasNoOrphans n items
+no-orphans n items none id = inl (ap (λ (m : Items). maps.get m id) none ∙ maps.get-empty nat_cmp id)
 
 module _ (n size : ℕ) (several : 2 ≤ n) where
   abbrev blanks : List (List ℕ)
@@ -173,19 +173,19 @@ module _ (d : Device) (area : Area) (lawful : IsLawfulFor d.banks area) where
   zms-none = zms-empty area.sectors (sector_size d area) lawful.several (geometry_of d area).kind
 
   empty-as : (role : Role) → serves_as role → contents_as role area (geometry_of d area) (blank_sectors (geometry_of d area)) ≡ maps.empty
-  empty-as Nvs serves = no-settings (nvs_numbers area) (nvs_items area (geometry_of d area) (blank_sectors (geometry_of d area))) nvs-none
-  empty-as Zms serves = no-settings (zms_numbers area) (zms_items area (geometry_of d area) (blank_sectors (geometry_of d area))) zms-none
+  empty-as Nvs serves = no-settings (nvs_numbering_of area) (nvs_items area (geometry_of d area) (blank_sectors (geometry_of d area))) nvs-none
+  empty-as Zms serves = no-settings (zms_numbering_of area) (zms_items area (geometry_of d area) (blank_sectors (geometry_of d area))) zms-none
   empty-as Fcb serves = fcb-empty (value_limit area) (unit_of d area) area.sectors (sector_size d area) lawful.several lawful.few
   empty-as Sel serves = absurd serves
 
   rests-as : (role : Role) → serves_as role → rests_as role area (geometry_of d area) (blank_sectors (geometry_of d area))
   rests-as Nvs serves = record {
     store = nvs-done area.sectors (sector_size d area) lawful.several (unit_of d area);
-    clean = no-strays (nvs_numbers area) (nvs_items area (geometry_of d area) (blank_sectors (geometry_of d area))) nvs-none;
+    clean = no-orphans (nvs_numbering_of area) (nvs_items area (geometry_of d area) (blank_sectors (geometry_of d area))) nvs-none;
   }
   rests-as Zms serves = record {
     store = zms-done area.sectors (sector_size d area) lawful.several (geometry_of d area).kind;
-    clean = no-strays (zms_numbers area) (zms_items area (geometry_of d area) (blank_sectors (geometry_of d area))) zms-none;
+    clean = no-orphans (zms_numbering_of area) (zms_items area (geometry_of d area) (blank_sectors (geometry_of d area))) zms-none;
   }
   rests-as Fcb serves = blank_idle
   rests-as Sel serves = absurd serves

@@ -17,9 +17,9 @@ use Rattle.backend_api.specs.Room.{Room}
 use Rattle.record_settings.specs.Numbers.{room}
 use Rattle.named_items.specs.NvsStore.{nvs_damage, nvs_items, nvs_price, nvs_cap}
 use Rattle.named_items.specs.ZmsStore.{zms_damage, zms_price, zms_cap}
-use Rattle.backend_nvs.specs.Numbers.{settings_of as nvs_settings, nvs_room}
+use Rattle.backend_nvs.specs.IdLayout.{settings_of as nvs_settings, nvs_room}
 use Rattle.backend_nvs.specs.Standing.{Rests as NvsRests}
-use Rattle.backend_zms.specs.Numbers.{zms_room}
+use Rattle.backend_zms.specs.IdLayout.{zms_room}
 use Rattle.backend_zms.specs.Standing.{settings_of as zms_settings, Rests as ZmsRests}
 use Rattle.backend_fcb.specs.Reading.{damage_of, settings_in}
 use Rattle.backend_fcb.specs.Tearing.{body_for, Tears}

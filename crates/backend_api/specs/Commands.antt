@@ -38,7 +38,7 @@ abbrev pub CutMap : Bool → (Map → Map → Type 0) → Command → Map → Ma
 CutMap true tears command before after = tears before after
 CutMap false tears command before after = (after ≡ before) ⊎ (after ≡ applied before command)
 
--- Power was lost in the command. `chance` tells of the loss whether the units that were put spell another
+-- Power was lost in the command. `chance` says of the loss whether the units that were put spell another
 -- record, and `tears` by how many they were which settings they leave.
 pub record StopsAt (chance : Loss → Bool) (tears : ℕ → Map → Map → Type 0) (command : Command) (new : Device)
     (before after : Map) : Type 0 where

@@ -24,8 +24,8 @@ HasNoRoom room sectors settings name value =
     < room.cost settings + room.need settings name value
 
 -- the most units and erases of one command
-abbrev pub most_units : Geometry → ℕ
-most_units geometry = 12 * geometry.sectors * (geometry.sector / geometry.unit + 3)
+abbrev pub command_units : Geometry → ℕ
+command_units geometry = 12 * geometry.sectors * (geometry.sector / geometry.unit + 3)
 
 -- the most units and erases that take one item of an area away: those of one collection and of one entry
 abbrev pub removal_units : Geometry → ℕ
@@ -34,4 +34,5 @@ removal_units geometry = 6 * (geometry.sector / geometry.unit + 3)
 -- The most units and erases of a mount: it finishes what a command that was cut left, and takes away the
 -- items that belong to no setting, of which an area has at most one for every 8 bytes.
 abbrev pub mount_units : Geometry → ℕ
-mount_units geometry = most_units geometry + geometry.sectors * (geometry.sector / 8) * removal_units geometry
+mount_units geometry =
+    command_units geometry + geometry.sectors * (geometry.sector / 8) * removal_units geometry

@@ -20,7 +20,7 @@ ghost use Rattle.backend_api.specs.Commands.Command.{Put, Del};
 ghost use Rattle.backend_api.specs.Ends.{MountEnds, set_lost, SetEndsOn, DeleteEndsOn};
 ghost use Rattle.backend_api.specs.Map.{Map, IsSettings, next_name};
 ghost use Rattle.flash_map.specs.On.{on, HoldsOn, StandsOn};
-ghost use Rattle.backend_api.specs.Room.{Room, most_units, mount_units};
+ghost use Rattle.backend_api.specs.Room.{Room, command_units, mount_units};
 ghost use Rattle.backend_api.specs.Written.{StaysWritten};
 
 use flash_map::{Area, MountFault};
@@ -146,7 +146,8 @@ pub trait Backend: Drop {
         ensures ends { let d = F.device flash.old in let e = F.device flash.new in
             SetEndsOn room contents d e (mounted_on self.old) name.now value.now result }
         ensures at_most { let d = F.device flash.old in
-            SpendsAtMost d (F.device flash.new) (most_units (geometry_of d (mounted_on self.old))) }
+            SpendsAtMost d (F.device flash.new)
+            (command_units (geometry_of d (mounted_on self.old))) }
         ensures sound { on damage (F.device flash.new) (mounted_on self.old) ≡ None }
         ensures cut { let d = F.device flash.old in let e = F.device flash.new in
             d.is_on ≡ true → set_lost result ≡ true
@@ -175,7 +176,8 @@ pub trait Backend: Drop {
         ensures ends { let d = F.device flash.old in let e = F.device flash.new in
             DeleteEndsOn contents d e (mounted_on self.old) name.now result }
         ensures at_most { let d = F.device flash.old in
-            SpendsAtMost d (F.device flash.new) (most_units (geometry_of d (mounted_on self.old))) }
+            SpendsAtMost d (F.device flash.new)
+            (command_units (geometry_of d (mounted_on self.old))) }
         ensures sound { on damage (F.device flash.new) (mounted_on self.old) ≡ None }
         ensures cut { let d = F.device flash.old in let e = F.device flash.new in
             d.is_on ≡ true → is_err result ≡ true

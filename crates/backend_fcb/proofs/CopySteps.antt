@@ -35,8 +35,8 @@ use Rattle.fcb_ring.proofs.CollectLemmas.{collecting-used}
 use Rattle.fcb_ring.proofs.OthersLemmas.{others_then, others_same}
 use Rattle.fcb_ring.proofs.ReadLemmas.{stands-has}
 use Rattle.backend_fcb.specs.Changing.{Copies, StopsCopying, CopiesLive}
-use Rattle.backend_fcb.specs.Gathering.{is_within, AreWithin, AreKeptWithin, AreShort, IsKept, bodies_at, Gathers, GathersFrom}
-use Rattle.backend_fcb.specs.declared.gathering.Kept.{Kept}
+use Rattle.backend_fcb.specs.Compaction.{is_within, AreWithin, AreKeptWithin, AreShort, IsKept, bodies_at, FindsLive, FindsLiveFrom}
+use Rattle.backend_fcb.specs.declared.compaction.Kept.{Kept}
 use Rattle.record_settings.specs.Live.{is_live_by, is_live, live_bodies}
 use Rattle.record_settings.specs.Numbers.{cap, put_cost}
 use Rattle.backend_fcb.specs.Reading.{puts_cost}
@@ -46,7 +46,7 @@ use Rattle.backend_fcb.specs.Standing.{damage_on}
 use Rattle.record_settings.proofs.BodyLemmas.{setting-says}
 use Rattle.record_settings.proofs.CopyCost.{copies_cost-le}
 use Rattle.backend_fcb.proofs.BodyAt.{listed-len, same-body}
-use Rattle.backend_fcb.proofs.GatherSteps.{IsAtPart, part-start, part-step}
+use Rattle.backend_fcb.proofs.CompactionSteps.{IsAtPart, part-start, part-step}
 use Rattle.backend_fcb.proofs.Limits.{limit-most, one-program}
 use Rattle.record_settings.proofs.LiveLemmas.{copies-none, copies-split}
 use Rattle.backend_fcb.proofs.PutsCosts.{costs-at, costs-on, puts-append, puts-all}
@@ -155,9 +155,9 @@ passed-of : (place : ℕ) (passed : List Entry) → AreWithin (Some place) passe
 passed-of place passed within = All-weaker (λ (entry : Entry). is_within (Some place) entry.0 ≡ true) (λ (entry : Entry). entry.0.sector ≡ place) (λ entry e. eqb-true entry.0.sector place e) passed within
 
 -- what was copied, and what is gathered then
-gathered-copies : (a d : Device) (before now : Ring) (r : RecordAt) → (so_far : IsCopying a d before now (Some r)) → (found : List Kept) (next : Option RecordAt) → (g : Gathers d now.area (Some before.oldest) so_far.later found next)
+found_live-copies : (a d : Device) (before now : Ring) (r : RecordAt) → (so_far : IsCopying a d before now (Some r)) → (found : List Kept) (next : Option RecordAt) → (g : FindsLive d now.area (Some before.oldest) so_far.later found next)
     → live_bodies (value_limit before.area) (bodies so_far.done) (bodies so_far.later) ++ bodies_at d now.area found ≡ live_bodies (value_limit before.area) (bodies (so_far.done ++ g.passed)) (bodies g.rest)
-gathered-copies a d before now r so_far found next g =
+found_live-copies a d before now r so_far found next g =
     let found-are : bodies_at d now.area found ≡ live_bodies (value_limit before.area) (bodies g.passed) (bodies g.rest) =
     g.live ∙ ap (λ (x : Area). live_bodies (value_limit x) (bodies g.passed) (bodies g.rest)) so_far.area in
     ap (λ (l : List (List ℕ)). live_bodies (value_limit before.area) (bodies so_far.done) (bodies so_far.later) ++ l) found-are
@@ -178,26 +178,26 @@ cap-room d ring lawful on =
     omega (arith, has.at_least, pad.no_more 8)
 
 -- what the walk gathers from where the copying is
-pub gathered : (a d : Device) (before now : Ring) (r : RecordAt) → (so_far : IsCopying a d before now (Some r)) → (part : Option ℕ) → part ≡ Some before.oldest → (found : List Kept) (next : Option RecordAt) → GathersFrom d now.area part (Some r) found next
-    → Gathers d now.area (Some before.oldest) so_far.later found next
-gathered a d before now r so_far part is found next gathers =
-    subst (λ (o : Option ℕ). Gathers d now.area o so_far.later found next) is (gathers so_far.done so_far.later (copying-list a d before now (Some r) so_far ∙ so_far.at.are) (so_far.at.here r refl))
+pub found_live : (a d : Device) (before now : Ring) (r : RecordAt) → (so_far : IsCopying a d before now (Some r)) → (part : Option ℕ) → part ≡ Some before.oldest → (found : List Kept) (next : Option RecordAt) → FindsLiveFrom d now.area part (Some r) found next
+    → FindsLive d now.area (Some before.oldest) so_far.later found next
+found_live a d before now r so_far part is found next finds_live =
+    subst (λ (o : Option ℕ). FindsLive d now.area o so_far.later found next) is (finds_live so_far.done so_far.later (copying-list a d before now (Some r) so_far ∙ so_far.at.are) (so_far.at.here r refl))
 
 -- is not long
-pub gathered-short : (d : Device) (area : Area) (part : Option ℕ) (later : List Entry) (found : List Kept) (next : Option RecordAt) → Gathers d area part later found next → AreShort d area found
-gathered-short d area part later found next g =
+pub found_live-short : (d : Device) (area : Area) (part : Option ℕ) (later : List Entry) (found : List Kept) (next : Option RecordAt) → FindsLive d area part later found next → AreShort d area found
+found_live-short d area part later found next g =
     subst (All (λ (body : List ℕ). length body ≤ longest (value_limit area))) (sym g.live)
     (live-all (λ (body : List ℕ). length body ≤ longest (value_limit area)) (value_limit area) (bodies g.passed) (bodies g.rest) (λ body behind live. live-most (value_limit area) body behind live))
 
 -- what is copied and what is gathered are of the values of the oldest sector, which fit one
-pub gathered-fits : (a d : Device) (before now : Ring) (r : RecordAt) → IsLawful a.banks a.bytes → RingStandsOn a before → before.stage ≡ Collecting → damage_on a before.area ≡ None → before.end ≡ padded (unit_of a before.area) 8
-    → (so_far : IsCopying a d before now (Some r)) → (found : List Kept) (next : Option RecordAt) → Gathers d now.area (Some before.oldest) so_far.later found next
+pub found_live-fits : (a d : Device) (before now : Ring) (r : RecordAt) → IsLawful a.banks a.bytes → RingStandsOn a before → before.stage ≡ Collecting → damage_on a before.area ≡ None → before.end ≡ padded (unit_of a before.area) 8
+    → (so_far : IsCopying a d before now (Some r)) → (found : List Kept) (next : Option RecordAt) → FindsLive d now.area (Some before.oldest) so_far.later found next
     → now.end + bodies_cost (unit_of d now.area) (bodies_at d now.area found) ≤ sector_size d now.area
-gathered-fits a d before now r lawful on stage undamaged start-end so_far found next g =
+found_live-fits a d before now r lawful on stage undamaged start-end so_far found next g =
     let limit : ℕ = value_limit before.area in
     let unit-same : unit_of d now.area ≡ unit_of a before.area = unit-after a d before.area now.area so_far.touches.banks so_far.area in
     let size-same : sector_size d now.area ≡ sector_size a before.area = size-after a d before.area now.area so_far.touches.banks so_far.area in
-    let parts = gathered-copies a d before now r so_far found next g in
+    let parts = found_live-copies a d before now r so_far found next g in
     let list : entries_on a before.area ≡ (so_far.done ++ g.passed) ++ g.rest = so_far.at.are ∙ ap (λ (l : List Entry). so_far.done ++ l) g.are ∙ sym (append_assoc so_far.done g.passed g.rest) in
     let all : AreOf before.oldest (so_far.done ++ g.passed) = All-append (λ (entry : Entry). entry.0.sector ≡ before.oldest) so_far.done g.passed so_far.of (passed-of before.oldest g.passed g.within) in
     let most = prefix-puts (value_limit before.area) (unit_of a before.area) (entries_on a before.area) (so_far.done ++ g.passed) g.rest before.oldest list all in
@@ -260,7 +260,7 @@ module _ (a d e : Device) (before now after : Ring) (r : RecordAt) (so_far : IsC
   pub copying-touches : (lost : Bool) → Touches (now.area ∷ []) d e lost → Touches (before.area ∷ []) a e lost
   copying-touches lost touches = then so_far.touches (subst (λ (x : Area). Touches (x ∷ []) d e lost) so_far.area touches)
 
-  pub copying-step : Touches (now.area ∷ []) d e false → after.area ≡ now.area → after.reserve ≡ now.reserve → (found : List Kept) (next : Option RecordAt) → Gathers d now.area (Some before.oldest) so_far.later found next → ForSome next (IsListed d now.area) → Copies d e now after (bodies_at d now.area found)
+  pub copying-step : Touches (now.area ∷ []) d e false → after.area ≡ now.area → after.reserve ≡ now.reserve → (found : List Kept) (next : Option RecordAt) → FindsLive d now.area (Some before.oldest) so_far.later found next → ForSome next (IsListed d now.area) → Copies d e now after (bodies_at d now.area found)
       → IsCopying a e before after next
   copying-step touches area reserve found next g listed copies =
       record {
@@ -274,7 +274,7 @@ module _ (a d e : Device) (before now after : Ring) (r : RecordAt) (so_far : IsC
         others = copying-others;
         area = area ∙ so_far.area;
         reserve = reserve ∙ so_far.reserve;
-        copies = subst (Copies a e before after) (gathered-copies a d before now r so_far found next g)
+        copies = subst (Copies a e before after) (found_live-copies a d before now r so_far found next g)
             (copies-then a d e before now after (live_bodies (value_limit before.area) (bodies so_far.done) (bodies so_far.later)) (bodies_at d now.area found) so_far.touches.banks so_far.area so_far.copies copies);
       }
 

@@ -19,14 +19,14 @@ use Rattle.fcb_ring.proofs.AreaLemmas.{has_size, count-sectors}
 use Rattle.fcb_ring.proofs.FewLemmas.{few-on}
 use Rattle.fcb_ring.proofs.ReadLemmas.{there}
 use Rattle.record_settings.specs.Live.{is_live, live_bodies}
-use Rattle.backend_fcb.specs.Gathering.{bodies_at, Gathers, GathersFrom}
-use Rattle.backend_fcb.specs.declared.gathering.Kept.{Kept}
+use Rattle.backend_fcb.specs.Compaction.{bodies_at, FindsLive, FindsLiveFrom}
+use Rattle.backend_fcb.specs.declared.compaction.Kept.{Kept}
 use Rattle.record_settings.specs.Numbers.{put_cost}
 use Rattle.backend_fcb.specs.Reading.{puts_cost}
 use Rattle.record_settings.specs.Rounds.{bodies_cost}
 use Rattle.record_settings.proofs.CopyCost.{put-live}
 use Rattle.record_settings.proofs.LiveLemmas.{copies-none, copies-split}
-use Rattle.backend_fcb.proofs.GatherSteps.{IsAtPart, part-start, part-step}
+use Rattle.backend_fcb.proofs.CompactionSteps.{IsAtPart, part-start, part-step}
 use Rattle.backend_fcb.proofs.LookupSteps.{Reads}
 use Rattle.backend_fcb.proofs.TableLaws.{live-few, live-cons}
 use Rattle.backend_fcb.proofs.PutsCosts.{puts-append, puts-here, puts-there}
@@ -42,16 +42,16 @@ puts-live limit unit (body ∷ rest) later =
     let ih = puts-live limit unit rest later in
     elim (cases_Bool (is_live limit body (rest ++ later))) [
       | inl live ↦
-          let front : live_bodies limit (body ∷ rest) later ≡ body ∷ live_bodies limit rest later = live-cons limit body rest later ∙ ap (λ (t : Bool). cond t (body ∷ live_bodies limit rest later) (live_bodies limit rest later)) live in
+          let prefix : live_bodies limit (body ∷ rest) later ≡ body ∷ live_bodies limit rest later = live-cons limit body rest later ∙ ap (λ (t : Bool). cond t (body ∷ live_bodies limit rest later) (live_bodies limit rest later)) live in
           let one = put-live limit unit body (rest ++ later) live in
           let puts = sum_by-cons (put_cost limit unit) body (live_bodies limit rest later) in
           let costs = sum_by-cons (λ (x : List ℕ). record_cost unit (length x)) body (live_bodies limit rest later) in
-          let left = ap (sum_by (put_cost limit unit)) front in
-          let right = ap (bodies_cost unit) front in
+          let left = ap (sum_by (put_cost limit unit)) prefix in
+          let right = ap (bodies_cost unit) prefix in
           omega arith
       | inr dead ↦
-          let front : live_bodies limit (body ∷ rest) later ≡ live_bodies limit rest later = live-cons limit body rest later ∙ ap (λ (t : Bool). cond t (body ∷ live_bodies limit rest later) (live_bodies limit rest later)) dead in
-          ap (sum_by (put_cost limit unit)) front ∙ ih ∙ sym (ap (bodies_cost unit) front)
+          let prefix : live_bodies limit (body ∷ rest) later ≡ live_bodies limit rest later = live-cons limit body rest later ∙ ap (λ (t : Bool). cond t (body ∷ live_bodies limit rest later) (live_bodies limit rest later)) dead in
+          ap (sum_by (put_cost limit unit)) prefix ∙ ih ∙ sym (ap (bodies_cost unit) prefix)
     ]
 
 -- ---- the sum over all
@@ -66,43 +66,43 @@ pub record Sums (limit unit : ℕ) (list : List Entry) (place : Option RecordAt)
 pub sums-start : (limit unit : ℕ) (list : List Entry) (next : Option RecordAt) → IsNext list None next → Sums limit unit list next 0
 sums-start limit unit list next is = record { done = []; later = list; at = part-start None list next is; says = sym (ap (bodies_cost unit) (copies-none limit (bodies list))); small = omega arith }
 
-module _ (d : Device) (area : Area) (r : RecordAt) (total : ℕ) (so_far : Sums (value_limit area) (unit_of d area) (entries_on d area) (Some r) total) (found : List Kept) (next : Option RecordAt) (gathers : GathersFrom d area None (Some r) found next) (answer : ℕ)
+module _ (d : Device) (area : Area) (r : RecordAt) (total : ℕ) (so_far : Sums (value_limit area) (unit_of d area) (entries_on d area) (Some r) total) (found : List Kept) (next : Option RecordAt) (finds_live : FindsLiveFrom d area None (Some r) found next) (answer : ℕ)
     (small : answer ≤ PROGRAM_LIMIT * length found) where
-  gathered : Gathers d area None so_far.later found next
-  gathered = gathers so_far.done so_far.later so_far.at.are (so_far.at.here r refl)
+  found_live : FindsLive d area None so_far.later found next
+  found_live = finds_live so_far.done so_far.later so_far.at.are (so_far.at.here r refl)
 
-  more : total + answer ≤ PROGRAM_LIMIT * length (so_far.done ++ gathered.passed)
+  more : total + answer ≤ PROGRAM_LIMIT * length (so_far.done ++ found_live.passed)
   more =
-      let few = live-few (value_limit area) (bodies gathered.passed) (bodies gathered.rest) in
+      let few = live-few (value_limit area) (bodies found_live.passed) (bodies found_live.rest) in
       let one : length (bodies_at d area found) ≡ length found = length-map found (λ (kept : Kept). body_at d area kept.at) in
-      let two : length (bodies gathered.passed) ≡ length gathered.passed = length-map gathered.passed (λ (entry : Entry). entry.1) in
-      let three : length (bodies_at d area found) ≡ length (live_bodies (value_limit area) (bodies gathered.passed) (bodies gathered.rest)) = ap length gathered.live in
-      let long : length (so_far.done ++ gathered.passed) ≡ length so_far.done + length gathered.passed = length-append so_far.done gathered.passed in
+      let two : length (bodies found_live.passed) ≡ length found_live.passed = length-map found_live.passed (λ (entry : Entry). entry.1) in
+      let three : length (bodies_at d area found) ≡ length (live_bodies (value_limit area) (bodies found_live.passed) (bodies found_live.rest)) = ap length found_live.live in
+      let long : length (so_far.done ++ found_live.passed) ≡ length so_far.done + length found_live.passed = length-append so_far.done found_live.passed in
       omega (arith, so_far.small)
 
   pub sums-few : total + answer ≤ PROGRAM_LIMIT * length (entries_on d area)
   sums-few =
-      let whole : entries_on d area ≡ (so_far.done ++ gathered.passed) ++ gathered.rest = so_far.at.are ∙ ap (λ (l : List Entry). so_far.done ++ l) gathered.are ∙ sym (append_assoc so_far.done gathered.passed gathered.rest) in
-      let n : length (entries_on d area) ≡ length (so_far.done ++ gathered.passed) + length gathered.rest = ap length whole ∙ length-append (so_far.done ++ gathered.passed) gathered.rest in
+      let whole : entries_on d area ≡ (so_far.done ++ found_live.passed) ++ found_live.rest = so_far.at.are ∙ ap (λ (l : List Entry). so_far.done ++ l) found_live.are ∙ sym (append_assoc so_far.done found_live.passed found_live.rest) in
+      let n : length (entries_on d area) ≡ length (so_far.done ++ found_live.passed) + length found_live.rest = ap length whole ∙ length-append (so_far.done ++ found_live.passed) found_live.rest in
       omega (arith, more)
 
   pub sums-step : answer ≡ sum_by (put_cost (value_limit area) (unit_of d area)) (bodies_at d area found) → Sums (value_limit area) (unit_of d area) (entries_on d area) next (total + answer)
   sums-step cost =
       let limit : ℕ = value_limit area in
       let unit : ℕ = unit_of d area in
-      let now : List (List ℕ) = live_bodies (value_limit area) (bodies gathered.passed) (bodies gathered.rest) in
-      let price : answer ≡ bodies_cost (unit_of d area) (live_bodies (value_limit area) (bodies gathered.passed) (bodies gathered.rest)) =
-      cost ∙ ap (sum_by (put_cost (value_limit area) (unit_of d area))) gathered.live ∙ puts-live (value_limit area) (unit_of d area) (bodies gathered.passed) (bodies gathered.rest) in
-      let before : total ≡ bodies_cost (unit_of d area) (live_bodies (value_limit area) (bodies so_far.done) (bodies gathered.passed ++ bodies gathered.rest)) =
-      so_far.says ∙ ap (λ (l : List (List ℕ)). bodies_cost (unit_of d area) (live_bodies (value_limit area) (bodies so_far.done) l)) (ap bodies gathered.are ∙ bodies-append gathered.passed gathered.rest) in
-      let both : bodies_cost (unit_of d area) (live_bodies (value_limit area) (bodies (so_far.done ++ gathered.passed)) (bodies gathered.rest)) ≡ bodies_cost (unit_of d area) (live_bodies (value_limit area) (bodies so_far.done) (bodies gathered.passed ++ bodies gathered.rest)) + bodies_cost (unit_of d area) (live_bodies (value_limit area) (bodies gathered.passed) (bodies gathered.rest)) =
-      ap (λ (l : List (List ℕ)). bodies_cost (unit_of d area) (live_bodies (value_limit area) l (bodies gathered.rest))) (bodies-append so_far.done gathered.passed)
-      ∙ ap (bodies_cost (unit_of d area)) (copies-split (value_limit area) (bodies so_far.done) (bodies gathered.passed) (bodies gathered.rest))
-      ∙ sum_by-append (λ (x : List ℕ). record_cost (unit_of d area) (length x)) (live_bodies (value_limit area) (bodies so_far.done) (bodies gathered.passed ++ bodies gathered.rest)) (live_bodies (value_limit area) (bodies gathered.passed) (bodies gathered.rest)) in
+      let now : List (List ℕ) = live_bodies (value_limit area) (bodies found_live.passed) (bodies found_live.rest) in
+      let price : answer ≡ bodies_cost (unit_of d area) (live_bodies (value_limit area) (bodies found_live.passed) (bodies found_live.rest)) =
+      cost ∙ ap (sum_by (put_cost (value_limit area) (unit_of d area))) found_live.live ∙ puts-live (value_limit area) (unit_of d area) (bodies found_live.passed) (bodies found_live.rest) in
+      let before : total ≡ bodies_cost (unit_of d area) (live_bodies (value_limit area) (bodies so_far.done) (bodies found_live.passed ++ bodies found_live.rest)) =
+      so_far.says ∙ ap (λ (l : List (List ℕ)). bodies_cost (unit_of d area) (live_bodies (value_limit area) (bodies so_far.done) l)) (ap bodies found_live.are ∙ bodies-append found_live.passed found_live.rest) in
+      let both : bodies_cost (unit_of d area) (live_bodies (value_limit area) (bodies (so_far.done ++ found_live.passed)) (bodies found_live.rest)) ≡ bodies_cost (unit_of d area) (live_bodies (value_limit area) (bodies so_far.done) (bodies found_live.passed ++ bodies found_live.rest)) + bodies_cost (unit_of d area) (live_bodies (value_limit area) (bodies found_live.passed) (bodies found_live.rest)) =
+      ap (λ (l : List (List ℕ)). bodies_cost (unit_of d area) (live_bodies (value_limit area) l (bodies found_live.rest))) (bodies-append so_far.done found_live.passed)
+      ∙ ap (bodies_cost (unit_of d area)) (copies-split (value_limit area) (bodies so_far.done) (bodies found_live.passed) (bodies found_live.rest))
+      ∙ sum_by-append (λ (x : List ℕ). record_cost (unit_of d area) (length x)) (live_bodies (value_limit area) (bodies so_far.done) (bodies found_live.passed ++ bodies found_live.rest)) (live_bodies (value_limit area) (bodies found_live.passed) (bodies found_live.rest)) in
       record {
-        done = so_far.done ++ gathered.passed;
-        later = gathered.rest;
-        at = part-step d area None (entries_on d area) r so_far.done so_far.later found next so_far.at gathered;
+        done = so_far.done ++ found_live.passed;
+        later = found_live.rest;
+        at = part-step d area None (entries_on d area) r so_far.done so_far.later found next so_far.at found_live;
         says = omega arith;
         small = more;
       }

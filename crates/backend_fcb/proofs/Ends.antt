@@ -28,7 +28,7 @@ use Rattle.backend_api.specs.Commands.{applied}
 use Rattle.backend_api.specs.Commands.Command.{Put, Del}
 use Rattle.backend_api.specs.Ends.{SpendsSome, Sets, FindsNoSpace, Deletes}
 use Rattle.backend_api.specs.Map.{Map, IsStored, IsAbsent}
-use Rattle.backend_api.specs.Room.{HasNoRoom, most_units}
+use Rattle.backend_api.specs.Room.{HasNoRoom, command_units}
 use Rattle.backend_api.proofs.MapLemmas.{insert-stored, remove-absent}
 use Rattle.backend_fcb.specs.declared.backend.FcbBackend.{FcbBackend}
 use Rattle.backend_fcb.specs.Changing.{HasNoPlace, parts_on, collect_units}
@@ -228,13 +228,13 @@ delete-fits d e ring after len lawful ready banks area short full =
 
 -- ---- units
 
-pub few-rounds : (d : Device) (ring : Ring) (rounds : ℕ) → rounds + 1 ≤ ring.area.sectors → (rounds + 1) * collect_units d ring ≤ most_units (geometry_of d ring.area)
+pub few-rounds : (d : Device) (ring : Ring) (rounds : ℕ) → rounds + 1 ≤ ring.area.sectors → (rounds + 1) * collect_units d ring ≤ command_units (geometry_of d ring.area)
 few-rounds d ring rounds le =
     let one : (rounds + 1) * collect_units d ring ≤ ring.area.sectors * collect_units d ring = mul-le-mul_right (collect_units d ring) le in
     let all : 12 * ring.area.sectors * (sector_size d ring.area / unit_of d ring.area + 3) ≡ 12 * (ring.area.sectors * collect_units d ring) = omega arith in
     omega arith
 
-pub two-rounds : (d : Device) (ring : Ring) → 2 ≤ ring.area.sectors → (1 + 1) * collect_units d ring ≤ most_units (geometry_of d ring.area)
+pub two-rounds : (d : Device) (ring : Ring) → 2 ≤ ring.area.sectors → (1 + 1) * collect_units d ring ≤ command_units (geometry_of d ring.area)
 two-rounds d ring several = few-rounds d ring 1 several
 
 -- ---- whether a name has a value

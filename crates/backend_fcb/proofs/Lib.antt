@@ -5,9 +5,9 @@ mod Collected
 mod CopySteps
 mod CostSteps
 mod Ends
-mod FrontNames
-mod FrontWalk
-mod GatherSteps
+mod PrefixNames
+mod PrefixWalk
+mod CompactionSteps
 mod Limits
 mod LookupSteps
 mod MountUnits

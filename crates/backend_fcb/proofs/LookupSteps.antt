@@ -13,8 +13,8 @@ use Rattle.record_settings.specs.Live.{value_for}
 use Rattle.record_settings.specs.Settings.{setting_of, body_of}
 use Rattle.record_settings.proofs.LastLemmas.{found_by, last_value-none, last_value-push}
 use Rattle.backend_fcb.proofs.SectorLists.{bodies-append}
-use Rattle.backend_fcb.proofs.FrontNames.{skip-last}
-use Rattle.backend_fcb.proofs.FrontWalk.{IsAtWith, first-split, none-first, start-with, step-with, around, with-listed}
+use Rattle.backend_fcb.proofs.PrefixNames.{skip-last}
+use Rattle.backend_fcb.proofs.PrefixWalk.{IsAtWith, first-split, none-first, start-with, step-with, around, with-listed}
 use Rattle.backend_fcb.proofs.WalkLemmas.{Entry, body-is}
 
 pub map-or : {X Y : Type 0} (f : X → Y) (a b : Option X) → option_map f (option_or a b) ≡ option_or (option_map f a) (option_map f b)

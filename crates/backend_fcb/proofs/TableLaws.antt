@@ -10,7 +10,7 @@ use Rattle.std.proofs.lemmas.Slice.Eq.{bytes_eq-Decides}
 use Rattle.record_settings.specs.Live.{has_name, names, is_live, is_live_by, live_bodies}
 use Rattle.record_settings.specs.Settings.{setting_of}
 use Rattle.record_settings.proofs.LiveLemmas.{names-append, live-says}
-use Rattle.backend_fcb.specs.Gathering.{without_first}
+use Rattle.backend_fcb.specs.Compaction.{without_first}
 
 -- ---- a list without the first that passes
 
@@ -80,18 +80,18 @@ abbrev pub same_name : Option (List ℕ × List ℕ) → Option (List ℕ × Lis
 same_name None later = false
 same_name (Some (name, value)) later = has_name name later
 
-hidden : (l x h : Bool) → (not l && not (x || (h || false))) ≡ ((not l && not x) && not h)
-hidden true x h = refl
-hidden false true h = refl
-hidden false false true = refl
-hidden false false false = refl
+ignored : (l x h : Bool) → (not l && not (x || (h || false))) ≡ ((not l && not x) && not h)
+ignored true x h = refl
+ignored false true h = refl
+ignored false false true = refl
+ignored false false false = refl
 
 live-later : (limit : ℕ) (body : List ℕ) (later : List (List ℕ)) (last : List ℕ) → is_live limit body (later ++ last ∷ []) ≡ (is_live limit body later && not (same_name (setting_of limit body) (setting_of limit last)))
 live-later limit body later last = by (setting_of limit body)
   where
     by : (s : Option (List ℕ × List ℕ)) → is_live_by limit s (later ++ last ∷ []) ≡ (is_live_by limit s later && not (same_name s (setting_of limit last)))
     by None = refl
-    by (Some (name, value)) = ap (λ (t : Bool). not (length value == 0) && not t) (names-append limit name later (last ∷ [])) ∙ hidden (length value == 0) (names limit name later) (has_name name (setting_of limit last))
+    by (Some (name, value)) = ap (λ (t : Bool). not (length value == 0) && not t) (names-append limit name later (last ∷ [])) ∙ ignored (length value == 0) (names limit name later) (has_name name (setting_of limit last))
 
 live-behind : (limit : ℕ) (body : List ℕ) (rest seen : List (List ℕ)) (last : List ℕ) → is_live limit body (rest ++ (seen ++ last ∷ [])) ≡ (is_live limit body (rest ++ seen) && not (same_name (setting_of limit body) (setting_of limit last)))
 live-behind limit body rest seen last = ap (λ (l : List (List ℕ)). is_live limit body l) (sym (append_assoc rest seen (last ∷ []))) ∙ live-later limit body (rest ++ seen) last
@@ -169,17 +169,17 @@ live-named limit name value (body ∷ rest) seen last is =
           live-cons limit body rest (seen ++ last ∷ []) ∙ ap (λ (t : Bool). cond t (body ∷ new) new) gone ∙ ih
           ∙ sym (ap (without_first p) (live-cons limit body rest seen ∙ ap (λ (t : Bool). cond t (body ∷ old) old) dead))
       | inl live ↦
-          let front : live_bodies limit (body ∷ rest) seen ≡ body ∷ old = live-cons limit body rest seen ∙ ap (λ (t : Bool). cond t (body ∷ old) old) live in
+          let prefix : live_bodies limit (body ∷ rest) seen ≡ body ∷ old = live-cons limit body rest seen ∙ ap (λ (t : Bool). cond t (body ∷ old) old) live in
           elim (cases_Bool (has_name name (setting_of limit body))) [
             | inl here ↦
                 let gone : is_live limit body (rest ++ (seen ++ last ∷ [])) ≡ false = split ∙ ap (λ (t : Bool). t && not (has_name name (setting_of limit body))) live ∙ ap not here in
                 let apart : Apart limit (setting_of limit last) rest = subst (λ (s : Option (List ℕ × List ℕ)). Apart limit s rest) (sym is) (apart-names limit name value rest (alone limit name body rest seen live here)) in
                 live-cons limit body rest (seen ++ last ∷ []) ∙ ap (λ (t : Bool). cond t (body ∷ new) new) gone ∙ live-kept limit rest seen last apart
-                ∙ sym (ap (without_first p) front ∙ without-here p body old here)
+                ∙ sym (ap (without_first p) prefix ∙ without-here p body old here)
             | inr other ↦
                 let stays : is_live limit body (rest ++ (seen ++ last ∷ [])) ≡ true = split ∙ ap (λ (t : Bool). t && not (has_name name (setting_of limit body))) live ∙ ap not other in
                 live-cons limit body rest (seen ++ last ∷ []) ∙ ap (λ (t : Bool). cond t (body ∷ new) new) stays ∙ ap (λ (l : List (List ℕ)). body ∷ l) ih
-                ∙ sym (ap (without_first p) front ∙ without-there p body old other)
+                ∙ sym (ap (without_first p) prefix ∙ without-there p body old other)
           ]
     ]
 

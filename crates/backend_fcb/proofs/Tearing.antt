@@ -24,7 +24,7 @@ use Rattle.backend_fcb.specs.Tearing.{body_for, Tears, CutSettings, StopsPutting
 
 -- ---- one call after another
 
--- a copy that was cut stands in a sector that counts for nothing, while no sector is free
+-- a copy that was cut stands in a sector that is ignored, while no sector is free
 pub copy-lost : (a e : Device) (area : Area) (ring : Ring) (body : List ℕ) → is_full (states_on e area) ≡ true → (a.is_on ≡ true → (done : ℕ) × IsRecordLoss e area (newest_place ring) ring.end body done) → a.is_on ≡ true → HasNoChance e area
 copy-lost a e area ring body full lost on = let at = lost on in (_, at.1.loss, chance-full area (geometry_of e area) (sectors_of e area) _ full)
 

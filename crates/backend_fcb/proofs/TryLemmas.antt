@@ -155,9 +155,9 @@ module _ (d : Device) (ring : Ring) (lawful : IsLawful d.banks d.bytes) (ready :
       the-loss : Loss
       the-loss = record { at = place_of e ring.area (place_for d ring body kept) cut.offset; want = record { items = record_image (unit_of e ring.area) body }; done = cut.done }
 
-      tells : (chance_on e ring.area the-loss ≡ true) ↔ IsChance (unit_of e ring.area) body cut.done
+      reports : (chance_on e ring.area the-loss ≡ true) ↔ IsChance (unit_of e ring.area) body cut.done
       unfolding the-loss
-      tells = record-chance e ring.area lawful-e (area_after d e ring.area banks ready.stands.area) (place_for d ring body kept) cut.offset body cut.done cut.loss cut.free the-loss cut.loss.loss
+      reports = record-chance e ring.area lawful-e (area_after d e ring.area banks ready.stands.area) (place_for d ring body kept) cut.offset body cut.done cut.loss cut.free the-loss cut.loss.loss
 
       last-is : e.last_loss ≡ Some the-loss
       unfolding the-loss
@@ -169,7 +169,7 @@ module _ (d : Device) (ring : Ring) (lawful : IsLawful d.banks d.bytes) (ready :
 
       not-chance : ¬ IsChance (unit_of e ring.area) body cut.done → chance_on e ring.area the-loss ≡ false
       not-chance none = elim (cases_Bool (chance_on e ring.area the-loss)) [
-        | inl is ↦ absurd (none (tells.0 is))
+        | inl is ↦ absurd (none (reports.0 is))
         | inr isnt ↦ isnt
       ]
 
@@ -200,7 +200,7 @@ module _ (d : Device) (ring : Ring) (lawful : IsLawful d.banks d.bytes) (ready :
       )
       by-list (inr (inr (at, here, is, has))) = (
         undamaged-after d e ring.area lawful-e ready.stands.area banks (entries_on d ring.area ++ (at, spelled (unit_of e ring.area) body cut.done) ∷ []) has (added-fits (spelled (unit_of e ring.area) body cut.done) (spelled-less is) at here can),
-        stops-by true (tells.1 is) (subst (λ (u : ℕ). Tears (value_limit ring.area) u body cut.done (settings_on d ring.area) (settings_on e ring.area)) unit-e
+        stops-by true (reports.1 is) (subst (λ (u : ℕ). Tears (value_limit ring.area) u body cut.done (settings_on d ring.area) (settings_on e ring.area)) unit-e
             (record { chance = is; settings = pushed (entries_on d ring.area) at (spelled (unit_of e ring.area) body cut.done) has })),
       )
 

@@ -17,7 +17,7 @@ use Rattle.fcb_ring.specs.declared.ring.Stage.TheVariants.{Collecting}
 use Rattle.fcb_ring.specs.declared.writing.AppendFault.{AppendFault}
 use Rattle.fcb_ring.specs.declared.writing.AppendFault.TheVariants.{Full, TooLong, PowerLost}
 use Rattle.backend_api.specs.Ends.{SpendsSome}
-use Rattle.backend_fcb.specs.Gathering.{AreKeptWithin, AreShort, IsKept, bodies_at}
+use Rattle.backend_fcb.specs.Compaction.{AreKeptWithin, AreShort, IsKept, bodies_at}
 use Rattle.record_settings.specs.Live.{live_bodies}
 use Rattle.record_settings.specs.Numbers.{cap}
 use Rattle.item_laws.specs.PairRounds.{joined}
@@ -25,7 +25,7 @@ use Rattle.record_settings.specs.Rounds.{bodies_cost, FindsNoRoom}
 use Rattle.record_settings.specs.Settings.{setting_of, with_setting}
 use Rattle.backend_fcb.specs.Standing.{damage_on, settings_on, IsReady}
 use Rattle.backend_fcb.specs.Tearing.{StopsPutting}
-use Rattle.backend_fcb.specs.declared.gathering.Kept.{Kept}
+use Rattle.backend_fcb.specs.declared.compaction.Kept.{Kept}
 
 -- the bodies of the records of each sector that counts, the oldest sector first
 abbrev pub parts_on : Device → Ring → List (List (List ℕ))

@@ -6,7 +6,7 @@ use Rattle.flash_map.specs.Spending.{Spends, SpendsAtMost}
 use Rattle.flash_map.specs.declared.area.Area.{Area}
 use Rattle.backend_api.specs.Commands.{Command, applied}
 use Rattle.backend_api.specs.Commands.Command.{Put, Del}
-use Rattle.backend_api.specs.Room.{most_units}
+use Rattle.backend_api.specs.Room.{command_units}
 use Rattle.fcb_ring.specs.Standing.{erases_on}
 use Rattle.backend_fcb.specs.Changing.{SpendsCost, SpendsUpToCost, collect_units}
 use Rattle.backend_fcb.specs.Standing.{settings_on}
@@ -39,7 +39,7 @@ SpendsRounds old new backend rounds = SpendsAtMost old new ((rounds + 1) * colle
 -- else no more than so many collections and one append take.
 pub record SpendsFor {X E : Type 0} (old new : Device) (backend : FcbBackend) (command : Command)
     (rounds : ℕ) (result : Result X E) (stopped : Bool) : Type 0 where
-  pub at_most : SpendsAtMost old new (most_units (geometry_of old backend.ring.area))
+  pub at_most : SpendsAtMost old new (command_units (geometry_of old backend.ring.area))
   pub exact : OnOk result (SpendsCostOf old new backend command)
   pub no_more : stopped ≡ true → SpendsUpToCostOf old new backend command
   pub few : SpendsRounds old new backend rounds

@@ -9,7 +9,7 @@ use Rattle.flash_map.specs.declared.area.Role.TheVariants.{Fcb as FcbRole}
 use Rattle.flash_map.specs.Lawful.{IsLawfulFor}
 use Rattle.fcb_ring.proofs.FewLemmas.{few-on}
 use Rattle.backend_api.specs.Map.{IsSettings}
-use Rattle.record_settings.proofs.FrontLemmas.{is-settings}
+use Rattle.record_settings.proofs.PrefixLemmas.{is-settings}
 use Rattle.backend_fcb.specs.Standing.{damage_on, settings_on, bodies_on}
 
 -- lawful names and values throughout, and fewer than 2^32

@@ -1,6 +1,6 @@
 pub mod Changing
 pub mod Exact
-pub mod Gathering
+pub mod Compaction
 pub mod Laws
 pub mod Members
 pub mod Reading

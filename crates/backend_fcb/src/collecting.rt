@@ -7,10 +7,10 @@ ghost use Rattle.fcb_ring.specs.Changing.{is_scratch_left};
 ghost use Rattle.fcb_ring.specs.Scratch.{ChangesScratch, HasEmptyScratch};
 ghost use Rattle.fcb_ring.specs.Standing.{StandsOn as RingStandsOn};
 ghost use Rattle.backend_fcb.specs.Changing.{Copies, CopiesLive, StopsCopying, CanCopy, IsCollected, StopsCollecting, collect_units};
-ghost use Rattle.backend_fcb.specs.Gathering.{bodies_at};
+ghost use Rattle.backend_fcb.specs.Compaction.{bodies_at};
 ghost use Rattle.backend_fcb.specs.Standing.{damage_on, settings_on, IsReady};
 
-use crate::gathering::{Kept, Table, gather_live};
+use crate::compaction::{Kept, Table, find_live};
 use fcb_ring::{Ring, Stage};
 use flash_sim::{Flash, PowerLost, Steps};
 use std::sync::ledger::Ledger;
@@ -69,7 +69,7 @@ fn copy_live<F: Flash, L: Ledger>(
     let mut table = Table::new();
     let mut at = ring.next(flash, None, steps);
     while let Some(from) = at {
-        at = gather_live(ring, flash, &mut table, Some(from), oldest, steps);
+        at = find_live(ring, flash, &mut table, Some(from), oldest, steps);
         copy_all(ring, flash, table.as_slice(), steps)?;
     }
     Ok(())

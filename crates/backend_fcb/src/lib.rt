@@ -4,7 +4,7 @@
 
 mod backend;
 mod collecting;
-mod gathering;
+mod compaction;
 mod lookup;
 mod mounting;
 mod names;

@@ -9,10 +9,10 @@ ghost use Rattle.record_settings.specs.Live.{value_for};
 ghost use Rattle.record_settings.specs.Numbers.{put_cost, room};
 ghost use Rattle.record_settings.specs.Settings.{setting_of};
 ghost use Rattle.backend_fcb.specs.Standing.{bodies_on, settings_on};
-ghost use Rattle.backend_fcb.specs.Gathering.{IsKept, bodies_at};
-ghost use Rattle.backend_fcb.specs.declared.gathering.TheConstants.{TABLE};
+ghost use Rattle.backend_fcb.specs.Compaction.{IsKept, bodies_at};
+ghost use Rattle.backend_fcb.specs.declared.compaction.TheConstants.{TABLE};
 
-use crate::gathering::{Kept, Table, gather_live};
+use crate::compaction::{Kept, Table, find_live};
 use crate::record::{body_of, put_cost, setting_in};
 use fcb_ring::Ring;
 use flash_map::geometry;
@@ -46,13 +46,13 @@ pub(crate) fn last_value<'a, F: Flash, L: Ledger>(
         (bodies_on (F.device flash.now) ring.now.area) }
 {
     let start = body_of(name, &[]);
-    let front = start.as_slice();
+    let prefix = start.as_slice();
     let mut found = None;
-    let mut at = ring.next_with(flash, None, front, steps);
+    let mut at = ring.next_with(flash, None, prefix, steps);
     while let Some(entry) = at {
         let value = value_for(ring, ring.body(flash, &entry, steps), name.bytes());
         found = value.or(found);
-        at = ring.next_with(flash, Some(entry), front, steps);
+        at = ring.next_with(flash, Some(entry), prefix, steps);
     }
     found
 }
@@ -105,7 +105,7 @@ pub(crate) fn live_cost<F: Flash, L: Ledger>(ring: &Ring, flash: &F, steps: &mut
     let mut live = 0;
     let mut at = ring.next(flash, None, steps);
     while let Some(from) = at {
-        at = gather_live(ring, flash, &mut table, Some(from), None, steps);
+        at = find_live(ring, flash, &mut table, Some(from), None, steps);
         live += cost_of(ring, flash, table.as_slice(), steps);
     }
     live

@@ -10,16 +10,16 @@ use Rattle.backend_api.specs.Ends.{FindsNoSpace}
 use Rattle.named_items.specs.StoreEnds as stored
 use Rattle.named_items.specs.PairRoom.{pair_room}
 use Rattle.named_items.specs.Ends.{IsFree}
-use Rattle.backend_nvs.specs.Numbers.{nvs_numbering, nvs-numbers, nvs-counts, count_of, count-few, is_count, too_many, IsFreePlace}
+use Rattle.backend_nvs.specs.IdLayout.{nvs_numbering, nvs-numbering, nvs-counts, count_of, count-few, is_count, too_many, IsFreeCandidate}
 use Rattle.named_items.specs.Cost.{item_cost, pair_cost, settings_cost}
 use Rattle.named_items.specs.Numbering.{Numbering, IsNumbering}
-use Rattle.named_items.specs.Pairs.{count_in, pair_at, settings_in, IsInside, IsPlaceOf, HasNoStrays}
+use Rattle.named_items.specs.Pairs.{count_in, pair_at, settings_in, IsInside, IsIdOfName, HasNoOrphans}
 use Rattle.named_items.proofs.CostLemmas.{get-put, get-put_other, clean-cost, clean-distinct, map-sum}
 use Rattle.named_items.proofs.PairLemmas.{no-name, count-raised, settings-on}
 use Rattle.named_items.proofs.RangePairs.{pairs_on}
 use Rattle.named_items.proofs.NameLemmas.{get-nowhere, clean-len, on-few, on-full, on-free, used-name, used-value}
 use Rattle.named_items.proofs.RoomLemmas.{refused-room, new-need, count-small, items-within}
-use Rattle.named_items.proofs.StrayLemmas.{raised-clean}
+use Rattle.named_items.proofs.OrphanLemmas.{raised-clean}
 
 none_some : {A : Type 0} (x : A) → None ≡ Some x → ⊥
 none_some x e = cc
@@ -36,12 +36,12 @@ few-free settings name few = by (contains_key settings name)
     by true = refl
     by false = over
 
-module _ (limit : ℕ) (items : Items) (clean : HasNoStrays (nvs_numbering limit) items) where
+module _ (limit : ℕ) (items : Items) (clean : HasNoOrphans (nvs_numbering limit) items) where
   abbrev n : Numbering
   n = nvs_numbering limit
 
   laws : IsNumbering (nvs_numbering limit)
-  laws = nvs-numbers limit
+  laws = nvs-numbering limit
 
   most : count_in (nvs_numbering limit) items ≤ 511
   most = count-few (get items 0x8000)
@@ -64,7 +64,7 @@ module _ (limit : ℕ) (items : Items) (clean : HasNoStrays (nvs_numbering limit
       omega arith
 
   -- or all names are in use
-  pub all-used : IsFreePlace (nvs_numbering limit) items None → count_in (nvs_numbering limit) items ≡ 511 → len (settings_in (nvs_numbering limit) items) ≡ 511
+  pub all-used : IsFreeCandidate (nvs_numbering limit) items None → count_in (nvs_numbering limit) items ≡ 511 → len (settings_in (nvs_numbering limit) items) ≡ 511
   all-used none full =
       clean-len n laws items clean
       ∙ on-full (pair_at n items) 0x8001 (count_in n items) (λ k from to. used k (record { from = from; to = to }))
@@ -77,7 +77,7 @@ module _ (limit : ℕ) (items : Items) (clean : HasNoStrays (nvs_numbering limit
           by (Some bytes) is = used-name n laws items clean k inside (λ gone. none_some bytes (sym gone ∙ is))
           by None is = used-value n laws items clean k inside (λ gone. none k inside (is, gone))
 
-  pub names-over : (name : List ℕ) → IsPlaceOf (nvs_numbering limit) items name None → len (settings_in (nvs_numbering limit) items) ≡ 511 → too_many (settings_in (nvs_numbering limit) items) name ≡ true
+  pub names-over : (name : List ℕ) → IsIdOfName (nvs_numbering limit) items name None → len (settings_in (nvs_numbering limit) items) ≡ 511 → too_many (settings_in (nvs_numbering limit) items) name ≡ true
   names-over name absent is =
       ap (λ (o : Option (List ℕ)). not (is_some o) && nat_le 511 (len (settings_in n items))) (get-nowhere n items name absent) ∙ ap (nat_le 511) is
 
@@ -156,7 +156,7 @@ module _ (limit : ℕ) (items : Items) (clean : HasNoStrays (nvs_numbering limit
         count-raised n items raised 0x8000 (λ other apart. get-put_other items 0x8000 count other apart) laws refl counted-more
         (no-name n (0x8001 + count_in n items) (get items (0x8001 + count_in n items)) (get items (0x8001 + count_in n items + 0x4000)) (beyond (0x8001 + count_in n items) (omega arith) (omega arith)))
 
-    pub raised-kept : HasNoStrays (nvs_numbering limit) (insert items 0x8000 count)
+    pub raised-kept : HasNoOrphans (nvs_numbering limit) (insert items 0x8000 count)
     raised-kept =
         let e = counted-more in
         raised-clean n laws items raised (λ other apart. get-put_other items 0x8000 count other apart) (ap is_count (get-put items 0x8000 count) ∙ ap (λ (k : ℕ). k == 2) two) (omega arith) clean
@@ -173,7 +173,7 @@ module _ (limit : ℕ) (items : Items) (clean : HasNoStrays (nvs_numbering limit
 
 -- ---- a new name
 
-module _ (limit : ℕ) (items : Items) (clean : HasNoStrays (nvs_numbering limit) items) (name value : List ℕ) (absent : IsPlaceOf (nvs_numbering limit) items name None) where
+module _ (limit : ℕ) (items : Items) (clean : HasNoOrphans (nvs_numbering limit) items) (name value : List ℕ) (absent : IsIdOfName (nvs_numbering limit) items name None) where
   not-stored : ¬ IsStored (settings_in (nvs_numbering limit) items) name value
   not-stored is = none_some value (sym (get-nowhere (nvs_numbering limit) items name absent) ∙ is)
 
@@ -184,7 +184,7 @@ module _ (limit : ℕ) (items : Items) (clean : HasNoStrays (nvs_numbering limit
   count-refused price cap sectors count after need live two few finds given cost needs lives =
       let none : contains_key (settings_in (nvs_numbering limit) items) name ≡ false = ap is_some (get-nowhere (nvs_numbering limit) items name absent) in
       let small = count-small price cap (price 2) too_many (settings_in (nvs_numbering limit) items) name value none in
-      let within = items-within price cap (price 2) too_many (nvs_numbering limit) (nvs-numbers limit) (nvs-counts limit price) items clean in
+      let within = items-within price cap (price 2) too_many (nvs_numbering limit) (nvs-numbering limit) (nvs-counts limit price) items clean in
       let full : (sectors - 1) * (cap - price 2) < items_cost price items = subst (λ (k : ℕ). (sectors - 1) * (cap - price k) < items_cost price items) two finds.full in
       record {
         free = few-free (settings_in (nvs_numbering limit) items) name few;

@@ -13,17 +13,17 @@ use Rattle.named_items.proofs.PairLemmas.{settings-on}
 use Rattle.named_items.proofs.RangePairs.{map_on}
 use Rattle.named_items.specs.Blank.{nvs-undamaged, nvs-empty}
 use Rattle.named_items.specs.NvsStore.{nvs_damage, nvs_items}
-use Rattle.backend_nvs.specs.Numbers.{count_of, numbers_in, settings_of}
+use Rattle.backend_nvs.specs.IdLayout.{count_of, numbering_of, settings_of}
 
-nothing : (area : Area) → map_on (pair_at (numbers_in area) empty) 0x8001 0 ≡ empty
+nothing : (area : Area) → map_on (pair_at (numbering_of area) empty) 0x8001 0 ≡ empty
 unfolding map_on
 nothing area = refl
 
 -- without a count there is no setting
 none-there : (area : Area) → settings_of area empty ≡ empty
 none-there area =
-    let n : Numbering = numbers_in area in
-    let none : count_in (numbers_in area) empty ≡ 0 = ap count_of (get-empty {X = List ℕ} nat_cmp 0x8000) in
+    let n : Numbering = numbering_of area in
+    let none : count_in (numbering_of area) empty ≡ 0 = ap count_of (get-empty {X = List ℕ} nat_cmp 0x8000) in
     settings-on n empty ∙ ap (λ (k : ℕ). map_on (pair_at n empty) 0x8001 k) none ∙ nothing area
 
 module _ (d e : Device) (area : Area) (own : IsLawfulFor d.banks area) (blank : sectors_of e area ≡ replicate area.sectors (replicate (sector_size d area) 255)) where

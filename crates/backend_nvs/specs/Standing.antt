@@ -10,22 +10,22 @@ use Rattle.flash_map.specs.declared.area.Area.{Area}
 use Rattle.flash_map.specs.declared.area.Geometry.{Geometry}
 use Rattle.flash_map.specs.declared.area.Role.TheVariants.{Nvs as NvsRole}
 use Rattle.backend_api.specs.Map.{IsSettings}
-use Rattle.named_items.specs.Pairs.{HasNoStrays}
+use Rattle.named_items.specs.Pairs.{HasNoOrphans}
 use Rattle.named_items.proofs.LawfulLemmas.{settings-lawful}
 use Rattle.named_items.specs.NvsStore.{nvs_damage, nvs_items, nvs_rests, NvsStands, nvs-rested}
 use Rattle.backend_nvs.specs.declared.backend.NvsBackend.{NvsBackend}
-use Rattle.backend_nvs.specs.Numbers.{numbers_in, nvs-numbers, settings_of}
+use Rattle.backend_nvs.specs.IdLayout.{numbering_of, nvs-numbering, settings_of}
 
 -- the store stands, and each item belongs to a setting or is the count
 pub record Stands (backend : NvsBackend) (geometry : Geometry) (sectors : List (List ℕ)) : Type 0 where
   pub store : NvsStands backend.store geometry sectors
-  pub clean : HasNoStrays (numbers_in backend.store.store.area)
+  pub clean : HasNoOrphans (numbering_of backend.store.store.area)
       (nvs_items backend.store.store.area geometry sectors)
 
 -- a mount would have nothing to do
 pub record Rests (area : Area) (geometry : Geometry) (sectors : List (List ℕ)) : Type 0 where
   pub store : nvs_rests area geometry sectors
-  pub clean : HasNoStrays (numbers_in area) (nvs_items area geometry sectors)
+  pub clean : HasNoOrphans (numbering_of area) (nvs_items area geometry sectors)
 
 pub stands-rest : (backend : NvsBackend) (geometry : Geometry) (sectors : List (List ℕ))
     → Stands backend geometry sectors → Rests backend.store.store.area geometry sectors
@@ -37,7 +37,7 @@ pub reads_settings : (d : Device) (area : Area) → IsLawful d.banks d.bytes →
     → area.role ≡ NvsRole → on nvs_damage d area ≡ None
     → IsSettings (value_limit area) (settings_of area (on nvs_items d area))
 reads_settings d area lawful for role undamaged =
-    settings-lawful (numbers_in area) (nvs-numbers (value_limit area)) (omega arith) (on nvs_items d area)
+    settings-lawful (numbering_of area) (nvs-numbering (value_limit area)) (omega arith) (on nvs_items d area)
 
 -- the backend stands on this device
 pub record StandsOn (d : Device) (backend : NvsBackend) : Type 0 where

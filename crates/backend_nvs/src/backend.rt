@@ -2,10 +2,10 @@
 ghost use Rattle.std.specs.Prelude.{◌≡◌, false};
 ghost use Rattle.flash_map.specs.declared.area.Role.TheVariants.{Nvs as NvsRole};
 ghost use Rattle.named_items.specs.NvsStore.{nvs_damage, nvs_items, nvs_price, nvs_cap};
-ghost use Rattle.backend_nvs.specs.Numbers.{settings_of, nvs_room};
+ghost use Rattle.backend_nvs.specs.IdLayout.{settings_of, nvs_room};
 ghost use Rattle.backend_nvs.specs.Standing.{Stands, Rests, stands-rest, reads_settings};
 
-use crate::numbers::NvsNumbers;
+use crate::numbering::NvsIdLayout;
 use backend_api::{Backend, SetFault};
 use flash_map::{Area, MountFault, area_format};
 use flash_sim::{Flash, Loss, PowerLost, Steps};
@@ -58,7 +58,7 @@ impl Backend for NvsBackend {
         area: Area,
         steps: &mut Steps<L>,
     ) -> Result<NvsBackend, MountFault> {
-        match mount_store::<NvsNumbers, Nvs, F, L>(alloc, flash, area, steps) {
+        match mount_store::<NvsIdLayout, Nvs, F, L>(alloc, flash, area, steps) {
             Ok(store) => Ok(NvsBackend { store }),
             Err(fault) => Err(fault),
         }
@@ -70,7 +70,7 @@ impl Backend for NvsBackend {
         name: &Name,
         steps: &mut Steps<L>,
     ) -> Option<&'a [u8]> {
-        standing_value::<NvsNumbers, Nvs, F, L>(&self.store, flash, name, steps)
+        standing_value::<NvsIdLayout, Nvs, F, L>(&self.store, flash, name, steps)
     }
 
     fn set<F: Flash, L: Ledger>(
@@ -80,7 +80,7 @@ impl Backend for NvsBackend {
         value: &[u8],
         steps: &mut Steps<L>,
     ) -> Result<(), SetFault> {
-        set_value::<NvsNumbers, Nvs, F, L>(&mut self.store, flash, name, value, steps)
+        set_value::<NvsIdLayout, Nvs, F, L>(&mut self.store, flash, name, value, steps)
     }
 
     fn delete<F: Flash, L: Ledger>(
@@ -89,7 +89,7 @@ impl Backend for NvsBackend {
         name: &Name,
         steps: &mut Steps<L>,
     ) -> Result<(), PowerLost> {
-        delete_name::<NvsNumbers, Nvs, F, L>(&mut self.store, flash, name, steps)
+        delete_name::<NvsIdLayout, Nvs, F, L>(&mut self.store, flash, name, steps)
     }
 
     fn next_name<F: Flash, L: Ledger>(
@@ -98,7 +98,7 @@ impl Backend for NvsBackend {
         after: Option<&Name>,
         steps: &mut Steps<L>,
     ) -> Option<Name> {
-        next_name::<NvsNumbers, Nvs, F, L>(&self.store, flash, after, steps)
+        next_name::<NvsIdLayout, Nvs, F, L>(&self.store, flash, after, steps)
     }
 
     fn format<F: Flash, L: Ledger>(

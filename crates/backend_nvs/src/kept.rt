@@ -4,7 +4,7 @@ ghost use Rattle.flash_map.specs.Lawful.{IsLawfulFor};
 ghost use Rattle.flash_map.specs.On.{on, HoldsOn, StandsOn};
 ghost use Rattle.named_items.specs.Pairs.{IsAt, IsKept};
 ghost use Rattle.named_items.specs.Looking.{HasIds};
-ghost use Rattle.backend_nvs.specs.Numbers.{is_count, numbers_in};
+ghost use Rattle.backend_nvs.specs.IdLayout.{is_count, numbering_of};
 ghost use Rattle.backend_nvs.specs.declared.lookup.TheConstants.{TOP};
 
 use crate::lookup::{COUNT, FIRST, STEP, place_of};
@@ -24,15 +24,16 @@ fn stands_at<S: ItemStore, F: Flash, L: Ledger>(
     requires ids { HasIds TOP S.is_id }
     requires lawful { IsLawfulFor (F.device flash.now).banks (S.mounted_on store.now) }
     requires stands { StandsOn S.mounted_on S.stands (F.device flash.now) store.now }
-    requires tells { HoldsOn (S.tells index.now) (F.device flash.now) (S.mounted_on store.now) }
+    requires describes { HoldsOn (S.describes index.now) (F.device flash.now)
+        (S.mounted_on store.now) }
     requires known { place < TOP }
     ensures yes_it { let area = S.mounted_on store.now in
         result ≡ true
         → (name : List ℕ)
-        × IsAt (numbers_in area) (on S.contents (F.device flash.now) area) name place }
+        × IsAt (numbering_of area) (on S.contents (F.device flash.now) area) name place }
     ensures not_it { let area = S.mounted_on store.now in
         result ≡ false → (name : List ℕ)
-        → IsAt (numbers_in area) (on S.contents (F.device flash.now) area) name place → ⊥ }
+        → IsAt (numbering_of area) (on S.contents (F.device flash.now) area) name place → ⊥ }
 {
     let name = match store.get_by(flash, index, place, steps) {
         Some(bytes) => match Name::read(bytes) {
@@ -68,12 +69,14 @@ pub(crate) fn is_kept<S: ItemStore, F: Flash, L: Ledger>(
     requires ids { HasIds TOP S.is_id }
     requires lawful { IsLawfulFor (F.device flash.now).banks (S.mounted_on store.now) }
     requires stands { StandsOn S.mounted_on S.stands (F.device flash.now) store.now }
-    requires tells { HoldsOn (S.tells index.now) (F.device flash.now) (S.mounted_on store.now) }
+    requires describes { HoldsOn (S.describes index.now) (F.device flash.now)
+        (S.mounted_on store.now) }
     requires known { id < TOP }
     ensures yes_it { let area = S.mounted_on store.now in
-        result ≡ true → IsKept (numbers_in area) (on S.contents (F.device flash.now) area) id }
+        result ≡ true → IsKept (numbering_of area) (on S.contents (F.device flash.now) area) id }
     ensures not_it { let area = S.mounted_on store.now in
-        result ≡ false → IsKept (numbers_in area) (on S.contents (F.device flash.now) area) id → ⊥ }
+        result ≡ false → IsKept (numbering_of area) (on S.contents (F.device flash.now) area)
+        id → ⊥ }
 {
     if id == COUNT {
         return is_count(store.get_by(flash, index, COUNT, steps));

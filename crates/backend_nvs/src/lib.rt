@@ -5,8 +5,8 @@
 mod backend;
 mod kept;
 mod lookup;
-mod numbers;
+mod numbering;
 mod putting;
 
 pub use backend::NvsBackend;
-pub use numbers::NvsNumbers;
+pub use numbering::NvsIdLayout;

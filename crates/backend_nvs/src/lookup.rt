@@ -3,9 +3,9 @@ ghost use Rattle.std.specs.Prelude.{◌≡◌, ◌+◌, ◌<◌, ◌≤◌, fals
 ghost use Rattle.std.specs.Bool.{MatchBool};
 ghost use Rattle.flash_map.specs.Lawful.{IsLawfulFor};
 ghost use Rattle.flash_map.specs.On.{on, HoldsOn, StandsOn};
-ghost use Rattle.named_items.specs.Pairs.{count_in, pair_at, HasName, IsPlaceOf};
+ghost use Rattle.named_items.specs.Pairs.{count_in, pair_at, HasName, IsIdOfName};
 ghost use Rattle.named_items.specs.Looking.{HasIds};
-ghost use Rattle.backend_nvs.specs.Numbers.{number_of, numbers_in, IsFreePlace};
+ghost use Rattle.backend_nvs.specs.IdLayout.{number_of, numbering_of, IsFreeCandidate};
 
 use flash_sim::{Flash, Steps};
 use named_items::{ItemStore, is_at, is_free};
@@ -44,9 +44,10 @@ pub(crate) fn read_count<S: ItemStore, F: Flash, L: Ledger>(
     requires ids { HasIds TOP S.is_id }
     requires lawful { IsLawfulFor (F.device flash.now).banks (S.mounted_on store.now) }
     requires stands { StandsOn S.mounted_on S.stands (F.device flash.now) store.now }
-    requires tells { HoldsOn (S.tells index.now) (F.device flash.now) (S.mounted_on store.now) }
+    requires describes { HoldsOn (S.describes index.now) (F.device flash.now)
+        (S.mounted_on store.now) }
     ensures count { let area = S.mounted_on store.now in
-        result ≡ count_in (numbers_in area) (on S.contents (F.device flash.now) area) }
+        result ≡ count_in (numbering_of area) (on S.contents (F.device flash.now) area) }
     ensures few { result ≤ LIMIT }
 {
     match store.get_by(flash, index, COUNT, steps) {
@@ -65,7 +66,8 @@ pub(crate) fn has_count<S: ItemStore, F: Flash, L: Ledger>(
     requires lawful { IsLawfulFor (F.device flash.now).banks (S.mounted_on store.now) }
     requires stands { StandsOn S.mounted_on S.stands (F.device flash.now) store.now }
     ensures { let area = S.mounted_on store.now in
-        result ≡ false → count_in (numbers_in area) (on S.contents (F.device flash.now) area) ≡ 0 }
+        result ≡ false → count_in (numbering_of area)
+        (on S.contents (F.device flash.now) area) ≡ 0 }
 {
     match store.get(flash, COUNT, steps) {
         Some(bytes) => number_of(bytes) > 0,
@@ -85,12 +87,13 @@ fn is_here<S: ItemStore, F: Flash, L: Ledger>(
     requires ids { HasIds TOP S.is_id }
     requires lawful { IsLawfulFor (F.device flash.now).banks (S.mounted_on store.now) }
     requires stands { StandsOn S.mounted_on S.stands (F.device flash.now) store.now }
-    requires tells { HoldsOn (S.tells index.now) (F.device flash.now) (S.mounted_on store.now) }
+    requires describes { HoldsOn (S.describes index.now) (F.device flash.now)
+        (S.mounted_on store.now) }
     requires low { place < FIRST + LIMIT }
     ensures { let area = S.mounted_on store.now in
         let items = on S.contents (F.device flash.now) area in
-        MatchBool result (HasName (pair_at (numbers_in area) items place) name.now)
-        (¬ HasName (pair_at (numbers_in area) items place) name.now) }
+        MatchBool result (HasName (pair_at (numbering_of area) items place) name.now)
+        (¬ HasName (pair_at (numbering_of area) items place) name.now) }
 {
     is_at(store, flash, index, name, place, place + STEP, steps)
 }
@@ -106,9 +109,10 @@ pub(crate) fn place_of<S: ItemStore, F: Flash, L: Ledger>(
     requires ids { HasIds TOP S.is_id }
     requires lawful { IsLawfulFor (F.device flash.now).banks (S.mounted_on store.now) }
     requires stands { StandsOn S.mounted_on S.stands (F.device flash.now) store.now }
-    requires tells { HoldsOn (S.tells index.now) (F.device flash.now) (S.mounted_on store.now) }
+    requires describes { HoldsOn (S.describes index.now) (F.device flash.now)
+        (S.mounted_on store.now) }
     ensures { let area = S.mounted_on store.now in
-        IsPlaceOf (numbers_in area) (on S.contents (F.device flash.now) area) name.now result }
+        IsIdOfName (numbering_of area) (on S.contents (F.device flash.now) area) name.now result }
 {
     let count = read_count(store, flash, index, steps);
     for place in FIRST..FIRST + count {
@@ -120,7 +124,7 @@ pub(crate) fn place_of<S: ItemStore, F: Flash, L: Ledger>(
 }
 
 // The least place with neither, of those that the count allows.
-pub(crate) fn free_place<S: ItemStore, F: Flash, L: Ledger>(
+pub(crate) fn free_candidate<S: ItemStore, F: Flash, L: Ledger>(
     store: &S,
     flash: &F,
     index: &S::Index,
@@ -129,9 +133,10 @@ pub(crate) fn free_place<S: ItemStore, F: Flash, L: Ledger>(
     requires ids { HasIds TOP S.is_id }
     requires lawful { IsLawfulFor (F.device flash.now).banks (S.mounted_on store.now) }
     requires stands { StandsOn S.mounted_on S.stands (F.device flash.now) store.now }
-    requires tells { HoldsOn (S.tells index.now) (F.device flash.now) (S.mounted_on store.now) }
+    requires describes { HoldsOn (S.describes index.now) (F.device flash.now)
+        (S.mounted_on store.now) }
     ensures { let area = S.mounted_on store.now in
-        IsFreePlace (numbers_in area) (on S.contents (F.device flash.now) area) result }
+        IsFreeCandidate (numbering_of area) (on S.contents (F.device flash.now) area) result }
 {
     let count = read_count(store, flash, index, steps);
     for place in FIRST..FIRST + count {

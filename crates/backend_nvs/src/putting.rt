@@ -6,16 +6,16 @@ ghost use Rattle.flash_map.specs.On.{on, StandsOn};
 ghost use Rattle.flash_map.specs.Spending.{SpendsAtMost};
 ghost use Rattle.flash_map.specs.Touches.{Touches};
 ghost use Rattle.backend_api.specs.Ends.{set_lost};
-ghost use Rattle.backend_api.specs.Room.{most_units};
-ghost use Rattle.named_items.specs.Pairs.{count_in, HasNoStrays, IsPlaceOf};
+ghost use Rattle.backend_api.specs.Room.{command_units};
+ghost use Rattle.named_items.specs.Pairs.{count_in, HasNoOrphans, IsIdOfName};
 ghost use Rattle.named_items.specs.Looking.{HasIds};
 ghost use Rattle.named_items.specs.Mounted.{IsMounted, StaysMounted};
 ghost use Rattle.named_items.specs.Putting.{IsStorable, SetLeavesOn};
-ghost use Rattle.backend_nvs.specs.Numbers.{number_of, numbers_in, settings_of, nvs_room};
+ghost use Rattle.backend_nvs.specs.IdLayout.{number_of, numbering_of, settings_of, nvs_room};
 ghost use Rattle.backend_nvs.specs.declared.lookup.TheConstants.{TOP};
 
-use crate::lookup::{COUNT, FIRST, LIMIT, free_place, read_count};
-use crate::numbers::NvsNumbers;
+use crate::lookup::{COUNT, FIRST, LIMIT, free_candidate, read_count};
+use crate::numbering::NvsIdLayout;
 use backend_api::SetFault;
 use flash_map::WriteFault;
 use flash_sim::{Flash, Steps};
@@ -33,7 +33,7 @@ pub(crate) fn settings_cost<S: ItemStore, F: Flash, L: Ledger>(
     requires lawful { IsLawfulFor (F.device flash.now).banks (S.mounted_on store.now) }
     requires stands { StandsOn S.mounted_on S.stands (F.device flash.now) store.now }
     requires clean { let area = S.mounted_on store.now in
-        HasNoStrays (numbers_in area) (on S.contents (F.device flash.now) area) }
+        HasNoOrphans (numbering_of area) (on S.contents (F.device flash.now) area) }
     ensures { let d = F.device flash.now in let area = S.mounted_on store.now in
         let g = geometry_of d area in
         result ≡ (nvs_room S.price S.cap g).cost (settings_of area (on S.contents d area)) }
@@ -70,13 +70,13 @@ fn add_name<S: ItemStore, F: Flash, L: Ledger>(
     steps: &mut Steps<L>,
 ) -> Result<(), SetFault>
     requires ids { HasIds TOP S.is_id }
-    requires here { IsMounted S.mounted_on S.stands S.contents numbers_in (F.device flash.old)
+    requires here { IsMounted S.mounted_on S.stands S.contents numbering_of (F.device flash.old)
         store.old }
     requires value { IsStorable (value_limit (S.mounted_on store.old)) value.now }
     requires absent { let area = S.mounted_on store.old in
-        IsPlaceOf (numbers_in area) (on S.contents (F.device flash.old) area) name.now None }
+        IsIdOfName (numbering_of area) (on S.contents (F.device flash.old) area) name.now None }
     requires counted { let area = S.mounted_on store.old in
-        count ≡ count_in (numbers_in area) (on S.contents (F.device flash.old) area) }
+        count ≡ count_in (numbering_of area) (on S.contents (F.device flash.old) area) }
     requires few { count < LIMIT }
 
     ensures touches { Touches (S.mounted_on store.old ∷ []) (F.device flash.old)
@@ -84,26 +84,27 @@ fn add_name<S: ItemStore, F: Flash, L: Ledger>(
     ensures store { StaysMounted S.mounted_on S.stands S.runs S.damage (F.device flash.new)
         store.old store.new (set_lost result) }
     ensures ends { let d = F.device flash.old in let e = F.device flash.new in
-        SetLeavesOn numbers_in (nvs_room S.price S.cap) S.contents d e (S.mounted_on store.old)
+        SetLeavesOn numbering_of (nvs_room S.price S.cap) S.contents d e (S.mounted_on store.old)
         name.now value.now result }
     ensures at_most { let d = F.device flash.old in
-        SpendsAtMost d (F.device flash.new) (most_units (geometry_of d (S.mounted_on store.old))) }
+        SpendsAtMost d (F.device flash.new)
+        (command_units (geometry_of d (S.mounted_on store.old))) }
 {
     let need = price_of_pair(store, flash, name, value);
     let bytes = bytes_of_count(count + 1);
     match store.write(flash, COUNT, &bytes, steps) {
         Ok(()) => {
-            put_new::<NvsNumbers, S, F, L>(store, flash, FIRST + count, name, value, steps)
+            put_new::<NvsIdLayout, S, F, L>(store, flash, FIRST + count, name, value, steps)
         }
         Err(WriteFault::PowerLost) => Err(SetFault::PowerLost),
-        Err(WriteFault::NoSpace { .. }) => Err(refused::<NvsNumbers, S, F, L>(
+        Err(WriteFault::NoSpace { .. }) => Err(refused::<NvsIdLayout, S, F, L>(
             store, flash, need, steps,
         )),
         Err(WriteFault::TooLong) => unreachable!(),
     }
 }
 
-impl NewNames for NvsNumbers {
+impl NewNames for NvsIdLayout {
     fn put_name<S: ItemStore, F: Flash, L: Ledger>(
         store: &mut S,
         flash: &mut F,
@@ -112,9 +113,9 @@ impl NewNames for NvsNumbers {
         steps: &mut Steps<L>,
     ) -> Result<(), SetFault> {
         let mut index = S::new_index();
-        store.tell(flash, &mut index, steps);
-        match free_place(store, flash, &index, steps) {
-            Some(free) => put_new::<NvsNumbers, S, F, L>(store, flash, free, name, value, steps),
+        store.fill_index(flash, &mut index, steps);
+        match free_candidate(store, flash, &index, steps) {
+            Some(free) => put_new::<NvsIdLayout, S, F, L>(store, flash, free, name, value, steps),
             None => {
                 let count = read_count(store, flash, &index, steps);
                 if is_full(count) {

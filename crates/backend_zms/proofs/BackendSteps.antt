@@ -13,7 +13,7 @@ use Rattle.named_items.specs.Blank.{zms-undamaged, zms-empty}
 use Rattle.named_items.specs.ZmsStore.{zms_damage, zms_items}
 use Rattle.named_items.proofs.EmptySteps.{no-settings}
 use Rattle.named_items.proofs.FormatSteps.{blanked-on}
-use Rattle.backend_zms.specs.Numbers.{numbers_in}
+use Rattle.backend_zms.specs.IdLayout.{numbering_of}
 use Rattle.backend_zms.specs.Standing.{settings_of}
 
 module _ (d e : Device) (area : Area) (banks : IsLawful d.banks d.bytes) (lawful : IsLawfulFor d.banks area) (is : sectors_of e area ≡ map blanked (sectors_of d area)) where
@@ -30,4 +30,4 @@ module _ (d e : Device) (area : Area) (banks : IsLawful d.banks d.bytes) (lawful
   erased-undamaged = ap (zms_damage area (geometry_of e area)) erased ∙ zms-undamaged area.sectors (sector_size d area) several (geometry_of e area).kind
 
   pub erased-empty : on settings_of e area ≡ empty
-  erased-empty = no-settings (numbers_in area) (on zms_items e area) (ap (zms_items area (geometry_of e area)) erased ∙ zms-empty area.sectors (sector_size d area) several (geometry_of e area).kind)
+  erased-empty = no-settings (numbering_of area) (on zms_items e area) (ap (zms_items area (geometry_of e area)) erased ∙ zms-empty area.sectors (sector_size d area) several (geometry_of e area).kind)

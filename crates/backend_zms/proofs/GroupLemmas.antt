@@ -6,13 +6,13 @@ use Rattle.std.proofs.lemmas.Bool.{and_from}
 use Rattle.std.proofs.lemmas.Bool.Decides.{nat_tests}
 use Rattle.std.proofs.lemmas.Nat.Bits.{and_high}
 use Rattle.item_laws.specs.Items.{Items}
-use Rattle.named_items.specs.Homes.{IsFreeHome, HomesAre}
-use Rattle.named_items.specs.Pairs.{pair_at, settings_in, IsPlaceOf, HasNoStrays}
-use Rattle.named_items.proofs.HomeLemmas.{homes-full, homes-few, homes-count}
+use Rattle.named_items.specs.Candidates.{IsFreeCandidate, CandidatesAre}
+use Rattle.named_items.specs.Pairs.{pair_at, settings_in, IsIdOfName, HasNoOrphans}
+use Rattle.named_items.proofs.CandidateLemmas.{candidates-full, candidates-few, candidates-count}
 use Rattle.named_items.proofs.NameLemmas.{get-nowhere}
 use Rattle.named_items.proofs.RangePairs.{pairs_on}
 use Rattle.backend_zms.specs.Hash.{fnv, group_of, first_of}
-use Rattle.backend_zms.specs.Numbers.{places, is_place_of, zms_numbering, zms-numbers, too_many}
+use Rattle.backend_zms.specs.IdLayout.{places, is_place_of, zms_numbering, zms-numbering, too_many}
 
 -- ---- groups
 
@@ -60,18 +60,18 @@ other-group g h e = grind (arith, nat_tests)
 -- ---- the places of a name
 
 module _ (limit : ℕ) (items : Items) (name : List ℕ) where
-  pub group-homes : HomesAre (zms_numbering limit) items name (first_of name) 16
-  group-homes =
+  pub group-candidates : CandidatesAre (zms_numbering limit) items name (first_of name) 16
+  group-candidates =
       let low = group-low name in
       let all = all-places in
       record {
         low = omega arith;
         high = omega arith;
-        home = λ place a b. between-true (first_of name) (first_of name + 16) place a b;
+        candidate = λ place a b. between-true (first_of name) (first_of name + 16) place a b;
         only = λ place inside is. (between-low (first_of name) (first_of name + 16) place is, between-high (first_of name) (first_of name + 16) place is);
       }
 
-  module _ (clean : HasNoStrays (zms_numbering limit) items) where
+  module _ (clean : HasNoOrphans (zms_numbering limit) items) where
     abbrev same : List ℕ → Bool
     same other = group_of other == group_of name
 
@@ -79,20 +79,20 @@ module _ (limit : ℕ) (items : Items) (name : List ℕ) where
     names = count_by same (maps.keys (settings_in (zms_numbering limit) items))
 
     names-in-group : names ≡ length (pairs_on (pair_at (zms_numbering limit) items) (first_of name) 16)
-    names-in-group = homes-count (zms_numbering limit) items name (first_of name) 16 group-homes (zms-numbers limit) clean same
-        (λ other place a b home. same-group (group_of other) (group_of name) (one-group name other place a b home))
-        (λ other place out home. other-group (group_of other) (group_of name) (λ e. apart other place out home e))
+    names-in-group = candidates-count (zms_numbering limit) items name (first_of name) 16 group-candidates (zms-numbering limit) clean same
+        (λ other place a b candidate. same-group (group_of other) (group_of name) (one-group name other place a b candidate))
+        (λ other place out candidate. other-group (group_of other) (group_of name) (λ e. apart other place out candidate e))
       where
         apart : (other : List ℕ) (place : ℕ) → (place < first_of name) ⊎ (first_of name + 16 ≤ place) → is_place_of place other ≡ true → group_of other ≡ group_of name → ⊥
-        apart other place out home e =
-            let from : first_of other ≤ place = between-low (first_of other) (first_of other + 16) place home in
-            let to : place < first_of other + 16 = between-high (first_of other) (first_of other + 16) place home in
+        apart other place out candidate e =
+            let from : first_of other ≤ place = between-low (first_of other) (first_of other + 16) place candidate in
+            let to : place < first_of other + 16 = between-high (first_of other) (first_of other + 16) place candidate in
             elim out [ inl less ↦ omega arith | inr more ↦ omega arith ]
 
     -- a new name of a group without a bare place is one too many
-    pub group-full : IsPlaceOf (zms_numbering limit) items name None → IsFreeHome (zms_numbering limit) items name None → too_many (settings_in (zms_numbering limit) items) name ≡ true
+    pub group-full : IsIdOfName (zms_numbering limit) items name None → IsFreeCandidate (zms_numbering limit) items name None → too_many (settings_in (zms_numbering limit) items) name ≡ true
     group-full absent none =
-        let many : names ≡ 16 = names-in-group ∙ homes-full (zms_numbering limit) items name (first_of name) 16 group-homes (zms-numbers limit) clean none in
+        let many : names ≡ 16 = names-in-group ∙ candidates-full (zms_numbering limit) items name (first_of name) 16 group-candidates (zms-numbering limit) clean none in
         let new : maps.contains_key (settings_in (zms_numbering limit) items) name ≡ false = ap is_some (get-nowhere (zms_numbering limit) items name absent) in
         and_from (not (maps.contains_key (settings_in (zms_numbering limit) items) name)) (nat_le 16 names) (ap not new) (enough names many)
       where
@@ -100,9 +100,9 @@ module _ (limit : ℕ) (items : Items) (name : List ℕ) where
         enough k is = grind (arith, nat_tests)
 
     -- and one of a group with a bare place is not
-    pub group-free : (free : ℕ) → IsFreeHome (zms_numbering limit) items name (Some free) → too_many (settings_in (zms_numbering limit) items) name ≡ false
+    pub group-free : (free : ℕ) → IsFreeCandidate (zms_numbering limit) items name (Some free) → too_many (settings_in (zms_numbering limit) items) name ≡ false
     group-free free is =
-        let few : names < 16 = subst (λ (k : ℕ). k < 16) (sym names-in-group) (homes-few (zms_numbering limit) items name (first_of name) 16 group-homes (zms-numbers limit) clean free is) in
+        let few : names < 16 = subst (λ (k : ℕ). k < 16) (sym names-in-group) (candidates-few (zms_numbering limit) items name (first_of name) 16 group-candidates (zms-numbering limit) clean free is) in
         fails (not (maps.contains_key (settings_in (zms_numbering limit) items) name)) names few
       where
         fails : (b : Bool) (k : ℕ) → k < 16 → b && nat_le 16 k ≡ false

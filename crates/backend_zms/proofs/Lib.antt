@@ -1,4 +1,4 @@
 mod BackendSteps
 mod GroupLemmas
-mod HomeSteps
+mod CandidateSteps
 mod Vectors

@@ -1,3 +1,3 @@
 pub mod Hash
-pub mod Numbers
+pub mod IdLayout
 pub mod Standing

@@ -9,11 +9,11 @@ use Rattle.flash_map.specs.Area.{geometry_of, sectors_of, value_limit}
 use Rattle.flash_map.specs.Lawful.{IsLawfulFor}
 use Rattle.flash_map.specs.On.{on}
 use Rattle.backend_api.specs.Map.{Map, IsSettings}
-use Rattle.named_items.specs.Pairs.{settings_in, HasNoStrays}
+use Rattle.named_items.specs.Pairs.{settings_in, HasNoOrphans}
 use Rattle.named_items.proofs.LawfulLemmas.{settings-lawful}
 use Rattle.named_items.specs.ZmsStore.{zms_damage, zms_items, zms_rests, ZmsStands, zms-rested}
 use Rattle.backend_zms.specs.declared.backend.ZmsBackend.{ZmsBackend}
-use Rattle.backend_zms.specs.Numbers.{numbers_in, zms-numbers, step-small}
+use Rattle.backend_zms.specs.IdLayout.{numbering_of, zms-numbering, step-small}
 
 -- a ZMS area
 abbrev pub IsServed : Area → Geometry → Type 0
@@ -21,11 +21,11 @@ IsServed area geometry = area.role ≡ ZmsRole
 
 -- the settings that its sectors read as
 abbrev pub settings_of : Area → Geometry → List (List ℕ) → Map
-settings_of area geometry sectors = settings_in (numbers_in area) (zms_items area geometry sectors)
+settings_of area geometry sectors = settings_in (numbering_of area) (zms_items area geometry sectors)
 
 -- no item belongs to no setting
 abbrev pub IsClean : Area → Geometry → List (List ℕ) → Type 0
-IsClean area geometry sectors = HasNoStrays (numbers_in area) (zms_items area geometry sectors)
+IsClean area geometry sectors = HasNoOrphans (numbering_of area) (zms_items area geometry sectors)
 
 -- no loss of power left anything undone
 pub record Rests (area : Area) (geometry : Geometry) (sectors : List (List ℕ)) : Type 0 where
@@ -46,5 +46,5 @@ pub reads_settings : (d : Device) (area : Area) → IsLawful d.banks d.bytes →
     → IsServed area (geometry_of d area) → on zms_damage d area ≡ None
     → IsSettings (value_limit area) (on settings_of d area)
 reads_settings d area lawful for serves undamaged =
-    settings-lawful (numbers_in area) (zms-numbers (value_limit area)) step-small
+    settings-lawful (numbering_of area) (zms-numbering (value_limit area)) step-small
     (zms_items area (geometry_of d area) (sectors_of d area))

@@ -1,10 +1,10 @@
 // The backend over ZMS.
 ghost use Rattle.std.specs.Prelude.{◌≡◌, false, refl};
 ghost use Rattle.named_items.specs.ZmsStore.{zms_damage, zms_price, zms_cap};
-ghost use Rattle.backend_zms.specs.Numbers.{zms_room};
+ghost use Rattle.backend_zms.specs.IdLayout.{zms_room};
 ghost use Rattle.backend_zms.specs.Standing.{IsServed, settings_of, Rests, Stands, stands-rest, reads_settings};
 
-use crate::numbers::ZmsNumbers;
+use crate::numbering::ZmsIdLayout;
 use backend_api::{Backend, SetFault};
 use flash_map::{Area, MountFault, area_format};
 use flash_sim::{Flash, Loss, PowerLost, Steps};
@@ -57,7 +57,7 @@ impl Backend for ZmsBackend {
         area: Area,
         steps: &mut Steps<L>,
     ) -> Result<ZmsBackend, MountFault> {
-        match mount_store::<ZmsNumbers, Zms, F, L>(alloc, flash, area, steps) {
+        match mount_store::<ZmsIdLayout, Zms, F, L>(alloc, flash, area, steps) {
             Ok(store) => Ok(ZmsBackend { store }),
             Err(fault) => Err(fault),
         }
@@ -69,7 +69,7 @@ impl Backend for ZmsBackend {
         name: &Name,
         steps: &mut Steps<L>,
     ) -> Option<&'a [u8]> {
-        standing_value::<ZmsNumbers, Zms, F, L>(&self.store, flash, name, steps)
+        standing_value::<ZmsIdLayout, Zms, F, L>(&self.store, flash, name, steps)
     }
 
     fn set<F: Flash, L: Ledger>(
@@ -79,7 +79,7 @@ impl Backend for ZmsBackend {
         value: &[u8],
         steps: &mut Steps<L>,
     ) -> Result<(), SetFault> {
-        set_value::<ZmsNumbers, Zms, F, L>(&mut self.store, flash, name, value, steps)
+        set_value::<ZmsIdLayout, Zms, F, L>(&mut self.store, flash, name, value, steps)
     }
 
     fn delete<F: Flash, L: Ledger>(
@@ -88,7 +88,7 @@ impl Backend for ZmsBackend {
         name: &Name,
         steps: &mut Steps<L>,
     ) -> Result<(), PowerLost> {
-        delete_name::<ZmsNumbers, Zms, F, L>(&mut self.store, flash, name, steps)
+        delete_name::<ZmsIdLayout, Zms, F, L>(&mut self.store, flash, name, steps)
     }
 
     fn next_name<F: Flash, L: Ledger>(
@@ -97,7 +97,7 @@ impl Backend for ZmsBackend {
         after: Option<&Name>,
         steps: &mut Steps<L>,
     ) -> Option<Name> {
-        next_name::<ZmsNumbers, Zms, F, L>(&self.store, flash, after, steps)
+        next_name::<ZmsIdLayout, Zms, F, L>(&self.store, flash, after, steps)
     }
 
     fn format<F: Flash, L: Ledger>(

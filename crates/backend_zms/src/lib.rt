@@ -4,8 +4,8 @@
 
 mod backend;
 mod hash;
-mod numbers;
+mod numbering;
 
 pub use backend::ZmsBackend;
 pub use hash::{FIRST, GROUP_SIZE, first_of};
-pub use numbers::ZmsNumbers;
+pub use numbering::ZmsIdLayout;

@@ -153,7 +153,7 @@ const DAMAGED: [(&[u8], &[u8], Option<Why>); 5] = [
     (&HEADER, &[], None),
 ];
 
-fn tells_damage<B: Bench, L: Ledger, R: Abort>(
+fn reports_damage<B: Bench, L: Ledger, R: Abort>(
     rt: &R,
     alloc: Global,
     bench: &mut B,
@@ -407,7 +407,7 @@ fn rings<B: Bench, L: Ledger, R: Abort>(
     requires some { 0 < L.parts }
 {
     let mut steps = Steps::<L>::new(blank);
-    tells_damage(rt, alloc, bench, &mut steps)?;
+    reports_damage(rt, alloc, bench, &mut steps)?;
     reads_records(rt, alloc, bench, &mut steps)?;
     goes_through_steps(rt, alloc, bench, &mut steps)?;
     lays_long(rt, alloc, bench, &mut steps)

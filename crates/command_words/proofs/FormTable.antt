@@ -1,4 +1,4 @@
--- The program, told of one form after the other.
+-- The program, given one form after the other.
 use Rattle.std.proofs.Common.{◌≡◌, ◌∙◌, ◌+◌, ◌<◌, ◌≤◌, ℕ, List, [], true, map, take, length, get_or, sym, ap, ap₂, codes, false}
 use Rattle.std.specs.Prelude.{fold}
 use Rattle.std.specs.Borrow.{Bor}
@@ -11,7 +11,7 @@ use Rattle.clap.specs.declared.builder.command.Command.{Command}
 use Rattle.clap.specs.declared.builder.command.Command.TheViews.{out-Command as fields_of}
 use Rattle.command_words.specs.Forms.{form, image_tool}
 
--- the program, before it is told of a form
+-- the program, before it is given a form
 abbrev pub started : App
 started = record { top = record (new_shape (codes "image_tool")) { no_binary_name = true }; subs = [] }
 
@@ -22,16 +22,16 @@ Row = Bor Text × Bor (List (Bor Text))
 abbrev pub form_of : Row → Shape
 form_of row = form row.0.now (map (λ s. s.now) row.1.now)
 
--- the program, told of these
-abbrev pub told : List Row → App
-told rows = fold (λ app row. with_subcommand app (form_of row)) started rows
+-- the program, given these
+abbrev pub reported : List Row → App
+reported rows = fold (λ app row. with_subcommand app (form_of row)) started rows
 
 -- one row more
-pub told_more : (rows : List Row) (i : ℕ) (d : Row) (old sub new : Command) → i < length rows → app_of old ≡ told (take i rows)
-    → shape_of sub ≡ form_of (get_or rows i d) → (fields_of sub).has_globals ≡ false → AddsSubcommand old sub new → app_of new ≡ told (take (i + 1) rows)
-told_more rows i d old sub new within was is local adds =
+pub reported_more : (rows : List Row) (i : ℕ) (d : Row) (old sub new : Command) → i < length rows → app_of old ≡ reported (take i rows)
+    → shape_of sub ≡ form_of (get_or rows i d) → (fields_of sub).has_globals ≡ false → AddsSubcommand old sub new → app_of new ≡ reported (take (i + 1) rows)
+reported_more rows i d old sub new within was is local adds =
     adds.shape local ∙ ap₂ with_subcommand was is ∙ sym (fold_more (λ app row. with_subcommand app (form_of row)) started rows i d within)
 
 -- all rows
-pub told_all : (rows : List Row) (i : ℕ) (tool : Command) → length rows ≤ i → told rows ≡ image_tool → app_of tool ≡ told (take i rows) → app_of tool ≡ image_tool
-told_all rows i tool all is was = was ∙ ap told (take_all i rows all) ∙ is
+pub reported_all : (rows : List Row) (i : ℕ) (tool : Command) → length rows ≤ i → reported rows ≡ image_tool → app_of tool ≡ reported (take i rows) → app_of tool ≡ image_tool
+reported_all rows i tool all is was = was ∙ ap reported (take_all i rows all) ∙ is

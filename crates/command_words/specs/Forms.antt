@@ -1,4 +1,4 @@
--- What `clap` is told of the forms, and what it gives back of one.
+-- What `clap` gets of the forms, and what it gives back of one.
 use Rattle.std.specs.Prelude.{◌≡◌, true, false, List, [], ◌∷◌, map, find, Option, Some, MatchOption, codes}
 use Rattle.std.specs.Option.{option_map_or}
 use Rattle.std.specs.Str.{bytes_eq}

@@ -1,4 +1,4 @@
-//! What the program is told to do.
+//! What the program is to do.
 
 /// How many lines a generated script has at most.
 pub const MOST_LINES: u32 = 10_000;

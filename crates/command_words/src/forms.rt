@@ -1,4 +1,4 @@
-// The forms of the words, as `clap` is told of them.
+// The forms of the words, as `clap` gets them.
 ghost use Rattle.std.specs.Prelude.{◌≡◌, map, false, IfOk};
 ghost use Rattle.clap.specs.Words.{app_of, shape_of};
 ghost use Rattle.clap.specs.declared.builder.command.Command.TheViews.{out-Command as fields_of};

@@ -8,7 +8,7 @@ use std::alloc::Global;
 use std::cell::Cell;
 use std::sync::ledger::Ledger;
 
-/// A bench that tells how many views it gave.
+/// A bench that reports how many views it gave.
 pub trait Views: Bench {
     /// How many views were taken of it.
     fn views(&self) -> u64;

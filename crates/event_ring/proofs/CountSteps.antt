@@ -65,8 +65,8 @@ module _ (d : Device) (ring : Ring) (lawful : IsLawful d.banks d.bytes) (mounted
   abbrev pub behind : List Entry
   behind = flat_map (λ k. part (unit_of d ring.area) (sectors_of d ring.area) ring.oldest (k + 1)) (range_with_len 0 (ring.used - 1))
 
-  pub list-front : entries_on d ring.area ≡ sector_list d ring.area ring.oldest ++ behind
-  list-front =
+  pub list-prefix : entries_on d ring.area ≡ sector_list d ring.area ring.oldest ++ behind
+  list-prefix =
       let again : min ring.used (length (sectors_of d ring.area) - 1) ≡ 1 + (ring.used - 1) = all-count d ring lawful mounted ∙ omega arith in
       let w = within d ring lawful mounted in
       entries-are (unit_of d ring.area) (sectors_of d ring.area) ring.oldest ring.used (form d ring lawful mounted)
@@ -74,8 +74,8 @@ module _ (d : Device) (ring : Ring) (lawful : IsLawful d.banks d.bytes) (mounted
       ∙ parts-first (part (unit_of d ring.area) (sectors_of d ring.area) ring.oldest) (ring.used - 1)
       ∙ ap (λ (p : ℕ). sector_entries (unit_of d ring.area) p (sector_at (sectors_of d ring.area) p) ++ behind) (turned-zero (length (sectors_of d ring.area)) ring.oldest w.0)
 
-  pub front-of : AreOf ring.oldest (sector_list d ring.area ring.oldest)
-  front-of = entries-of (unit_of d ring.area) ring.oldest (sector_at (sectors_of d ring.area) ring.oldest)
+  pub prefix-of : AreOf ring.oldest (sector_list d ring.area ring.oldest)
+  prefix-of = entries-of (unit_of d ring.area) ring.oldest (sector_at (sectors_of d ring.area) ring.oldest)
 
   pub behind-not : AreNotOf ring.oldest behind
   behind-not =
@@ -86,8 +86,8 @@ module _ (d : Device) (ring : Ring) (lawful : IsLawful d.banks d.bytes) (mounted
       let is = turned-same (length (sectors_of d ring.area)) ring.oldest (k + 1) 0 w.0 (omega (arith, w.1)) (omega (arith, w.1)) (same ∙ sym (turned-zero (length (sectors_of d ring.area)) ring.oldest w.0)) in omega arith)
 
   -- a sector has room for fewer records than it has bytes
-  pub front-few : length (sector_list d ring.area ring.oldest) < 2 ^ 16
-  front-few =
+  pub prefix-few : length (sector_list d ring.area ring.oldest) < 2 ^ 16
+  prefix-few =
       let size = has d ring lawful mounted in
       let w = within d ring lawful mounted in
       let s : List ℕ = sector_at (sectors_of d ring.area) ring.oldest in
@@ -111,15 +111,15 @@ heads-same : (x y : Entry) (ys zs : List Entry) → x ∷ ys ≡ y ∷ zs → (x
 heads-same x y ys zs e = (cc, cc)
 
 -- where a list is cut before the first that is not of the sector, the front is that of the sector
-front-is : (place : ℕ) (xs rest done later : List Entry) → xs ++ rest ≡ done ++ later → AreOf place xs → AreNotOf place rest → AreOf place done
+prefix-is : (place : ℕ) (xs rest done later : List Entry) → xs ++ rest ≡ done ++ later → AreOf place xs → AreNotOf place rest → AreOf place done
     → ((e : Entry) (more : List Entry) → later ≡ e ∷ more → e.0.sector ≢ place) → length done ≡ length xs
-front-is place [] rest [] later same of not of_done next = refl
-front-is place [] rest (y ∷ done) later same of not of_done next =
+prefix-is place [] rest [] later same of not of_done next = refl
+prefix-is place [] rest (y ∷ done) later same of not of_done next =
     let there : AreNotOf place (y ∷ (done ++ later)) = subst (AreNotOf place) same not in
     absurd (All-head (λ (entry : Entry). entry.0.sector ≢ place) y (done ++ later) there (All-head (λ (entry : Entry). entry.0.sector ≡ place) y done of_done))
-front-is place (x ∷ xs) rest [] later same of not of_done next = absurd (next x (xs ++ rest) (sym same) (All-head (λ (entry : Entry). entry.0.sector ≡ place) x xs of))
-front-is place (x ∷ xs) rest (y ∷ done) later same of not of_done next =
-    ap suc (front-is place xs rest done later (heads-same x y (xs ++ rest) (done ++ later) same).1 (All-tail (λ (entry : Entry). entry.0.sector ≡ place) x xs of) not (All-tail (λ (entry : Entry). entry.0.sector ≡ place) y done of_done) next)
+prefix-is place (x ∷ xs) rest [] later same of not of_done next = absurd (next x (xs ++ rest) (sym same) (All-head (λ (entry : Entry). entry.0.sector ≡ place) x xs of))
+prefix-is place (x ∷ xs) rest (y ∷ done) later same of not of_done next =
+    ap suc (prefix-is place xs rest done later (heads-same x y (xs ++ rest) (done ++ later) same).1 (All-tail (λ (entry : Entry). entry.0.sector ≡ place) x xs of) not (All-tail (λ (entry : Entry). entry.0.sector ≡ place) y done of_done) next)
 
 -- so many records of the sector were passed
 pub record Counts (list : List Entry) (place : ℕ) (at : Option RecordAt) (count : ℕ) : Type 0 where
@@ -148,8 +148,8 @@ module _ (d : Device) (ring : Ring) (lawful : IsLawful d.banks d.bytes) (mounted
   counted : (at : Option RecordAt) → (so_far : Counts (entries_on d ring.area) ring.oldest at count) → ((e : Entry) (more : List Entry) → so_far.later ≡ e ∷ more → e.0.sector ≢ ring.oldest) → count ≡ length (sector_list d ring.area ring.oldest)
   counted at so_far next =
       so_far.is
-      ∙ front-is ring.oldest (sector_list d ring.area ring.oldest) (behind d ring lawful mounted some) so_far.done so_far.later (sym (list-front d ring lawful mounted some) ∙ so_far.is_at.are)
-      (front-of d ring lawful mounted some) (behind-not d ring lawful mounted some) so_far.of next
+      ∙ prefix-is ring.oldest (sector_list d ring.area ring.oldest) (behind d ring lawful mounted some) so_far.done so_far.later (sym (list-prefix d ring lawful mounted some) ∙ so_far.is_at.are)
+      (prefix-of d ring lawful mounted some) (behind-not d ring lawful mounted some) so_far.of next
 
   -- at the end of the list
   pub counted-all : Counts (entries_on d ring.area) ring.oldest None count → count ≡ length (sector_list d ring.area ring.oldest)
@@ -159,8 +159,8 @@ module _ (d : Device) (ring : Ring) (lawful : IsLawful d.banks d.bytes) (mounted
       none-left later here e more is = absurd (none-some e.0 (here ∙ ap (λ (l : List Entry). slice_get (record_places l) 0) is))
 
   -- at a record of another sector
-  pub counted-front : (r : RecordAt) → Counts (entries_on d ring.area) ring.oldest (Some r) count → r.sector ≢ ring.oldest → count ≡ length (sector_list d ring.area ring.oldest)
-  counted-front r so_far other = counted (Some r) so_far (λ e more is. next so_far.later so_far.is_at.here e more is)
+  pub counted-prefix : (r : RecordAt) → Counts (entries_on d ring.area) ring.oldest (Some r) count → r.sector ≢ ring.oldest → count ≡ length (sector_list d ring.area ring.oldest)
+  counted-prefix r so_far other = counted (Some r) so_far (λ e more is. next so_far.later so_far.is_at.here e more is)
     where
       some-same : (x y : RecordAt) → Some x ≡ Some y → x ≡ y
       some-same x y e = cc
@@ -171,17 +171,17 @@ module _ (d : Device) (ring : Ring) (lawful : IsLawful d.banks d.bytes) (mounted
   -- no more were passed than the sector has
   pub counted-few : (at : Option RecordAt) → Counts (entries_on d ring.area) ring.oldest at count → count < 2 ^ 16
   counted-few at so_far =
-      let few = front-few d ring lawful mounted some in
-      let le = front-less ring.oldest (sector_list d ring.area ring.oldest) (behind d ring lawful mounted some) so_far.done so_far.later (sym (list-front d ring lawful mounted some) ∙ so_far.is_at.are) (behind-not d ring lawful mounted some) so_far.of in
+      let few = prefix-few d ring lawful mounted some in
+      let le = prefix-less ring.oldest (sector_list d ring.area ring.oldest) (behind d ring lawful mounted some) so_far.done so_far.later (sym (list-prefix d ring lawful mounted some) ∙ so_far.is_at.are) (behind-not d ring lawful mounted some) so_far.of in
       omega (arith, so_far.is)
     where
-      front-less : (place : ℕ) (xs rest done later : List Entry) → xs ++ rest ≡ done ++ later → AreNotOf place rest → AreOf place done → length done ≤ length xs
-      front-less place xs rest [] later same not of_done = omega arith
-      front-less place [] rest (y ∷ done) later same not of_done =
+      prefix-less : (place : ℕ) (xs rest done later : List Entry) → xs ++ rest ≡ done ++ later → AreNotOf place rest → AreOf place done → length done ≤ length xs
+      prefix-less place xs rest [] later same not of_done = omega arith
+      prefix-less place [] rest (y ∷ done) later same not of_done =
           let there : AreNotOf place (y ∷ (done ++ later)) = subst (AreNotOf place) same not in
           absurd (All-head (λ (entry : Entry). entry.0.sector ≢ place) y (done ++ later) there (All-head (λ (entry : Entry). entry.0.sector ≡ place) y done of_done))
-      front-less place (x ∷ xs) rest (y ∷ done) later same not of_done =
-          let ih = front-less place xs rest done later (heads-same x y (xs ++ rest) (done ++ later) same).1 not (All-tail (λ (entry : Entry). entry.0.sector ≡ place) y done of_done) in omega arith
+      prefix-less place (x ∷ xs) rest (y ∷ done) later same not of_done =
+          let ih = prefix-less place xs rest done later (heads-same x y (xs ++ rest) (done ++ later) same).1 not (All-tail (λ (entry : Entry). entry.0.sector ≡ place) y done of_done) in omega arith
 
 -- ---- whether a record is of the oldest sector
 

@@ -70,8 +70,8 @@ module _ (d : Device) (ring : Ring) (lawful : IsLawful d.banks d.bytes) (mounted
   abbrev pub rest : List Item
   rest = flat_map (λ k. part (unit_of d ring.area) (sectors_of d ring.area) ring.oldest (k + 1)) (range_with_len 0 (ring.used - 1))
 
-  pub front-rest : items_on d ring.area ≡ items_in d ring.area ring.oldest ++ rest
-  front-rest =
+  pub prefix-rest : items_on d ring.area ≡ items_in d ring.area ring.oldest ++ rest
+  prefix-rest =
       let again : ring.used ≡ 1 + (ring.used - 1) = omega arith in
       let w = within d ring lawful mounted in
       items-ready d ring lawful mounted
@@ -167,7 +167,7 @@ module _ (d m : Device) (before r1 : Ring) (lawful : IsLawful d.banks d.bytes) (
         let some = (left-used d before mounted left).0 in
         record {
           rest = rest d before lawful mounted some;
-          items = front-rest d before lawful mounted some;
+          items = prefix-rest d before lawful mounted some;
           left = left-items d e before after lawful lawful-e (banks ∙ begun.banks) mounted mounted-e (area ∙ begun.area) oldest-is used-is (end ∙ begun.end) some others-are;
           others = others-are;
           is_open = mounted-e;

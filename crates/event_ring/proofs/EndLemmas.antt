@@ -34,7 +34,7 @@ use Rattle.event_ring.specs.Appending.{is_too_long, IsCut, LeavesItems}
 use Rattle.event_ring.specs.Room.{room_on, longest_on, IsFilled}
 use Rattle.event_ring.specs.Dropping.{PutEnds}
 use Rattle.event_ring.specs.Standing.{IsOpen}
-use Rattle.event_ring.proofs.FrontLemmas.{front-fewer}
+use Rattle.event_ring.proofs.PrefixLemmas.{prefix-fewer}
 use Rattle.event_ring.proofs.GrownSteps.{new_item, gains-items, same-items, next-none, GoesInto, items-kept, filled-kept, grown-items, grown-filled}
 use Rattle.event_ring.proofs.MountSteps.{fields_same}
 use Rattle.event_ring.proofs.PartLemmas.{part, parts-more}
@@ -252,9 +252,9 @@ module _ (d : Device) (ring : Ring) (lawful : IsLawful d.banks d.bytes) (mounted
       free : is_full (states_on e ring.area) ≡ false
       free = full-no (states_on e ring.area) ring.oldest used cut.form (omega (arith, into.room, length-states (unit_of e ring.area) (sectors_of e ring.area), count-sectors e ring.area, count-sectors d ring.area))
 
-      tells : (chance_on e ring.area the-loss ≡ true) ↔ IsChance (unit_of e ring.area) body cut.done
+      reports : (chance_on e ring.area the-loss ≡ true) ↔ IsChance (unit_of e ring.area) body cut.done
       unfolding the-loss
-      tells = record-chance e ring.area lawful-e ring-e place cut.offset body cut.done cut.loss free the-loss cut.loss.loss
+      reports = record-chance e ring.area lawful-e ring-e place cut.offset body cut.done cut.loss free the-loss cut.loss.loss
 
       last-is : e.last_loss ≡ Some the-loss
       unfolding the-loss
@@ -262,7 +262,7 @@ module _ (d : Device) (ring : Ring) (lawful : IsLawful d.banks d.bytes) (mounted
 
       not-chance : ¬ IsChance (unit_of e ring.area) body cut.done → chance_on e ring.area the-loss ≡ false
       not-chance none = elim (cases_Bool (chance_on e ring.area the-loss)) [
-        | inl is ↦ absurd (none (tells.0 is))
+        | inl is ↦ absurd (none (reports.0 is))
         | inr isnt ↦ isnt
       ]
 
@@ -278,7 +278,7 @@ module _ (d : Device) (ring : Ring) (lawful : IsLawful d.banks d.bytes) (mounted
       not-all : IsChance (unit_of e ring.area) body cut.done → cut.done * unit_of e ring.area - unit_of e ring.area < length body
       not-all is =
           let len = (short-body ring.area (length body) short).1 in
-          front-fewer (unit_of e ring.area) (subst IsUnit (sym unit-e) is_unit) body (omega (arith, limit-most ring.area)) cut.done is
+          prefix-fewer (unit_of e ring.area) (subst IsUnit (sym unit-e) is_unit) body (omega (arith, limit-most ring.area)) cut.done is
 
       gained : (other : List ℕ) (b : Bool) → GainsRecord d e ring.area place other b → items_on e ring.area ≡ items_on d ring.area ++ new_item (unit_of d ring.area) other b ∷ []
       gained other b gains = grown-items d e ring lawful banks mounted place used into cut.form others (new_item (unit_of d ring.area) other b ∷ []) (gains-items d e ring.area place other b unit-e gains)
@@ -291,7 +291,7 @@ module _ (d : Device) (ring : Ring) (lawful : IsLawful d.banks d.bytes) (mounted
           let len = (short-body ring.area (length body) short).1 in
           let image = image-long (unit_of e ring.area) e-unit body (omega (arith, limit-most ring.area)) in
           let next = next_fits cut.done (record_cost (unit_of e ring.area) (length body)) (unit_of e ring.area) cut.loss.fewer in
-          let front = length-take-le (cut.done * u) (record_image (unit_of e ring.area) body) (omega arith) in
+          let prefix = length-take-le (cut.done * u) (record_image (unit_of e ring.area) body) (omega arith) in
           let all = length-append (take (cut.done * u) (record_image u body)) (replicate (record_cost u (length body) - cut.done * u) 255) in
           let rest = length-replicate {A = ℕ} (record_cost u (length body) - cut.done * u) 255 in
           let pad = padding (unit_of e ring.area) e-unit in
@@ -308,7 +308,7 @@ module _ (d : Device) (ring : Ring) (lawful : IsLawful d.banks d.bytes) (mounted
           ∙ ap (λ (u : ℕ). items_on d ring.area ++ Torn (record_cost u (length body)) ∷ []) (sym unit-e)))))
       in-record (inr (inr (inl (whole, gains)))) = cut-by false (not-chance (λ is. is.differs whole)) (inr (inr (inr (gained body true gains))))
       in-record (inr (inr (inr (is, gains)))) =
-          cut-by true (tells.1 is)
+          cut-by true (reports.1 is)
           (cut.done * unit_of e ring.area - unit_of e ring.area, not-all is, gained (spelled (unit_of e ring.area) body cut.done) true gains ∙ ap (λ (l : List ℕ). items_on d ring.area ++ Whole l ∷ []) (spells is))
 
       cut-record : Left

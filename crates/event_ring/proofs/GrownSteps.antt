@@ -168,12 +168,12 @@ module _ (d e : Device) (ring : Ring) (lawful : IsLawful d.banks d.bytes) (banks
 
   pub grown-items : (gained : List Item) → sector_items (unit_of d ring.area) (sector_bytes e ring.area place) ≡ items_in d ring.area place ++ gained → items_on e ring.area ≡ items_on d ring.area ++ gained
   grown-items gained here =
-      let front : List Item = flat_map (part (unit_of d ring.area) (sectors_of d ring.area) ring.oldest) (range_with_len 0 into.j) in
+      let prefix : List Item = flat_map (part (unit_of d ring.area) (sectors_of d ring.area) ring.oldest) (range_with_len 0 into.j) in
       let at : turned (length (sectors_of e ring.area)) ring.oldest into.j ≡ place = ap (λ (n : ℕ). turned n ring.oldest into.j) (count-sectors e ring.area) ∙ sym into.at in
       items-last d e ring lawful banks mounted used form into.j into.fewer there into.last into.room
       ∙ ap (λ (p : ℕ). flat_map (part (unit_of d ring.area) (sectors_of d ring.area) ring.oldest) (range_with_len 0 into.j) ++ sector_items (unit_of d ring.area) (sector_bytes e ring.area p)) at
       ∙ ap (λ (l : List Item). flat_map (part (unit_of d ring.area) (sectors_of d ring.area) ring.oldest) (range_with_len 0 into.j) ++ l) here
-      ∙ sym (append_assoc front (items_in d ring.area place) gained)
+      ∙ sym (append_assoc prefix (items_in d ring.area place) gained)
       ∙ ap (λ (l : List Item). l ++ gained) (sym into.all)
 
   pub grown-filled : IsFilled d ring.area → IsFilled e ring.area

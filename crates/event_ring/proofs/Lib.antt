@@ -4,7 +4,7 @@ mod KeptLemmas
 mod MountSteps
 mod PutSteps
 mod GrownSteps
-mod FrontLemmas
+mod PrefixLemmas
 mod EndLemmas
 mod DropSteps
 mod CountSteps

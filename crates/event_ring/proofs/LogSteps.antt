@@ -28,7 +28,7 @@ use Rattle.event_ring.specs.declared.appending.LogFault.{LogFault}
 use Rattle.event_ring.specs.Dropping.{Dropped, StopsDropping, IsPut, StopsPutting, PutEnds}
 use Rattle.event_ring.specs.Items.{Item, Whole, Torn, items_on, items_in, item_cost, items_cost, log_of, cost_in}
 use Rattle.event_ring.specs.Standing.{IsOpen}
-use Rattle.event_ring.proofs.DropSteps.{left-used, rest, front-rest, part-next}
+use Rattle.event_ring.proofs.DropSteps.{left-used, rest, prefix-rest, part-next}
 use Rattle.event_ring.proofs.EndLemmas.{cost-fits}
 use Rattle.event_ring.proofs.FullLemmas.{all-filled}
 use Rattle.event_ring.proofs.ItemLemmas.{log-append, cost-append, sector-cost, sector-log}
@@ -150,7 +150,7 @@ module _ (d : Device) (before : Ring) (body : List ℕ) (lawful : IsLawful d.ban
       let some = (left-used d before mounted left).0 in
       record {
         rest = rest d before lawful mounted some;
-        kept = keeps-rest (rest d before lawful mounted some) (front-rest d before lawful mounted some);
+        kept = keeps-rest (rest d before lawful mounted some) (prefix-rest d before lawful mounted some);
         cut = λ on.
             let lost = stops.lost on in
             record {
@@ -253,9 +253,9 @@ module _ (d : Device) (before : Ring) (body : List ℕ) (lawful : IsLawful d.ban
 
 -- ---- the log that is left
 
-pub items-tell : (chance : Bool) (unit : ℕ) (before kept : List Item) (body : List ℕ) (after : List Item) → LeavesItems chance unit before kept body after → LeavesLog chance (log_of before) (log_of kept) body (log_of after)
-items-tell true unit before kept body after (n, fewer, is) = (n, fewer, ap log_of is ∙ log-append kept (Whole (torn_body body n) ∷ []))
-items-tell false unit before kept body after (inl same) = inl (ap log_of same)
-items-tell false unit before kept body after (inr (inl same)) = inr (inl (ap log_of same))
-items-tell false unit before kept body after (inr (inr (inl torn))) = inr (inl (ap log_of torn ∙ log-append kept (Torn (record_cost unit (length body)) ∷ []) ∙ append-nil (log_of kept)))
-items-tell false unit before kept body after (inr (inr (inr whole))) = inr (inr (items-log after kept body whole))
+pub items-report : (chance : Bool) (unit : ℕ) (before kept : List Item) (body : List ℕ) (after : List Item) → LeavesItems chance unit before kept body after → LeavesLog chance (log_of before) (log_of kept) body (log_of after)
+items-report true unit before kept body after (n, fewer, is) = (n, fewer, ap log_of is ∙ log-append kept (Whole (torn_body body n) ∷ []))
+items-report false unit before kept body after (inl same) = inl (ap log_of same)
+items-report false unit before kept body after (inr (inl same)) = inr (inl (ap log_of same))
+items-report false unit before kept body after (inr (inr (inl torn))) = inr (inl (ap log_of torn ∙ log-append kept (Torn (record_cost unit (length body)) ∷ []) ∙ append-nil (log_of kept)))
+items-report false unit before kept body after (inr (inr (inr whole))) = inr (inr (items-log after kept body whole))

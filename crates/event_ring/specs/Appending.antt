@@ -69,12 +69,12 @@ pub record Adds (old new : Device) (before after : Ring) (body : List ℕ) (drop
   pub filled : IsFilled old before.area → IsFilled new before.area
   pub units : Spends old new (append_units old before body)
 
--- the front of a body, with FF behind it to its length
+-- a prefix of a body, with FF behind it to its length
 abbrev pub torn_body : List ℕ → ℕ → List ℕ
 torn_body body n = take n body ++ replicate (length body - n) 0xFF
 
 -- The items after a loss: as before; or without what was dropped; or then with a torn one of the record's
--- cost, or with the record. Or, by chance, with a record whose body is a front of this one, but not all, and
+-- cost, or with the record. Or, by chance, with a record whose body is a prefix of this one, but not all, and
 -- then FF to its length.
 abbrev pub LeavesItems : Bool → ℕ → List Item → List Item → List ℕ → List Item → Type 0
 LeavesItems true unit before rest body after =
@@ -83,16 +83,16 @@ LeavesItems false unit before rest body after =
     (after ≡ before) ⊎ (after ≡ rest) ⊎ (after ≡ rest ++ Torn (record_cost unit (length body)) ∷ [])
     ⊎ (after ≡ rest ++ Whole body ∷ [])
 
--- The log then: as before; or without what was dropped; or then with the record. Or, by chance, with a front
--- of its body, but not all, and then FF to its length.
+-- The log then: as before; or without what was dropped; or then with the record. Or, by chance, with a
+-- prefix of its body, but not all, and then FF to its length.
 abbrev pub LeavesLog : Bool → List (List ℕ) → List (List ℕ) → List ℕ → List (List ℕ) → Type 0
 LeavesLog true before rest body after =
     (n : ℕ) × (n < length body) × (after ≡ rest ++ torn_body body n ∷ [])
 LeavesLog false before rest body after = (after ≡ before) ⊎ (after ≡ rest) ⊎ (after ≡ rest ++ body ∷ [])
 
--- the items that a loss leaves tell the log
-abbrev pub ItemsTellLog : Type 0
-ItemsTellLog =
+-- the items that a loss leaves give the log
+abbrev pub ItemsGiveLog : Type 0
+ItemsGiveLog =
     (by_chance : Bool) (unit : ℕ) (before rest : List Item) (body : List ℕ) (after : List Item)
     → LeavesItems by_chance unit before rest body after
     → LeavesLog by_chance (log_of before) (log_of rest) body (log_of after)

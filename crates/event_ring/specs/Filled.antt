@@ -19,8 +19,8 @@ BlankIsFilled =
     (d : Device) (area : Area) → IsLawful d.banks d.bytes → IsRingArea d.banks area
     → count_by is_written (sectors_of d area) ≡ 0 → IsFilled d area
 
--- In a filled log an append drops a front only where the items cost more than all sectors but one have room
--- for, less the longest record in each.
+-- In a filled log an append drops the oldest records only where the items cost more than all
+-- sectors but one have room for, less the longest record in each.
 abbrev pub DropsWhereFull : Type 0
 DropsWhereFull =
     (d : Device) (ring : Ring) (body : List ℕ) → IsLawful d.banks d.bytes → IsOpen d ring

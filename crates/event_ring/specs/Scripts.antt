@@ -34,8 +34,9 @@ pub data IsReached : Area → Device → Type 0 where
       (area : Area) (old new : Device) → IsReached area old → new.banks ≡ old.banks
       → sectors_of new area ≡ sectors_of old area → IsReached area new
 
--- After any script from a blank area, whatever was lost, an append drops a front only where the items cost
--- more than all sectors but one have room for, less the longest record in each.
+-- After any script from a blank area, whatever was lost, an append drops the oldest records only
+-- where the items cost more than all sectors but one have room for, less the longest record in
+-- each.
 abbrev pub DropsOnlyWhereFull : Type 0
 DropsOnlyWhereFull =
     (d : Device) (ring : Ring) (body : List ℕ) → IsReached ring.area d → IsLawful d.banks d.bytes

@@ -85,7 +85,7 @@ impl EventLog {
     /// `TooLong` exactly where the body is empty or longer than a value of the area may be; nothing changes then. After
     /// `PowerLost` the log is down: its items are as before, or without what was dropped, or then with a torn one of the
     /// record's cost, or with the record, or, where the record's first units with FF behind them check by chance, with a
-    /// record whose body is a front of the body, but not all of it, and then FF to its length. After every answer, where no
+    /// record whose body is a prefix of the body, but not all of it, and then FF to its length. After every answer, where no
     /// sector but the newest had room for the longest record, none has.
     pub fn append<F: Flash, L: Ledger>(
         &mut self,

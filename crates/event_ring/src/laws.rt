@@ -1,5 +1,5 @@
 // Laws of the definitions. Each function does nothing; its contract is the law.
-ghost use Rattle.event_ring.specs.Appending.{ItemsTellLog};
+ghost use Rattle.event_ring.specs.Appending.{ItemsGiveLog};
 ghost use Rattle.event_ring.specs.Filled.{BlankIsFilled, DropsWhereFull, LogIsOfRecords};
 ghost use Rattle.event_ring.specs.Scripts.{DropsOnlyWhereFull};
 
@@ -13,9 +13,9 @@ pub fn blank_is_filled()
     ensures { BlankIsFilled }
 {}
 
-/// Where no sector that counts, but the newest, has room for the longest record, an append drops a
-/// front only where the items cost more than all sectors but one have room for, less the longest
-/// record in each.
+/// Where no sector that counts, but the newest, has room for the longest record, an append drops
+/// the oldest records only where the items cost more than all sectors but one have room for, less
+/// the longest record in each.
 pub fn drops_where_full()
     ensures { DropsWhereFull }
 {}
@@ -25,7 +25,7 @@ pub fn drops_only_where_full()
     ensures { DropsOnlyWhereFull }
 {}
 
-/// What a loss leaves of the items tells what it leaves of the log.
-pub fn items_tell_log()
-    ensures { ItemsTellLog }
+/// What a loss leaves of the items says what it leaves of the log.
+pub fn items_give_log()
+    ensures { ItemsGiveLog }
 {}

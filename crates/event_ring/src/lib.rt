@@ -9,5 +9,5 @@ mod laws;
 pub use appending::LogFault;
 pub use event_log::EventLog;
 pub use laws::{
-    blank_is_filled, drops_only_where_full, drops_where_full, items_tell_log, log_is_of_records,
+    blank_is_filled, drops_only_where_full, drops_where_full, items_give_log, log_is_of_records,
 };

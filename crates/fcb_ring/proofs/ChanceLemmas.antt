@@ -1,4 +1,4 @@
--- What `chance` tells of a loss.
+-- What `chance` says of a loss.
 use Rattle.std.proofs.Common.{◌≡◌, ℕ, ◌+◌, ◌-◌, ◌*◌, ◌%◌, ◌<◌, ◌≤◌, Bool, true, false, not, ◌&&◌, eqb, ltb, leb, List, [], ◌++◌, length, get_or, take, replicate, Some, refl, sym, ap, subst, ◌∙◌, arith}
 use Rattle.std.specs.Str.{bytes_eq}
 use Rattle.std.proofs.Math.Nat.{mul-le-mul_right}
@@ -14,7 +14,7 @@ use Rattle.flash_map.specs.Area.{unit_of, sector_size, sectors_of, place_of, geo
 use Rattle.flash_map.specs.Units.{padded}
 use Rattle.flash_map.proofs.PieceLemmas.{next_fits}
 use Rattle.flash_map.proofs.Rounding.{padding}
-use Rattle.fcb_ring.specs.Chance.{bytes_put, is_behind_header, is_part, is_record, chance, chance_on, HasNoChance, TellsChance, TellsRecord}
+use Rattle.fcb_ring.specs.Chance.{bytes_put, is_behind_header, is_part, is_record, chance, chance_on, HasNoChance, ReportsChance, ReportsRecord}
 use Rattle.fcb_ring.specs.Changing.{IsRecordLoss, IsHeaderLoss, IsEraseLoss}
 use Rattle.fcb_ring.specs.Entries.{states}
 use Rattle.fcb_ring.specs.Records.{has_record, record_of}
@@ -168,13 +168,13 @@ module _ (d : Device) (area : Area) (lawful : IsLawful d.banks d.bytes) (ring : 
   some-same : (x y : Loss) → Some x ≡ Some y → x ≡ y
   some-same x y is = cc
 
-  pub record-chance : TellsRecord d area
+  pub record-chance : ReportsRecord d area
   record-chance place offset body done at free loss last =
       let same : record { at = place_of d area place offset; want = record { items = record_image (unit_of d area) body }; done = done } ≡ loss = some-same _ loss (sym at.loss ∙ last) in (
         λ (is : chance_on d area loss ≡ true). from-chance place offset body done at (subst (λ (x : Loss). chance_on d area x ≡ true) (sym same) is),
         λ is. subst (λ (x : Loss). chance_on d area x ≡ true) same (to-chance place offset body done at free is),
       )
 
-pub tells-chance : TellsChance
-tells-chance d area lawful ring =
+pub reports-chance : ReportsChance
+reports-chance d area lawful ring =
     (record-chance d area lawful ring, header-chance d area lawful ring, erase-chance d area lawful ring, λ loss full. chance-full area (geometry_of d area) (sectors_of d area) loss full)

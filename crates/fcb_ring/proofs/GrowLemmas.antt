@@ -98,8 +98,8 @@ module _ (unit : ℕ) (old : List (List ℕ)) (oldest used j : ℕ) (t : List �
         )
   ]
 
-  front : flat_map (part unit grown oldest) (range_with_len 0 j) ≡ flat_map (part unit old oldest) (range_with_len 0 j)
-  front = flat_map-agree (part unit grown oldest) (part unit old oldest) (range_with_len 0 j) (All-range (λ k. part unit grown oldest k ≡ part unit old oldest k) 0 j (λ k low high.
+  prefix : flat_map (part unit grown oldest) (range_with_len 0 j) ≡ flat_map (part unit old oldest) (range_with_len 0 j)
+  prefix = flat_map-agree (part unit grown oldest) (part unit old oldest) (range_with_len 0 j) (All-range (λ k. part unit grown oldest k ≡ part unit old oldest k) 0 j (λ k low high.
       ap (λ (n : ℕ). sector_entries unit (turned n oldest k) (sector_at grown (turned n oldest k))) grown-long
       ∙ ap (sector_entries unit (turned (length old) oldest k)) (set-elsewhere old oldest j k t first inside (omega arith) (λ (e : k ≡ j). omega arith))))
 
@@ -112,7 +112,7 @@ module _ (unit : ℕ) (old : List (List ℕ)) (oldest used j : ℕ) (t : List �
       let c : min (j + 1) (length grown - 1) ≡ j + 1 = omega (arith, grown-long) in
       entries-are unit grown oldest (j + 1) grown-form ∙ ap (λ (n : ℕ). flat_map (part unit grown oldest) (range_with_len 0 n)) c
       ∙ ap (flat_map (part unit grown oldest)) (range-append 0 j 1) ∙ flat_map-append (part unit grown oldest) (range_with_len 0 j) (range_with_len (0 + j) 1)
-      ∙ ap (λ xs. xs ++ flat_map (part unit grown oldest) (range_with_len (0 + j) 1)) front
+      ∙ ap (λ xs. xs ++ flat_map (part unit grown oldest) (range_with_len (0 + j) 1)) prefix
       ∙ ap (λ (n : ℕ). flat_map (part unit old oldest) (range_with_len 0 j) ++ (part unit grown oldest n ++ [])) (omega arith)
       ∙ ap (λ xs. flat_map (part unit old oldest) (range_with_len 0 j) ++ xs) (append-nil (part unit grown oldest j) ∙ last)
 
@@ -120,7 +120,7 @@ module _ (unit : ℕ) (old : List (List ℕ)) (oldest used j : ℕ) (t : List �
   pub grown-uncounted : j + 1 ≡ length old → entries unit grown ≡ flat_map (part unit old oldest) (range_with_len 0 j)
   grown-uncounted full =
       let c : min (j + 1) (length grown - 1) ≡ j = omega (arith, grown-long) in
-      entries-are unit grown oldest (j + 1) grown-form ∙ ap (λ (n : ℕ). flat_map (part unit grown oldest) (range_with_len 0 n)) c ∙ front
+      entries-are unit grown oldest (j + 1) grown-form ∙ ap (λ (n : ℕ). flat_map (part unit grown oldest) (range_with_len 0 n)) c ∙ prefix
 
   pub grown-undamaged : AreClean (states unit old) oldest j → first_damage (states unit grown) ≡ None
   grown-undamaged clean = undamaged (states unit grown) oldest (j + 1) grown-form (λ k lt. grown-clean clean k (omega arith))

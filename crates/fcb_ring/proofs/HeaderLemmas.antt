@@ -99,9 +99,9 @@ module _ (unit id size : ℕ) (is_unit : IsUnit unit) (large : 512 ≤ size) whe
   opened-end_state = opened-end
 
 -- a header that is cut leaves the sector free
-torn-front : (unit m : ℕ) → (state_of unit (0xEE ∷ 0xEE ∷ 0xFF ∷ 0xC0 ∷ replicate m 255)).is_free ≡ true
+torn-prefix : (unit m : ℕ) → (state_of unit (0xEE ∷ 0xEE ∷ 0xFF ∷ 0xC0 ∷ replicate m 255)).is_free ≡ true
 unfolding state_of is_torn
-torn-front unit m = or_right (is_erased (0xEE ∷ 0xEE ∷ 0xFF ∷ 0xC0 ∷ replicate m 255)) (is_erased (replicate m 255)) (erased_from m)
+torn-prefix unit m = or_right (is_erased (0xEE ∷ 0xEE ∷ 0xFF ∷ 0xC0 ∷ replicate m 255)) (is_erased (replicate m 255)) (erased_from m)
 
 -- one unit, or none
 cut-units : (unit : ℕ) → IsUnit unit → (done : ℕ) → done < padded unit 8 / unit → (done * unit ≡ 0) ⊎ (done * unit ≡ 4)
@@ -120,7 +120,7 @@ cut_header unit id size done is_unit large lt =
       | inr some ↦
           ap (λ (n : ℕ). (state_of unit (of n)).is_free) some
           ∙ ap (λ (l : List ℕ). (state_of unit (overwritten (replicate size 255) 0 (take 4 l))).is_free) (header-is unit id)
-          ∙ ap (λ (l : List ℕ). (state_of unit (0xEE ∷ 0xEE ∷ 0xFF ∷ 0xC0 ∷ l)).is_free) (drop-replicate 4 size 255) ∙ torn-front unit (size - 4)
+          ∙ ap (λ (l : List ℕ). (state_of unit (0xEE ∷ 0xEE ∷ 0xFF ∷ 0xC0 ∷ l)).is_free) (drop-replicate 4 size 255) ∙ torn-prefix unit (size - 4)
     ]
 
 -- a blank sector has no records

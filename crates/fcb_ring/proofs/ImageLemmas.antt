@@ -143,15 +143,15 @@ module _ (unit : ℕ) (is_unit : IsUnit unit) (body : List ℕ) (short : length 
     unit-part : unit ≤ done * unit
     unit-part = let le : 1 * unit ≤ done * unit = mul-le-mul_right unit some in omega arith
 
-    front-long : length (take (done * unit) (record_image unit body)) ≡ done * unit
-    front-long = length-take-le (done * unit) (record_image unit body) (omega (arith, image-long))
+    prefix-long : length (take (done * unit) (record_image unit body)) ≡ done * unit
+    prefix-long = length-take-le (done * unit) (record_image unit body) (omega (arith, image-long))
 
     pub cut-long : length (cut_record unit body done) ≡ record_cost unit (length body)
     cut-long = length-append (take (done * unit) (record_image unit body)) (replicate (record_cost unit (length body) - done * unit) 255)
-        ∙ ap (λ (n : ℕ). length (take (done * unit) (record_image unit body)) + n) (length-replicate {A = ℕ} (record_cost unit (length body) - done * unit) 255) ∙ omega (arith, front-long)
+        ∙ ap (λ (n : ℕ). length (take (done * unit) (record_image unit body)) + n) (length-replicate {A = ℕ} (record_cost unit (length body) - done * unit) 255) ∙ omega (arith, prefix-long)
 
     cut-get : (i : ℕ) → i < unit → get_or cut i 0 ≡ get_or (record_image unit body) i 0
-    cut-get i lt = get_or_append_left (take (done * unit) (record_image unit body)) (replicate (record_cost unit (length body) - done * unit) 255) 0 i (omega (arith, front-long, unit-part))
+    cut-get i lt = get_or_append_left (take (done * unit) (record_image unit body)) (replicate (record_cost unit (length body) - done * unit) 255) 0 i (omega (arith, prefix-long, unit-part))
         ∙ get_or-take (done * unit) (record_image unit body) i 0 (omega (arith, unit-part))
 
     pub cut-says : body_len (get_or (cut_record unit body done) 0 0) (get_or (cut_record unit body done) 1 0) ≡ length body
@@ -169,8 +169,8 @@ module _ (unit : ℕ) (is_unit : IsUnit unit) (body : List ℕ) (short : length 
         let m : ℕ = length s - (e + record_cost unit (length body)) in
         let erased : (n : ℕ) → n ≤ length s - e → drop (e + n) s ≡ replicate (length s - e - n) 255 = λ n le. sym (drop-drop n e s) ∙ ap (drop n) blank ∙ drop-replicate n (length s - e) 255 in
         let behind : drop (e + length p) s ≡ rest ++ drop (e + length cut) s =
-        erased (length p) (omega (arith, front-long))
-        ∙ ap (λ (n : ℕ). replicate n 255) (omega (arith, front-long, cut-long))
+        erased (length p) (omega (arith, prefix-long))
+        ∙ ap (λ (n : ℕ). replicate n 255) (omega (arith, prefix-long, cut-long))
         ∙ sym (replicate-append-replicate (record_cost unit (length body) - done * unit) (length s - e - length cut) 255)
         ∙ ap (λ (l : List ℕ). rest ++ l) (sym (erased (length cut) (omega (arith, cut-long)))) in
         ap (λ (l : List ℕ). take e s ++ (p ++ l)) behind ∙ ap (λ (l : List ℕ). take e s ++ l) (sym (append_assoc p rest (drop (e + length cut) s)))
@@ -184,7 +184,7 @@ module _ (unit : ℕ) (is_unit : IsUnit unit) (body : List ℕ) (short : length 
     rest-is =
         let r : List ℕ = replicate (record_cost unit (length body) - done * unit) 255 in
         let all : done * unit ≡ unit + (done * unit - unit) = omega (arith, unit-part) in
-        drop-append-le unit (take (done * unit) (record_image unit body)) r (omega (arith, front-long, unit-part))
+        drop-append-le unit (take (done * unit) (record_image unit body)) r (omega (arith, prefix-long, unit-part))
         ∙ ap (λ (n : ℕ). drop unit (take n (record_image unit body)) ++ r) all
         ∙ ap (λ (l : List ℕ). l ++ r) (drop-take unit (done * unit - unit) (record_image unit body))
         ∙ ap (λ (l : List ℕ). take (done * unit - unit) l ++ r) image-rest
@@ -209,8 +209,8 @@ module _ (unit : ℕ) (is_unit : IsUnit unit) (body : List ℕ) (short : length 
         ∙ take-append-le (length body) (filled unit body) tail (omega (arith, body-long))
         ∙ take-filled unit body
 
-    spelled-front : done * unit - unit ≤ length body → spelled unit body done ≡ take (done * unit - unit) body ++ replicate (length body - (done * unit - unit)) 255
-    spelled-front le =
+    spelled-prefix : done * unit - unit ≤ length body → spelled unit body done ≡ take (done * unit - unit) body ++ replicate (length body - (done * unit - unit)) 255
+    spelled-prefix le =
         let pad = (padding unit is_unit).no_less (length body) in
         let m : ℕ = done * unit - unit in
         let a : List ℕ = replicate (length body - m) 255 in
@@ -218,11 +218,11 @@ module _ (unit : ℕ) (is_unit : IsUnit unit) (body : List ℕ) (short : length 
         let r : List ℕ = replicate (record_cost unit (length body) - done * unit) 255 in
         let split : replicate {A = ℕ} (record_cost unit (length body) - done * unit) 255 ≡ replicate (length body - m) 255 ++ replicate b 255 =
         ap (λ (n : ℕ). replicate {A = ℕ} n 255) (omega (arith, unit-part)) ∙ sym (replicate-append-replicate (length body - m) b 255) in
-        let front : take m (filled unit body ++ tail) ≡ take m body =
+        let prefix : take m (filled unit body ++ tail) ≡ take m body =
         take-append-le m (filled unit body) tail (omega (arith, body-long)) ∙ sym (take-take m (length body) (filled unit body) le) ∙ ap (take m) (take-filled unit body) in
         let long : length (take m body ++ a) ≡ length body = length-append (take m body) a ∙ ap (λ (n : ℕ). n + length a) (length-take-le m body le) ∙ ap (λ (n : ℕ). m + n) (length-replicate {A = ℕ} (length body - m) 255) ∙ omega arith in
         spelled-rest
-        ∙ ap (λ (l : List ℕ). take (length body) (l ++ r)) front
+        ∙ ap (λ (l : List ℕ). take (length body) (l ++ r)) prefix
         ∙ ap (λ (l : List ℕ). take (length body) (take m body ++ l)) split
         ∙ ap (take (length body)) (sym (append_assoc (take m body) a (replicate b 255)))
         ∙ take_at (take m body ++ a) (replicate b 255) (length body) long
@@ -235,5 +235,5 @@ module _ (unit : ℕ) (is_unit : IsUnit unit) (body : List ℕ) (short : length 
           spelled-all more
           ∙ sym (append-nil body) ∙ ap (λ (l : List ℕ). l ++ []) (sym (take_all (done * unit - unit) body (omega arith)))
           ∙ ap (λ (n : ℕ). take (done * unit - unit) body ++ replicate n 255) (sym none)
-      | inr le ↦ spelled-front le
+      | inr le ↦ spelled-prefix le
     ]

@@ -92,8 +92,8 @@ header_used s h = or_from (is_erased s) (starts_with nat_eq s magic && is_erased
         clash e = cc
 
 -- only the first six bytes say whether a header stands there
-front_same : (xs ys : List ℕ) → take 6 xs ≡ take 6 ys → starts_with nat_eq xs lead ≡ starts_with nat_eq ys lead
-front_same xs ys same = taken xs ∙ ap (λ (l : List ℕ). starts_with nat_eq l lead) same ∙ sym (taken ys)
+prefix_same : (xs ys : List ℕ) → take 6 xs ≡ take 6 ys → starts_with nat_eq xs lead ≡ starts_with nat_eq ys lead
+prefix_same xs ys same = taken xs ∙ ap (λ (l : List ℕ). starts_with nat_eq l lead) same ∙ sym (taken ys)
   where
     taken : (zs : List ℕ) → starts_with nat_eq zs lead ≡ starts_with nat_eq (take 6 zs) lead
     taken zs = sym (again zs)
@@ -240,7 +240,7 @@ module _ (unit : ℕ) (s y : List ℕ) (len : ℕ) (h : CanLay unit s y len) whe
 
   -- the state of the sector then
   lead-same : starts_with nat_eq new lead ≡ starts_with nat_eq s lead
-  lead-same = front_same new s (take-put s e y 6 (omega (arith, h.fits)) (omega (arith, positive.1)))
+  lead-same = prefix_same new s (take-put s e y 6 (omega (arith, h.fits)) (omega (arith, positive.1)))
 
   pub laid-header : (state_of unit (overwritten s (records_end unit s) y)).has_header ≡ (state_of unit s).has_header
   unfolding state_of

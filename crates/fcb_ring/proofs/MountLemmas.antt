@@ -6,7 +6,7 @@ use Rattle.std.proofs.lemmas.List.Sums.{count_by_more_yes}
 use Rattle.std.proofs.lemmas.List.{set-get_or, take_all, drop_all, append-nil}
 use Rattle.fcb_ring.specs.SectorStates.{is_torn, mended, mended_up_to}
 use Rattle.flash_map.specs.Area.{sector_at}
-use Rattle.flash_map.proofs.FormatLemmas.{count-front}
+use Rattle.flash_map.proofs.FormatLemmas.{count-prefix}
 use Rattle.fcb_ring.proofs.StandLemmas.{mended-yes, mended-not, mended-behind, mended-more}
 
 -- one sector more
@@ -33,7 +33,7 @@ pub none-due : (p : List ℕ → Bool) (sectors : List (List ℕ)) (j : ℕ) →
 none-due p sectors j lt none = elim (cases_Bool (p (sector_at sectors j))) [
   | inl due ↦
       let more = count_by_more_yes p sectors j [] lt due in
-      let front = count-front p (j + 1) sectors in
+      let prefix = count-prefix p (j + 1) sectors in
       absurd (omega arith)
   | inr not_due ↦ not_due
 ]

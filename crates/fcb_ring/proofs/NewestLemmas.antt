@@ -171,8 +171,8 @@ module _ (unit size : ℕ) (old : List (List ℕ)) (has : HasSize unit size old)
           ap (sector_entries unit (turned (length old) ring.oldest (ring.used - 1))) (get_or-set_same old (turned (length old) ring.oldest (ring.used - 1)) t [] newest-in)
           ∙ laid-entries unit s y len lay (turned (length old) ring.oldest (ring.used - 1))
 
-      front : List (RecordAt × List ℕ)
-      front = flat_map (part unit old ring.oldest) (range_with_len 0 (ring.used - 1))
+      prefix : List (RecordAt × List ℕ)
+      prefix = flat_map (part unit old ring.oldest) (range_with_len 0 (ring.used - 1))
 
       -- and of the area, where the sector counts
       pub put-list : ring.used < length old → entries unit laid_area ≡ entries unit old ++ cond (checks_at y 0 unit len (unit + padded unit len)) (laid_entry unit s y len lay (turned (length old) ring.oldest (ring.used - 1)) ∷ []) []

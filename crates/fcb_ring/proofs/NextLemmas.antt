@@ -9,7 +9,7 @@ use Rattle.std.proofs.lemmas.Option.{none-some, slice_get-map, slice_get-get_or,
 use Rattle.flash_map.specs.Units.{IsUnit, padded}
 use Rattle.fcb_ring.specs.declared.record.Record.{Record}
 use Rattle.fcb_ring.specs.declared.record.RecordAt.{RecordAt}
-use Rattle.fcb_ring.specs.Records.{record_at, records, walk, passes, with_front}
+use Rattle.fcb_ring.specs.Records.{record_at, records, walk, passes, with_prefix}
 use Rattle.fcb_ring.specs.Rings.{turned, IsRing}
 use Rattle.fcb_ring.specs.Entries.{states, placed, entry_of, sector_entries, entries, records_from, following}
 use Rattle.flash_map.specs.Area.{sector_at}
@@ -36,10 +36,10 @@ flat_map-ext : {X Y : Type 0} (f g : X → List Y) (xs : List X) → ((x : X) �
 flat_map-ext f g [] same = refl
 flat_map-ext f g (x ∷ xs) same = ap (λ ys. ys ++ flat_map f xs) (same x) ∙ ap (λ ys. g x ++ ys) (flat_map-ext f g xs same)
 
-get-front : {X : Type 0} (xs ys : List X) (i : ℕ) → i < length xs → slice_get (xs ++ ys) i ≡ slice_get xs i
-get-front [] ys i lt = absurd (omega arith)
-get-front (x ∷ xs) ys zero lt = refl
-get-front (x ∷ xs) ys (suc i) lt = get-front xs ys i (omega arith)
+get-prefix : {X : Type 0} (xs ys : List X) (i : ℕ) → i < length xs → slice_get (xs ++ ys) i ≡ slice_get xs i
+get-prefix [] ys i lt = absurd (omega arith)
+get-prefix (x ∷ xs) ys zero lt = refl
+get-prefix (x ∷ xs) ys (suc i) lt = get-prefix xs ys i (omega arith)
 
 get-behind : {X : Type 0} (xs ys : List X) (i : ℕ) → length xs ≤ i → slice_get (xs ++ ys) i ≡ slice_get ys (i - length xs)
 get-behind [] ys i le = let e : i ≡ i - 0 = omega arith in ap (slice_get ys) e
@@ -52,10 +52,10 @@ drop-behind (x ∷ xs) ys zero le = absurd (omega arith)
 drop-behind (x ∷ xs) ys (suc i) le = let e : i - length xs ≡ suc i - suc (length xs) = omega arith in drop-behind xs ys i (omega arith) ∙ ap (λ (n : ℕ). drop n ys) e
 
 -- the first that passes and begins so
-pub first-with : (sector front : List ℕ) (place : ℕ) (test : RecordAt → Bool) → ((r : Record) → test (placed place r) ≡ starts_with eqb (slice_range sector r.body (r.body + r.len)) front) → (rs : List Record)
-    → find test (map (placed place) (filter (λ r. r.checks) rs)) ≡ option_map (placed place) (option_map (with_front sector front) (find (passes sector front) rs))
-first-with sector front place test is [] = refl
-first-with sector front place test is (r ∷ rs) = by (first-with sector front place test is rs) r.checks (starts_with eqb (slice_range sector r.body (r.body + r.len)) front) refl refl
+pub first-with : (sector prefix : List ℕ) (place : ℕ) (test : RecordAt → Bool) → ((r : Record) → test (placed place r) ≡ starts_with eqb (slice_range sector r.body (r.body + r.len)) prefix) → (rs : List Record)
+    → find test (map (placed place) (filter (λ r. r.checks) rs)) ≡ option_map (placed place) (option_map (with_prefix sector prefix) (find (passes sector prefix) rs))
+first-with sector prefix place test is [] = refl
+first-with sector prefix place test is (r ∷ rs) = by (first-with sector prefix place test is rs) r.checks (starts_with eqb (slice_range sector r.body (r.body + r.len)) prefix) refl refl
   where
     left : Bool → Option RecordAt
     left b = find test (map (placed place) (cond b (r ∷ filter (λ q. q.checks) rs) (filter (λ q. q.checks) rs)))
@@ -64,18 +64,18 @@ first-with sector front place test is (r ∷ rs) = by (first-with sector front p
     head b = cond b (Some (placed place r)) (find test (map (placed place) (filter (λ q. q.checks) rs)))
 
     right : Bool → Option RecordAt
-    right b = option_map (placed place) (option_map (with_front sector front) (cond b (Some r) (find (passes sector front) rs)))
+    right b = option_map (placed place) (option_map (with_prefix sector prefix) (cond b (Some r) (find (passes sector prefix) rs)))
 
-    by : find test (map (placed place) (filter (λ q. q.checks) rs)) ≡ option_map (placed place) (option_map (with_front sector front) (find (passes sector front) rs)) → (checks begins : Bool) → r.checks ≡ checks → starts_with eqb (slice_range sector r.body (r.body + r.len)) front ≡ begins
-        → find test (map (placed place) (filter (λ q. q.checks) (r ∷ rs))) ≡ option_map (placed place) (option_map (with_front sector front) (find (passes sector front) (r ∷ rs)))
-    by rest false begins c b = ap left c ∙ rest ∙ sym (ap right (and_right (starts_with eqb (slice_range sector r.body (r.body + r.len)) front) r.checks c))
-    by rest true false c b = ap left c ∙ ap head (is r ∙ b) ∙ rest ∙ sym (ap right (and_left (starts_with eqb (slice_range sector r.body (r.body + r.len)) front) r.checks b))
-    by rest true true c b = ap left c ∙ ap head (is r ∙ b) ∙ sym (ap right (and_from (starts_with eqb (slice_range sector r.body (r.body + r.len)) front) r.checks b c))
+    by : find test (map (placed place) (filter (λ q. q.checks) rs)) ≡ option_map (placed place) (option_map (with_prefix sector prefix) (find (passes sector prefix) rs)) → (checks begins : Bool) → r.checks ≡ checks → starts_with eqb (slice_range sector r.body (r.body + r.len)) prefix ≡ begins
+        → find test (map (placed place) (filter (λ q. q.checks) (r ∷ rs))) ≡ option_map (placed place) (option_map (with_prefix sector prefix) (find (passes sector prefix) (r ∷ rs)))
+    by rest false begins c b = ap left c ∙ rest ∙ sym (ap right (and_right (starts_with eqb (slice_range sector r.body (r.body + r.len)) prefix) r.checks c))
+    by rest true false c b = ap left c ∙ ap head (is r ∙ b) ∙ rest ∙ sym (ap right (and_left (starts_with eqb (slice_range sector r.body (r.body + r.len)) prefix) r.checks b))
+    by rest true true c b = ap left c ∙ ap head (is r ∙ b) ∙ sym (ap right (and_from (starts_with eqb (slice_range sector r.body (r.body + r.len)) prefix) r.checks b c))
 
 -- what a search over two parts finds
-pub find-front : {X : Type 0} (test : X → Bool) (xs ys : List X) (x : X) → find test xs ≡ Some x → find test (xs ++ ys) ≡ Some x
-find-front test [] ys x e = absurd (none-some x e)
-find-front test (y ∷ xs) ys x e = by (λ later. find-front test xs ys x later) (test y) refl
+pub find-prefix : {X : Type 0} (test : X → Bool) (xs ys : List X) (x : X) → find test xs ≡ Some x → find test (xs ++ ys) ≡ Some x
+find-prefix test [] ys x e = absurd (none-some x e)
+find-prefix test (y ∷ xs) ys x e = by (λ later. find-prefix test xs ys x later) (test y) refl
   where
     by : (find test xs ≡ Some x → find test (xs ++ ys) ≡ Some x) → (b : Bool) → test y ≡ b → find test (y ∷ (xs ++ ys)) ≡ Some x
     by rest true is = ap (λ (t : Bool). cond t (Some y) (find test (xs ++ ys))) is ∙ sym (ap (λ (t : Bool). cond t (Some y) (find test xs)) is) ∙ e
@@ -241,7 +241,7 @@ module _ (unit size : ℕ) (sectors : List (List ℕ)) (has : HasSize unit size 
       let long : length (at k) ≡ size = has.each (turned (length sectors) oldest k) (inside k (omega arith)) in
       elim (cases_lt i (length (all_of k))) [
         | inl lt ↦
-            let there : slice_get (all_of k) i ≡ Some r = sym (get-front (all_of k) rest i lt) ∙ is in
+            let there : slice_get (all_of k) i ≡ Some r = sym (get-prefix (all_of k) rest i lt) ∙ is in
             let h = in_sector unit has.is_unit (turned (length sectors) oldest k) (at k) (length (at k)) (padded unit 8) i r (omega arith) (header_fits unit has.is_unit).0 there in
             let n : k + suc m - (k + 1) ≡ m = omega arith in
             record {
@@ -329,7 +329,7 @@ contained_at list r there = (there.0, slice_get-get_or list there.0 r there.1 �
 from_part : {X : Type 0} (P : X → Type 0) (f : ℕ → List X) (xs : List ℕ) (i : ℕ) (e : X) → ((k j : ℕ) (x : X) → slice_get (f k) j ≡ Some x → P x) → slice_get (flat_map f xs) i ≡ Some e → P e
 from_part P f [] i e each is = absurd (none-some e is)
 from_part P f (k ∷ ks) i e each is = elim (cases_lt i (length (f k))) [
-  | inl lt ↦ each k i e (sym (get-front (f k) (flat_map f ks) i lt) ∙ is)
+  | inl lt ↦ each k i e (sym (get-prefix (f k) (flat_map f ks) i lt) ∙ is)
   | inr ge ↦ from_part P f ks (i - length (f k)) e each (sym (get-behind (f k) (flat_map f ks) i ge) ∙ is)
 ]
 

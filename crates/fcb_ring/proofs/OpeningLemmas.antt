@@ -29,9 +29,9 @@ use Rattle.fcb_ring.proofs.HeaderLemmas.{opened, opened-is, opened-entries, open
 use Rattle.fcb_ring.proofs.OpenLemmas.{open-place, next-blank, open-cut, open-cut-form, open-has, open-stands}
 
 -- the header at a smaller unit is the front of that at the greatest
-pub header-front : (unit id : ℕ) → IsUnit unit → take (padded unit 8) (header_image 16 id) ≡ header_image unit id
+pub header-prefix : (unit id : ℕ) → IsUnit unit → take (padded unit 8) (header_image 16 id) ≡ header_image unit id
 unfolding header_image filled padded
-header-front unit id is_unit = by_unit (λ u. take (padded u 8) (header_image 16 id) ≡ header_image u id) refl refl refl unit is_unit
+header-prefix unit id is_unit = by_unit (λ u. take (padded u 8) (header_image 16 id) ≡ header_image u id) refl refl refl unit is_unit
 
 pub header-16 : (id : ℕ) → length (header_image 16 id) ≡ 16
 unfolding header_image filled padded

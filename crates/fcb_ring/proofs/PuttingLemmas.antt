@@ -261,8 +261,8 @@ module _ (d : Device) (ring : Ring) (lawful : IsLawful d.banks d.bytes) (on : St
       nothing-put : done ≡ 0 → sectors_of new ring.area ≡ sectors_of d ring.area
       nothing-put none =
           let zero_is : done * unit ≡ 0 = let e : 0 * unit ≡ 0 = omega arith in ap (λ (n : ℕ). n * unit) none ∙ e in
-          let front : take (done * unit) (record_image unit body) ≡ [] = ap (λ (n : ℕ). take n (record_image unit body)) zero_is in
-          at-end at (take (done * unit) (record_image unit body)) [] at-is written (ap (overwritten s (records_end unit s)) front)
+          let prefix : take (done * unit) (record_image unit body) ≡ [] = ap (λ (n : ℕ). take n (record_image unit body)) zero_is in
+          at-end at (take (done * unit) (record_image unit body)) [] at-is written (ap (overwritten s (records_end unit s)) prefix)
           ∙ ap (set old place) (overwritten_nil s (records_end unit s)) ∙ set-get_or old place []
 
       module _ (any : 0 < done) where
@@ -415,7 +415,7 @@ module _ (d : Device) (ring : Ring) (lawful : IsLawful d.banks d.bytes) (on : St
         let fewer : done < record_cost (unit_of d ring.area) (length body) / unit_of d ring.area = subst (λ (k : ℕ). done < k / unit_of d ring.area) n below in
         let next = next_fits done (record_cost unit (length body)) unit fewer in
         let inside = newest-in unit size old has ring on.sectors writes some in
-        let front : length (take (done * unit) bytes) ≡ done * unit = length-take-le (done * unit) bytes (omega arith) in
+        let prefix : length (take (done * unit) bytes) ≡ done * unit = length-take-le (done * unit) bytes (omega arith) in
         let written : Writes d new ring.area at ring.end (take (done * unit) bytes) =
         subst (λ (x : Device). Writes d x ring.area at ring.end (take (done * unit) bytes)) (sym cuts.is)
         (writes_put d ring.area lawful on.area.lawful.in_bank at (omega (arith, inside, count, at-is, place-newest)) ring.end (take (done * unit) bytes) done (omega arith)) in

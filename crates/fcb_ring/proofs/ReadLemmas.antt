@@ -13,7 +13,7 @@ use Rattle.flash_map.specs.Area.{sector_at}
 use Rattle.fcb_ring.specs.Standing.{Stands, FitsStage, uncounted, record_places, IsNextWith, first_with}
 use Rattle.fcb_ring.proofs.RingLemmas.{turned-within, distance-turned, undamaged}
 use Rattle.fcb_ring.proofs.AreaLemmas.{HasSize, length-states}
-use Rattle.fcb_ring.proofs.NextLemmas.{IsAcross, after_of, following-all, following-is, following-end, following-rest, behind, behind-is, contained_at, entry_at, body_is, find-front, find-behind, found-at, with-bodies, listed_from}
+use Rattle.fcb_ring.proofs.NextLemmas.{IsAcross, after_of, following-all, following-is, following-end, following-rest, behind, behind-is, contained_at, entry_at, body_is, find-prefix, find-behind, found-at, with-bodies, listed_from}
 use Rattle.flash_map.proofs.Rounding.{padding}
 
 module _ (unit size : ℕ) (sectors : List (List ℕ)) (has : HasSize unit size sectors) (ring : Ring) (stands : Stands unit sectors ring) (n : ℕ) (count-is : n ≡ length sectors) where
@@ -50,19 +50,19 @@ module _ (unit size : ℕ) (sectors : List (List ℕ)) (has : HasSize unit size 
 
   -- the test on the body of a record
   abbrev pub test_of : List ℕ → RecordAt → Bool
-  test_of front r = starts_with eqb (slice_range (sector_at sectors r.sector) r.body (r.body + r.len)) front
+  test_of prefix r = starts_with eqb (slice_range (sector_at sectors r.sector) r.body (r.body + r.len)) prefix
 
-  as-entries : (front : List ℕ) (i : ℕ) → find (test_of front) (drop i (record_places (entries unit sectors))) ≡ first_with front (drop i (entries unit sectors))
-  as-entries front i =
-      with-bodies (λ (body : List ℕ). starts_with eqb body front) (λ (r : RecordAt). slice_range (sector_at sectors r.sector) r.body (r.body + r.len)) (entries unit sectors)
+  as-entries : (prefix : List ℕ) (i : ℕ) → find (test_of prefix) (drop i (record_places (entries unit sectors))) ≡ first_with prefix (drop i (entries unit sectors))
+  as-entries prefix i =
+      with-bodies (λ (body : List ℕ). starts_with eqb body prefix) (λ (r : RecordAt). slice_range (sector_at sectors r.sector) r.body (r.body + r.len)) (entries unit sectors)
       (λ k entry e. body_is unit sectors ring.oldest all stands.form k entry e) i
 
-  pub first-is : (front : List ℕ) (result : Option RecordAt) → result ≡ find (test_of front) (following unit sectors ring.oldest (min ring.used (n - 1)) 0 (padded unit 8)) → IsNextWith (entries unit sectors) front None result
-  first-is front result is = is ∙ ap (find (test_of front)) (sym (moved 0 (padded unit 8)) ∙ following-all unit size sectors has ring.oldest all stands.form) ∙ as-entries front 0
+  pub first-is : (prefix : List ℕ) (result : Option RecordAt) → result ≡ find (test_of prefix) (following unit sectors ring.oldest (min ring.used (n - 1)) 0 (padded unit 8)) → IsNextWith (entries unit sectors) prefix None result
+  first-is prefix result is = is ∙ ap (find (test_of prefix)) (sym (moved 0 (padded unit 8)) ∙ following-all unit size sectors has ring.oldest all stands.form) ∙ as-entries prefix 0
 
-  pub found-listed : (front : List ℕ) (i : ℕ) (result : Option RecordAt) → result ≡ first_with front (drop i (entries unit sectors)) → (r : RecordAt) → result ≡ Some r → Contains (record_places (entries unit sectors)) r
-  found-listed front i result is r some =
-      let at = found-at (test_of front) (record_places (entries unit sectors)) i r (as-entries front i ∙ sym is ∙ some) in
+  pub found-listed : (prefix : List ℕ) (i : ℕ) (result : Option RecordAt) → result ≡ first_with prefix (drop i (entries unit sectors)) → (r : RecordAt) → result ≡ Some r → Contains (record_places (entries unit sectors)) r
+  found-listed prefix i result is r some =
+      let at = found-at (test_of prefix) (record_places (entries unit sectors)) i r (as-entries prefix i ∙ sym is ∙ some) in
       listed_from (record_places (entries unit sectors)) at.0 (Some r) (sym at.1) r refl
 
   -- a record of the list, with what follows it
@@ -87,15 +87,15 @@ module _ (unit size : ℕ) (sectors : List (List ℕ)) (has : HasSize unit size 
       let at = contained_at (record_places (entries unit sectors)) r contained in
       across-there at.0 r (behind unit size sectors has ring.oldest all stands.form at.0 r at.1)
 
-  pub later-is : (front : List ℕ) (r : RecordAt) (further : ℕ) (result : Option RecordAt) → further ≡ distance n ring.oldest r.sector
-      → result ≡ find (test_of front) (following unit sectors ring.oldest (min ring.used (n - 1)) further (after_of unit r)) → IsNextWith (entries unit sectors) front (Some r) result
-  later-is front r further result far is i listed =
+  pub later-is : (prefix : List ℕ) (r : RecordAt) (further : ℕ) (result : Option RecordAt) → further ≡ distance n ring.oldest r.sector
+      → result ≡ find (test_of prefix) (following unit sectors ring.oldest (min ring.used (n - 1)) further (after_of unit r)) → IsNextWith (entries unit sectors) prefix (Some r) result
+  later-is prefix r further result far is i listed =
       let h = behind unit size sectors has ring.oldest all stands.form i r listed in
       let j : distance n ring.oldest r.sector ≡ h.j =
       ap (λ (m : ℕ). distance m ring.oldest r.sector) count-is ∙ ap (distance (length sectors) ring.oldest) h.here
       ∙ distance-turned (length sectors) ring.oldest h.j (omega (arith, stands.form.within, length-states unit sectors)) (omega (arith, h.below)) in
-      is ∙ ap (λ (k : ℕ). find (test_of front) (following unit sectors ring.oldest (min ring.used (n - 1)) k (after_of unit r))) (far ∙ j)
-      ∙ ap (find (test_of front)) (sym (moved h.j (after_of unit r)) ∙ sym (behind-is unit size sectors has ring.oldest all stands.form i r h)) ∙ as-entries front (i + 1)
+      is ∙ ap (λ (k : ℕ). find (test_of prefix) (following unit sectors ring.oldest (min ring.used (n - 1)) k (after_of unit r))) (far ∙ j)
+      ∙ ap (find (test_of prefix)) (sym (moved h.j (after_of unit r)) ∙ sym (behind-is unit size sectors has ring.oldest all stands.form i r h)) ∙ as-entries prefix (i + 1)
 
   -- one sector after the other
   abbrev from_there : ℕ → ℕ → List RecordAt
@@ -112,7 +112,7 @@ module _ (unit size : ℕ) (sectors : List (List ℕ)) (has : HasSize unit size 
       → find test (following unit sectors ring.oldest (min ring.used (n - 1)) k from) ≡ Some r
   found-there test k from r lt found =
       ap (find test) (part-of k from lt)
-      ∙ find-front test (records_from unit (turned n ring.oldest k) (sector_at sectors (turned n ring.oldest k)) from) (following unit sectors ring.oldest (min ring.used (n - 1)) (k + 1) (padded unit 8)) r found
+      ∙ find-prefix test (records_from unit (turned n ring.oldest k) (sector_at sectors (turned n ring.oldest k)) from) (following unit sectors ring.oldest (min ring.used (n - 1)) (k + 1) (padded unit 8)) r found
 
   pub none-there : (test : RecordAt → Bool) (k from : ℕ) → k < min ring.used (n - 1) → find test (records_from unit (turned n ring.oldest k) (sector_at sectors (turned n ring.oldest k)) from) ≡ None
       → find test (following unit sectors ring.oldest (min ring.used (n - 1)) k from) ≡ find test (following unit sectors ring.oldest (min ring.used (n - 1)) (k + 1) (padded unit 8))

@@ -12,7 +12,7 @@ use Rattle.flash_map.specs.Units.{IsUnit, padded}
 use Rattle.flash_map.proofs.Rounding.{by_unit, padding}
 use Rattle.fcb_ring.specs.declared.record.Record.{Record}
 use Rattle.std.specs.Option.{option_map}
-use Rattle.fcb_ring.specs.Records.{body_len, field_width, has_record, record_of, record_at, with_front}
+use Rattle.fcb_ring.specs.Records.{body_len, field_width, has_record, record_of, record_at, with_prefix}
 use Rattle.fcb_ring.proofs.Walks.{Advances}
 
 by_bytes-append : (r : ℕ) (xs ys : List ℕ) → by_bytes r (xs ++ ys) ≡ by_bytes (by_bytes r xs) ys
@@ -56,31 +56,31 @@ crc_by_parts sector at width body len first second fits w one two =
     ∙ ap (λ (n : ℕ). crc 255 (slice_range sector at (at + n) ++ slice_range sector body (body + len))) w
 
 -- every body begins with no bytes
-pub with-any : (sector : List ℕ) (o : Option Record) → option_map (with_front sector []) o ≡ o
+pub with-any : (sector : List ℕ) (o : Option Record) → option_map (with_prefix sector []) o ≡ o
 with-any sector None = refl
 with-any sector (Some r) = refl
 
--- the record of which one with a front was made
-pub record IsWith (sector front : List ℕ) (o : Option Record) (q : Record) : Type 0 where
+-- the record of which one with a prefix was made
+pub record IsWith (sector prefix : List ℕ) (o : Option Record) (q : Record) : Type 0 where
   pub r : Record
   pub some : o ≡ Some r
-  pub is : with_front sector front r ≡ q
+  pub is : with_prefix sector prefix r ≡ q
 
-pub read-with : (sector front : List ℕ) (o : Option Record) (q : Record) → option_map (with_front sector front) o ≡ Some q → IsWith sector front o q
-read-with sector front None q e = absurd (clash e)
+pub read-with : (sector prefix : List ℕ) (o : Option Record) (q : Record) → option_map (with_prefix sector prefix) o ≡ Some q → IsWith sector prefix o q
+read-with sector prefix None q e = absurd (clash e)
   where
     clash : None ≡ Some q → ⊥
     clash e = cc
-read-with sector front (Some r) q e = record { r = r; some = refl; is = same e }
+read-with sector prefix (Some r) q e = record { r = r; some = refl; is = same e }
   where
-    same : Some (with_front sector front r) ≡ Some q → with_front sector front r ≡ q
+    same : Some (with_prefix sector prefix r) ≡ Some q → with_prefix sector prefix r ≡ q
     same e = cc
 
-pub none-with : (sector front : List ℕ) (o : Option Record) → option_map (with_front sector front) o ≡ None → o ≡ None
-none-with sector front None e = refl
-none-with sector front (Some r) e = absurd (clash e)
+pub none-with : (sector prefix : List ℕ) (o : Option Record) → option_map (with_prefix sector prefix) o ≡ None → o ≡ None
+none-with sector prefix None e = refl
+none-with sector prefix (Some r) e = absurd (clash e)
   where
-    clash : Some (with_front sector front r) ≡ None → ⊥
+    clash : Some (with_prefix sector prefix r) ≡ None → ⊥
     clash e = cc
 
 -- What a record that is read is.

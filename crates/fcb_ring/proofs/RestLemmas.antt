@@ -17,16 +17,16 @@ use Rattle.fcb_ring.proofs.AreaLemmas.{state-at, length-states}
 use Rattle.fcb_ring.proofs.RingLemmas.{by_distance, full-no, turned-within}
 use Rattle.fcb_ring.proofs.StandLemmas.{torn-free, torn-state}
 
-count-front_none : (p : SectorState → Bool) (xs : List SectorState) → ((j : ℕ) → j < length xs → p (state_at xs j) ≡ false) → (j : ℕ) → j ≤ length xs → count_by p (take j xs) ≡ 0
-count-front_none p xs fails zero le = refl
-count-front_none p xs fails (suc j) le =
-    let before = count-front_none p xs fails j (omega arith) in
+count-prefix_none : (p : SectorState → Bool) (xs : List SectorState) → ((j : ℕ) → j < length xs → p (state_at xs j) ≡ false) → (j : ℕ) → j ≤ length xs → count_by p (take j xs) ≡ 0
+count-prefix_none p xs fails zero le = refl
+count-prefix_none p xs fails (suc j) le =
+    let before = count-prefix_none p xs fails j (omega arith) in
     let more : count_by p (take j xs) ≡ count_by p (take (j + 1) xs) = sym (count_by_more_no p xs j no_state (omega arith) (fails j (omega arith))) in
     let step : suc j ≡ j + 1 = omega arith in
     ap (λ (n : ℕ). count_by p (take n xs)) step ∙ sym more ∙ before
 
 count-none : (p : SectorState → Bool) (xs : List SectorState) → ((j : ℕ) → j < length xs → p (state_at xs j) ≡ false) → count_by p xs ≡ 0
-count-none p xs fails = sym (ap (count_by p) (take_all (length xs) xs (omega arith))) ∙ count-front_none p xs fails (length xs) (omega arith)
+count-none p xs fails = sym (ap (count_by p) (take_all (length xs) xs (omega arith))) ∙ count-prefix_none p xs fails (length xs) (omega arith)
 
 module _ (unit : ℕ) (sectors : List (List ℕ)) (oldest used : ℕ) (form : IsRing (states unit sectors) oldest used) where
   -- a used sector is not torn

@@ -226,7 +226,7 @@ module _ (states : List SectorState) (oldest used : ℕ) (r : IsRing states olde
       let f = turned (length states) oldest in
       let c = min used (length states - 1) in
       let split : length states ≡ c + (length states - c) = omega (arith, r.most) in
-      let front : All (λ p. counts states p ≡ true) (map (turned (length states) oldest) (range_with_len 0 (min used (length states - 1)))) =
+      let prefix : All (λ p. counts states p ≡ true) (map (turned (length states) oldest) (range_with_len 0 (min used (length states - 1)))) =
       All-map (λ p. counts states p ≡ true) f 0 c (λ k low high. counts-yes k (omega arith)) in
       let back : All (λ p. counts states p ≡ false) (map (turned (length states) oldest) (range_with_len (0 + min used (length states - 1)) (length states - min used (length states - 1)))) =
       All-map (λ p. counts states p ≡ false) f (0 + c) (length states - c) (λ k low high. counts-no k (omega arith) (omega arith)) in
@@ -235,7 +235,7 @@ module _ (states : List SectorState) (oldest used : ℕ) (r : IsRing states olde
       ∙ ap (λ (ps : List ℕ). filter (counts states) (map f ps)) (range-append 0 c (length states - c))
       ∙ ap (filter (counts states)) (map-append f (range_with_len 0 c) (range_with_len (0 + c) (length states - c)))
       ∙ filter-append (counts states) (map f (range_with_len 0 c)) (map f (range_with_len (0 + c) (length states - c)))
-      ∙ ap (λ (ps : List ℕ). ps ++ filter (counts states) (map f (range_with_len (0 + c) (length states - c)))) (filter_all (counts states) (map f (range_with_len 0 c)) front)
+      ∙ ap (λ (ps : List ℕ). ps ++ filter (counts states) (map f (range_with_len (0 + c) (length states - c)))) (filter_all (counts states) (map f (range_with_len 0 c)) prefix)
       ∙ ap (λ (ps : List ℕ). map f (range_with_len 0 c) ++ ps) (filter_none (counts states) (map f (range_with_len (0 + c) (length states - c))) back)
       ∙ append-nil (map f (range_with_len 0 c))
 

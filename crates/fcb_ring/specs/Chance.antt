@@ -55,17 +55,17 @@ HasNoChance d area = (loss : Loss) × (d.last_loss ≡ Some loss) × (chance_on 
 
 -- where power was lost in a record, and a sector is free, the record that was cut checks and is another one,
 -- or not
-abbrev pub TellsRecord : Device → Area → Type 0
-TellsRecord d area =
+abbrev pub ReportsRecord : Device → Area → Type 0
+ReportsRecord d area =
     (place offset : ℕ) (body : List ℕ) (done : ℕ) → IsRecordLoss d area place offset body done
     → is_full (states_on d area) ≡ false
     → (loss : Loss) → d.last_loss ≡ Some loss
     → (chance_on d area loss ≡ true) ↔ IsChance (unit_of d area) body done
 
--- what `chance` tells of each kind of loss
-abbrev pub TellsChance : Type 0
-TellsChance =
+-- what `chance` says of each kind of loss
+abbrev pub ReportsChance : Type 0
+ReportsChance =
     (d : Device) (area : Area) → IsLawful d.banks d.bytes → IsRingArea d.banks area
-    → TellsRecord d area × ((place : ℕ) → IsHeaderLoss d area place → HasNoChance d area)
+    → ReportsRecord d area × ((place : ℕ) → IsHeaderLoss d area place → HasNoChance d area)
     × ((place : ℕ) → IsEraseLoss d area place → HasNoChance d area)
     × ((loss : Loss) → is_full (states_on d area) ≡ true → chance_on d area loss ≡ false)

@@ -310,8 +310,8 @@ pub record StopsBeginning (old new : Device) (before after : Ring) : Type 0 wher
   pub lost : LosesHeader old new before
   pub bound : SpendsAtMost old new (header_units old before.area)
 
--- The oldest sector is erased, and the next is the oldest: its records are gone from the list's front, and
--- the copies stand at its end.
+-- The oldest sector is erased, and the next is the oldest: its records are gone from the head of
+-- the list, and the copies stand at its end.
 pub record EndsCollection (old new : Device) (before after : Ring) : Type 0 where
   pub rest : List (RecordAt × List ℕ)
   pub old_list : entries_on old before.area ≡ sector_list old before.area before.oldest ++ rest
@@ -326,7 +326,7 @@ body_at d area r = slice_range (sector_bytes d area r.sector) r.body (r.body + r
 
 -- it begins with these bytes
 abbrev pub begins_with : Device → Area → List ℕ → RecordAt → Bool
-begins_with d area front r = starts_with nat_eq (body_at d area r) front
+begins_with d area prefix r = starts_with nat_eq (body_at d area r) prefix
 
 -- a record with the body of this one stands behind the copies in the newest sector
 abbrev pub CopiesRecord : Device → Device → Ring → RecordAt → Type 0

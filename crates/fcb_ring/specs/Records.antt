@@ -50,11 +50,11 @@ record_at unit sector at =
 
 -- its body begins with these bytes, and it checks
 abbrev pub passes : List ℕ → List ℕ → Record → Bool
-passes sector front r = starts_with nat_eq (slice_range sector r.body (r.body + r.len)) front && r.checks
+passes sector prefix r = starts_with nat_eq (slice_range sector r.body (r.body + r.len)) prefix && r.checks
 
 -- the record, taken not to check where its body begins otherwise
-abbrev pub with_front : List ℕ → List ℕ → Record → Record
-with_front sector front r = record r { checks = passes sector front r }
+abbrev pub with_prefix : List ℕ → List ℕ → Record → Record
+with_prefix sector prefix r = record r { checks = passes sector prefix r }
 
 -- The records from a place on, where step reads one of them. The first number bounds how many there are.
 abbrev pub walk : (ℕ → Option Record) → ℕ → ℕ → List Record
@@ -63,9 +63,9 @@ walk step (suc n) at = option_map_or (λ r. r ∷ walk step n r.end) (step at) [
 
 -- the first of them from a place on that passes
 abbrev pub first_passing : ℕ → List ℕ → List ℕ → ℕ → Option Record
-first_passing unit sector front from =
-    option_map (with_front sector front)
-    (find (passes sector front) (walk (record_at unit sector) (length sector) from))
+first_passing unit sector prefix from =
+    option_map (with_prefix sector prefix)
+    (find (passes sector prefix) (walk (record_at unit sector) (length sector) from))
 
 -- the records of a sector, those that do not check too; they begin behind the header's eight bytes
 unfoldable pub records : ℕ → List ℕ → List Record

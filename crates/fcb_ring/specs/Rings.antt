@@ -63,7 +63,7 @@ second_start states =
 abbrev pub is_full : List SectorState → Bool
 is_full states = list_all (λ state. not state.is_free) states
 
--- Where no sector is free the newest, which stands before the oldest, counts for nothing.
+-- Where no sector is free the newest, which stands before the oldest, is ignored.
 unfoldable pub counts : List SectorState → ℕ → Bool
 counts states place =
     is_used states place && not (is_full states && (place == before (length states) (oldest_place states)))

@@ -131,13 +131,14 @@ IsNext list (Some r) next =
 
 -- the first whose body begins with these bytes
 abbrev pub first_with : List ℕ → List (RecordAt × List ℕ) → Option RecordAt
-first_with front list = option_map (λ entry. entry.0) (find (λ entry. starts_with nat_eq entry.1 front) list)
+first_with prefix list =
+    option_map (λ entry. entry.0) (find (λ entry. starts_with nat_eq entry.1 prefix) list)
 
 -- the first such record after this one, or of all
 abbrev pub IsNextWith : List (RecordAt × List ℕ) → List ℕ → Option RecordAt → Option RecordAt → Type 0
-IsNextWith list front None next = next ≡ first_with front list
-IsNextWith list front (Some r) next =
-    (i : ℕ) → slice_get (record_places list) i ≡ Some r → next ≡ first_with front (drop (i + 1) list)
+IsNextWith list prefix None next = next ≡ first_with prefix list
+IsNextWith list prefix (Some r) next =
+    (i : ℕ) → slice_get (record_places list) i ≡ Some r → next ≡ first_with prefix (drop (i + 1) list)
 
 -- what mounting erases: each sector with a torn header, and the newest one where no sector is free
 abbrev pub erases_due : List SectorState → ℕ

@@ -13,7 +13,7 @@ use flash_sim::PROGRAM_LIMIT;
 // The bytes of the greatest unit.
 const UNIT: usize = 16;
 
-// A header with this id, as it is at the greatest unit. At a smaller one it is the front of it.
+// A header with this id, as it is at the greatest unit. At a smaller one it is a prefix of that.
 #[tactic(auto, unfolding(crate::specs::Writing::header_image, crate::specs::Writing::filled, flash_map::specs::Units::padded))]
 pub(crate) fn header_image(id: u16) -> [u8; UNIT]
     ensures { result ≡ header_image 16 id }

@@ -49,18 +49,18 @@ impl Ring {
         &self,
         flash: &F,
         after: Option<RecordAt>,
-        front: &[u8],
+        prefix: &[u8],
         steps: &mut Steps<L>,
     ) -> Option<RecordAt>
         requires stands { StandsOn (F.device flash.now) self.now }
         requires after { ForSome after (IsListed (F.device flash.now) self.now.area) }
-        ensures next { IsNextWith (entries_on (F.device flash.now) self.now.area) front.now after
+        ensures next { IsNextWith (entries_on (F.device flash.now) self.now.area) prefix.now after
             result }
         ensures listed { ForSome result (IsListed (F.device flash.now) self.now.area) }
     {
         let unit = geometry(flash, &self.area).unit;
         match after {
-            None => self.next_from(flash, 0, padded(unit, 8), front, steps),
+            None => self.next_from(flash, 0, padded(unit, 8), prefix, steps),
             Some(record) => {
                 let further = distance(
                     self.area.sectors as usize,
@@ -68,7 +68,7 @@ impl Ring {
                     record.sector as usize,
                 );
                 let from = record.body + padded(unit, record.len) + unit;
-                self.next_from(flash, further as u32, from, front, steps)
+                self.next_from(flash, further as u32, from, prefix, steps)
             }
         }
     }
@@ -79,7 +79,7 @@ impl Ring {
         flash: &F,
         place: u32,
         from: u32,
-        front: &[u8],
+        prefix: &[u8],
         steps: &mut Steps<L>,
     ) -> Option<RecordAt>
         requires stands { StandsOn (F.device flash.now) self.now }
@@ -88,11 +88,12 @@ impl Ring {
         requires within { from ≤ sector_size (F.device flash.now) self.now.area }
         ensures { let d = F.device flash.now in
             result
-            ≡ find (begins_with d self.now.area front.now) (records_on d self.now.area place from) }
+            ≡ find (begins_with d self.now.area prefix.now)
+            (records_on d self.now.area place from) }
     {
         let unit = geometry(flash, &self.area).unit;
         let sector = sector_view(flash, &self.area, place, steps);
-        match next_checked(sector, unit, from, front) {
+        match next_checked(sector, unit, from, prefix) {
             Some(record) => Some(RecordAt {
                 sector: place,
                 offset: record.offset,
@@ -110,7 +111,7 @@ impl Ring {
         flash: &F,
         further: u32,
         from: u32,
-        front: &[u8],
+        prefix: &[u8],
         steps: &mut Steps<L>,
     ) -> Option<RecordAt>
         requires stands { StandsOn (F.device flash.now) self.now }
@@ -119,13 +120,13 @@ impl Ring {
         requires within { from ≤ sector_size (F.device flash.now) self.now.area }
         ensures { let d = F.device flash.now in
             result
-            ≡ find (begins_with d self.now.area front.now) (following_on d self.now further from) }
+            ≡ find (begins_with d self.now.area prefix.now) (following_on d self.now further from) }
     {
         let header = padded(geometry(flash, &self.area).unit, 8);
         let mut at = further;
         let mut offset = from;
         while at < self.counted() {
-            let found = self.next_in(flash, self.place(at), offset, front, steps);
+            let found = self.next_in(flash, self.place(at), offset, prefix, steps);
             if found.is_some() {
                 return found;
             }

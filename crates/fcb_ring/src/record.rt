@@ -2,7 +2,7 @@
 ghost use Rattle.std.specs.Prelude.{◌≡◌, ◌+◌, ◌-◌, ◌*◌, ◌%◌, ◌<◌, ◌≤◌, ◌^◌, length, option_map, IsTrue};
 ghost use Rattle.flash_map.specs.Units.{IsUnit, padded};
 ghost use Rattle.fcb_ring.specs.SectorStates.{IsSector};
-ghost use Rattle.fcb_ring.specs.Records.{body_len, field_width, has_record, checks_at, record_at, records_end, first_passing, with_front};
+ghost use Rattle.fcb_ring.specs.Records.{body_len, field_width, has_record, checks_at, record_at, records_end, first_passing, with_prefix};
 
 use crc8_entry::{START, crc8};
 use flash_map::padded;
@@ -82,13 +82,13 @@ fn checks_at(sector: &[u8], at: usize, body: usize, len: usize, crc_at: usize) -
 // The record there, taken not to check where its body begins otherwise than so: its CRC is not
 // computed then. None where the records end, or where it would pass the sector's end.
 #[tactic(auto, unfolding(crate::specs::Records::record_at, crate::specs::Records::record_of))]
-fn record_with(sector: &[u8], unit: u32, at: u32, front: &[u8]) -> Option<Record>
+fn record_with(sector: &[u8], unit: u32, at: u32, prefix: &[u8]) -> Option<Record>
     requires unit { IsUnit unit }
     requires short { length sector.now ≤ 32768 }
     requires room { at < length sector.now → at + unit ≤ length sector.now }
     requires at { at ≤ length sector.now }
     ensures value { result
-        ≡ option_map (with_front sector.now front.now) (record_at unit sector.now at) }
+        ≡ option_map (with_prefix sector.now prefix.now) (record_at unit sector.now at) }
 {
     let start = at as usize;
     if !has_record(sector, start) {
@@ -101,7 +101,7 @@ fn record_with(sector: &[u8], unit: u32, at: u32, front: &[u8]) -> Option<Record
     if end as usize > sector.len() {
         return None;
     }
-    let begins = sector[body as usize..(body + len) as usize].starts_with(front);
+    let begins = sector[body as usize..(body + len) as usize].starts_with(prefix);
     let checks = begins && checks_at(sector, start, body as usize, len as usize, crc_at as usize);
     Some(Record {
         offset: at,
@@ -138,14 +138,14 @@ pub(crate) fn records_end(sector: &[u8], unit: u32) -> u32
 }
 
 // The first record from there on that checks and whose body begins so.
-pub(crate) fn next_checked(sector: &[u8], unit: u32, from: u32, front: &[u8]) -> Option<Record>
+pub(crate) fn next_checked(sector: &[u8], unit: u32, from: u32, prefix: &[u8]) -> Option<Record>
     requires sector { IsSector unit sector.now }
     requires aligned { from % unit ≡ 0 }
     requires within { from ≤ length sector.now }
-    ensures { result ≡ first_passing unit sector.now front.now from }
+    ensures { result ≡ first_passing unit sector.now prefix.now from }
 {
     let mut at = from;
-    while let Some(record) = record_with(sector, unit, at, front) {
+    while let Some(record) = record_with(sector, unit, at, prefix) {
         if record.checks {
             return Some(record);
         }

@@ -17,7 +17,7 @@ use std::sync::ledger::Ledger;
 /// How far a ring has come.
 #[derive(Clone, Copy, Debug, PartialEq, Eq)]
 pub enum Stage {
-    /// The erases of mounting are to come. Where no sector is free, the newest counts for nothing,
+    /// The erases of mounting are to come. Where no sector is free, the newest is ignored,
     /// and waits to be erased.
     Inspected { newest_waits: bool },
     /// A sector is free, and the ring takes records.
@@ -34,7 +34,7 @@ pub struct Ring {
     pub(crate) area: Area,
     // the room in bytes that ordinary records leave in each sector
     pub(crate) reserve: u32,
-    // the oldest of the used sectors, and how many are used; one that counts for nothing is not
+    // the oldest of the used sectors, and how many are used; one that is ignored is not
     // among them
     pub(crate) oldest: u32,
     pub(crate) used: u32,

@@ -3,7 +3,7 @@ ghost use Rattle.std.specs.Prelude.{◌≡◌, ◌-◌, ◌*◌, ◌<◌, ◌≤
 ghost use Rattle.std.specs.Str.{bytes_eq};
 ghost use Rattle.flash_sim.specs.declared.flash.TheConstants.{PROGRAM_LIMIT};
 ghost use Rattle.flash_map.specs.Units.{IsUnit};
-ghost use Rattle.fcb_ring.specs.Chance.{bytes_put, is_behind_header, is_part, is_record, chance_on, TellsChance};
+ghost use Rattle.fcb_ring.specs.Chance.{bytes_put, is_behind_header, is_part, is_record, chance_on, ReportsChance};
 ghost use Rattle.fcb_ring.specs.Standing.{IsRingArea};
 
 use crate::image::push_all;
@@ -97,9 +97,9 @@ pub fn chance<F: Flash, L: Ledger>(
         && spells_other(geometry.unit, loss)
 }
 
-/// Of a loss in a record, in an area with a free sector, `chance` tells whether the record that was
+/// Of a loss in a record, in an area with a free sector, `chance` says whether the record that was
 /// cut checks and is another one. It never holds of a loss in a header or in an erase, nor where no
 /// sector is free. The function does nothing; its contract is the law.
 pub fn chance_of_a_record()
-    ensures { TellsChance }
+    ensures { ReportsChance }
 {}

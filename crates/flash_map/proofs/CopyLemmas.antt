@@ -62,7 +62,7 @@ piece_is unit p done end len is =
     elim is.last [
       | inl (full, at) ↦
           let width : end - done ≡ 32 = omega arith in
-          let front : length (take len (drop done p)) ≡ 32 = length-take-le len (drop done p) (omega arith) ∙ full in
+          let prefix : length (take len (drop done p)) ≡ 32 = length-take-le len (drop done p) (omega arith) ∙ full in
           ap (λ (n : ℕ). take n (take len (drop done p) ++ replicate (32 - len) 0xFF)) width
           ∙ take-append-le 32 (take len (drop done p)) (replicate (32 - len) 0xFF) (omega arith)
           ∙ take_all 32 (take len (drop done p)) (omega arith)

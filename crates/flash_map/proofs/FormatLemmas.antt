@@ -55,8 +55,8 @@ pub on_err : {T E P : Type 0} (r : Result T E) → P → OnErr r P
 on_err (Ok x) p = tt
 on_err (Err e) p = p
 
-pub count-front : (p : List ℕ → Bool) (i : ℕ) (xs : List (List ℕ)) → count_by p (take i xs) ≤ count_by p xs
-count-front p i xs =
+pub count-prefix : (p : List ℕ → Bool) (i : ℕ) (xs : List (List ℕ)) → count_by p (take i xs) ≤ count_by p xs
+count-prefix p i xs =
     let parts : count_by p (take i xs ++ drop i xs) ≡ count_by p (take i xs) + count_by p (drop i xs) = sum_by-append (λ x. cond (p x) 1 0) (take i xs) (drop i xs) in
     let whole : count_by p (take i xs ++ drop i xs) ≡ count_by p xs = ap (count_by p) (take-append-drop i xs) in
     omega arith
@@ -78,4 +78,4 @@ pub spends_then : (a b c : Device) (first second most : ℕ) → b.spent ≡ cou
 spends_then a b c first second most before after le = (first + after.0, omega (arith, after.1), after.2 ∙ ap (λ (n : ℕ). counted n after.0) before ∙ counted_counted a.spent first after.0)
 
 pub spends_part : (p : List ℕ → Bool) (a b c : Device) (sectors : List (List ℕ)) (j : ℕ) → b.spent ≡ counted a.spent (count_by p (take j sectors)) → SpendsAtMost b c 0 → SpendsAtMost a c (count_by p sectors)
-spends_part p a b c sectors j before after = spends_then a b c (count_by p (take j sectors)) 0 (count_by p sectors) before after (let le = count-front p j sectors in omega arith)
+spends_part p a b c sectors j before after = spends_then a b c (count_by p (take j sectors)) 0 (count_by p sectors) before after (let le = count-prefix p j sectors in omega arith)

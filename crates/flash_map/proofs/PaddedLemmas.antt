@@ -42,8 +42,8 @@ whole_part_at = by_unit (λ unit. (n : ℕ) → IsWholePart unit n (n / unit * u
     (λ n. record { no_more = omega arith; aligned = omega arith; exact = λ same. omega arith; one_more = λ apart. omega arith; short = omega arith })
     (λ n. record { no_more = omega arith; aligned = omega arith; exact = λ same. omega arith; one_more = λ apart. omega arith; short = omega arith })
 
-front : (unit whole : ℕ) (bytes : List ℕ) → whole ≤ length bytes → take whole (padded_bytes unit bytes) ≡ take whole bytes
-front unit whole bytes le = take-append-le whole bytes (replicate (padded unit (length bytes) - length bytes) 0xFF) le
+prefix : (unit whole : ℕ) (bytes : List ℕ) → whole ≤ length bytes → take whole (padded_bytes unit bytes) ≡ take whole bytes
+prefix unit whole bytes le = take-append-le whole bytes (replicate (padded unit (length bytes) - length bytes) 0xFF) le
 
 all_whole : (unit : ℕ) (bytes : List ℕ) → padded unit (length bytes) ≡ length bytes → padded_bytes unit bytes ≡ bytes
 all_whole unit bytes same =
@@ -88,11 +88,11 @@ module _ (a b : Device) (area : Area) (lawful : IsLawful a.banks a.bytes) (is_ar
   long : length (padded_bytes (unit_of a area) bytes) ≡ padded (unit_of a area) (length bytes)
   long = length-padded_bytes (unit_of a area) bytes is-unit
 
-  front_is : take (length bytes / unit * unit) (padded_bytes (unit_of a area) bytes) ≡ take (length bytes / unit * unit) bytes
-  front_is = front (unit_of a area) (length bytes / unit * unit) bytes part.no_more
+  prefix_is : take (length bytes / unit * unit) (padded_bytes (unit_of a area) bytes) ≡ take (length bytes / unit * unit) bytes
+  prefix_is = prefix (unit_of a area) (length bytes / unit * unit) bytes part.no_more
 
-  front_long : length (take (length bytes / unit * unit) bytes) ≡ length bytes / unit * unit
-  front_long = length-take-le (length bytes / unit * unit) bytes part.no_more
+  prefix_long : length (take (length bytes / unit * unit) bytes) ≡ length bytes / unit * unit
+  prefix_long = length-take-le (length bytes / unit * unit) bytes part.no_more
 
   no_less : length bytes ≤ padded (unit_of a area) (length bytes)
   no_less = (padding (unit_of a area) is-unit).no_less (length bytes)
@@ -100,36 +100,36 @@ module _ (a b : Device) (area : Area) (lawful : IsLawful a.banks a.bytes) (is_ar
   fits : offset + length (padded_bytes (unit_of a area) bytes) ≤ length (sector_bytes a area sector)
   fits = omega (arith, can.in_sector, length-sector a area lawful is_area sector can.has_sector)
 
-  pub can_front : CanProgramAll a area sector offset (take (length bytes / unit * unit) bytes)
-  can_front = record {
+  pub can_prefix : CanProgramAll a area sector offset (take (length bytes / unit * unit) bytes)
+  can_prefix = record {
     has_sector = can.has_sector;
-    whole_units = ap (λ (n : ℕ). n % unit_of a area) front_long ∙ part.aligned;
+    whole_units = ap (λ (n : ℕ). n % unit_of a area) prefix_long ∙ part.aligned;
     aligned = can.aligned;
-    in_sector = let le = part.no_more in omega (arith, front_long, long, no_less, can.in_sector);
+    in_sector = let le = part.no_more in omega (arith, prefix_long, long, no_less, can.in_sector);
     erased = λ erasing.
         let at : offset + 0 ≡ offset = omega arith in
-        let width : length bytes / unit * unit - 0 ≡ length (take (length bytes / unit * unit) bytes) = omega (arith, front_long) in
+        let width : length bytes / unit * unit - 0 ≡ length (take (length bytes / unit * unit) bytes) = omega (arith, prefix_long) in
         let le = part.no_more in
         subst (λ (n : ℕ). slice_range (sector_bytes a area sector) offset (offset + n) ≡ replicate n 255) width
         (subst (λ (m : ℕ). slice_range (sector_bytes a area sector) m (m + (length bytes / unit * unit - 0)) ≡ replicate (length bytes / unit * unit - 0) 255) at
         (erased_part (sector_bytes a area sector) offset (length (padded_bytes (unit_of a area) bytes)) 0 (length bytes / unit * unit) fits (omega arith) (omega (arith, long, no_less)) (can.erased erasing)));
   }
 
-  pub front_part : WritesPart a b area sector offset (take (length bytes / unit * unit) bytes) → WritesPart a b area sector offset (padded_bytes (unit_of a area) bytes)
-  front_part cut =
-      let below : cut.0 < length bytes / unit * unit / unit_of a area = subst (λ (n : ℕ). cut.0 < n / unit_of a area) front_long cut.1 in
+  pub prefix_part : WritesPart a b area sector offset (take (length bytes / unit * unit) bytes) → WritesPart a b area sector offset (padded_bytes (unit_of a area) bytes)
+  prefix_part cut =
+      let below : cut.0 < length bytes / unit * unit / unit_of a area = subst (λ (n : ℕ). cut.0 < n / unit_of a area) prefix_long cut.1 in
       let le = part.no_more in
       let units : length bytes / unit * unit / unit_of a area ≤ length (padded_bytes (unit_of a area) bytes) / unit_of a area = units_le (unit_of a area) (length bytes / unit * unit) (length (padded_bytes (unit_of a area) bytes)) is-unit (omega (arith, long, no_less)) in
       let inside : cut.0 * unit_of a area ≤ length bytes / unit * unit = done_fits cut.0 (length bytes / unit * unit) (unit_of a area) below in
       let same : take (cut.0 * unit_of a area) (take (length bytes / unit * unit) bytes) ≡ take (cut.0 * unit_of a area) (padded_bytes (unit_of a area) bytes) =
-      ap (take (cut.0 * unit_of a area)) (sym front_is) ∙ take-take (cut.0 * unit_of a area) (length bytes / unit * unit) (padded_bytes (unit_of a area) bytes) inside in
+      ap (take (cut.0 * unit_of a area)) (sym prefix_is) ∙ take-take (cut.0 * unit_of a area) (length bytes / unit * unit) (padded_bytes (unit_of a area) bytes) inside in
       (cut.0, omega arith, subst (λ (xs : List ℕ). Writes a b area sector offset xs) same cut.2)
 
-  pub front_most : SpendsAtMost a b (length (take (length bytes / unit * unit) bytes) / unit_of a area) → SpendsAtMost a b (padded (unit_of a area) (length bytes) / unit_of a area)
-  front_most spent =
+  pub prefix_most : SpendsAtMost a b (length (take (length bytes / unit * unit) bytes) / unit_of a area) → SpendsAtMost a b (padded (unit_of a area) (length bytes) / unit_of a area)
+  prefix_most spent =
       let le = part.no_more in
       most_weaker a b (length (take (length bytes / unit * unit) bytes) / unit_of a area) (padded (unit_of a area) (length bytes) / unit_of a area)
-      (units_le (unit_of a area) (length (take (length bytes / unit * unit) bytes)) (padded (unit_of a area) (length bytes)) is-unit (omega (arith, front_long, no_less))) spent
+      (units_le (unit_of a area) (length (take (length bytes / unit * unit) bytes)) (padded (unit_of a area) (length bytes)) is-unit (omega (arith, prefix_long, no_less))) spent
 
   -- where no unit is left
   pub all_written : length bytes / unit * unit ≡ length bytes → Writes a b area sector offset (take (length bytes / unit * unit) bytes) → Writes a b area sector offset (padded_bytes (unit_of a area) bytes)
@@ -140,7 +140,7 @@ module _ (a b : Device) (area : Area) (lawful : IsLawful a.banks a.bytes) (is_ar
 
   pub all_spent : length bytes / unit * unit ≡ length bytes → Spends a b (length (take (length bytes / unit * unit) bytes) / unit_of a area) → Spends a b (padded (unit_of a area) (length bytes) / unit_of a area)
   all_spent same spent =
-      let count : length (take (length bytes / unit * unit) bytes) ≡ padded (unit_of a area) (length bytes) = front_long ∙ same ∙ sym (part.exact same) in
+      let count : length (take (length bytes / unit * unit) bytes) ≡ padded (unit_of a area) (length bytes) = prefix_long ∙ same ∙ sym (part.exact same) in
       subst (λ (n : ℕ). Spends a b (n / unit_of a area)) count spent
 
   module _ (apart : length bytes / unit * unit ≡ length bytes → ⊥) (touches : Touches (area ∷ []) a b false) (writes : Writes a b area sector offset (take (length bytes / unit * unit) bytes)) (spends : Spends a b (length (take (length bytes / unit * unit) bytes) / unit_of a area)) (unit_bytes : List ℕ) (bytes_is : unit_bytes ≡ with_fill (take (length bytes - length bytes / unit * unit) (drop (length bytes / unit * unit) bytes))) where
@@ -154,8 +154,8 @@ module _ (a b : Device) (area : Area) (lawful : IsLawful a.banks a.bytes) (is_ar
     more : length bytes / unit * unit < padded (unit_of a area) (length bytes)
     more = let one = part.one_more apart in let positive = (padding (unit_of a area) is-unit).positive in omega arith
 
-    writes_front : Writes a b area sector offset (take (length bytes / unit * unit) (padded_bytes (unit_of a area) bytes))
-    writes_front = subst (λ (xs : List ℕ). Writes a b area sector offset xs) (sym front_is) writes
+    writes_prefix : Writes a b area sector offset (take (length bytes / unit * unit) (padded_bytes (unit_of a area) bytes))
+    writes_prefix = subst (λ (xs : List ℕ). Writes a b area sector offset xs) (sym prefix_is) writes
 
     end_aligned : padded (unit_of a area) (length bytes) % unit_of a area ≡ 0
     end_aligned = (padding (unit_of a area) is-unit).aligned (length bytes)
@@ -163,25 +163,25 @@ module _ (a b : Device) (area : Area) (lawful : IsLawful a.banks a.bytes) (is_ar
     pub can_last : CanProgramIn b area sector (offset + length bytes / unit * unit) (take unit unit_bytes)
     can_last =
         subst (λ (xs : List ℕ). CanProgramIn b area sector (offset + length bytes / unit * unit) xs) tail_is
-        (can_piece a b area lawful is_area sector offset (padded_bytes (unit_of a area) bytes) can (length bytes / unit * unit) (padded (unit_of a area) (length bytes)) more (omega (arith, long)) part.aligned end_aligned touches writes_front
+        (can_piece a b area lawful is_area sector offset (padded_bytes (unit_of a area) bytes) can (length bytes / unit * unit) (padded (unit_of a area) (length bytes)) more (omega (arith, long)) part.aligned end_aligned touches writes_prefix
         (let one = part.one_more apart in let small = (padding (unit_of a area) is-unit).small in omega arith))
 
     pub last_written : (c : Device) → Writes b c area sector (offset + length bytes / unit * unit) (take unit unit_bytes) → Writes a c area sector offset (padded_bytes (unit_of a area) bytes)
     last_written c second =
         subst (λ (xs : List ℕ). Writes a c area sector offset xs) (take_all (padded (unit_of a area) (length bytes)) (padded_bytes (unit_of a area) bytes) (omega (arith, long)))
-        (written_more a b area lawful is_area sector offset (padded_bytes (unit_of a area) bytes) can (length bytes / unit * unit) (padded (unit_of a area) (length bytes)) more (omega (arith, long)) part.aligned end_aligned touches writes_front c
+        (written_more a b area lawful is_area sector offset (padded_bytes (unit_of a area) bytes) can (length bytes / unit * unit) (padded (unit_of a area) (length bytes)) more (omega (arith, long)) part.aligned end_aligned touches writes_prefix c
         (subst (λ (xs : List ℕ). Writes b c area sector (offset + length bytes / unit * unit) xs) (sym tail_is) second))
 
     pub last_part : (c : Device) → WritesPart b c area sector (offset + length bytes / unit * unit) (take unit unit_bytes) → WritesPart a c area sector offset (padded_bytes (unit_of a area) bytes)
     last_part c second =
-        part_more a b area lawful is_area sector offset (padded_bytes (unit_of a area) bytes) can (length bytes / unit * unit) (padded (unit_of a area) (length bytes)) more (omega (arith, long)) part.aligned end_aligned touches writes_front c
+        part_more a b area lawful is_area sector offset (padded_bytes (unit_of a area) bytes) can (length bytes / unit * unit) (padded (unit_of a area) (length bytes)) more (omega (arith, long)) part.aligned end_aligned touches writes_prefix c
         (subst (λ (xs : List ℕ). WritesPart b c area sector (offset + length bytes / unit * unit) xs) (sym tail_is) second)
 
     tail_long : length (take unit unit_bytes) ≡ padded (unit_of a area) (length bytes) - length bytes / unit * unit
     tail_long = ap length (sym tail_is) ∙ piece_len-is (padded_bytes (unit_of a area) bytes) (length bytes / unit * unit) (padded (unit_of a area) (length bytes)) (omega (arith, long))
 
     so_far : Spends a b (length bytes / unit * unit / unit_of a area)
-    so_far = subst (λ (n : ℕ). Spends a b (n / unit_of a area)) front_long spends
+    so_far = subst (λ (n : ℕ). Spends a b (n / unit_of a area)) prefix_long spends
 
     pub last_spent : (c : Device) → Spends b c (length (take unit unit_bytes) / unit_of b area) → Spends a c (padded (unit_of a area) (length bytes) / unit_of a area)
     last_spent c second =

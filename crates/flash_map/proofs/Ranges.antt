@@ -11,16 +11,16 @@ split b at p = sym (append_assoc (take at b) p (drop (at + length p) b))
 
 pub drop-put : (b : List ℕ) (at : ℕ) (p : List ℕ) (i : ℕ) → at + length p ≤ length b → at + length p ≤ i → drop i (overwritten b at p) ≡ drop i b
 drop-put b at p i fits le =
-    let front : length (take at b ++ p) ≡ at + length p = length-append (take at b) p ∙ ap (λ (n : ℕ). n + length p) (length-take-le at b (omega arith)) in
+    let prefix : length (take at b ++ p) ≡ at + length p = length-append (take at b) p ∙ ap (λ (n : ℕ). n + length p) (length-take-le at b (omega arith)) in
     let apart : i ≡ at + length p + (i - (at + length p)) = omega arith in
     ap (drop i) (split b at p)
     ∙ ap (λ (n : ℕ). drop n ((take at b ++ p) ++ drop (at + length p) b)) apart ∙ sym (drop-drop (i - (at + length p)) (at + length p) ((take at b ++ p) ++ drop (at + length p) b))
-    ∙ ap (drop (i - (at + length p))) (drop_at (take at b ++ p) (drop (at + length p) b) (at + length p) front)
+    ∙ ap (drop (i - (at + length p))) (drop_at (take at b ++ p) (drop (at + length p) b) (at + length p) prefix)
     ∙ drop-drop (i - (at + length p)) (at + length p) b ∙ sym (ap (λ (n : ℕ). drop n b) apart)
 
 pub take-put : (b : List ℕ) (at : ℕ) (p : List ℕ) (j : ℕ) → at ≤ length b → j ≤ at → take j (overwritten b at p) ≡ take j b
 take-put b at p j fits le =
-    let front : length (take at b) ≡ at = length-take-le at b fits in
+    let prefix : length (take at b) ≡ at = length-take-le at b fits in
     take-append-le j (take at b) (p ++ drop (at + length p) b) (omega arith) ∙ take-take j at b le
 
 -- above what was put

@@ -10,7 +10,7 @@ use Rattle.flash_sim.specs.declared.flash.At.{At}
 use Rattle.flash_sim.specs.declared.flash.Bank.{Bank}
 use Rattle.flash_sim.specs.declared.flash.Loss.{Loss}
 use Rattle.flash_sim.specs.Bank.{no_bank, capacity, IsLawful}
-use Rattle.flash_sim.specs.Device.{Plan, Untold, Never, After, Device, counted, Lasts, LostAfter, lowered, dropped, bank_of, bytes_of, overwritten, units_in, first_units, put, cut, CanProgram, CanErase, Puts, FailsToProgram, start_of, Erases, FailsToErase}
+use Rattle.flash_sim.specs.Device.{Plan, Unknown, Never, After, Device, counted, Lasts, LostAfter, lowered, dropped, bank_of, bytes_of, overwritten, units_in, first_units, put, cut, CanProgram, CanErase, Puts, FailsToProgram, start_of, Erases, FailsToErase}
 use Rattle.flash_sim.specs.FlatSim.{plan_of}
 use Rattle.flash_sim.proofs.Shown.{length-overwritten}
 
@@ -40,7 +40,7 @@ plan_after (Some x) None done Q is lower = absurd is
 plan_after (Some x) (Some r) done Q is lower = ap After (lower x r is)
 
 dropped-lowered : (plan : Plan) (n : ℕ) → dropped (lowered plan n) ≡ dropped plan
-dropped-lowered Untold n = refl
+dropped-lowered Unknown n = refl
 dropped-lowered Never n = refl
 dropped-lowered (After left) n = refl
 
@@ -103,7 +103,7 @@ module _ (d : Device) (at : At) (bytes : List ℕ) (bank : Bank) (lawful : IsLaw
   pub has-place : at.offset < length (bytes_of d at.bank)
   has-place = let long = lawful.lengths at.bank can.has_bank in let some = can.some in let room = can.in_bank in omega arith
 
-  module _ (plan : Option ℕ) (done : ℕ) (told : d.plan ≡ plan_of plan) (is : done ≡ min (length bytes / bank.unit) (unwrap_or plan (length bytes / bank.unit))) where
+  module _ (plan : Option ℕ) (done : ℕ) (reported : d.plan ≡ plan_of plan) (is : done ≡ min (length bytes / bank.unit) (unwrap_or plan (length bytes / bank.unit))) where
     pub within : done * bank.unit ≤ length bytes
     within =
         let le : done ≤ length bytes / bank.unit = omega arith in
@@ -156,7 +156,7 @@ module _ (d : Device) (at : At) (bytes : List ℕ) (bank : Bank) (lawful : IsLaw
             let same : done ≡ length bytes / bank.unit = omega arith in
             record {
               on = on;
-              lasts = subst (λ (p : Plan). Lasts p (units_in d at.bank bytes)) (sym told) (subst (λ (n : ℕ). Lasts (plan_of plan) n) units (lasts plan (length bytes / bank.unit) done is le));
+              lasts = subst (λ (p : Plan). Lasts p (units_in d at.bank bytes)) (sym reported) (subst (λ (n : ℕ). Lasts (plan_of plan) n) units (lasts plan (length bytes / bank.unit) done is le));
               is =
                   made_same d (wrote ∙ ap (λ (l : List ℕ). set d.bytes at.bank (overwritten (bytes_of d at.bank) at.offset l)) all) (is-counted d.spent done spent fits more) lower
                   ∙ ap (λ (n : ℕ). put d at bytes n) (same ∙ units);
@@ -171,7 +171,7 @@ module _ (d : Device) (at : At) (bytes : List ℕ) (bank : Bank) (lawful : IsLaw
               subst (λ (n : ℕ). done < n) units lt,
               record {
                 on = on;
-                lost = subst (λ (p : Plan). LostAfter p done) (sym told) (lost plan (length bytes / bank.unit) done is lt);
+                lost = subst (λ (p : Plan). LostAfter p done) (sym reported) (lost plan (length bytes / bank.unit) done is lt);
                 is =
                     lose
                     ∙ ap (λ (x : Device). cut x loss) (made_same d (wrote ∙ ap (λ (b : Bank). set d.bytes at.bank (overwritten (bytes_of d at.bank) at.offset (take (done * b.unit) bytes))) bank-is) (is-counted d.spent done spent fits more) refl)
@@ -198,7 +198,7 @@ module _ (d : Device) (bank sector size : ℕ) (lawful : IsLawful d.banks d.byte
   pub addressed : sector * size < 4294967296
   addressed = let room = in-capacity in let few = (lawful.each_bank bank can.has_bank).addressable in omega arith
 
-  module _ (plan : Option ℕ) (done : ℕ) (told : d.plan ≡ plan_of plan) (on : d.is_on ≡ true) (is : done ≡ min 1 (unwrap_or plan 1)) where
+  module _ (plan : Option ℕ) (done : ℕ) (reported : d.plan ≡ plan_of plan) (on : d.is_on ≡ true) (is : done ≡ min 1 (unwrap_or plan 1)) where
     pub fails-erase : (new : Device) → done < 1 → new ≡ cut d (record { at = record { bank = bank; offset = sector * size }; want = record { items = [] }; done = 0 }) → FailsToErase d new bank sector
     fails-erase new lt lose =
         let none : first_units d bank [] 0 ≡ [] = take-nil (0 * (bank_of d bank).unit) in
@@ -206,7 +206,7 @@ module _ (d : Device) (bank sector size : ℕ) (lawful : IsLawful d.banks d.byte
         let loss : Loss = record { at = start; want = record { items = [] }; done = 0 } in
         inr (record {
           on = on;
-          lost = subst (λ (p : Plan). LostAfter p 0) (sym told) (lost plan 1 0 (omega arith) (omega arith));
+          lost = subst (λ (p : Plan). LostAfter p 0) (sym reported) (lost plan 1 0 (omega arith) (omega arith));
           is =
               lose
               ∙ ap (λ (n : ℕ). cut d (record { at = record { bank = bank; offset = sector * n }; want = record { items = [] }; done = 0 })) same
@@ -227,7 +227,7 @@ module _ (d : Device) (bank sector size : ℕ) (lawful : IsLawful d.banks d.byte
           → Erases d (record d { bytes = written; spent = spent; plan = next }) bank sector
       erases spent next fits more lower le = record {
         on = on;
-        lasts = subst (λ (p : Plan). Lasts p 1) (sym told) (lasts plan 1 done is le);
+        lasts = subst (λ (p : Plan). Lasts p 1) (sym reported) (lasts plan 1 done is le);
         is =
             made_same d (wrote ∙ ap (λ (n : ℕ). set d.bytes bank (overwritten (bytes_of d bank) (sector * n) (replicate n 255))) same) (is-counted d.spent 1 spent fits more) lower;
       }

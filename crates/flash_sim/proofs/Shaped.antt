@@ -71,7 +71,7 @@ module _ (size : ℕ) (buffer starts : List ℕ) (shape : IsShaped size buffer s
   -- bytes behind the shared sector
   pub written-shaped : (at : ℕ) (new : List ℕ) → size ≤ at → at + length new ≤ length buffer → IsShaped size (overwritten buffer at new) starts
   written-shaped at new behind fits =
-      let front : length (take at buffer) ≡ at = length-take-le at buffer (omega arith) in
+      let prefix : length (take at buffer) ≡ at = length-take-le at buffer (omega arith) in
       record {
         some = shape.some;
         long = length-put buffer at new fits ∙ shape.long;
@@ -137,11 +137,11 @@ module _ (size : ℕ) (buffer starts : List ℕ) (shape : IsShaped size buffer s
 
 -- Sectors that are laid out one after another.
 
-past_front : (front bytes : List ℕ) (n i at : ℕ) → at ≡ length front + i → take n (drop at (front ++ bytes)) ≡ take n (drop i bytes)
-past_front front bytes n i at is = same_lists _ _ (search (rules, places)) (λ k d h. grind (arith, places))
+past_prefix : (prefix bytes : List ℕ) (n i at : ℕ) → at ≡ length prefix + i → take n (drop at (prefix ++ bytes)) ≡ take n (drop i bytes)
+past_prefix prefix bytes n i at is = same_lists _ _ (search (rules, places)) (λ k d h. grind (arith, places))
 
-front_of : (front bytes : List ℕ) (n : ℕ) → n ≡ length front → take n (front ++ bytes) ≡ front
-front_of front bytes n is = same_lists _ _ (search (rules, places)) (λ k d h. grind (arith, places))
+prefix_of : (prefix bytes : List ℕ) (n : ℕ) → n ≡ length prefix → take n (prefix ++ bytes) ≡ prefix
+prefix_of prefix bytes n is = same_lists _ _ (search (rules, places)) (λ k d h. grind (arith, places))
 
 two_parts : (bytes : List ℕ) (a n b : ℕ) → b ≡ a + n → b ≤ length bytes → take a bytes ++ take n (drop a bytes) ≡ take b bytes
 two_parts bytes a n b is fits = same_lists _ _ (search (rules, places)) (λ k d h. grind (arith, places))
@@ -150,13 +150,13 @@ module _ (size i : ℕ) (bytes starts : List ℕ) (start : ℕ) (some : 0 < size
   piece : (start ≡ 0 → ((i + 1) * size ≡ 0 → ⊥) → take size (drop ((i + 1) * size) (replicate size 255 ++ bytes)) ≡ replicate size 255)
       → take size (drop start (replicate size 255 ++ bytes)) ≡ take size (drop (i * size) bytes)
   piece shared =
-      let front : List ℕ = replicate size 255 in
-      let long : length front ≡ size = length-replicate size 255 in
-      let here : take size (drop ((i + 1) * size) (front ++ bytes)) ≡ take size (drop (i * size) bytes) = past_front front bytes size (i * size) ((i + 1) * size) (omega arith) in
+      let prefix : List ℕ = replicate size 255 in
+      let long : length prefix ≡ size = length-replicate size 255 in
+      let here : take size (drop ((i + 1) * size) (prefix ++ bytes)) ≡ take size (drop (i * size) bytes) = past_prefix prefix bytes size (i * size) ((i + 1) * size) (omega arith) in
       elim (cases_eq start 0) [
         | inl none ↦
-            ap (λ (n : ℕ). take size (drop n (front ++ bytes))) none ∙ front_of front bytes size (sym long) ∙ sym (shared none (λ e. absurd (omega arith))) ∙ here
-        | inr other ↦ ap (λ (n : ℕ). take size (drop n (front ++ bytes))) (own other) ∙ here
+            ap (λ (n : ℕ). take size (drop n (prefix ++ bytes))) none ∙ prefix_of prefix bytes size (sym long) ∙ sym (shared none (λ e. absurd (omega arith))) ∙ here
+        | inr other ↦ ap (λ (n : ℕ). take size (drop n (prefix ++ bytes))) (own other) ∙ here
       ]
 
   pub pushed-bytes : (buffer : List ℕ) → buffer ≡ replicate size 255 ++ bytes → shown size buffer starts ≡ take (i * size) bytes
@@ -186,13 +186,13 @@ pub made-shaped : (size count : ℕ) (bytes buffer starts : List ℕ) → 0 < si
     → ((s : ℕ) → s < length starts → (get_or starts s 0 ≡ 0 → ⊥) → get_or starts s 0 ≡ (s + 1) * size) → IsShaped size buffer starts
 made-shaped size count bytes buffer starts some whole many is own =
     let ff : List ℕ = replicate size 255 in
-    let front : length ff ≡ size = length-replicate size 255 in
+    let prefix : length ff ≡ size = length-replicate size 255 in
     let both : length buffer ≡ length ff + length bytes = ap (λ (l : List ℕ). length l) is ∙ length-append ff bytes in
     let long : length buffer ≡ (count + 1) * size = omega arith in
     record {
       some = some;
       long = long ∙ ap (λ (n : ℕ). (n + 1) * size) (sym many);
-      blank = ap (λ (l : List ℕ). take size l) is ∙ front_of (replicate size 255) bytes size (sym front);
+      blank = ap (λ (l : List ℕ). take size l) is ∙ prefix_of (replicate size 255) bytes size (sym prefix);
       own = own;
     }
 
@@ -200,7 +200,7 @@ made-shaped size count bytes buffer starts some whole many is own =
 pub next-place : (size count i : ℕ) (bytes buffer : List ℕ) → length bytes ≡ count * size → buffer ≡ replicate size 255 ++ bytes → i < count → (i + 1) * size + size ≤ length buffer
 next-place size count i bytes buffer whole is lt =
     let ff : List ℕ = replicate size 255 in
-    let front : length ff ≡ size = length-replicate size 255 in
+    let prefix : length ff ≡ size = length-replicate size 255 in
     let long : length buffer ≡ length ff + length bytes = ap (λ (l : List ℕ). length l) is ∙ length-append ff bytes in
     let more : i + 1 ≤ count = omega arith in
     let up = mul-le-mul_right size more in

@@ -10,8 +10,8 @@ use Rattle.flash_sim.specs.Sparse.{shown}
 pub length-overwritten : (old : List ℕ) (at : ℕ) (new : List ℕ) → at + length new ≤ length old → length (overwritten old at new) ≡ length old
 length-overwritten old at new fits = omega (arith, length-append {A = ℕ}, length-take {A = ℕ}, length-drop {A = ℕ})
 
-in_front : (piece rest : List ℕ) (at : ℕ) (new : List ℕ) → at + length new ≤ length piece → overwritten (piece ++ rest) at new ≡ overwritten piece at new ++ rest
-in_front piece rest at new fits = same_lists _ _ (search (rules, places)) (λ k d h. grind (arith, places))
+in_prefix : (piece rest : List ℕ) (at : ℕ) (new : List ℕ) → at + length new ≤ length piece → overwritten (piece ++ rest) at new ≡ overwritten piece at new ++ rest
+in_prefix piece rest at new fits = same_lists _ _ (search (rules, places)) (λ k d h. grind (arith, places))
 
 behind : (piece rest : List ℕ) (at i : ℕ) (new : List ℕ) → i ≡ length piece + at → at + length new ≤ length rest → overwritten (piece ++ rest) i new ≡ piece ++ overwritten rest at new
 behind piece rest at i new is fits = same_lists _ _ (search (rules, places)) (λ k d h. grind (arith, places))
@@ -88,7 +88,7 @@ module _ (size : ℕ) (buffer : List ℕ) where
       let none : 0 * size + at ≡ at = omega arith in
       ap (λ (l : List ℕ). l ++ shown size (overwritten buffer i new) starts) (part_with buffer start at i size new is fits within)
       ∙ ap (λ (l : List ℕ). overwritten (take size (drop start buffer)) at new ++ l) (shown_apart starts i new (omega arith) (λ t below. apart (suc t) (omega arith) (λ e. absurd (omega arith))))
-      ∙ sym (in_front (take size (drop start buffer)) (shown size buffer starts) at new (omega (arith, piece)))
+      ∙ sym (in_prefix (take size (drop start buffer)) (shown size buffer starts) at new (omega (arith, piece)))
       ∙ ap (λ (n : ℕ). overwritten (shown size buffer (start ∷ starts)) n new) (sym none)
   shown_write (start ∷ starts) (suc s) at i new fit lt is fits apart =
       let within = fit 0 (omega arith) in
@@ -112,7 +112,7 @@ module _ (size : ℕ) (buffer : List ℕ) where
       let new = length-piece size p buffer fits in
       let none : 0 * size ≡ 0 = omega arith in
       ap (λ (l : List ℕ). l ++ shown size buffer starts) (sym (whole (take size (drop start buffer)) (take size (drop p buffer)) (new ∙ sym piece)))
-      ∙ sym (in_front (take size (drop start buffer)) (shown size buffer starts) 0 (take size (drop p buffer)) (omega (arith, piece, new)))
+      ∙ sym (in_prefix (take size (drop start buffer)) (shown size buffer starts) 0 (take size (drop p buffer)) (omega (arith, piece, new)))
       ∙ ap (λ (n : ℕ). overwritten (shown size buffer (start ∷ starts)) n (take size (drop p buffer))) (sym none)
   shown_set (start ∷ starts) (suc s) p fit lt fits =
       let piece = length-piece size start buffer (fit 0 (omega arith)) in

@@ -13,7 +13,7 @@ use std::alloc::{AllocError, Global};
 use std::sync::ledger::Ledger;
 
 /// A flash in memory. An erase gives a sector's place back and writes no byte: erased sectors share
-/// their bytes. It takes memory where it is loaded alone, and tells its plan: power is lost just
+/// their bytes. It takes memory where it is loaded alone, and shows its plan: power is lost just
 /// where that says.
 #[derive(Drop)]
 pub struct SparseSim {

@@ -18,7 +18,7 @@ use Rattle.std.specs.List.{All}
 use Rattle.std.proofs.lemmas.List.Elements.{All-head}
 use Rattle.std.proofs.lemmas.List.{length-map}
 use Rattle.flash_map.specs.Map.{HasVersion}
-use Rattle.image_file.proofs.RowLemmas.{AllHold-front, AllHold-append, each_row, front_fault, later_fault}
+use Rattle.image_file.proofs.RowLemmas.{AllHold-prefix, AllHold-append, each_row, prefix_fault, later_fault}
 use Rattle.image_file.specs.declared.image.ImageWhy.{ImageWhy}
 use Rattle.image_file.specs.declared.image.ImageWhy.TheVariants.{BadArea}
 
@@ -54,28 +54,28 @@ header_is bytes hold =
 
 module _ (bytes : List ℕ) (hold : AllHold bytes (rows bytes)) where
   header : AllHold bytes header_rows
-  header = (AllHold-front bytes header_rows (rows_of BankAt (bank_count bytes) ++ (rows_of AreaAt (area_count bytes) ++ Needed ∷ contents_rows bytes)) hold).0
+  header = (AllHold-prefix bytes header_rows (rows_of BankAt (bank_count bytes) ++ (rows_of AreaAt (area_count bytes) ++ Needed ∷ contents_rows bytes)) hold).0
 
   behind_header : AllHold bytes (rows_of BankAt (bank_count bytes) ++ (rows_of AreaAt (area_count bytes) ++ Needed ∷ contents_rows bytes))
-  behind_header = (AllHold-front bytes header_rows (rows_of BankAt (bank_count bytes) ++ (rows_of AreaAt (area_count bytes) ++ Needed ∷ contents_rows bytes)) hold).1
+  behind_header = (AllHold-prefix bytes header_rows (rows_of BankAt (bank_count bytes) ++ (rows_of AreaAt (area_count bytes) ++ Needed ∷ contents_rows bytes)) hold).1
 
   a_bank : (k : ℕ) → k < bank_count bytes → Holds bytes (BankAt k)
-  a_bank k below = each_row bytes BankAt (bank_count bytes) k below (AllHold-front bytes (rows_of BankAt (bank_count bytes)) (rows_of AreaAt (area_count bytes) ++ Needed ∷ contents_rows bytes) behind_header).0
+  a_bank k below = each_row bytes BankAt (bank_count bytes) k below (AllHold-prefix bytes (rows_of BankAt (bank_count bytes)) (rows_of AreaAt (area_count bytes) ++ Needed ∷ contents_rows bytes) behind_header).0
 
   behind_banks : AllHold bytes (rows_of AreaAt (area_count bytes) ++ Needed ∷ contents_rows bytes)
-  behind_banks = (AllHold-front bytes (rows_of BankAt (bank_count bytes)) (rows_of AreaAt (area_count bytes) ++ Needed ∷ contents_rows bytes) behind_header).1
+  behind_banks = (AllHold-prefix bytes (rows_of BankAt (bank_count bytes)) (rows_of AreaAt (area_count bytes) ++ Needed ∷ contents_rows bytes) behind_header).1
 
   an_area : (k : ℕ) → k < area_count bytes → Holds bytes (AreaAt k)
-  an_area k below = each_row bytes AreaAt (area_count bytes) k below (AllHold-front bytes (rows_of AreaAt (area_count bytes)) (Needed ∷ contents_rows bytes) behind_banks).0
+  an_area k below = each_row bytes AreaAt (area_count bytes) k below (AllHold-prefix bytes (rows_of AreaAt (area_count bytes)) (Needed ∷ contents_rows bytes) behind_banks).0
 
   behind_areas : Holds bytes Needed × AllHold bytes (contents_rows bytes)
-  behind_areas = (AllHold-front bytes (rows_of AreaAt (area_count bytes)) (Needed ∷ contents_rows bytes) behind_banks).1
+  behind_areas = (AllHold-prefix bytes (rows_of AreaAt (area_count bytes)) (Needed ∷ contents_rows bytes) behind_banks).1
 
   a_copy : (k : ℕ) → k < bank_count bytes → Holds bytes (ContentsAt k)
-  a_copy k below = each_row bytes ContentsAt (bank_count bytes) k below (AllHold-front bytes (rows_of ContentsAt (bank_count bytes)) (End ∷ []) behind_areas.1).0
+  a_copy k below = each_row bytes ContentsAt (bank_count bytes) k below (AllHold-prefix bytes (rows_of ContentsAt (bank_count bytes)) (End ∷ []) behind_areas.1).0
 
   at_end : length bytes ≡ contents_place bytes (bank_count bytes)
-  at_end = (AllHold-front bytes (rows_of ContentsAt (bank_count bytes)) (End ∷ []) behind_areas.1).1.0.rule
+  at_end = (AllHold-prefix bytes (rows_of ContentsAt (bank_count bytes)) (End ∷ []) behind_areas.1).1.0.rule
 
   bank_is : (i : ℕ) → i < bank_count bytes → bank_at (all_banks bytes) i ≡ bank_said (field_at bytes (bank_place i) 12)
   bank_is i below = get_or-map-range_with_len (λ i. bank_said (field_at bytes (bank_place i) 12)) 0 (bank_count bytes) i i no_bank below (omega arith)
@@ -86,8 +86,8 @@ module _ (bytes : List ℕ) (hold : AllHold bytes (rows bytes)) where
   copy_is : (i : ℕ) → i < bank_count bytes → get_or (contents_said bytes (bank_count bytes)) i [] ≡ field_at bytes (contents_place bytes i) (contents_size bytes i)
   copy_is i below = get_or-map-range_with_len (λ i. field_at bytes (contents_place bytes i) (contents_size bytes i)) 0 (bank_count bytes) i i [] below (omega arith)
 
-  front_areas : (i : ℕ) → i < area_count bytes → take i (all_areas bytes) ≡ areas_said bytes i
-  front_areas i below = take-map-range_with_len (λ i. area_said (version_said bytes) (field_at bytes (area_place bytes i) 16)) 0 (area_count bytes) i (omega arith)
+  prefix_areas : (i : ℕ) → i < area_count bytes → take i (all_areas bytes) ≡ areas_said bytes i
+  prefix_areas i below = take-map-range_with_len (λ i. area_said (version_said bytes) (field_at bytes (area_place bytes i) 16)) 0 (area_count bytes) i (omega arith)
 
   length-all_areas : length (all_areas bytes) ≡ area_count bytes
   length-all_areas = length-map-range_with_len (λ i. area_said (version_said bytes) (field_at bytes (area_place bytes i) 16)) 0 (area_count bytes)
@@ -111,7 +111,7 @@ module _ (bytes : List ℕ) (hold : AllHold bytes (rows bytes)) where
     few_areas = omega (arith, length-all_areas, header.1.1.1.0.rule.1);
     each_area = λ i below.
         let small : i < area_count bytes = omega (arith, length-all_areas) in
-        subst (λ (l : List Area). IsImageArea (all_banks bytes) l (area_at (all_areas bytes) i)) (sym (front_areas i small))
+        subst (λ (l : List Area). IsImageArea (all_banks bytes) l (area_at (all_areas bytes) i)) (sym (prefix_areas i small))
         (subst (λ (a : Area). IsImageArea (all_banks bytes) (areas_said bytes i) a) (sym (area_is i small)) (an_area i small).rule.lawful);
     plain = plain_said (range_with_len 0 (area_count bytes));
     needed = behind_areas.0.rule;
@@ -157,10 +157,10 @@ module _ (bytes : List ℕ) (header : AllHold bytes header_rows) where
   behind = rows_of BankAt (bank_count bytes) ++ (rows_of AreaAt (area_count bytes) ++ Needed ∷ contents_rows bytes)
 
   pub header_fault : (at : ℕ) (why : ImageWhy) → FirstFault bytes header_rows at why → FirstFault bytes (rows bytes) at why
-  header_fault at why fault = front_fault bytes header_rows behind at why fault
+  header_fault at why fault = prefix_fault bytes header_rows behind at why fault
 
   pub bank_fault : (at : ℕ) (why : ImageWhy) → FirstFault bytes (rows_of BankAt (bank_count bytes)) at why → FirstFault bytes (rows bytes) at why
-  bank_fault at why fault = later_fault bytes header_rows behind at why header (front_fault bytes (rows_of BankAt (bank_count bytes)) (rows_of AreaAt (area_count bytes) ++ Needed ∷ contents_rows bytes) at why fault)
+  bank_fault at why fault = later_fault bytes header_rows behind at why header (prefix_fault bytes (rows_of BankAt (bank_count bytes)) (rows_of AreaAt (area_count bytes) ++ Needed ∷ contents_rows bytes) at why fault)
 
   module _ (banks : AllHold bytes (rows_of BankAt (bank_count bytes))) where
     pub lawful_banks : (i : ℕ) → i < length (all_banks bytes) → IsImageBank (version_said bytes) (bank_at (all_banks bytes) i)
@@ -172,7 +172,7 @@ module _ (bytes : List ℕ) (header : AllHold bytes header_rows) where
     behind_banks_fault at why fault = later_fault bytes header_rows behind at why header (later_fault bytes (rows_of BankAt (bank_count bytes)) (rows_of AreaAt (area_count bytes) ++ Needed ∷ contents_rows bytes) at why banks fault)
 
     pub area_fault : (at : ℕ) (why : ImageWhy) → FirstFault bytes (rows_of AreaAt (area_count bytes)) at why → FirstFault bytes (rows bytes) at why
-    area_fault at why fault = behind_banks_fault at why (front_fault bytes (rows_of AreaAt (area_count bytes)) (Needed ∷ contents_rows bytes) at why fault)
+    area_fault at why fault = behind_banks_fault at why (prefix_fault bytes (rows_of AreaAt (area_count bytes)) (Needed ∷ contents_rows bytes) at why fault)
 
     pub areas_start : area_place bytes 0 ≤ length bytes
     areas_start =

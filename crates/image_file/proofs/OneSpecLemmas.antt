@@ -24,18 +24,18 @@ one_kind Erasing Rewritable same = absurd cc
 one_kind Rewritable Erasing same = absurd cc
 one_kind Rewritable Rewritable same = refl
 
--- the letter behind `area=` tells the role
-abbrev role_told : List ℕ → Role
-role_told word = cond (get_or word 5 0 == 110) Nvs (cond (get_or word 5 0 == 122) Zms (cond (get_or word 5 0 == 102) Fcb Sel))
+-- the letter behind `area=` reports the role
+abbrev role_reported : List ℕ → Role
+role_reported word = cond (get_or word 5 0 == 110) Nvs (cond (get_or word 5 0 == 122) Zms (cond (get_or word 5 0 == 102) Fcb Sel))
 
-told_again : (role : Role) → role_told (area_word role) ≡ role
-told_again Nvs = refl
-told_again Zms = refl
-told_again Fcb = refl
-told_again Sel = refl
+reported_again : (role : Role) → role_reported (area_word role) ≡ role
+reported_again Nvs = refl
+reported_again Zms = refl
+reported_again Fcb = refl
+reported_again Sel = refl
 
 one_role : (a b : Role) → area_word a ≡ area_word b → a ≡ b
-one_role a b same = sym (told_again a) ∙ ap role_told same ∙ told_again b
+one_role a b same = sym (reported_again a) ∙ ap role_reported same ∙ reported_again b
 
 one_number : (m n : ℕ) → m < 2 ^ 32 → n < 2 ^ 32 → decimal m ≡ decimal n → m ≡ n
 one_number m n small other same = decimal_injective m n (omega (arith, small)) (omega (arith, other)) same
@@ -71,7 +71,7 @@ one_area a b versions is other plain plain_other same =
     ∙ ap (λ (n : ℕ). area_with b.version b.label.bytes b.role b.bank b.first n) sectors
     ∙ plain_other
 
--- the item that tells the version is one word
+-- the item that reports the version is one word
 not_version : (item : List ℕ) (old any : Listed) {other : Listed} → AddsVersion old item other → AddsBank old item any ⊎ AddsArea old item any → ⊥
 not_version item old any x (inl y) = let many = ap length (sym (ap (parts 47) x.word) ∙ y.words) in absurd (omega arith)
 not_version item old any x (inr y) = let many = ap length (sym (ap (parts 47) x.word) ∙ y.words) in absurd (omega arith)

@@ -10,23 +10,23 @@ at_first a i least = elim (cases_lt a i) [ inl lt ↦ inr (omega arith) | inr le
 
 module _ (bytes : List ℕ) where
   -- a fault of the front is one of the whole
-  pub front_fault : (front more : List Row) (at : ℕ) (why : ImageWhy) → FirstFault bytes front at why → FirstFault bytes (front ++ more) at why
-  front_fault [] more at why fault = absurd fault
-  front_fault (row ∷ front) more at why (inl departs) = inl departs
-  front_fault (row ∷ front) more at why (inr later) = inr (later.0, front_fault front more at why later.1)
+  pub prefix_fault : (prefix more : List Row) (at : ℕ) (why : ImageWhy) → FirstFault bytes prefix at why → FirstFault bytes (prefix ++ more) at why
+  prefix_fault [] more at why fault = absurd fault
+  prefix_fault (row ∷ prefix) more at why (inl departs) = inl departs
+  prefix_fault (row ∷ prefix) more at why (inr later) = inr (later.0, prefix_fault prefix more at why later.1)
 
   -- and so is one behind a front that holds
-  pub later_fault : (front more : List Row) (at : ℕ) (why : ImageWhy) → AllHold bytes front → FirstFault bytes more at why → FirstFault bytes (front ++ more) at why
+  pub later_fault : (prefix more : List Row) (at : ℕ) (why : ImageWhy) → AllHold bytes prefix → FirstFault bytes more at why → FirstFault bytes (prefix ++ more) at why
   later_fault [] more at why hold fault = fault
-  later_fault (row ∷ front) more at why hold fault = inr (hold.0, later_fault front more at why hold.1 fault)
+  later_fault (row ∷ prefix) more at why hold fault = inr (hold.0, later_fault prefix more at why hold.1 fault)
 
-  pub AllHold-append : (front more : List Row) → AllHold bytes front → AllHold bytes more → AllHold bytes (front ++ more)
+  pub AllHold-append : (prefix more : List Row) → AllHold bytes prefix → AllHold bytes more → AllHold bytes (prefix ++ more)
   AllHold-append [] more hold rest = rest
-  AllHold-append (row ∷ front) more hold rest = (hold.0, AllHold-append front more hold.1 rest)
+  AllHold-append (row ∷ prefix) more hold rest = (hold.0, AllHold-append prefix more hold.1 rest)
 
-  pub AllHold-front : (front more : List Row) → AllHold bytes (front ++ more) → AllHold bytes front × AllHold bytes more
-  AllHold-front [] more hold = (tt, hold)
-  AllHold-front (row ∷ front) more hold = let rest = AllHold-front front more hold.1 in ((hold.0, rest.0), rest.1)
+  pub AllHold-prefix : (prefix more : List Row) → AllHold bytes (prefix ++ more) → AllHold bytes prefix × AllHold bytes more
+  AllHold-prefix [] more hold = (tt, hold)
+  AllHold-prefix (row ∷ prefix) more hold = let rest = AllHold-prefix prefix more hold.1 in ((hold.0, rest.0), rest.1)
 
   module _ (row : ℕ → Row) where
     from_each : (a n : ℕ) → ((k : ℕ) → a ≤ k → k < a + n → Holds bytes (row k)) → AllHold bytes (map row (range_with_len a n))

@@ -76,17 +76,17 @@ module _ (image : Plain) (is : IsImage image) where
   abbrev bank_bytes : List ℕ
   bank_bytes = flat_map bank_text image.banks
 
-  version_told : version_said file ≡ image.version
+  version_reported : version_said file ≡ image.version
   unfolding file_of
-  version_told = refl
+  version_reported = refl
 
-  banks_told : bank_count file ≡ length image.banks
+  banks_reported : bank_count file ≡ length image.banks
   unfolding file_of
-  banks_told = refl
+  banks_reported = refl
 
-  areas_told : area_count file ≡ length image.areas
+  areas_reported : area_count file ≡ length image.areas
   unfolding file_of
-  areas_told = refl
+  areas_reported = refl
 
   behind_header : drop 8 file ≡ bank_bytes ++ (area_bytes ++ all_bytes)
   unfolding file_of
@@ -115,7 +115,7 @@ module _ (image : Plain) (is : IsImage image) where
 
   area_field : (i : ℕ) → i < length image.areas → field_at file (area_place file i) 16 ≡ area_text (area_at image.areas i)
   area_field i below =
-      let place : area_place file i ≡ (8 + 12 * length image.banks) + 16 * i = omega (arith, banks_told) in
+      let place : area_place file i ≡ (8 + 12 * length image.banks) + 16 * i = omega (arith, banks_reported) in
       ap (λ (n : ℕ). take 16 (drop n file)) place
       ∙ ap (take 16) (sym (drop-drop (16 * i) (8 + 12 * length image.banks) file) ∙ ap (drop (16 * i)) behind_banks)
       ∙ nth_text area_text 16 no_area image.areas all_bytes i (λ k below. length-area_text (area_at image.areas k) (few k below)) below
@@ -124,7 +124,7 @@ module _ (image : Plain) (is : IsImage image) where
   bank_again i below = sym (ap bank_said (bank_field i below) ∙ bank_said-text image.version (bank_at image.banks i) (is.each_bank i below))
 
   banks_again : image.banks ≡ all_banks file
-  banks_again = fill_by_all (λ i. bank_said (field_at file (bank_place i) 12)) image.banks (bank_count file) no_bank (sym banks_told) (λ k below. bank_again k (omega (arith, banks_told)))
+  banks_again = fill_by_all (λ i. bank_said (field_at file (bank_place i) 12)) image.banks (bank_count file) no_bank (sym banks_reported) (λ k below. bank_again k (omega (arith, banks_reported)))
 
   -- an area lies in a bank of at most 64 sectors
   sectors_few : (i : ℕ) → i < length image.areas → (area_at image.areas i).first + (area_at image.areas i).sectors ≤ 64
@@ -137,14 +137,14 @@ module _ (image : Plain) (is : IsImage image) where
 
   area_again : (i : ℕ) → i < length image.areas → area_at image.areas i ≡ area_said (version_said file) (field_at file (area_place file i) 16)
   area_again i below =
-      let version : version_said file ≡ (area_at image.areas i).version = version_told ∙ sym (All-get_or (HasVersion image.version) image.areas i no_area below is.versions) in
+      let version : version_said file ≡ (area_at image.areas i).version = version_reported ∙ sym (All-get_or (HasVersion image.version) image.areas i no_area below is.versions) in
       sym (ap (λ (v : ℕ). area_said v (field_at file (area_place file i) 16)) version ∙ ap (area_said (area_at image.areas i).version) (area_field i below) ∙ area_said-text (area_at image.areas i) (few i below) (omega (arith, sectors_few i below)) (omega (arith, sectors_few i below)) ∙ plain_at i below)
 
   areas_again : image.areas ≡ all_areas file
-  areas_again = fill_by_all (λ i. area_said (version_said file) (field_at file (area_place file i) 16)) image.areas (area_count file) no_area (sym areas_told) (λ k below. area_again k (omega (arith, areas_told)))
+  areas_again = fill_by_all (λ i. area_said (version_said file) (field_at file (area_place file i) 16)) image.areas (area_count file) no_area (sym areas_reported) (λ k below. area_again k (omega (arith, areas_reported)))
 
-  front_again : (i : ℕ) → i < length image.areas → take i image.areas ≡ areas_said file i
-  front_again i below = ap (take i) areas_again ∙ take-map-range_with_len (λ i. area_said (version_said file) (field_at file (area_place file i) 16)) 0 (area_count file) i (omega (arith, areas_told))
+  prefix_again : (i : ℕ) → i < length image.areas → take i image.areas ≡ areas_said file i
+  prefix_again i below = ap (take i) areas_again ∙ take-map-range_with_len (λ i. area_said (version_said file) (field_at file (area_place file i) 16)) 0 (area_count file) i (omega (arith, areas_reported))
 
   copies : AreCopies image.bytes image.banks
   copies = (is.count, is.lengths)
@@ -154,7 +154,7 @@ module _ (image : Plain) (is : IsImage image) where
 
   copy_field : (i : ℕ) → i < length image.banks → get_or image.bytes i [] ≡ field_at file (contents_place file i) (contents_size file i)
   copy_field i below =
-      let start : area_place file (area_count file) ≡ 8 + 12 * length image.banks + 16 * length image.areas = omega (arith, banks_told, areas_told) in
+      let start : area_place file (area_count file) ≡ 8 + 12 * length image.banks + 16 * length image.areas = omega (arith, banks_reported, areas_reported) in
       let place : contents_place file i ≡ (8 + 12 * length image.banks + 16 * length image.areas) + sum_by capacity (take i image.banks) = ap (λ (n : ℕ). n + sum_by capacity (take i (all_banks file))) start ∙ ap (λ (bs : List Bank). (8 + 12 * length image.banks + 16 * length image.areas) + sum_by capacity (take i bs)) (sym banks_again) in
       sym (ap (λ (n : ℕ). take (contents_size file i) (drop n file)) place
       ∙ ap (λ (bs : List Bank). take (capacity (bank_at bs i)) (drop ((8 + 12 * length image.banks + 16 * length image.areas) + sum_by capacity (take i image.banks)) file)) (sym banks_again)
@@ -162,52 +162,52 @@ module _ (image : Plain) (is : IsImage image) where
       ∙ nth_copy image.bytes image.banks i copies below)
 
   contents_again : image.bytes ≡ contents_said file (bank_count file)
-  contents_again = fill_by_all (λ i. field_at file (contents_place file i) (contents_size file i)) image.bytes (bank_count file) [] (is.count ∙ sym banks_told) (λ k below. copy_field k (omega (arith, banks_told)))
+  contents_again = fill_by_all (λ i. field_at file (contents_place file i) (contents_size file i)) image.bytes (bank_count file) [] (is.count ∙ sym banks_reported) (λ k below. copy_field k (omega (arith, banks_reported)))
 
   -- the file says the image
   pub said_again : image ≡ image_said file
-  said_again = same_image file image.version image.banks image.areas image.bytes (sym version_told) banks_again areas_again contents_again
+  said_again = same_image file image.version image.banks image.areas image.bytes (sym version_reported) banks_again areas_again contents_again
 
-  sum_front : (i : ℕ) → i < length image.banks → sum_by capacity (take i image.banks) + capacity (bank_at image.banks i) ≤ sum_by capacity image.banks
-  sum_front i below = sum_by_more_le capacity image.banks i no_bank below
+  sum_prefix : (i : ℕ) → i < length image.banks → sum_by capacity (take i image.banks) + capacity (bank_at image.banks i) ≤ sum_by capacity image.banks
+  sum_prefix i below = sum_by_more_le capacity image.banks i no_bank below
 
   contents_fit : (i : ℕ) → i < length image.banks → contents_place file i + contents_size file i ≤ length file
   contents_fit i below =
-      let front : sum_by capacity (take i (all_banks file)) ≡ sum_by capacity (take i image.banks) = ap (λ (bs : List Bank). sum_by capacity (take i bs)) (sym banks_again) in
+      let prefix : sum_by capacity (take i (all_banks file)) ≡ sum_by capacity (take i image.banks) = ap (λ (bs : List Bank). sum_by capacity (take i bs)) (sym banks_again) in
       let size : contents_size file i ≡ capacity (bank_at image.banks i) = ap (λ (bs : List Bank). capacity (bank_at bs i)) (sym banks_again) in
-      omega (arith, front, size, sum_front i below, length-file, length-banks, length-areas, length-copies image.bytes image.banks copies, banks_told, areas_told)
+      omega (arith, prefix, size, sum_prefix i below, length-file, length-banks, length-areas, length-copies image.bytes image.banks copies, banks_reported, areas_reported)
 
   at_end : length file ≡ contents_place file (bank_count file)
   at_end =
-      let all : sum_by capacity (take (bank_count file) (all_banks file)) ≡ sum_by capacity image.banks = ap (λ (bs : List Bank). sum_by capacity (take (bank_count file) bs)) (sym banks_again) ∙ ap (sum_by capacity) (take_all (bank_count file) image.banks (omega (arith, banks_told))) in
-      omega (arith, all, length-file, length-banks, length-areas, length-copies image.bytes image.banks copies, banks_told, areas_told)
+      let all : sum_by capacity (take (bank_count file) (all_banks file)) ≡ sum_by capacity image.banks = ap (λ (bs : List Bank). sum_by capacity (take (bank_count file) bs)) (sym banks_again) ∙ ap (sum_by capacity) (take_all (bank_count file) image.banks (omega (arith, banks_reported))) in
+      omega (arith, all, length-file, length-banks, length-areas, length-copies image.bytes image.banks copies, banks_reported, areas_reported)
 
   bank_holds : (i : ℕ) → i < bank_count file → Holds file (BankAt i)
   bank_holds i below =
-      let small : i < length image.banks = omega (arith, banks_told) in
+      let small : i < length image.banks = omega (arith, banks_reported) in
       record {
         whole = omega (arith, small, length-file, length-banks);
         rule = record {
           spelled = bank_field i small ∙ ap bank_text (bank_again i small);
-          lawful = subst (IsImageBank (version_said file)) (bank_again i small) (subst (λ (v : ℕ). IsImageBank v (bank_at image.banks i)) (sym version_told) (is.each_bank i small));
+          lawful = subst (IsImageBank (version_said file)) (bank_again i small) (subst (λ (v : ℕ). IsImageBank v (bank_at image.banks i)) (sym version_reported) (is.each_bank i small));
         };
       }
 
   area_holds : (i : ℕ) → i < area_count file → Holds file (AreaAt i)
   area_holds i below =
-      let small : i < length image.areas = omega (arith, areas_told) in
+      let small : i < length image.areas = omega (arith, areas_reported) in
       let by_banks : IsImageArea (all_banks file) (take i image.areas) (area_at image.areas i) = subst (λ (bs : List Bank). IsImageArea bs (take i image.areas) (area_at image.areas i)) banks_again (is.each_area i small) in
-      let by_front : IsImageArea (all_banks file) (areas_said file i) (area_at image.areas i) = subst (λ (l : List Area). IsImageArea (all_banks file) l (area_at image.areas i)) (front_again i small) by_banks in
+      let by_prefix : IsImageArea (all_banks file) (areas_said file i) (area_at image.areas i) = subst (λ (l : List Area). IsImageArea (all_banks file) l (area_at image.areas i)) (prefix_again i small) by_banks in
       record {
-        whole = omega (arith, small, length-file, length-banks, length-areas, banks_told);
+        whole = omega (arith, small, length-file, length-banks, length-areas, banks_reported);
         rule = record {
           spelled = area_field i small ∙ ap area_text (area_again i small);
-          lawful = subst (λ (a : Area). IsImageArea (all_banks file) (areas_said file i) a) (area_again i small) by_front;
+          lawful = subst (λ (a : Area). IsImageArea (all_banks file) (areas_said file i) a) (area_again i small) by_prefix;
         };
       }
 
   copy_holds : (i : ℕ) → i < bank_count file → Holds file (ContentsAt i)
-  copy_holds i below = record { whole = contents_fit i (omega (arith, banks_told)); rule = tt }
+  copy_holds i below = record { whole = contents_fit i (omega (arith, banks_reported)); rule = tt }
 
   header_holds : AllHold file header_rows
   unfolding file_of
@@ -226,7 +226,7 @@ module _ (image : Plain) (is : IsImage image) where
   )
 
   needed_holds : Holds file Needed
-  needed_holds = record { whole = omega (arith, length-file, length-banks, length-areas, banks_told, areas_told); rule = subst HasNeeded areas_again is.needed }
+  needed_holds = record { whole = omega (arith, length-file, length-banks, length-areas, banks_reported, areas_reported); rule = subst HasNeeded areas_again is.needed }
 
   -- every field of the file is what it must be
   pub all_hold_again : AllHold file (rows file)

@@ -111,7 +111,7 @@ found_answer version item other old_banks banks old_areas areas None (Some area)
 found_answer version item other old_banks banks old_areas areas None None b lawful is_bank is_area takes =
     subst (λ (x : Bool). TakesItem item (listed version old_banks old_areas) (listed version banks areas) (Ok x)) (sym (false_is b takes)) (λ any adds. no_answer version item other old_banks old_areas lawful.few_banks lawful.each_bank is_bank is_area any adds)
 
--- the item that tells the version is one word
+-- the item that reports the version is one word
 pub version_answer : (item : List ℕ) (old new : Listed) (b : Bool) → item ≡ version_word → TakesVersion old new b → TakesItem item old new (Ok b)
 version_answer item old new true word takes = inl (record { word = word; first = takes.0; is = takes.1 })
 version_answer item old new false word takes = λ any adds. by_item item old any (λ a. takes a.first)
@@ -146,9 +146,9 @@ adds_listed old new item l (inr (inr a)) = subst IsListed (sym a.is) (record {
     | inl lt ↦ subst (λ (x : Area). IsImageArea old.banks (take i (old.areas ++ a.area ∷ [])) x) (sym (get_or_append_left old.areas (a.area ∷ []) no_area i lt))
         (subst (λ (xs : List Area). IsImageArea old.banks xs (area_at old.areas i)) (sym (take-append-le i old.areas (a.area ∷ []) (omega (arith, lt)))) (l.each_area i lt))
     | inr le ↦
-        let front : take i (old.areas ++ a.area ∷ []) ≡ old.areas = take-append-le i old.areas (a.area ∷ []) (omega (arith, below, length-append old.areas (a.area ∷ []))) ∙ take_all i old.areas le in
+        let prefix : take i (old.areas ++ a.area ∷ []) ≡ old.areas = take-append-le i old.areas (a.area ∷ []) (omega (arith, below, length-append old.areas (a.area ∷ []))) ∙ take_all i old.areas le in
         subst (λ (x : Area). IsImageArea old.banks (take i (old.areas ++ a.area ∷ [])) x) (sym (get_or-append_right old.areas (a.area ∷ []) (length old.areas) i no_area refl le ∙ ap (λ (k : ℕ). get_or (a.area ∷ []) k no_area) (last_zero i (length old.areas) le (omega (arith, below, length-append old.areas (a.area ∷ []))))))
-        (subst (λ (xs : List Area). IsImageArea old.banks xs a.area) (sym front) a.lawful)
+        (subst (λ (xs : List Area). IsImageArea old.banks xs a.area) (sym prefix) a.lawful)
   ];
   plain = map_push plain_area old.areas a.area ∙ ap (λ (xs : List Area). xs ++ plain_area a.area ∷ []) l.plain ∙ ap (λ (x : Area). old.areas ++ x ∷ []) a.plain;
 })

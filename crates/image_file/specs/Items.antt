@@ -55,7 +55,7 @@ TakesFound version old_banks banks old_areas areas None (Some area) result =
     TakesListed old_banks old_areas areas area result × (banks ≡ old_banks)
 TakesFound version old_banks banks old_areas areas None None result = result ≡ Ok false
 
--- the answer says whether an item may tell the version
+-- the answer says whether an item may name the version
 abbrev pub TakesVersion : Listed → Listed → Bool → Type 0
 TakesVersion old new true = (old ≡ nothing_listed) × (new ≡ second_version)
 TakesVersion old new false = old ≡ nothing_listed → ⊥

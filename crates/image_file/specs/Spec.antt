@@ -55,7 +55,7 @@ version_word = codes "version=2"
 abbrev pub listed : ℕ → List Bank → List Area → Listed
 listed version banks areas = record { version = version; banks = banks; areas = map plain_area areas }
 
--- the item stands before all others, and tells the version
+-- the item stands before all others, and names the version
 pub record AddsVersion (old : Listed) (item : List ℕ) (new : Listed) : Type 0 where
   pub word : item ≡ version_word
   pub first : old ≡ nothing_listed
@@ -116,7 +116,7 @@ pub record IsNumber (word : List ℕ) (found : Option ℕ) : Type 0 where
   pub sound : IfSome found (λ n. word ≡ decimal n)
   pub only : (n : ℕ) → n < 2 ^ 32 → word ≡ decimal n → found ≡ Some n
 
-pub record IsKind (word : List ℕ) (found : Option Kind) : Type 0 where
+pub record IsSectorFormat (word : List ℕ) (found : Option Kind) : Type 0 where
   pub sound : IfSome found (λ kind. word ≡ bank_word kind)
   pub only : (kind : Kind) → word ≡ bank_word kind → found ≡ Some kind
 

@@ -1,4 +1,4 @@
--- How a play ends, from how its lines ended on a bench that was just loaded.
+-- How a job ends, from how its lines ended on a bench that was just loaded.
 use Rattle.std.proofs.Common.{◌≡◌, ◌⊎◌, ℕ, true, List, ◌∷◌, map, Option, None, Err, inl, inr, refl, sym, ap, subst, ◌∙◌}
 use Rattle.flash_sim.specs.Device.{Device}
 use Rattle.flash_sim.specs.declared.flash.Bank.{Bank}
@@ -15,20 +15,20 @@ use Rattle.session_table.specs.Bench.{area_at, state_of}
 use Rattle.session.specs.declared.fault.SessionFault.{SessionFault}
 use Rattle.session.specs.declared.fault.SessionFault.TheVariants.{Damaged as IsDamaged, NoMemory as WantsMemory}
 use Rattle.session.specs.OnMap.{IsAtRest, Ran, RunStops, damage_in, limit_of, moment}
-use Rattle.image_jobs.specs.declared.plays.Play.{Play}
+use Rattle.image_jobs.specs.declared.jobs.Job.{Job}
 use Rattle.image_jobs.specs.Held.{held}
 use Rattle.image_jobs.specs.Images.{ReadsAs, begun, damage_of, left}
-use Rattle.image_jobs.specs.Inputs.{BeginsWith, PlaysLines, out_of, told_by}
+use Rattle.image_jobs.specs.Inputs.{BeginsWith, GivesLines, out_of, reported_by}
 use Rattle.image_jobs.specs.declared.stops.Refusal.TheVariants.{BadSpec, NoFile, BadFile, NoLog, NoItems, NoMirror, BadArea, Unfit, BadScript}
 use Rattle.image_jobs.specs.declared.stops.Stop.{Stop}
 use Rattle.image_jobs.specs.declared.stops.Stop.TheVariants.{Refused, HostFailed, NoMemory}
-use Rattle.image_jobs.specs.Plays.{File, FindsDamage, HasBegun, IsStop, PlayEnds, Plays, Sets, WritesLeft, closing, opening}
+use Rattle.image_jobs.specs.Jobs.{File, FindsDamage, HasBegun, IsStop, JobEnds, JobDoes, Sets, WritesLeft, closing, opening}
 use Rattle.image_jobs.specs.Stages.{Stage, Stores, stage}
 use Rattle.image_jobs.proofs.Held.{damage_same, reads_as}
 
-module _ (k : Stores) (kinds : List HandlerKind) (play : Play) (outside : Outside) (banks : List Bank) (bytes : List (List ℕ)) (areas : List Area) (lines : List Line)
+module _ (k : Stores) (kinds : List HandlerKind) (job : Job) (outside : Outside) (banks : List Bank) (bytes : List (List ℕ)) (areas : List Area) (lines : List Line)
     (bench bench' : Device) (registry registry' : List Registered) where
-  -- the image of the play
+  -- the image of the job
   abbrev pub image : Plain
   image = record { version = version_of areas; banks = banks; areas = map plain_area areas; bytes = bytes }
 
@@ -38,17 +38,17 @@ module _ (k : Stores) (kinds : List HandlerKind) (play : Play) (outside : Outsid
   abbrev pub new : Stage
   new = stage bench' registry'
 
-  module _ (begins : BeginsWith play.start outside image) (plays : PlaysLines play.source (limit_of areas) outside lines) where
-    pub sets : Sets play outside image areas lines
-    sets = record { opens = record { begins = begins; has = record { version = refl; are = refl } }; plays = plays }
+  module _ (begins : BeginsWith job.start outside image) (gives : GivesLines job.source (limit_of areas) outside lines) where
+    pub sets : Sets job outside image areas lines
+    sets = record { opens = record { begins = begins; has = record { version = refl; are = refl } }; gives = gives }
 
     pub done : (answers : List Answer) (left_kinds : List HandlerKind) (text : List ℕ) (file : Option File)
         → Ran k.meanings k.damage areas (Mount ∷ lines) answers (opening old image kinds) (closing new left_kinds)
         → (damage_in k.damage areas (begun image bench) ≡ None → damage_in k.damage areas bench' ≡ None)
         → (bench'.is_on ≡ true → IsAtRest k.rests areas bench')
-        → text ≡ told_by play.telling lines answers
-        → WritesLeft (out_of play.output) (held areas bench') file
-        → Plays k kinds play outside old new text file
+        → text ≡ reported_by job.report lines answers
+        → WritesLeft (out_of job.output) (held areas bench') file
+        → JobDoes k kinds job outside old new text file
     done answers left_kinds text file ran undamaged rests prints writes =
         let same : held areas bench' ≡ left image bench' =
         ap (λ (banks : List Bank). record { version = version_of areas; banks = banks; areas = map plain_area areas; bytes = bench'.bytes }) ran.whole.keeps.banks in
@@ -69,13 +69,13 @@ module _ (k : Stores) (kinds : List HandlerKind) (play : Play) (outside : Outsid
           banks = ran.whole.keeps.banks;
           loads = ran.whole.keeps.loads;
           prints = prints;
-          writes = subst (λ (i : Plain). WritesLeft (out_of play.output) i file) same writes;
+          writes = subst (λ (i : Plain). WritesLeft (out_of job.output) i file) same writes;
         }
 
     pub damaged : (place : ℕ) (damage : Damaged) (label : List ℕ) → label ≡ (area_at areas place).label.bytes
         → RunStops k.meanings k.damage areas (Mount ∷ lines) (opening old image kinds) bench' (IsDamaged place damage)
         → (damage_in k.damage areas (begun image bench) ≡ None → IsDamaged place damage ≡ WantsMemory)
-        → FindsDamage k kinds play outside old new label damage
+        → FindsDamage k kinds job outside old new label damage
     damaged place damage label named stops serves = record {
       image = image;
       areas = areas;
@@ -92,13 +92,13 @@ module _ (k : Stores) (kinds : List HandlerKind) (play : Play) (outside : Outsid
 
     pub began : (RunStops k.meanings k.damage areas (Mount ∷ lines) (opening old image kinds) bench' WantsMemory
         ⊎ ((answers : List Answer) × (left_kinds : List HandlerKind) × Ran k.meanings k.damage areas (Mount ∷ lines) answers (opening old image kinds) (closing new left_kinds)))
-        → HasBegun k kinds play outside old new
+        → HasBegun k kinds job outside old new
     began went = record { image = image; areas = areas; lines = lines; sets = sets; went = went }
 
     stopped_at : (fault : SessionFault) (stop : Stop) → RunStops k.meanings k.damage areas (Mount ∷ lines) (opening old image kinds) bench' fault
-        → (damage_in k.damage areas (begun image bench) ≡ None → fault ≡ WantsMemory) → IsStop areas fault stop → PlayEnds k kinds play outside outside old new (Err stop)
+        → (damage_in k.damage areas (begun image bench) ≡ None → fault ≡ WantsMemory) → IsStop areas fault stop → JobEnds k kinds job outside outside old new (Err stop)
     stopped_at (IsDamaged place damage) (Refused (BadArea label found)) stops serves is =
-        (inr (inr (subst (λ (d : Damaged). FindsDamage k kinds play outside old new label.bytes d) (sym is.1) (damaged place damage label.bytes is.0 stops serves))), refl)
+        (inr (inr (subst (λ (d : Damaged). FindsDamage k kinds job outside old new label.bytes d) (sym is.1) (damaged place damage label.bytes is.0 stops serves))), refl)
     stopped_at (IsDamaged place damage) (Refused BadSpec) stops serves is = absurd is
     stopped_at (IsDamaged place damage) (Refused (NoFile word)) stops serves is = absurd is
     stopped_at (IsDamaged place damage) (Refused (BadFile at why)) stops serves is = absurd is
@@ -116,25 +116,25 @@ module _ (k : Stores) (kinds : List HandlerKind) (play : Play) (outside : Outsid
     -- the same from the flash as it was when the lines began
     module _ (first : Device) (loaded : first ≡ begun image bench) where
       pub stopped : (fault : SessionFault) (stop : Stop) → RunStops k.meanings k.damage areas (Mount ∷ lines) (moment first registry kinds) bench' fault
-          → (damage_in k.damage areas first ≡ None → fault ≡ WantsMemory) → IsStop areas fault stop → PlayEnds k kinds play outside outside old new (Err stop)
+          → (damage_in k.damage areas first ≡ None → fault ≡ WantsMemory) → IsStop areas fault stop → JobEnds k kinds job outside outside old new (Err stop)
       stopped fault stop stops serves is =
           stopped_at fault stop
           (subst (λ (d : Device). RunStops k.meanings k.damage areas (Mount ∷ lines) (moment d registry kinds) bench' fault) loaded stops)
           (subst (λ (d : Device). damage_in k.damage areas d ≡ None → fault ≡ WantsMemory) loaded serves) is
 
       pub wanted : (answers : List Answer) (left_kinds : List HandlerKind)
-          → Ran k.meanings k.damage areas (Mount ∷ lines) answers (moment first registry kinds) (closing new left_kinds) → PlayEnds k kinds play outside outside old new (Err NoMemory)
+          → Ran k.meanings k.damage areas (Mount ∷ lines) answers (moment first registry kinds) (closing new left_kinds) → JobEnds k kinds job outside outside old new (Err NoMemory)
       wanted answers left_kinds ran =
           (inr (began (inr (answers, left_kinds, subst (λ (d : Device). Ran k.meanings k.damage areas (Mount ∷ lines) answers (moment d registry kinds) (closing new left_kinds)) loaded ran))), refl)
 
-      pub played : (answers : List Answer) (left_kinds : List HandlerKind) (text : List ℕ) (file : Option File)
+      pub job_done : (answers : List Answer) (left_kinds : List HandlerKind) (text : List ℕ) (file : Option File)
           → Ran k.meanings k.damage areas (Mount ∷ lines) answers (moment first registry kinds) (closing new left_kinds)
           → (damage_in k.damage areas first ≡ None → damage_in k.damage areas bench' ≡ None)
           → (bench'.is_on ≡ true → IsAtRest k.rests areas bench')
-          → text ≡ told_by play.telling lines answers
-          → WritesLeft (out_of play.output) (held areas bench') file
-          → Plays k kinds play outside old new text file
-      played answers left_kinds text file ran undamaged rests prints writes =
+          → text ≡ reported_by job.report lines answers
+          → WritesLeft (out_of job.output) (held areas bench') file
+          → JobDoes k kinds job outside old new text file
+      job_done answers left_kinds text file ran undamaged rests prints writes =
           done answers left_kinds text file
           (subst (λ (d : Device). Ran k.meanings k.damage areas (Mount ∷ lines) answers (moment d registry kinds) (closing new left_kinds)) loaded ran)
           (subst (λ (d : Device). damage_in k.damage areas d ≡ None → damage_in k.damage areas bench' ≡ None) loaded undamaged)

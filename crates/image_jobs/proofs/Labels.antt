@@ -22,9 +22,9 @@ use Rattle.migrator.proofs.Migration.{active-store}
 use Rattle.script_lines.specs.declared.line.Line.{Line}
 use Rattle.script_lines.specs.declared.line.Line.TheVariants.{Set, Get, Del as Delete, Register, Load, Direct, Save, Commit, RunSet, RunGet, Names, Mount, Cut, Uncut, Migrate}
 use Rattle.script_lines.specs.declared.answer.Answer.{Answer}
-use Rattle.script_lines.specs.declared.answer.Answer.TheVariants.{Done, Value, Absent, Lost, Off, NoSpace, TooMany, Exists, NoKind, NoTarget, Rejected, NoHandler, Loaded, Direct as Told, Saved, Names as Named}
+use Rattle.script_lines.specs.declared.answer.Answer.TheVariants.{Done, Value, Absent, Lost, Off, NoSpace, TooMany, Exists, NoKind, NoTarget, Rejected, NoHandler, Loaded, Direct as Reported, Saved, Names as Named}
 use Rattle.script_lines.specs.declared.lists.Pair.{Pair}
-use Rattle.script_lines.specs.Answer.{CanTell, Rise}
+use Rattle.script_lines.specs.Answer.{CanReport, Rise}
 use Rattle.session_table.specs.Bench.{Meanings, Moment, area_at, rules_of, state_of}
 use Rattle.session_table.specs.Follows.{Follows}
 use Rattle.session_table.specs.Rules.{Rules}
@@ -90,7 +90,7 @@ active_is_store areas d some = active_with_store areas d some (selector_of areas
 
 -- ---- answers
 
-named_label : (r : Rules) (line : Line) (label : List ℕ) (pairs : List Pair) (old new : State) → IsLabel (r.label old.active) → Step r line (Named label pairs) old new → CanTell (Named label pairs)
+named_label : (r : Rules) (line : Line) (label : List ℕ) (pairs : List Pair) (old new : State) → IsLabel (r.label old.active) → Step r line (Named label pairs) old new → CanReport (Named label pairs)
 named_label r Names label pairs old new is step = (subst IsLabel (sym step.1.0) is, subst Rise (sym step.1.1) (names_rise old.settings))
 named_label r (Set name value) label pairs old new is step = absurd step.1
 named_label r (Get name) label pairs old new is step = absurd step.1
@@ -107,37 +107,37 @@ named_label r (Cut units) label pairs old new is step = absurd step.1
 named_label r Uncut label pairs old new is step = absurd step.1
 named_label r Migrate label pairs old new is step = absurd step.1.2
 
-can_tell : (r : Rules) (line : Line) (answer : Answer) (old new : State) → IsLabel (r.label old.active) → Step r line answer old new → CanTell answer
-can_tell r line (Named label pairs) old new is step = named_label r line label pairs old new is step
-can_tell r line (Done units) old new is step = tt
-can_tell r line (Value value) old new is step = tt
-can_tell r line Absent old new is step = tt
-can_tell r line (Lost units chance) old new is step = tt
-can_tell r line Off old new is step = tt
-can_tell r line (NoSpace units need live) old new is step = tt
-can_tell r line (TooMany units) old new is step = tt
-can_tell r line Exists old new is step = tt
-can_tell r line NoKind old new is step = tt
-can_tell r line NoTarget old new is step = tt
-can_tell r line Rejected old new is step = tt
-can_tell r line NoHandler old new is step = tt
-can_tell r line (Loaded gives taken rejected passed) old new is step = tt
-can_tell r line (Told pairs) old new is step = tt
-can_tell r line (Saved pairs units end) old new is step = tt
+can_report : (r : Rules) (line : Line) (answer : Answer) (old new : State) → IsLabel (r.label old.active) → Step r line answer old new → CanReport answer
+can_report r line (Named label pairs) old new is step = named_label r line label pairs old new is step
+can_report r line (Done units) old new is step = tt
+can_report r line (Value value) old new is step = tt
+can_report r line Absent old new is step = tt
+can_report r line (Lost units chance) old new is step = tt
+can_report r line Off old new is step = tt
+can_report r line (NoSpace units need live) old new is step = tt
+can_report r line (TooMany units) old new is step = tt
+can_report r line Exists old new is step = tt
+can_report r line NoKind old new is step = tt
+can_report r line NoTarget old new is step = tt
+can_report r line Rejected old new is step = tt
+can_report r line NoHandler old new is step = tt
+can_report r line (Loaded gives taken rejected passed) old new is step = tt
+can_report r line (Reported pairs) old new is step = tt
+can_report r line (Saved pairs units end) old new is step = tt
 
 module _ (m : Meanings) (damage : Area → Geometry → List (List ℕ) → Option Damaged) (areas : List Area) (labels : (d : Device) → IsLabel (area_at areas (active_on areas d)).label.bytes) where
-  pub can_tell_all : (lines : List Line) (answers : List Answer) (old new : Moment) → Follows (LineCarried m damage areas) lines answers old new → All CanTell answers
-  can_tell_all [] [] old new runs = All-nil CanTell
-  can_tell_all [] (answer ∷ answers) old new runs = absurd runs
-  can_tell_all (line ∷ lines) [] old new runs = absurd runs
-  can_tell_all (line ∷ lines) (answer ∷ answers) old new (mid, carried, rest) =
+  pub can_report_all : (lines : List Line) (answers : List Answer) (old new : Moment) → Follows (LineCarried m damage areas) lines answers old new → All CanReport answers
+  can_report_all [] [] old new runs = All-nil CanReport
+  can_report_all [] (answer ∷ answers) old new runs = absurd runs
+  can_report_all (line ∷ lines) [] old new runs = absurd runs
+  can_report_all (line ∷ lines) (answer ∷ answers) old new (mid, carried, rest) =
       let last : mid.device.spent ≤ mid.device.spent = omega arith in
       let step = carried.done.step mid.device.spent last in
-      let one = can_tell (rules_of m areas old.device.banks mid.device.spent) line answer (state_of m areas old) (state_of m areas mid) (labels old.device) step in
-      All-cons CanTell answer answers one (can_tell_all lines answers mid new rest)
+      let one = can_report (rules_of m areas old.device.banks mid.device.spent) line answer (state_of m areas old) (state_of m areas mid) (labels old.device) step in
+      All-cons CanReport answer answers one (can_report_all lines answers mid new rest)
 
 -- each answer of a run on an image has a text
-pub tells : (m : Meanings) (damage : Area → Geometry → List (List ℕ) → Option Damaged) (areas : List Area) (d : Device) → IsImage (held areas d)
-    → (lines : List Line) (answers : List Answer) (old new : Moment) → Follows (LineCarried m damage areas) lines answers old new → All CanTell answers
-tells m damage areas d is lines answers old new runs =
-    can_tell_all m damage areas (λ e. store_label areas (held areas d) (active_on areas e) is refl (active_is_store areas e (has_store areas d is))) lines answers old new runs
+pub reports : (m : Meanings) (damage : Area → Geometry → List (List ℕ) → Option Damaged) (areas : List Area) (d : Device) → IsImage (held areas d)
+    → (lines : List Line) (answers : List Answer) (old new : Moment) → Follows (LineCarried m damage areas) lines answers old new → All CanReport answers
+reports m damage areas d is lines answers old new runs =
+    can_report_all m damage areas (λ e. store_label areas (held areas d) (active_on areas e) is refl (active_is_store areas e (has_store areas d is))) lines answers old new runs

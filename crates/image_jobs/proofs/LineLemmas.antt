@@ -6,7 +6,7 @@ use Rattle.script_lines.specs.Forms.{Form, Field, Said, SaysAll, Spells, form, f
 use Rattle.script_lines.specs.Forms.Field.{a_name, any_bytes, some_bytes}
 use Rattle.script_lines.specs.Forms.Said.{name, bytes}
 use Rattle.script_lines.specs.Line.{row_of, settings_forms}
-use Rattle.script_lines.specs.Script.{SpellsAll, told}
+use Rattle.script_lines.specs.Script.{SpellsAll, spoken}
 use Rattle.script_lines.specs.declared.line.Line.{Line}
 use Rattle.script_lines.specs.declared.line.Line.TheVariants.{Set, Get, Del, Register, Load, Direct, Save, Commit, RunSet, RunGet, Names, Mount, Cut, Uncut, Migrate}
 use Rattle.session.specs.OnMap.{IsServed}
@@ -73,4 +73,4 @@ lines_fit limit (text ∷ texts) (first ∷ lines) is zero line below = line_fit
 lines_fit limit (text ∷ texts) (first ∷ lines) is (suc k) line below = lines_fit limit texts lines is.1 k line (omega arith)
 
 pub lines_are_served : LinesAreServed
-lines_are_served limit text lines is = lines_fit limit (told (parts 10 text)) lines is
+lines_are_served limit text lines is = lines_fit limit (spoken (parts 10 text)) lines is

@@ -1,6 +1,6 @@
 -- Images on a bench, and how the active area of an image reads.
 use Rattle.std.specs.Prelude.{◌≡◌, ℕ, true, List, Option, None, map}
-use Rattle.flash_sim.specs.Device.{Device, Untold, loaded}
+use Rattle.flash_sim.specs.Device.{Device, Unknown, loaded}
 use Rattle.flash_map.specs.declared.area.Area.{Area}
 use Rattle.flash_map.specs.declared.faults.Damaged.{Damaged}
 use Rattle.flash_map.specs.On.{on}
@@ -38,7 +38,7 @@ flash_of image =
       spent = 0;
       loads = 0;
       last_loss = None;
-      plan = Untold;
+      plan = Unknown;
     }
 
 -- the place of its active area

@@ -1,5 +1,5 @@
--- Which image a play begins with and which lines it plays, or why there are none; and what it tells of the
--- answers.
+-- Which image a job begins with and which lines it carries out, or why there are none; and what
+-- it prints of the answers.
 use Rattle.std.specs.Prelude.{◌≡◌, ℕ, Option, Some, None, List, [], ◌∷◌, ◌++◌, codes}
 use Rattle.text_parts.specs.Parts.{parts}
 use Rattle.zs_host.specs.Outside.{Outside}
@@ -12,14 +12,14 @@ use Rattle.script_lines.specs.declared.line.Line.{Line}
 use Rattle.script_lines.specs.declared.line.Line.TheVariants as line
 use Rattle.script_lines.specs.declared.answer.Answer.{Answer}
 use Rattle.script_lines.specs.Generator.{generated}
-use Rattle.image_jobs.specs.declared.plays.Start.{Start}
-use Rattle.image_jobs.specs.declared.plays.Start.TheVariants.{File, Blank}
-use Rattle.image_jobs.specs.declared.plays.Source.{Source}
-use Rattle.image_jobs.specs.declared.plays.Source.TheVariants.{Script, Names, Migration, Generated}
-use Rattle.image_jobs.specs.declared.plays.Telling.{Telling}
-use Rattle.image_jobs.specs.declared.plays.Telling.TheVariants.{All, Last, Summary}
-use Rattle.image_jobs.specs.declared.plays.Output.{Output}
-use Rattle.image_jobs.specs.declared.plays.Output.TheVariants.{Nowhere, Into}
+use Rattle.image_jobs.specs.declared.jobs.Start.{Start}
+use Rattle.image_jobs.specs.declared.jobs.Start.TheVariants.{File, Blank}
+use Rattle.image_jobs.specs.declared.jobs.Source.{Source}
+use Rattle.image_jobs.specs.declared.jobs.Source.TheVariants.{Script, Names, Migration, Generated}
+use Rattle.image_jobs.specs.declared.jobs.Report.{Report}
+use Rattle.image_jobs.specs.declared.jobs.Report.TheVariants.{All, Last, Summary}
+use Rattle.image_jobs.specs.declared.jobs.Output.{Output}
+use Rattle.image_jobs.specs.declared.jobs.Output.TheVariants.{Nowhere, Into}
 use Rattle.image_jobs.specs.declared.stops.Refusal.{Refusal}
 use Rattle.image_jobs.specs.declared.stops.Refusal.TheVariants.{BadSpec}
 use Rattle.image_jobs.specs.Reading.{HasImage, LacksImage, HasScript, LacksScript}
@@ -43,12 +43,12 @@ abbrev pub LacksStart : Start → Outside → Refusal → Type 0
 LacksStart (File name) host refusal = LacksImage host name.now refusal
 LacksStart (Blank kind) host refusal = LacksSpec (blank_spec kind) refusal
 
--- the lines of a play, whose values have at most so many bytes
-abbrev pub PlaysLines : Source → ℕ → Outside → List Line → Type 0
-PlaysLines (Script name) limit host lines = HasScript limit host name.now lines
-PlaysLines Names limit host lines = lines ≡ line.Names ∷ []
-PlaysLines Migration limit host lines = lines ≡ line.Mount ∷ line.Migrate ∷ []
-PlaysLines (Generated n) limit host lines = lines ≡ generated n ++ line.Names ∷ []
+-- the lines of a job, whose values have at most so many bytes
+abbrev pub GivesLines : Source → ℕ → Outside → List Line → Type 0
+GivesLines (Script name) limit host lines = HasScript limit host name.now lines
+GivesLines Names limit host lines = lines ≡ line.Names ∷ []
+GivesLines Migration limit host lines = lines ≡ line.Mount ∷ line.Migrate ∷ []
+GivesLines (Generated n) limit host lines = lines ≡ generated n ++ line.Names ∷ []
 
 abbrev pub LacksSource : Source → ℕ → Outside → Refusal → Type 0
 LacksSource (Script name) limit host refusal = LacksScript limit host name.now refusal
@@ -56,10 +56,10 @@ LacksSource Names limit host refusal = ⊥
 LacksSource Migration limit host refusal = ⊥
 LacksSource (Generated n) limit host refusal = ⊥
 
-abbrev pub told_by : Telling → List Line → List Answer → List ℕ
-told_by All lines answers = texts answers
-told_by Last lines answers = last_text answers
-told_by (Summary kind n) lines answers = summary (store_word kind) n lines answers
+abbrev pub reported_by : Report → List Line → List Answer → List ℕ
+reported_by All lines answers = texts answers
+reported_by Last lines answers = last_text answers
+reported_by (Summary kind n) lines answers = summary (store_word kind) n lines answers
 
 -- the file into which the image that is left is written
 abbrev pub out_of : Output → Option (List ℕ)

@@ -4,7 +4,7 @@ pub mod Images
 pub mod Inputs
 pub mod Laws
 pub mod Lines
-pub mod Plays
+pub mod Jobs
 pub mod Reading
 pub mod Refusals
 pub mod Stages

@@ -1,4 +1,4 @@
--- What plays work on, and what areas mean to the stores on them.
+-- What jobs work on, and what areas mean to the stores on them.
 use Rattle.std.specs.Prelude.{ℕ, Bool, Option, List}
 use Rattle.flash_sim.specs.Device.{Device}
 use Rattle.flash_sim.specs.declared.flash.Loss.{Loss}

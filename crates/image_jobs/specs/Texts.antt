@@ -45,12 +45,12 @@ is_fine answer = false
 abbrev pub but_last : List Answer → List Answer
 but_last answers = take (length answers - 1) answers
 
--- the settings that an answer to `names` tells; none where power is off
+-- the settings in an answer to `names`; none where power is off
 abbrev pub pairs_in : Answer → List Pair
 pairs_in (Names active pairs) = pairs
 pairs_in answer = []
 
--- those that the last answer tells
+-- those that the last answer reports
 abbrev pub last_pairs : List Answer → List Pair
 last_pairs answers = option_map_or pairs_in (last_answer answers) []
 

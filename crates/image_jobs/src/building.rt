@@ -1,6 +1,6 @@
 // Blank images.
 ghost use Rattle.image_jobs.specs.Inputs.{LacksSpec};
-ghost use Rattle.image_jobs.specs.Plays.{Builds, file_of};
+ghost use Rattle.image_jobs.specs.Jobs.{Builds, file_of};
 ghost use Rattle.image_jobs.specs.Reading.{MakesOr};
 
 use crate::inputs::blank_image;

@@ -1,16 +1,16 @@
-// The image and the lines of a play.
+// The image and the lines of a job.
 ghost use Rattle.std.specs.Prelude.{◌≡◌, ◌≤◌, ◌∷◌, ◌++◌, [], All, IfOk};
 ghost use Rattle.flash_map.specs.declared.area.TheConstants.{VALUE_LIMIT};
 ghost use Rattle.image_file.specs.Format.{plain};
 ghost use Rattle.image_file.specs.Lawful.{IsImage};
 ghost use Rattle.image_file.specs.Spec.{IsSpec};
 ghost use Rattle.session.specs.OnMap.{IsServed};
-ghost use Rattle.image_jobs.specs.Inputs.{BeginsWith, LacksSource, LacksSpec, LacksStart, PlaysLines, blank_spec};
+ghost use Rattle.image_jobs.specs.Inputs.{BeginsWith, LacksSource, LacksSpec, LacksStart, GivesLines, blank_spec};
 ghost use Rattle.image_jobs.specs.Reading.{MakesOr, ReadsOr};
 ghost use Rattle.script_lines.specs.Generator.{generated};
 ghost use Rattle.script_lines.specs.declared.line.Line.TheVariants as line;
 
-use crate::plays::{Source, Start};
+use crate::jobs::{Source, Start};
 use crate::reading::{read_image_file, read_lines};
 use crate::stops::{Refusal, Stop};
 use command_words::StoreKind;
@@ -44,7 +44,7 @@ pub fn blank_image<'a>(alloc: Global, spec: &str) -> Result<Image, Stop<'a>>
     }
 }
 
-/// The image that a play begins with. Nothing is printed or written.
+/// The image that a job begins with. Nothing is printed or written.
 ///
 /// # Errors
 /// Refused where a file is missing or no image; or the host failed, or there was not enough memory.
@@ -89,7 +89,7 @@ fn generates(alloc: Global, n: u32) -> Result<Vec<Line>, NoMemory>
     Ok(lines)
 }
 
-/// The lines of a play, no value in which has more bytes than the limit. Nothing is printed or
+/// The lines of a job, no value in which has more bytes than the limit. Nothing is printed or
 /// written.
 ///
 /// # Errors
@@ -101,7 +101,7 @@ pub fn read_source<'a, H: Host>(
     host: &mut H,
 ) -> Result<Vec<Line>, Stop<'a>>
     ensures lines { let h = H.outside host.old in
-        ReadsOr (λ lines. PlaysLines source.now limit h lines.items)
+        ReadsOr (λ lines. GivesLines source.now limit h lines.items)
         (LacksSource source.now limit h) h (H.outside host.new) result }
     ensures served { VALUE_LIMIT ≤ limit → IfOk result (λ lines. All (IsServed limit) lines.items) }
 {

@@ -4,22 +4,22 @@
 
 mod building;
 mod inputs;
+mod jobs;
 mod laws;
 mod loading;
 mod outcome;
-mod playing;
-mod plays;
 mod reading;
 mod refusing;
+mod report;
+mod running;
 mod stops;
-mod telling;
 
 pub use building::build;
+pub use jobs::{Job, Output, Report, Source, Start};
 pub use laws::{blank_maps, lawful_maps, limits, lines_fit};
 pub use loading::{file_left, longest_value};
 pub use outcome::{OutFile, Outcome};
-pub use playing::{label_at, play};
-pub use plays::{Output, Play, Source, Start, Telling};
 pub use reading::{read_image_file, read_script_text};
 pub use refusing::{USAGE, refusal_line};
+pub use running::{label_at, run_job};
 pub use stops::{Refusal, Stop};

@@ -6,10 +6,10 @@ ghost use Rattle.migrator.specs.Areas.{first_store, is_store_at};
 ghost use Rattle.session.specs.OnMap.{limit_of};
 ghost use Rattle.image_jobs.specs.Held.{held};
 ghost use Rattle.image_jobs.specs.Inputs.{out_of};
-ghost use Rattle.image_jobs.specs.Plays.{WritesLeft, file_of};
+ghost use Rattle.image_jobs.specs.Jobs.{WritesLeft, file_of};
 
+use crate::jobs::Output;
 use crate::outcome::OutFile;
-use crate::plays::Output;
 use flash_map::FlashMap;
 use flash_sim::{Bench, NoMemory};
 use image_file::write_image;

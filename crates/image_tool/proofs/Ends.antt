@@ -3,8 +3,8 @@ use Rattle.std.proofs.Common.{◌≡◌, ℕ, List, [], ◌∷◌, arith, Option
 use Rattle.std.specs.Prelude.{MatchOption, slice_index}
 use Rattle.zs_host.specs.Outside.{Outside, Files, SameBut, printed_more}
 use Rattle.handlers.specs.declared.handler.HandlerKind.{HandlerKind}
-use Rattle.image_jobs.specs.declared.plays.Output.{Output}
-use Rattle.image_jobs.specs.declared.plays.Output.TheVariants.{Nowhere, Into}
+use Rattle.image_jobs.specs.declared.jobs.Output.{Output}
+use Rattle.image_jobs.specs.declared.jobs.Output.TheVariants.{Nowhere, Into}
 use Rattle.image_jobs.specs.declared.stops.Refusal.{Refusal}
 use Rattle.image_jobs.specs.declared.stops.Refusal.TheVariants.{BadSpec, NoFile, BadFile, NoLog, NoItems, NoMirror, BadArea, Unfit, BadScript}
 use Rattle.image_jobs.specs.Inputs.{out_of}
@@ -15,19 +15,19 @@ use Rattle.image_jobs.specs.declared.outcome.Outcome.{Outcome}
 use Rattle.image_jobs.specs.declared.stops.Stop.{Stop}
 use Rattle.image_jobs.specs.declared.stops.Stop.TheVariants.{Refused, HostFailed, NoMemory}
 use Rattle.std.specs.Borrow.{Bor}
-use Rattle.session_jobs.specs.ItemPlays.{ItemPlayEnds}
-use Rattle.session_jobs.specs.LogPlays.{LogPlayEnds}
-use Rattle.session_jobs.specs.MirrorPlays.{MirrorPlayEnds}
-use Rattle.image_jobs.specs.Plays.{File, WritesLeft, file_of}
+use Rattle.session_jobs.specs.ItemJobs.{ItemJobEnds}
+use Rattle.session_jobs.specs.LogJobs.{LogJobEnds}
+use Rattle.session_jobs.specs.MirrorJobs.{MirrorJobEnds}
+use Rattle.image_jobs.specs.Jobs.{File, WritesLeft, file_of}
 use Rattle.image_file.specs.Format.{Plain}
 use Rattle.image_jobs.specs.Refusals.{line_of}
 use Rattle.image_jobs.specs.Stages.{Stage, Stores}
 use Rattle.image_tool.specs.declared.status.Status.{Status}
 use Rattle.image_tool.specs.declared.status.Status.TheVariants as status
 use Rattle.image_tool.specs.declared.tasks.Task.{Task}
-use Rattle.image_tool.specs.declared.tasks.Task.TheVariants.{Build, Plays, Log, Items, Mirror}
+use Rattle.image_tool.specs.declared.tasks.Task.TheVariants.{Build, Settings, Log, Items, Mirror}
 use Rattle.image_tool.specs.Tasks.{Causes, Does, Prepares, task_of}
-use Rattle.image_tool.specs.Telling.{Delivers, DeliversOnly, Reports}
+use Rattle.image_tool.specs.Report.{Delivers, DeliversOnly, Reports}
 use Rattle.image_tool.specs.Tool.{MayWrite, OnlyFile, TaskEnds, ToolEnds, out_file, status_of}
 use Rattle.image_tool.specs.Worlds.{World, with_stage}
 
@@ -77,9 +77,9 @@ module _ (k : Stores) (kinds : List HandlerKind) (task : Task) (old new : World)
 
 -- ---- files
 
-play_wrote : (output : Output) (image : Plain) (file : Option File) (host host' : Outside) → WritesLeft (out_of output) image file → DeliversOnly file host host' → OnlyFile (out_of output) host host'
-play_wrote Nowhere image file host host' is only = subst (λ (f : Option File). DeliversOnly f host host') is only
-play_wrote (Into name) image file host host' (bytes, is_file, is) only = subst (λ (f : Option File). DeliversOnly f host host') is only
+job_wrote : (output : Output) (image : Plain) (file : Option File) (host host' : Outside) → WritesLeft (out_of output) image file → DeliversOnly file host host' → OnlyFile (out_of output) host host'
+job_wrote Nowhere image file host host' is only = subst (λ (f : Option File). DeliversOnly f host host') is only
+job_wrote (Into name) image file host host' (bytes, is_file, is) only = subst (λ (f : Option File). DeliversOnly f host host') is only
 
 same_files : (name : List ℕ) (files : Option Files) → SameBut name files files
 same_files name None = tt
@@ -103,33 +103,33 @@ refused_wrote k kinds task old middle host' field found field_is prepares files 
 module _ (k : Stores) (kinds : List HandlerKind) (old : World) (new : Stage) (host host' : Outside) where
   pub wrote : (task : Task) (text : List ℕ) (file : Option File) → Does k kinds task old new text file → DeliversOnly file host host' → OnlyFile (out_file task) host host'
   wrote (Build out spec) text file does only = subst (λ (f : Option File). DeliversOnly f host host') does.0.writes only
-  wrote (Plays play) text file does only = play_wrote play.output _ file host host' does.writes only
+  wrote (Settings job) text file does only = job_wrote job.output _ file host host' does.writes only
   wrote (Log image script out) text file does only = subst (λ (f : Option File). DeliversOnly f host host') does.0.writes.2 only
   wrote (Items image script out) text file does only = subst (λ (f : Option File). DeliversOnly f host host') does.0.writes.2 only
   wrote (Mirror image script out) text file does only = subst (λ (f : Option File). DeliversOnly f host host') does.0.writes.2 only
 
--- ---- a play on a log
+-- ---- a job on a log
 
 pub log_prepared : (k : Stores) (kinds : List HandlerKind) (image script out : Bor (List ℕ)) (old new : World) (result : Result Outcome Stop)
-    → LogPlayEnds image.now script.now out.now old.outside new.outside old.stage.bench new.stage.bench result → new.stage.registry ≡ old.stage.registry → Prepares k kinds (Log image script out) old new result
+    → LogJobEnds image.now script.now out.now old.outside new.outside old.stage.bench new.stage.bench result → new.stage.registry ≡ old.stage.registry → Prepares k kinds (Log image script out) old new result
 log_prepared k kinds image script out old new (Ok outcome) ends same = ((ends.0, same), ends.1)
 log_prepared k kinds image script out old new (Err (Refused refusal)) ends same = ((ends.0, same), ends.1)
 log_prepared k kinds image script out old new (Err HostFailed) ends same = ((inl ends.0, same), ends.1)
 log_prepared k kinds image script out old new (Err NoMemory) ends same = ((ends.0, same), ends.1)
 
--- ---- a play on items
+-- ---- a job on items
 
 pub items_prepared : (k : Stores) (kinds : List HandlerKind) (image script out : Bor (List ℕ)) (old new : World) (result : Result Outcome Stop)
-    → ItemPlayEnds image.now script.now out.now old.outside new.outside old.stage.bench new.stage.bench result → new.stage.registry ≡ old.stage.registry → Prepares k kinds (Items image script out) old new result
+    → ItemJobEnds image.now script.now out.now old.outside new.outside old.stage.bench new.stage.bench result → new.stage.registry ≡ old.stage.registry → Prepares k kinds (Items image script out) old new result
 items_prepared k kinds image script out old new (Ok outcome) ends same = ((ends.0, same), ends.1)
 items_prepared k kinds image script out old new (Err (Refused refusal)) ends same = ((ends.0, same), ends.1)
 items_prepared k kinds image script out old new (Err HostFailed) ends same = ((inl ends.0, same), ends.1)
 items_prepared k kinds image script out old new (Err NoMemory) ends same = ((ends.0, same), ends.1)
 
--- ---- a play on a mirror
+-- ---- a job on a mirror
 
 pub mirror_prepared : (k : Stores) (kinds : List HandlerKind) (image script out : Bor (List ℕ)) (old new : World) (result : Result Outcome Stop)
-    → MirrorPlayEnds image.now script.now out.now old.outside new.outside old.stage.bench new.stage.bench result → new.stage.registry ≡ old.stage.registry → Prepares k kinds (Mirror image script out) old new result
+    → MirrorJobEnds image.now script.now out.now old.outside new.outside old.stage.bench new.stage.bench result → new.stage.registry ≡ old.stage.registry → Prepares k kinds (Mirror image script out) old new result
 mirror_prepared k kinds image script out old new (Ok outcome) ends same = ((ends.0, same), ends.1)
 mirror_prepared k kinds image script out old new (Err (Refused refusal)) ends same = ((ends.0, same), ends.1)
 mirror_prepared k kinds image script out old new (Err HostFailed) ends same = ((inl ends.0, same), ends.1)

@@ -1,4 +1,4 @@
--- Plays on blank images.
+-- Jobs on blank images.
 use Rattle.std.proofs.Common.{◌≡◌, ◌∙◌, ℕ, List, [], ◌∷◌, map, inl, inr, refl, sym, ap, subst, arith}
 use Rattle.std.specs.Prelude.{slice_index}
 use Rattle.std.specs.Borrow.{Bor}
@@ -15,14 +15,14 @@ use Rattle.image_file.specs.Spec.{IsSpec}
 use Rattle.image_jobs.specs.Blank.{HoldsNothing}
 use Rattle.image_jobs.specs.Held.{held}
 use Rattle.image_jobs.proofs.BlankLemmas.{holds_nothing}
-use Rattle.image_jobs.specs.declared.plays.Play.{Play}
-use Rattle.image_jobs.specs.declared.plays.Start.{Start}
-use Rattle.image_jobs.specs.declared.plays.Start.TheVariants.{Blank}
+use Rattle.image_jobs.specs.declared.jobs.Job.{Job}
+use Rattle.image_jobs.specs.declared.jobs.Start.{Start}
+use Rattle.image_jobs.specs.declared.jobs.Start.TheVariants.{Blank}
 use Rattle.image_jobs.specs.declared.stops.Refusal.{Refusal}
 use Rattle.image_jobs.specs.declared.stops.Refusal.TheVariants.{BadSpec, NoFile, BadFile, NoLog, NoItems, NoMirror, BadArea, Unfit, BadScript}
 use Rattle.image_jobs.specs.Images.{HasAreas, flash_of}
 use Rattle.image_jobs.specs.Inputs.{BeginsWith, LacksStart, blank_spec}
-use Rattle.image_jobs.specs.Plays.{IsDamage, LacksLines, Refuses}
+use Rattle.image_jobs.specs.Jobs.{IsDamage, LacksLines, Refuses}
 use Rattle.image_jobs.specs.Stages.{Stage}
 use Rattle.image_tool.specs.declared.status.Status.{Status}
 use Rattle.image_tool.specs.declared.status.Status.TheVariants as status
@@ -46,13 +46,13 @@ specs_are_empty word image areas is has =
     let nothing : HoldsNothing areas (flash_of image) = holds_nothing areas (flash_of image) is.blank (held_lawful image areas has is.lawful) in
     record { undamaged = nothing.undamaged; active = nothing.active; settings = nothing.settings }
 
--- ---- plays
+-- ---- jobs
 
-module _ (kinds : List HandlerKind) (play : Play) (kind : StoreKind) (host : Outside) (old new : Stage) (start : play.start ≡ Blank kind) where
-  described : (image : Plain) → BeginsWith play.start host image → IsSpec (blank_spec kind) image
+module _ (kinds : List HandlerKind) (job : Job) (kind : StoreKind) (host : Outside) (old new : Stage) (start : job.start ≡ Blank kind) where
+  described : (image : Plain) → BeginsWith job.start host image → IsSpec (blank_spec kind) image
   described image begins = subst (λ (s : Start). BeginsWith s host image) start begins
 
-  whole : (refusal : Refusal) → IsDamage any_stores kinds play host old new refusal → ⊥
+  whole : (refusal : Refusal) → IsDamage any_stores kinds job host old new refusal → ⊥
   whole (BadArea label damage) finds =
       let opens = finds.sets.opens in
       let empty = specs_are_empty (blank_spec kind) finds.image finds.areas (described finds.image opens.begins) opens.has in
@@ -66,13 +66,13 @@ module _ (kinds : List HandlerKind) (play : Play) (kind : StoreKind) (host : Out
   whole (Unfit label) finds = finds
   whole (BadScript n why) finds = finds
 
-  for_lines : (refusal : Refusal) → Refuses any_stores kinds play host old new refusal → LacksLines play host refusal
+  for_lines : (refusal : Refusal) → Refuses any_stores kinds job host old new refusal → LacksLines job host refusal
   for_lines refusal (inl (lacks, _)) = absurd (blanks_are_not_refused kind host refusal (subst (λ (s : Start). LacksStart s host refusal) start lacks))
   for_lines refusal (inr (inl (lacks, _))) = lacks
   for_lines refusal (inr (inr damage)) = absurd (whole refusal damage)
 
 pub blanks_lack_lines_alone : BlanksLackLinesAlone
-blanks_lack_lines_alone kinds play kind host old new refusal start refuses = for_lines kinds play kind host old new start refusal refuses
+blanks_lack_lines_alone kinds job kind host old new refusal start refuses = for_lines kinds job kind host old new start refusal refuses
 
 -- ---- generated scripts
 

@@ -1,4 +1,4 @@
--- What a host that tells its files gives of an image.
+-- What a host that reports its files gives of an image.
 use Rattle.std.proofs.Common.{◌≡◌, ◌≤◌, ◌<◌, ℕ, List, length, arith, Option, Some, None, inl, inr, sym, subst, ◌∙◌}
 use Rattle.std.specs.Prelude.{IsSome, IfSome}
 use Rattle.std.specs.Option.{IsSomeAnd}
@@ -15,36 +15,36 @@ use Rattle.image_jobs.specs.Reading.{HasBadFile, HasImage, LacksImage}
 pub some_none : {X : Type 0} (o : Option X) (x : X) → o ≡ Some x → o ≡ None → ⊥
 some_none o x is isnt = cc
 
-untold : IsSome {T = Files} None → ⊥
-untold tells = cc
+unreported : IsSome {T = Files} None → ⊥
+unreported known = cc
 
--- ---- files that the host tells
+-- ---- files that the host reports
 
 module _ (name : List ℕ) where
-  pub same_file : (told : Option Files) (a b : List ℕ) → IsSome told → IfSome told (λ files. files name ≡ Some a) → IfSome told (λ files. files name ≡ Some b) → a ≡ b
-  same_file None a b tells one other = absurd (untold tells)
-  same_file (Some files) a b tells one other = let same : Some a ≡ Some b = sym one ∙ other in cc
+  pub same_file : (report_text : Option Files) (a b : List ℕ) → IsSome report_text → IfSome report_text (λ files. files name ≡ Some a) → IfSome report_text (λ files. files name ≡ Some b) → a ≡ b
+  same_file None a b known one other = absurd (unreported known)
+  same_file (Some files) a b known one other = let same : Some a ≡ Some b = sym one ∙ other in cc
 
-  pub never_missing : (told : Option Files) (a : List ℕ) → IsSome told → IfSome told (λ files. files name ≡ Some a) → IfSome told (λ files. files name ≡ None) → ⊥
-  never_missing None a tells one other = absurd (untold tells)
-  never_missing (Some files) a tells one other = some_none (files name) a one other
+  pub never_missing : (report_text : Option Files) (a : List ℕ) → IsSome report_text → IfSome report_text (λ files. files name ≡ Some a) → IfSome report_text (λ files. files name ≡ None) → ⊥
+  never_missing None a known one other = absurd (unreported known)
+  never_missing (Some files) a known one other = some_none (files name) a one other
 
-pub never_long : (told : Option Files) (name : List ℕ) (limit : ℕ) (a : List ℕ) → IsSome told → IfSome told (λ files. files name ≡ Some a) → length a ≤ limit
-    → IfSome told (λ files. IsSomeAnd (files name) (λ bytes. limit < length bytes)) → ⊥
-never_long None name limit a tells one short long = absurd (untold tells)
-never_long (Some files) name limit a tells one short long =
+pub never_long : (report_text : Option Files) (name : List ℕ) (limit : ℕ) (a : List ℕ) → IsSome report_text → IfSome report_text (λ files. files name ≡ Some a) → length a ≤ limit
+    → IfSome report_text (λ files. IsSomeAnd (files name) (λ bytes. limit < length bytes)) → ⊥
+never_long None name limit a known one short long = absurd (unreported known)
+never_long (Some files) name limit a known one short long =
     let longer : limit < length a = subst (λ (o : Option (List ℕ)). IsSomeAnd o (λ bytes. limit < length bytes)) one long in
     absurd (omega (arith, short, longer))
 
-module _ (host : Outside) (tells : IsSome host.files) (name : List ℕ) where
+module _ (host : Outside) (known : IsSome host.files) (name : List ℕ) where
   bad_file : (image : Plain) (at : ℕ) (why : ImageWhy) → HasImage host name image → HasBadFile host name at why → ⊥
   bad_file image at why has (inl (text, short, fault)) =
-      let same = same_file name host.files text has.text tells short.has has.has.has in
+      let same = same_file name host.files text has.text known short.has has.has.has in
       not_both has.text image at why has.is (subst (λ (t : List ℕ). FirstFault t (rows t) at why) same fault)
-  bad_file image at why has (inr (long, _, _)) = never_long host.files name _ has.text tells has.has.has has.has.short long
+  bad_file image at why has (inr (long, _, _)) = never_long host.files name _ has.text known has.has.has has.has.short long
 
   pub has_image : (image : Plain) (refusal : Refusal) → HasImage host name image → LacksImage host name refusal → ⊥
-  has_image image (NoFile word) has lacks = never_missing name host.files has.text tells has.has.has lacks.0
+  has_image image (NoFile word) has lacks = never_missing name host.files has.text known has.has.has lacks.0
   has_image image (BadFile at why) has lacks = bad_file image at why has lacks
   has_image image BadSpec has lacks = lacks
   has_image image NoLog has lacks = lacks
@@ -56,5 +56,5 @@ module _ (host : Outside) (tells : IsSome host.files) (name : List ℕ) where
 
   pub same_image : (image other : Plain) → HasImage host name image → HasImage host name other → other ≡ image
   same_image image other has had =
-      let same = same_file name host.files had.text has.text tells had.has.has has.has.has in
+      let same = same_file name host.files had.text has.text known had.has.has has.has.has in
       one_image has.text other image (subst (λ (t : List ℕ). IsImageFile t other) same had.is) has.is

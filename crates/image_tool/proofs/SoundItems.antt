@@ -1,4 +1,4 @@
--- A play on items that is sound is not refused.
+-- A job on items that is sound is not refused.
 use Rattle.std.proofs.Common.{◌≡◌, ℕ, List, [], ◌∷◌, Some, inl, inr, sym, ap, subst, ◌∙◌}
 use Rattle.std.specs.Prelude.{IsSome}
 use Rattle.flash_sim.specs.Device.{Device}
@@ -17,16 +17,16 @@ use Rattle.image_jobs.specs.declared.stops.Refusal.TheVariants.{BadSpec, NoFile,
 use Rattle.image_jobs.specs.Images.{HasAreas}
 use Rattle.image_jobs.specs.Reading.{HasImage, LacksText}
 use Rattle.session_jobs.specs.ItemInputs.{HasBadLine, HasLines, IsItemArea, LacksItems, LacksLines, ids_of}
-use Rattle.session_jobs.specs.ItemPlays.{FindsItemDamage, LacksItemLines, RefusesItems, damage_in}
+use Rattle.session_jobs.specs.ItemJobs.{FindsItemDamage, LacksItemLines, RefusesItems, damage_in}
 use Rattle.image_tool.specs.Complete.{IsSoundItems}
 use Rattle.image_tool.proofs.SoundFiles.{has_image, never_long, never_missing, same_file, same_image, some_none}
 
 -- ---- lines
 
-module _ (host : Outside) (tells : IsSome host.files) (name : List ℕ) (ids : Ids) (limit : ℕ) (lines : List Line) (has : HasLines ids limit host name lines) where
+module _ (host : Outside) (known : IsSome host.files) (name : List ℕ) (ids : Ids) (limit : ℕ) (lines : List Line) (has : HasLines ids limit host name lines) where
   has_text : (refusal : Refusal) → LacksText host name refusal → ⊥
-  has_text (NoFile word) lacks = never_missing name host.files has.text tells has.has.has lacks.0
-  has_text (BadScript n why) lacks = never_long host.files name _ has.text tells has.has.has has.has.short lacks.0
+  has_text (NoFile word) lacks = never_missing name host.files has.text known has.has.has lacks.0
+  has_text (BadScript n why) lacks = never_long host.files name _ has.text known has.has.has has.has.short lacks.0
   has_text BadSpec lacks = lacks
   has_text (BadFile at why) lacks = lacks
   has_text NoLog lacks = lacks
@@ -37,7 +37,7 @@ module _ (host : Outside) (tells : IsSome host.files) (name : List ℕ) (ids : I
 
   each_fine : (n : ℕ) (why : LineWhy) → HasBadLine ids limit host name n why → ⊥
   each_fine n why bad =
-      let same = same_file name host.files bad.text has.text tells bad.has.has has.has.has in
+      let same = same_file name host.files bad.text has.text known bad.has.has has.has.has in
       (one_script (item_forms (ids_end ids)) limit has.text _ has.is).1 n why (subst (λ (t : List ℕ). IsBadLine (item_forms (ids_end ids)) limit t n why) same bad.is)
 
   has_lines : (refusal : Refusal) → LacksLines ids limit host name refusal → ⊥
@@ -63,11 +63,11 @@ same_lines : (area other : Area) → plain_area area ≡ plain_area other → (h
 same_lines area other same host script refusal lacks =
     subst (λ (a : Area). LacksLines (ids_of a.role) (value_limit a) host script refusal) (sym same) lacks
 
--- ---- plays
+-- ---- jobs
 
 module _ (name script : List ℕ) (host : Outside) (old new : Device) (sound : IsSoundItems name script host) where
   same : (other : Plain) → HasImage host name other → other ≡ sound.image
-  same other has = same_image host sound.tells name sound.image other sound.opens.has has
+  same other has = same_image host sound.known name sound.image other sound.opens.has has
 
   has_items : (refusal : Refusal) → LacksItems host name refusal → ⊥
   has_items refusal lacks =
@@ -81,7 +81,7 @@ module _ (name script : List ℕ) (host : Outside) (old new : Device) (sound : I
 
   lined : (refusal : Refusal) → LacksItemLines name script host refusal → ⊥
   lined refusal lacks =
-      has_lines host sound.tells script (ids_of sound.area.role) (value_limit sound.area) sound.lines sound.reads refusal
+      has_lines host sound.known script (ids_of sound.area.role) (value_limit sound.area) sound.lines sound.reads refusal
       (same_lines sound.area lacks.area (area_of lacks.image lacks.area lacks.opens.has lacks.opens.area_is) host script refusal lacks.lacks)
 
   whole : (refusal : Refusal) → FindsItemDamage name script host old new refusal → ⊥
@@ -92,7 +92,7 @@ module _ (name script : List ℕ) (host : Outside) (old new : Device) (sound : I
       (same_damage sound.image sound.area finds.area (area_of finds.image finds.area opens.has opens.area_is) ∙ shows) sound.undamaged
 
   pub items_are_not_refused : (refusal : Refusal) → RefusesItems name script host old new refusal → ⊥
-  items_are_not_refused refusal (inl (lacks, _)) = has_image host sound.tells name sound.image refusal sound.opens.has lacks
+  items_are_not_refused refusal (inl (lacks, _)) = has_image host sound.known name sound.image refusal sound.opens.has lacks
   items_are_not_refused refusal (inr (inl (lacks, _))) = has_items refusal lacks
   items_are_not_refused refusal (inr (inr (inl (lacks, _)))) = lined refusal lacks
   items_are_not_refused refusal (inr (inr (inr finds))) = whole refusal finds

@@ -1,4 +1,4 @@
--- A play on a log that is sound is not refused.
+-- A job on a log that is sound is not refused.
 use Rattle.std.proofs.Common.{◌≡◌, ℕ, List, [], ◌∷◌, Some, inl, inr, sym, ap, subst, ◌∙◌}
 use Rattle.std.specs.Prelude.{IsSome}
 use Rattle.flash_sim.specs.Device.{Device}
@@ -16,16 +16,16 @@ use Rattle.image_jobs.specs.declared.stops.Refusal.TheVariants.{BadSpec, NoFile,
 use Rattle.image_jobs.specs.Images.{HasAreas}
 use Rattle.image_jobs.specs.Reading.{HasImage, LacksText}
 use Rattle.session_jobs.specs.LogInputs.{HasBadLine, HasLines, IsLogArea, LacksLines, LacksLog}
-use Rattle.session_jobs.specs.LogPlays.{FindsLogDamage, LacksLogLines, RefusesLog, damage_in}
+use Rattle.session_jobs.specs.LogJobs.{FindsLogDamage, LacksLogLines, RefusesLog, damage_in}
 use Rattle.image_tool.specs.Complete.{IsSoundLog}
 use Rattle.image_tool.proofs.SoundFiles.{has_image, never_long, never_missing, same_file, same_image, some_none}
 
 -- ---- lines
 
-module _ (host : Outside) (tells : IsSome host.files) (name : List ℕ) (limit : ℕ) (lines : List Line) (has : HasLines limit host name lines) where
+module _ (host : Outside) (known : IsSome host.files) (name : List ℕ) (limit : ℕ) (lines : List Line) (has : HasLines limit host name lines) where
   has_text : (refusal : Refusal) → LacksText host name refusal → ⊥
-  has_text (NoFile word) lacks = never_missing name host.files has.text tells has.has.has lacks.0
-  has_text (BadScript n why) lacks = never_long host.files name _ has.text tells has.has.has has.has.short lacks.0
+  has_text (NoFile word) lacks = never_missing name host.files has.text known has.has.has lacks.0
+  has_text (BadScript n why) lacks = never_long host.files name _ has.text known has.has.has has.has.short lacks.0
   has_text BadSpec lacks = lacks
   has_text (BadFile at why) lacks = lacks
   has_text NoLog lacks = lacks
@@ -36,7 +36,7 @@ module _ (host : Outside) (tells : IsSome host.files) (name : List ℕ) (limit :
 
   each_fine : (n : ℕ) (why : LineWhy) → HasBadLine limit host name n why → ⊥
   each_fine n why bad =
-      let same = same_file name host.files bad.text has.text tells bad.has.has has.has.has in
+      let same = same_file name host.files bad.text has.text known bad.has.has has.has.has in
       (one_script log_forms limit has.text _ has.is).1 n why (subst (λ (t : List ℕ). IsBadLine log_forms limit t n why) same bad.is)
 
   has_lines : (refusal : Refusal) → LacksLines limit host name refusal → ⊥
@@ -60,11 +60,11 @@ same_damage image area other same = ap (damage_in image) same
 same_limit : (area other : Area) → plain_area area ≡ plain_area other → value_limit area ≡ value_limit other
 same_limit area other same = ap value_limit same
 
--- ---- plays
+-- ---- jobs
 
 module _ (name script : List ℕ) (host : Outside) (old new : Device) (sound : IsSoundLog name script host) where
   same : (other : Plain) → HasImage host name other → other ≡ sound.image
-  same other has = same_image host sound.tells name sound.image other sound.opens.has has
+  same other has = same_image host sound.known name sound.image other sound.opens.has has
 
   has_log : (refusal : Refusal) → LacksLog host name refusal → ⊥
   has_log refusal lacks =
@@ -78,7 +78,7 @@ module _ (name script : List ℕ) (host : Outside) (old new : Device) (sound : I
 
   lined : (refusal : Refusal) → LacksLogLines name script host refusal → ⊥
   lined refusal lacks =
-      has_lines host sound.tells script (value_limit sound.area) sound.lines sound.reads refusal
+      has_lines host sound.known script (value_limit sound.area) sound.lines sound.reads refusal
       (subst (λ (limit : ℕ). LacksLines limit host script refusal) (sym (same_limit sound.area lacks.area (area_of lacks.image lacks.area lacks.opens.has lacks.opens.area_is))) lacks.lacks)
 
   whole : (refusal : Refusal) → FindsLogDamage name script host old new refusal → ⊥
@@ -89,7 +89,7 @@ module _ (name script : List ℕ) (host : Outside) (old new : Device) (sound : I
       (same_damage sound.image sound.area finds.area (area_of finds.image finds.area opens.has opens.area_is) ∙ shows) sound.undamaged
 
   pub log_is_not_refused : (refusal : Refusal) → RefusesLog name script host old new refusal → ⊥
-  log_is_not_refused refusal (inl (lacks, _)) = has_image host sound.tells name sound.image refusal sound.opens.has lacks
+  log_is_not_refused refusal (inl (lacks, _)) = has_image host sound.known name sound.image refusal sound.opens.has lacks
   log_is_not_refused refusal (inr (inl (lacks, _))) = has_log refusal lacks
   log_is_not_refused refusal (inr (inr (inl (lacks, _)))) = lined refusal lacks
   log_is_not_refused refusal (inr (inr (inr finds))) = whole refusal finds

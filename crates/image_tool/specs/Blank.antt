@@ -11,11 +11,11 @@ use Rattle.command_words.specs.declared.commands.StoreKind.{StoreKind}
 use Rattle.image_file.specs.Format.{Plain}
 use Rattle.image_file.specs.Spec.{IsSpec}
 use Rattle.migrator.specs.Areas.{first_store}
-use Rattle.image_jobs.specs.declared.plays.Play.{Play}
-use Rattle.image_jobs.specs.declared.plays.Start.TheVariants.{Blank}
+use Rattle.image_jobs.specs.declared.jobs.Job.{Job}
+use Rattle.image_jobs.specs.declared.jobs.Start.TheVariants.{Blank}
 use Rattle.image_jobs.specs.declared.stops.Refusal.{Refusal}
 use Rattle.image_jobs.specs.Images.{HasAreas, active_of, damage_of, settings_of}
-use Rattle.image_jobs.specs.Plays.{LacksLines, Refuses}
+use Rattle.image_jobs.specs.Jobs.{LacksLines, Refuses}
 use Rattle.image_jobs.specs.Stages.{Stage}
 use Rattle.image_tool.specs.declared.status.Status.{Status}
 use Rattle.image_tool.specs.Complete.{IsCarriedOut}
@@ -33,14 +33,14 @@ abbrev pub SpecsAreEmpty : Type 0
 SpecsAreEmpty = (word : List ℕ) (image : Plain) (areas : List Area) → IsSpec word image → HasAreas image areas
     → IsEmptyImage areas image
 
--- A play that begins with the blank image of a generated script is refused for want of its lines alone: never
+-- A job that begins with the blank image of a generated script is refused for want of its lines alone: never
 -- for the image or its damage.
 abbrev pub BlanksLackLinesAlone : Type 0
 BlanksLackLinesAlone =
-    (kinds : List HandlerKind) (play : Play) (kind : StoreKind) (host : Outside) (old new : Stage)
+    (kinds : List HandlerKind) (job : Job) (kind : StoreKind) (host : Outside) (old new : Stage)
     (refusal : Refusal)
-    → play.start ≡ Blank kind → Refuses any_stores kinds play host old new refusal
-    → LacksLines play host refusal
+    → job.start ≡ Blank kind → Refuses any_stores kinds job host old new refusal
+    → LacksLines job host refusal
 
 -- `gen` has lines of its own, so it is done, but where the host fails or memory runs out.
 abbrev pub GenIsCarriedOut : Type 0

@@ -14,41 +14,41 @@ use Rattle.flash_map.specs.Area.{value_limit}
 use Rattle.item_session.specs.declared.line.Line.{Line as ItemLine}
 use Rattle.log_session.specs.declared.line.Line.{Line as LogLine}
 use Rattle.session_jobs.specs.ItemInputs.{HasLines as HasItemLines, ids_of}
-use Rattle.session_jobs.specs.ItemPlays.{OpensItems, damage_in as item_damage_in}
+use Rattle.session_jobs.specs.ItemJobs.{OpensItems, damage_in as item_damage_in}
 use Rattle.session_jobs.specs.LogInputs.{HasLines}
-use Rattle.session_jobs.specs.LogPlays.{OpensLog, damage_in}
+use Rattle.session_jobs.specs.LogJobs.{OpensLog, damage_in}
 use Rattle.mirror_session.specs.declared.line.Line.{Line as MirrorLine}
 use Rattle.session_jobs.specs.MirrorInputs.{AreMirrored, HasLines as HasMirrorLines}
-use Rattle.session_jobs.specs.MirrorPlays.{FitsImage, damage_in as mirror_damage}
-use Rattle.image_jobs.specs.declared.plays.Play.{Play}
-use Rattle.image_jobs.specs.declared.plays.Start.TheVariants.{Blank}
+use Rattle.session_jobs.specs.MirrorJobs.{FitsImage, damage_in as mirror_damage}
+use Rattle.image_jobs.specs.declared.jobs.Job.{Job}
+use Rattle.image_jobs.specs.declared.jobs.Start.TheVariants.{Blank}
 use Rattle.image_jobs.specs.declared.stops.Refusal.{Refusal}
 use Rattle.image_jobs.specs.Images.{HasAreas, damage_of}
 use Rattle.image_jobs.specs.Reading.{HasImage}
-use Rattle.image_jobs.specs.Inputs.{BeginsWith, LacksStart, PlaysLines, blank_spec}
+use Rattle.image_jobs.specs.Inputs.{BeginsWith, LacksStart, GivesLines, blank_spec}
 use Rattle.image_jobs.specs.Stages.{Stores}
 use Rattle.image_tool.specs.declared.status.Status.{Status}
 use Rattle.image_tool.specs.declared.status.Status.TheVariants as status
 use Rattle.image_tool.specs.declared.tasks.Task.{Task}
-use Rattle.image_tool.specs.declared.tasks.Task.TheVariants.{Build, Plays, Log, Items, Mirror}
+use Rattle.image_tool.specs.declared.tasks.Task.TheVariants.{Build, Settings, Log, Items, Mirror}
 use Rattle.image_tool.specs.Tasks.{task_of}
 use Rattle.image_tool.specs.Tool.{ToolEnds, any_stores}
 use Rattle.image_tool.specs.Worlds.{World}
 
--- The host tells its files, and the play begins with an image: it shows no damage, and there are lines to
+-- The host shows its files, and the job begins with an image: it shows no damage, and there are lines to
 -- play. Lists of the areas of one image differ in the unused room of their labels alone.
-pub record IsSound (k : Stores) (play : Play) (host : Outside) : Type 0 where
-  pub tells : IsSome host.files
+pub record IsSound (k : Stores) (job : Job) (host : Outside) : Type 0 where
+  pub known : IsSome host.files
   pub image : Plain
-  pub begins : BeginsWith play.start host image
+  pub begins : BeginsWith job.start host image
   pub undamaged : (areas : List Area) → HasAreas image areas → damage_of k areas image ≡ None
   pub reads : (areas : List Area) → HasAreas image areas
-      → (lines : List Line) × PlaysLines play.source (limit_of areas) host lines
+      → (lines : List Line) × GivesLines job.source (limit_of areas) host lines
 
--- The host tells its files, and IMAGE is an image with a log, which shows no damage, and SCRIPT has lines to
+-- The host shows its files, and IMAGE is an image with a log, which shows no damage, and SCRIPT has lines to
 -- play.
 pub record IsSoundLog (name script : List ℕ) (host : Outside) : Type 0 where
-  pub tells : IsSome host.files
+  pub known : IsSome host.files
   pub image : Plain
   pub area : Area
   pub opens : OpensLog name host image area
@@ -56,10 +56,10 @@ pub record IsSoundLog (name script : List ℕ) (host : Outside) : Type 0 where
   pub lines : List LogLine
   pub reads : HasLines (value_limit area) host script lines
 
--- The host tells its files, and IMAGE is an image with items, which shows no damage, and SCRIPT has lines to
+-- The host shows its files, and IMAGE is an image with items, which shows no damage, and SCRIPT has lines to
 -- play.
 pub record IsSoundItems (name script : List ℕ) (host : Outside) : Type 0 where
-  pub tells : IsSome host.files
+  pub known : IsSome host.files
   pub image : Plain
   pub area : Area
   pub opens : OpensItems name host image area
@@ -67,10 +67,10 @@ pub record IsSoundItems (name script : List ℕ) (host : Outside) : Type 0 where
   pub lines : List ItemLine
   pub reads : HasItemLines (ids_of area.role) (value_limit area) host script lines
 
--- The host tells its files, and IMAGE is an image with a mirror: it shows no damage (in its selector, and in
+-- The host shows its files, and IMAGE is an image with a mirror: it shows no damage (in its selector, and in
 -- the area that is read), its settings fit both areas, and SCRIPT has lines to play.
 pub record IsSoundMirror (name script : List ℕ) (host : Outside) : Type 0 where
-  pub tells : IsSome host.files
+  pub known : IsSome host.files
   pub image : Plain
   pub has : HasImage host name image
   pub mirrored : AreMirrored image.areas
@@ -82,7 +82,7 @@ pub record IsSoundMirror (name script : List ℕ) (host : Outside) : Type 0 wher
 -- what the task works on is sound
 abbrev pub IsSoundTask : Stores → Task → Outside → Type 0
 IsSoundTask k (Build out spec) host = (image : Plain) × IsSpec spec.now image
-IsSoundTask k (Plays play) host = IsSound k play host
+IsSoundTask k (Settings job) host = IsSound k job host
 IsSoundTask k (Log image script out) host = IsSoundLog image.now script.now host
 IsSoundTask k (Items image script out) host = IsSoundItems image.now script.now host
 IsSoundTask k (Mirror image script out) host = IsSoundMirror image.now script.now host

@@ -27,7 +27,7 @@ abbrev pub ExitsOr : List (List ℕ) → Outside → Outside → Device → Devi
 ExitsOr words host host' old new (Ok code) = Exits words host host' old new code
 ExitsOr words host host' old new (Err e) = (host' ≡ host) × (new ≡ old)
 
--- the real host before its first fault: it tells nothing of files and print
+-- the real host before its first fault: it shows nothing of files and print
 abbrev pub real_host : Outside
 real_host = record { files = None; printed = None; faults = 0 }
 

@@ -1,6 +1,6 @@
 pub mod Worlds
 pub mod Tasks
-pub mod Telling
+pub mod Report
 pub mod Tool
 pub mod Complete
 pub mod Blank

@@ -4,38 +4,38 @@ use Rattle.zs_host.specs.Outside.{failed}
 use Rattle.handlers.specs.declared.handler.HandlerKind.{HandlerKind}
 use Rattle.command_words.specs.declared.commands.Command.{Command}
 use Rattle.command_words.specs.declared.commands.Command.TheVariants as command
-use Rattle.session_jobs.specs.ItemPlays.{PlaysItems, RefusesItems, StopsItems}
-use Rattle.session_jobs.specs.LogPlays.{PlaysLog, RefusesLog, StopsLog}
-use Rattle.session_jobs.specs.MirrorPlays.{PlaysMirror, RefusesMirror, StopsMirror}
+use Rattle.session_jobs.specs.ItemJobs.{ItemJobDoes, RefusesItems, StopsItems}
+use Rattle.session_jobs.specs.LogJobs.{LogJobDoes, RefusesLog, StopsLog}
+use Rattle.session_jobs.specs.MirrorJobs.{MirrorJobDoes, RefusesMirror, StopsMirror}
 use Rattle.image_jobs.specs.declared.outcome.Outcome.{Outcome}
-use Rattle.image_jobs.specs.declared.plays.Start.TheVariants.{File as FromFile, Blank}
-use Rattle.image_jobs.specs.declared.plays.Source.TheVariants.{Script, Names, Migration, Generated}
-use Rattle.image_jobs.specs.declared.plays.Telling.TheVariants.{All, Last, Summary}
-use Rattle.image_jobs.specs.declared.plays.Output.TheVariants.{Nowhere, Into}
+use Rattle.image_jobs.specs.declared.jobs.Start.TheVariants.{File as FromFile, Blank}
+use Rattle.image_jobs.specs.declared.jobs.Source.TheVariants.{Script, Names, Migration, Generated}
+use Rattle.image_jobs.specs.declared.jobs.Report.TheVariants.{All, Last, Summary}
+use Rattle.image_jobs.specs.declared.jobs.Output.TheVariants.{Nowhere, Into}
 use Rattle.image_jobs.specs.declared.stops.Refusal.{Refusal}
 use Rattle.image_jobs.specs.declared.stops.Stop.{Stop}
 use Rattle.image_jobs.specs.declared.stops.Stop.TheVariants.{Refused, HostFailed, NoMemory}
 use Rattle.image_jobs.specs.Inputs.{LacksSpec}
-use Rattle.image_jobs.specs.Plays.{Builds, File, Plays, Refuses, Stops, file_of}
+use Rattle.image_jobs.specs.Jobs.{Builds, File, JobDoes, Refuses, Stops, file_of}
 use Rattle.image_jobs.specs.Stages.{Stage, Stores}
 use Rattle.image_tool.specs.declared.tasks.Task.{Task}
-use Rattle.image_tool.specs.declared.tasks.Task.TheVariants.{Build, Plays as ToPlay, Log, Items, Mirror}
+use Rattle.image_tool.specs.declared.tasks.Task.TheVariants.{Build, Settings as ToJob, Log, Items, Mirror}
 use Rattle.image_tool.specs.Worlds.{World}
 
--- `run` plays a script, `dump` asks for the names and prints that answer alone, `migrate` mounts and
--- migrates, and `gen` plays a generated script on a blank image and prints its summary; `log` plays a script
--- on a log, `items` one on items, and `mirror` one on a mirror
+-- `run` carries out a script, `dump` asks for the names and prints that answer alone, `migrate` mounts and
+-- migrates, and `gen` carries out a generated script on a blank image and prints its summary; `log`
+-- carries out a script on a log, `items` one on items, and `mirror` one on a mirror
 abbrev pub task_of : Command → Task
 task_of (command.Build out spec) = Build out spec
 task_of (command.Run image script out) =
-    ToPlay (record { start = FromFile image; source = Script script; telling = All; output = Into out })
+    ToJob (record { start = FromFile image; source = Script script; report = All; output = Into out })
 task_of (command.Dump image) =
-    ToPlay (record { start = FromFile image; source = Names; telling = Last; output = Nowhere })
+    ToJob (record { start = FromFile image; source = Names; report = Last; output = Nowhere })
 task_of (command.Migrate image out) =
-    ToPlay (record { start = FromFile image; source = Migration; telling = All; output = Into out })
+    ToJob (record { start = FromFile image; source = Migration; report = All; output = Into out })
 task_of (command.Gen out backend n) =
-    ToPlay
-    (record { start = Blank backend; source = Generated n; telling = Summary backend n; output = Into out })
+    ToJob
+    (record { start = Blank backend; source = Generated n; report = Summary backend n; output = Into out })
 task_of (command.Log image script out) = Log image script out
 task_of (command.Items image script out) = Items image script out
 task_of (command.Mirror image script out) = Mirror image script out
@@ -43,21 +43,21 @@ task_of (command.Mirror image script out) = Mirror image script out
 -- this text is printed, and this file is written, if any
 abbrev pub Does : Stores → List HandlerKind → Task → World → Stage → List ℕ → Option File → Type 0
 Does k kinds (Build out spec) old new text file = Builds out.now spec.now text file × (new ≡ old.stage)
-Does k kinds (ToPlay play) old new text file = Plays k kinds play old.outside old.stage new text file
+Does k kinds (ToJob job) old new text file = JobDoes k kinds job old.outside old.stage new text file
 Does k kinds (Log image script out) old new text file =
-    PlaysLog image.now script.now out.now old.outside old.stage.bench new.bench text file
+    LogJobDoes image.now script.now out.now old.outside old.stage.bench new.bench text file
     × (new.registry ≡ old.stage.registry)
 Does k kinds (Items image script out) old new text file =
-    PlaysItems image.now script.now out.now old.outside old.stage.bench new.bench text file
+    ItemJobDoes image.now script.now out.now old.outside old.stage.bench new.bench text file
     × (new.registry ≡ old.stage.registry)
 Does k kinds (Mirror image script out) old new text file =
-    PlaysMirror image.now script.now out.now old.outside old.stage.bench new.bench text file
+    MirrorJobDoes image.now script.now out.now old.outside old.stage.bench new.bench text file
     × (new.registry ≡ old.stage.registry)
 
 -- it is refused for this cause
 abbrev pub Causes : Stores → List HandlerKind → Task → World → Stage → Refusal → Type 0
 Causes k kinds (Build out spec) old new refusal = LacksSpec spec.now refusal × (new ≡ old.stage)
-Causes k kinds (ToPlay play) old new refusal = Refuses k kinds play old.outside old.stage new refusal
+Causes k kinds (ToJob job) old new refusal = Refuses k kinds job old.outside old.stage new refusal
 Causes k kinds (Log image script out) old new refusal =
     RefusesLog image.now script.now old.outside old.stage.bench new.bench refusal
     × (new.registry ≡ old.stage.registry)
@@ -71,7 +71,7 @@ Causes k kinds (Mirror image script out) old new refusal =
 -- it stopped there, since the host failed or memory ran out
 abbrev pub StopsAt : Stores → List HandlerKind → Task → World → Stage → Type 0
 StopsAt k kinds (Build out spec) old new = new ≡ old.stage
-StopsAt k kinds (ToPlay play) old new = Stops k kinds play old.outside old.stage new
+StopsAt k kinds (ToJob job) old new = Stops k kinds job old.outside old.stage new
 StopsAt k kinds (Log image script out) old new =
     StopsLog image.now script.now old.outside old.stage.bench new.bench × (new.registry ≡ old.stage.registry)
 StopsAt k kinds (Items image script out) old new =

@@ -7,16 +7,16 @@ use Rattle.command_words.specs.declared.commands.Command.{Command}
 use Rattle.image_jobs.specs.declared.stops.Refusal.{Refusal}
 use Rattle.image_jobs.specs.declared.stops.Refusal.TheVariants.{BadSpec, NoFile, BadFile, NoLog, NoItems, NoMirror, BadArea, Unfit, BadScript}
 use Rattle.image_jobs.specs.Inputs.{out_of}
-use Rattle.image_jobs.specs.Plays.{File}
+use Rattle.image_jobs.specs.Jobs.{File}
 use Rattle.image_jobs.specs.Refusals.{line_of, usage_line}
 use Rattle.any_backend.specs.ByRole.{any_chance, any_contents, any_damage, any_rests, any_room, any_tears}
 use Rattle.image_jobs.specs.Stages.{Stores, stores}
 use Rattle.image_tool.specs.declared.status.Status.{Status}
 use Rattle.image_tool.specs.declared.status.Status.TheVariants as status
 use Rattle.image_tool.specs.declared.tasks.Task.{Task}
-use Rattle.image_tool.specs.declared.tasks.Task.TheVariants.{Build, Plays, Log, Items, Mirror}
+use Rattle.image_tool.specs.declared.tasks.Task.TheVariants.{Build, Settings, Log, Items, Mirror}
 use Rattle.image_tool.specs.Tasks.{Causes, Does, StopsAt, task_of}
-use Rattle.image_tool.specs.Telling.{DeliversPart, PrintsFront, delivered}
+use Rattle.image_tool.specs.Report.{DeliversPart, PrintsPrefix, delivered}
 use Rattle.image_tool.specs.Worlds.{World}
 
 -- the stores of the program: each area has that of its role
@@ -37,14 +37,14 @@ status_of (BadScript n reason) = status.BadScript
 -- ---- a task that was not done; `from` is the outside of before, with one more fault where the host failed
 
 -- the line of a refusal, which has its cause, was printed, whole or only its beginning
-abbrev pub TellsRefusal : Stores → List HandlerKind → Task → Outside → World → World → Type 0
-TellsRefusal k kinds task from old new =
+abbrev pub ReportsRefusal : Stores → List HandlerKind → Task → Outside → World → World → Type 0
+ReportsRefusal k kinds task from old new =
     (refusal : Refusal) × Causes k kinds task old new.stage refusal
-    × PrintsFront from new.outside (line_of refusal)
+    × PrintsPrefix from new.outside (line_of refusal)
 
 -- the text was printed, whole or only its beginning; or it was printed whole, and OUT may hold anything
-abbrev pub TellsPart : Stores → List HandlerKind → Task → Outside → World → World → Type 0
-TellsPart k kinds task from old new =
+abbrev pub ReportsPart : Stores → List HandlerKind → Task → Outside → World → World → Type 0
+ReportsPart k kinds task from old new =
     (text : List ℕ) × (file : Option File) × Does k kinds task old new.stage text file
     × DeliversPart from new.outside text file
 
@@ -52,8 +52,8 @@ TellsPart k kinds task from old new =
 abbrev pub EndsEarly : Stores → List HandlerKind → Task → Outside → World → World → Type 0
 EndsEarly k kinds task from old new =
     (StopsAt k kinds task old new.stage × (new.outside ≡ from))
-    ⊎ TellsRefusal k kinds task from old new
-    ⊎ TellsPart k kinds task from old new
+    ⊎ ReportsRefusal k kinds task from old new
+    ⊎ ReportsPart k kinds task from old new
 
 -- ---- what each status means
 
@@ -81,8 +81,8 @@ TaskEnds k kinds task old new status.BadImage = IsRefused k kinds task old new s
 -- the words are no command: the usage line was printed, whole or only its beginning
 abbrev pub NoCommandEnds : Outside → Outside → Status → Type 0
 NoCommandEnds host host' status.Usage = host' ≡ printed_more host usage_line
-NoCommandEnds host host' status.HostFault = PrintsFront (failed host) host' usage_line
-NoCommandEnds host host' status.NoMemory = PrintsFront host host' usage_line
+NoCommandEnds host host' status.HostFault = PrintsPrefix (failed host) host' usage_line
+NoCommandEnds host host' status.NoMemory = PrintsPrefix host host' usage_line
 NoCommandEnds host host' status.Done = ⊥
 NoCommandEnds host host' status.NoFile = ⊥
 NoCommandEnds host host' status.BadScript = ⊥
@@ -107,7 +107,7 @@ exit_code status.NoFile = 7
 
 abbrev pub out_file : Task → Option (List ℕ)
 out_file (Build out spec) = Some out.now
-out_file (Plays play) = out_of play.output
+out_file (Settings job) = out_of job.output
 out_file (Log image script out) = Some out.now
 out_file (Items image script out) = Some out.now
 out_file (Mirror image script out) = Some out.now

@@ -1,8 +1,8 @@
 // Printing and writing.
 ghost use Rattle.std.specs.Prelude.{◌≡◌};
-ghost use Rattle.image_jobs.specs.Plays.{file_of};
+ghost use Rattle.image_jobs.specs.Jobs.{file_of};
 ghost use Rattle.image_jobs.specs.Refusals.{line_of};
-ghost use Rattle.image_tool.specs.Telling.{Delivers, DeliversOnly, Reports};
+ghost use Rattle.image_tool.specs.Report.{Delivers, DeliversOnly, Reports};
 ghost use Rattle.image_tool.specs.Tool.{status_of};
 
 use crate::status::Status;

@@ -18,7 +18,7 @@ pub fn blanks_are_empty()
     ensures { SpecsAreEmpty }
 {}
 
-/// A play on a blank image is refused for its lines alone, and a generated script is carried out,
+/// A job on a blank image is refused for its lines alone, and a generated script is carried out,
 /// but where the host fails or memory runs out.
 pub fn generated_is_carried_out()
     ensures lines { BlanksLackLinesAlone }

@@ -3,7 +3,7 @@ ghost use Rattle.std.specs.Prelude.{◌≡◌};
 ghost use Rattle.image_tool.specs.Tasks.{task_of};
 
 use command_words::Command;
-use image_jobs::{Output, Play, Source, Start, Telling};
+use image_jobs::{Job, Output, Report, Source, Start};
 
 /// What a command is to do.
 #[derive(Clone, Copy, Debug, PartialEq, Eq)]
@@ -13,21 +13,21 @@ pub enum Task<'a> {
         out: &'a str,
         spec: &'a str,
     },
-    /// Plays lines on an image.
-    Plays(Play<'a>),
-    /// Plays the lines of a script on the log of an image.
+    /// Carries out lines on an image.
+    Settings(Job<'a>),
+    /// Carries out the lines of a script on the log of an image.
     Log {
         image: &'a str,
         script: &'a str,
         out: &'a str,
     },
-    /// Plays the lines of a script on the numbered items of an image.
+    /// Carries out the lines of a script on the numbered items of an image.
     Items {
         image: &'a str,
         script: &'a str,
         out: &'a str,
     },
-    /// Plays the lines of a script on the mirror of an image.
+    /// Carries out the lines of a script on the mirror of an image.
     Mirror {
         image: &'a str,
         script: &'a str,
@@ -39,35 +39,35 @@ pub enum Task<'a> {
 pub fn task_of<'a>(command: &Command<'a>) -> Task<'a>
     ensures { result ≡ task_of command.now }
 {
-    let play = match *command {
+    let job = match *command {
         Command::Build { out, spec } => return Task::Build { out, spec },
-        Command::Run { image, script, out } => Play {
+        Command::Run { image, script, out } => Job {
             start: Start::File { name: image },
             source: Source::Script { name: script },
-            telling: Telling::All,
+            report: Report::All,
             output: Output::Into { name: out },
         },
-        Command::Dump { image } => Play {
+        Command::Dump { image } => Job {
             start: Start::File { name: image },
             source: Source::Names,
-            telling: Telling::Last,
+            report: Report::Last,
             output: Output::Nowhere,
         },
-        Command::Migrate { image, out } => Play {
+        Command::Migrate { image, out } => Job {
             start: Start::File { name: image },
             source: Source::Migration,
-            telling: Telling::All,
+            report: Report::All,
             output: Output::Into { name: out },
         },
-        Command::Gen { out, backend, n } => Play {
+        Command::Gen { out, backend, n } => Job {
             start: Start::Blank { store: backend },
             source: Source::Generated { n },
-            telling: Telling::Summary { store: backend, n },
+            report: Report::Summary { store: backend, n },
             output: Output::Into { name: out },
         },
         Command::Log { image, script, out } => return Task::Log { image, script, out },
         Command::Items { image, script, out } => return Task::Items { image, script, out },
         Command::Mirror { image, script, out } => return Task::Mirror { image, script, out },
     };
-    Task::Plays(play)
+    Task::Settings(job)
 }

@@ -5,8 +5,8 @@ use crate::refused_rows::{REFUSED, Refused};
 use crate::session_rows::SESSIONS;
 use crate::settings_rows::{GENERATED, MANY_MOUNTS, MANY_NAMES, SETTINGS};
 use crate::texts::{
-    ALL, FOUR, LOG, LONG, LONG_RUNS, LONG_TOLD, MIRROR, NVS, RUN, RUN_ITEMS, RUN_LOG, RUN_MIRROR,
-    Row, long_script, spelled,
+    ALL, FOUR, LOG, LONG, LONG_REPORTED, LONG_RUNS, MIRROR, NVS, RUN, RUN_ITEMS, RUN_LOG,
+    RUN_MIRROR, Row, long_script, spelled,
 };
 use flash_sim::FlatSim;
 use image_jobs::USAGE;
@@ -41,7 +41,7 @@ fn host_with(alloc: Global, spec: &str, script: &str) -> Result<MemHost, Fail> {
 // ---- rows
 
 // The host behind the commands of a row.
-fn played<B: Bench>(alloc: Global, bench: &mut B, row: &Row) -> Result<MemHost, Fail> {
+fn job_done<B: Bench>(alloc: Global, bench: &mut B, row: &Row) -> Result<MemHost, Fail> {
     let script = spelled(alloc, row.script)?;
     let mut host = host_with(alloc, row.spec, script.as_str())?;
     for command in row.commands.split(',') {
@@ -64,8 +64,8 @@ fn has(file: &[u8], left: &[(usize, &[u8])]) -> bool {
 // and on one that keeps those alone that are not erased.
 fn agree<R: Abort>(rt: &R, alloc: Global, rows: &[Row]) -> Result<(), Fail> {
     for row in rows {
-        let flat = played(alloc, &mut FlatSim::new(alloc), row)?;
-        let sparse = played(alloc, &mut SparseSim::new(alloc), row)?;
+        let flat = job_done(alloc, &mut FlatSim::new(alloc), row)?;
+        let sparse = job_done(alloc, &mut SparseSim::new(alloc), row)?;
         let printed = spelled(alloc, row.printed)?;
         let on_flat = flat.printed() == printed.as_bytes();
         let on_sparse = sparse.printed() == printed.as_bytes();
@@ -98,11 +98,11 @@ fn rows_of_sessions(rt: HostRuntime) -> Result<(), Fail> {
 fn many_names(rt: HostRuntime) -> Result<(), Fail> {
     let alloc = rt.alloc();
     for row in &MANY_NAMES {
-        let host = played(alloc, &mut FlatSim::new(alloc), row)?;
+        let host = job_done(alloc, &mut FlatSim::new(alloc), row)?;
         let printed = spelled(alloc, row.printed)?;
-        let told = host.printed() == printed.as_bytes();
+        let report_text = host.printed() == printed.as_bytes();
         let same = host.file("y.img") == host.file("x.img");
-        assert_eq!(rt; (told, same), (true, row.same), "{}", row.shows);
+        assert_eq!(rt; (report_text, same), (true, row.same), "{}", row.shows);
     }
     Ok(())
 }
@@ -157,8 +157,13 @@ fn loses<R: Abort>(
     host.put_file("s.txt", script.as_bytes())?;
     host.put_file("x.img", case.image.as_slice())?;
     let status = ends(alloc, &mut host, &mut FlatSim::new(alloc), row.command)?;
-    let told = host.printed() == printed.as_bytes();
-    assert_eq!(rt; (status, told), (0, true), "{}, {units} units", row.shows);
+    let report_text = host.printed() == printed.as_bytes();
+    assert_eq!(rt;
+        (status, report_text),
+        (0, true),
+        "{}, {units} units",
+        row.shows
+    );
     Ok(())
 }
 
@@ -176,7 +181,7 @@ fn losses(rt: HostRuntime) -> Result<(), Fail> {
     Ok(())
 }
 
-// The sum of the units that answers tell, and all other lines.
+// The sum of the units that answers say, and all other lines.
 fn summed(alloc: Global, printed: &[u8]) -> Result<(u64, Vec<u8>), Fail> {
     let mut units = 0u64;
     let mut others = Vec::new(alloc);
@@ -208,8 +213,12 @@ fn long_runs(rt: HostRuntime) -> Result<(), Fail> {
         let run = ends(alloc, &mut host, &mut SparseSim::new(alloc), RUN)?;
         let dump = ends(alloc, &mut host, &mut SparseSim::new(alloc), "dump y.img")?;
         let (spent, others) = summed(alloc, host.printed())?;
-        let told = others.as_slice() == LONG_TOLD.as_bytes();
-        assert_eq!(rt; (run, dump, spent, told), (0, 0, *units, true), "{spec}");
+        let report_text = others.as_slice() == LONG_REPORTED.as_bytes();
+        assert_eq!(rt;
+            (run, dump, spent, report_text),
+            (0, 0, *units, true),
+            "{spec}"
+        );
     }
     Ok(())
 }
@@ -237,10 +246,10 @@ fn refusals(rt: HostRuntime) -> Result<(), Fail> {
         let mut host = host_with(alloc, case.spec, script.as_str())?;
         change(alloc, &mut host, case)?;
         let status = ends(alloc, &mut host, &mut FlatSim::new(alloc), case.command)?;
-        let told = host.printed() == case.printed.as_bytes();
+        let report_text = host.printed() == case.printed.as_bytes();
         let written = host.file("y.img").is_some();
         assert_eq!(rt;
-            (status, told, written, host.faults()),
+            (status, report_text, written, host.faults()),
             (case.status, true, case.status == 0, 0),
             "{}",
             case.shows
@@ -264,8 +273,8 @@ fn short_files(rt: HostRuntime) -> Result<(), Fail> {
         host.put_file("x.img", image.as_slice())?;
         let status = ends(alloc, &mut host, &mut FlatSim::new(alloc), "dump x.img")?;
         let printed = format!(in alloc; "bad image: at {len}: Short\n")?;
-        let told = host.printed() == printed.as_bytes();
-        assert_eq!(rt; (status, told), (4, true), "{len} bytes");
+        let report_text = host.printed() == printed.as_bytes();
+        assert_eq!(rt; (status, report_text), (4, true), "{len} bytes");
     }
     Ok(())
 }
@@ -360,12 +369,12 @@ fn fails<R: Abort>(rt: &R, alloc: Global, row: &Calls, n: u64) -> Result<(), Fai
     host.fail_call(n)?;
     let ended = ends(alloc, &mut host, &mut FlatSim::new(alloc), command)?;
     let printed = if n > prints { text } else { "" };
-    let told = host.printed() == printed.as_bytes();
+    let report_text = host.printed() == printed.as_bytes();
     let failed = n <= calls;
     let done = !failed && status == 0;
     let written = host.file("y.img").is_some();
     assert_eq!(rt;
-        (ended, told, host.faults()),
+        (ended, report_text, host.faults()),
         (if failed { 5 } else { status }, true, u64::from(failed)),
         "{command}, call {n}"
     );

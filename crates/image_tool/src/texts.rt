@@ -156,7 +156,7 @@ pub(crate) static LONG_RUNS: [(&str, u64); 4] = [
 
 /// What it prints on each of them other than units, and a dump of what it leaves: each name has its
 /// last value that was acknowledged.
-pub(crate) const LONG_TOLD: &str =
+pub(crate) const LONG_REPORTED: &str =
     "lost 0\nvalue 19191919191919191919191919191919191919191919191919\nlost 1\n\
     value 4444444444444444444444444444444444444444444444444444\nlost 2\n\
     value 73737373737373737373\nlost 0\n\

@@ -22,8 +22,8 @@ use backend_api::Backend;
 use command_words::read_words;
 use flash_sim::Bench;
 use handlers::{Handler, Registry};
-use image_jobs::{Outcome, Stop, USAGE, build, play};
-use session_jobs::{play_items, play_log, play_mirror};
+use image_jobs::{Outcome, Stop, USAGE, build, run_job};
+use session_jobs::{run_item_job, run_log_job, run_mirror_job};
 use std::alloc::Global;
 use zs_host::Host;
 
@@ -47,11 +47,11 @@ fn prepare<'a, K: Backend, H: Host, B: Bench>(
 {
     match task {
         Task::Build { out, spec } => build(alloc, out, spec),
-        Task::Plays(plays) => play::<K, H, B>(alloc, plays, host, bench, pool, registry),
-        Task::Log { image, script, out } => play_log(alloc, image, script, out, host, bench),
-        Task::Items { image, script, out } => play_items(alloc, image, script, out, host, bench),
+        Task::Settings(job) => run_job::<K, H, B>(alloc, job, host, bench, pool, registry),
+        Task::Log { image, script, out } => run_log_job(alloc, image, script, out, host, bench),
+        Task::Items { image, script, out } => run_item_job(alloc, image, script, out, host, bench),
         Task::Mirror { image, script, out } => {
-            play_mirror(alloc, image, script, out, host, bench)
+            run_mirror_job(alloc, image, script, out, host, bench)
         }
     }
 }
@@ -125,10 +125,10 @@ fn serve<K: Backend, H: Host, B: Bench>(
 /// Carries out the command that the words after the program's name are. The pool has handlers that
 /// hold nothing and were never committed, and the registry has none.
 ///
-/// `build OUT SPEC` writes the blank image of SPEC. `run IMAGE SCRIPT OUT` plays the lines of SCRIPT on the image, prints the texts
-/// of all answers, and then writes the image that is left. `dump IMAGE` prints the settings of the image. `migrate IMAGE OUT` plays
-/// `mount` and `migrate`. `gen OUT BACKEND N` plays a generated script of N lines on a blank image, and prints its summary.
-/// `log IMAGE SCRIPT OUT` plays the lines of SCRIPT on the application log that is the image's only area, prints the texts of all
+/// `build OUT SPEC` writes the blank image of SPEC. `run IMAGE SCRIPT OUT` carries out the lines of SCRIPT on the image, prints the texts
+/// of all answers, and then writes the image that is left. `dump IMAGE` prints the settings of the image. `migrate IMAGE OUT` jobs
+/// `mount` and `migrate`. `gen OUT BACKEND N` carries out a generated script of N lines on a blank image, and prints its summary.
+/// `log IMAGE SCRIPT OUT` carries out the lines of SCRIPT on the application log that is the image's only area, prints the texts of all
 /// answers, and then writes the image that is left. `items IMAGE SCRIPT OUT` does so with the numbered items of the image's only
 /// area, and `mirror IMAGE SCRIPT OUT` with the settings that its two store areas hold between them. What is refused prints one
 /// line, and nothing is written. Where the host fails or memory runs out before anything is printed, the bench is as it was, or it

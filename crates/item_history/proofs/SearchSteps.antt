@@ -17,7 +17,7 @@ use Rattle.item_laws.proofs.Places.{after, range-append, range_from}
 use Rattle.item_laws.proofs.RoundAt.{round-at}
 use Rattle.item_store.specs.declared.entry.Entry.{Entry}
 use Rattle.item_store.specs.declared.entry.Placed.{Placed}
-use Rattle.item_store.specs.Kind.{Kind, placed_at, slots, entries}
+use Rattle.item_store.specs.SectorFormat.{SectorFormat, placed_at, slots, entries}
 use Rattle.item_store.specs.Seen.{behind}
 use Rattle.item_store.proofs.CostSteps.{round-oldest}
 use Rattle.item_history.specs.declared.searches.Search.{Search}
@@ -26,10 +26,10 @@ use Rattle.item_history.specs.Searches.{of_id, EndsIn, IfFound}
 
 -- ---- two parts of a list
 
-get_front : {A : Type 0} (xs ys : List A) (n : ℕ) (x : A) → slice_get xs n ≡ Some x → slice_get (xs ++ ys) n ≡ Some x
-get_front [] ys n x e = absurd (none-some x e)
-get_front (y ∷ xs) ys zero x e = e
-get_front (y ∷ xs) ys (suc n) x e = get_front xs ys n x e
+get_prefix : {A : Type 0} (xs ys : List A) (n : ℕ) (x : A) → slice_get xs n ≡ Some x → slice_get (xs ++ ys) n ≡ Some x
+get_prefix [] ys n x e = absurd (none-some x e)
+get_prefix (y ∷ xs) ys zero x e = e
+get_prefix (y ∷ xs) ys (suc n) x e = get_prefix xs ys n x e
 
 get_behind : {A : Type 0} (xs ys : List A) (m : ℕ) → slice_get (xs ++ ys) (length xs + m) ≡ slice_get ys m
 get_behind [] ys m = let e : 0 + m ≡ m = omega arith in ap (slice_get ys) e
@@ -46,9 +46,9 @@ pub ends_then : (xs ys : List Placed) (n m : ℕ) (r : Search) → EndsIn xs n (
 ends_then xs ys n m (Found p) passed found = ap (slice_get (xs ++ ys)) passed ∙ get_behind xs ys m ∙ found
 ends_then xs ys n m (Left more) passed left = omega (arith, length-append xs ys)
 
--- what was found is found in front of more
+-- what was found is found before more
 pub ends_found : (xs ys : List Placed) (n : ℕ) (p : Placed) → EndsIn xs n (Found p) → EndsIn (xs ++ ys) n (Found p)
-ends_found xs ys n p found = get_front xs ys n p found
+ends_found xs ys n p found = get_prefix xs ys n p found
 
 pub ends_none : (xs : List Placed) (n m : ℕ) → EndsIn xs n (Left m) → None ≡ slice_get xs n
 ends_none xs n m passed = sym (slice_get_past xs n (omega arith))
@@ -83,7 +83,7 @@ module _ (id : ℕ) where
   pub of_own : (p : Placed) → eqb p.id id ≡ true → of_id id (p ∷ []) ≡ p ∷ []
   of_own p own = ap (λ (t : Bool). cond t (p ∷ []) []) own
 
-  -- a part in front of what was passed, and both as one
+  -- a part before what was passed, and both as one
   pub pass_more : (older newer whole : List Placed) (n m : ℕ) (r : Search) → whole ≡ older ++ newer → EndsIn (of_id id newer) n (Left m) → EndsIn (of_id id older) m r → EndsIn (of_id id whole) n r
   pass_more older newer whole n m r split passed found =
       subst (λ (xs : List Placed). EndsIn xs n r) (sym (ap (of_id id) split ∙ of_id-append older newer)) (ends_then (of_id id newer) (of_id id older) n m r passed found)
@@ -94,7 +94,7 @@ module _ (id : ℕ) where
 
 -- ---- the slots of a sector
 
-module _ (k : Kind) (b : List ℕ) (place : ℕ) where
+module _ (k : SectorFormat) (b : List ℕ) (place : ℕ) where
   -- the entries behind the first so many slots
   abbrev pub behind_slots : ℕ → List Placed
   behind_slots count = map (placed_at place) (entries_from (slots k) b (k.first + count) (k.count b - count))
@@ -153,7 +153,7 @@ module _ (k : Kind) (b : List ℕ) (place : ℕ) where
 
 -- ---- the sectors of the round
 
-module _ (k : Kind) (sectors : List (List ℕ)) (current : ℕ) (low : current < length sectors) (is : current ≡ open_sector k.reading sectors) where
+module _ (k : SectorFormat) (sectors : List (List ℕ)) (current : ℕ) (low : current < length sectors) (is : current ≡ open_sector k.reading sectors) where
   abbrev row : ℕ → List Placed
   row = counted_in (slots k) sectors current
 

@@ -18,7 +18,7 @@ use Rattle.item_laws.proofs.Lists.{counts-at_rest}
 use Rattle.item_laws.proofs.Places.{range-append, range_one}
 use Rattle.item_store.specs.declared.entry.Entry.{Entry}
 use Rattle.item_store.specs.declared.entry.Placed.{Placed}
-use Rattle.item_store.specs.Kind.{Kind, IsKind, placed_at, slots, entries}
+use Rattle.item_store.specs.SectorFormat.{SectorFormat, IsSectorFormat, placed_at, slots, entries}
 use Rattle.item_store.specs.Listed.{IsPlaced}
 use Rattle.item_store.specs.Standing.{list_of}
 use Rattle.item_store.proofs.CopyLoop.{are}
@@ -65,10 +65,10 @@ sum_agree f g same [] = refl
 sum_agree f g same (x ∷ xs) = sum_by-cons f x xs ∙ ap (λ (n : ℕ). n + sum_by f xs) (same x) ∙ ap (λ (n : ℕ). g x + n) (sum_agree f g same xs) ∙ sym (sum_by-cons g x xs)
 
 -- what the entries of a sector cost
-abbrev pub sector_total : Kind → List (List ℕ) → ℕ → ℕ
+abbrev pub sector_total : SectorFormat → List (List ℕ) → ℕ → ℕ
 sector_total k sectors place = sum_by (λ (p : Placed). k.cost p.len) (map (placed_at place) (entries k (sector_at sectors place)))
 
-module _ (k : Kind) (law : IsKind k) (sectors : List (List ℕ)) where
+module _ (k : SectorFormat) (law : IsSectorFormat k) (sectors : List (List ℕ)) where
   abbrev entry_cost : Placed → ℕ
   entry_cost p = k.cost p.len
 
@@ -115,7 +115,7 @@ module _ (k : Kind) (law : IsKind k) (sectors : List (List ℕ)) where
       (λ p here. entry_long k law sectors p here.listed (law.sound (sector_at sectors p.sector) (large p.sector here.listed.within) (rest.sound p.sector here.listed.within))) (all_placed (slots k) sectors) placed)
 
 -- one sector more
-pub sector_more : (k : Kind) (sectors : List (List ℕ)) (place : ℕ) → sum_by (sector_total k sectors) (range_with_len 0 (place + 1)) ≡ sum_by (sector_total k sectors) (range_with_len 0 place) + sector_total k sectors place
+pub sector_more : (k : SectorFormat) (sectors : List (List ℕ)) (place : ℕ) → sum_by (sector_total k sectors) (range_with_len 0 (place + 1)) ≡ sum_by (sector_total k sectors) (range_with_len 0 place) + sector_total k sectors place
 sector_more k sectors place =
     ap (sum_by (sector_total k sectors)) (range-append 0 place 1 ∙ ap (λ (js : List ℕ). range_with_len 0 place ++ js) (range_one (0 + place)))
     ∙ sum_by-append (sector_total k sectors) (range_with_len 0 place) ((0 + place) ∷ [])

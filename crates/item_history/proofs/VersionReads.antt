@@ -6,7 +6,7 @@ use Rattle.std.proofs.lemmas.Option.{slice_get-map}
 use Rattle.item_laws.specs.Live.{all_placed, bytes_of, pair_of}
 use Rattle.item_laws.proofs.LastLemmas.{list-found}
 use Rattle.item_store.specs.declared.entry.Placed.{Placed}
-use Rattle.item_store.specs.Kind.{Kind, IsKind, slots}
+use Rattle.item_store.specs.SectorFormat.{SectorFormat, IsSectorFormat, slots}
 use Rattle.item_store.specs.Standing.{list_of}
 use Rattle.item_store.specs.Versions.{versions}
 use Rattle.item_store.proofs.CopyLoop.{are}
@@ -16,7 +16,7 @@ use Rattle.item_history.specs.History.{IsVersion}
 use Rattle.item_history.specs.Searches.{of_id}
 use Rattle.item_history.proofs.SearchSteps.{none_there}
 
-module _ (k : Kind) (sectors : List (List ℕ)) (id : ℕ) where
+module _ (k : SectorFormat) (sectors : List (List ℕ)) (id : ℕ) where
   abbrev bytes : Placed → List ℕ
   bytes p = bytes_of (slots k) sectors p
 
@@ -31,24 +31,24 @@ module _ (k : Kind) (sectors : List (List ℕ)) (id : ℕ) where
       ap (λ (start : List (List ℕ)). fold (λ (vs : List (List ℕ)) (pair : ℕ × List ℕ). cond (eqb pair.0 id) (pair.1 ∷ vs) vs) start (map (pair_of (slots k) sectors) ps)) (one_said (eqb p.id id) p older)
       ∙ said_by (cond (eqb p.id id) (p ∷ older) older) ps
 
-  pub versions_are : IsKind k → versions (list_of k sectors) id ≡ map bytes (of_id id (all_placed (slots k) sectors))
+  pub versions_are : IsSectorFormat k → versions (list_of k sectors) id ≡ map bytes (of_id id (all_placed (slots k) sectors))
   versions_are law = ap (λ pairs. versions pairs id) (list-found (slots k) (are k law) sectors) ∙ said_by [] (all_placed (slots k) sectors)
 
-  pub version_there : IsKind k → (n : ℕ) (p : Placed) → slice_get (of_id id (all_placed (slots k) sectors)) n ≡ Some p → slice_get (versions (list_of k sectors) id) n ≡ Some (bytes_of (slots k) sectors p)
+  pub version_there : IsSectorFormat k → (n : ℕ) (p : Placed) → slice_get (of_id id (all_placed (slots k) sectors)) n ≡ Some p → slice_get (versions (list_of k sectors) id) n ≡ Some (bytes_of (slots k) sectors p)
   version_there law n p found =
       ap (λ (vs : List (List ℕ)). slice_get vs n) (versions_are law)
       ∙ slice_get-map bytes (of_id id (all_placed (slots k) sectors)) n ∙ ap (option_map bytes) found
 
-  pub version_gone : IsKind k → (n : ℕ) → slice_get (of_id id (all_placed (slots k) sectors)) n ≡ None → length (versions (list_of k sectors) id) ≤ n
+  pub version_gone : IsSectorFormat k → (n : ℕ) → slice_get (of_id id (all_placed (slots k) sectors)) n ≡ None → length (versions (list_of k sectors) id) ≤ n
   version_gone law n none =
       none_there (versions (list_of k sectors) id) n
       (ap (λ (vs : List (List ℕ)). slice_get vs n) (versions_are law) ∙ slice_get-map bytes (of_id id (all_placed (slots k) sectors)) n ∙ ap (option_map bytes) none)
 
--- what is told of one version, of all
-pub told_of : (versions : List (List ℕ)) (n : ℕ) (bytes : List ℕ) (r : Older) → slice_get versions n ≡ Some bytes → IsVersion (bytes ∷ []) 0 r → IsVersion versions n r
-told_of versions n bytes (Value v) there told = (there ∙ told.0, told.1)
-told_of versions n bytes Deleted there told = there ∙ told
-told_of versions n bytes Gone there told = absurd (omega arith)
+-- what is said of one version, of all
+pub reported_of : (versions : List (List ℕ)) (n : ℕ) (bytes : List ℕ) (r : Older) → slice_get versions n ≡ Some bytes → IsVersion (bytes ∷ []) 0 r → IsVersion versions n r
+reported_of versions n bytes (Value v) there reported = (there ∙ reported.0, reported.1)
+reported_of versions n bytes Deleted there reported = there ∙ reported
+reported_of versions n bytes Gone there reported = absurd (omega arith)
 
 pub no_bytes : (bytes : List ℕ) → length bytes ≡ 0 → bytes ≡ []
 no_bytes [] none = refl

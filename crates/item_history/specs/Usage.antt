@@ -2,7 +2,7 @@
 use Rattle.std.specs.Prelude.{ℕ, ◌-◌, ◌*◌, List, [], ◌∷◌, length, ◌||◌, ◌==◌, if◌then◌else◌}
 use Rattle.item_laws.specs.LivePairs.{names}
 use Rattle.item_laws.specs.PairRounds.{copies_cost, live_cost}
-use Rattle.item_store.specs.Kind.{Kind}
+use Rattle.item_store.specs.SectorFormat.{SectorFormat}
 use Rattle.item_history.specs.declared.usage.Space.{Space}
 
 -- The pairs that are no item: deletes, and those behind which stands another of their id.
@@ -16,7 +16,7 @@ abbrev pub stale_cost : (ℕ → ℕ) → List (ℕ × List ℕ) → ℕ
 stale_cost price pairs = copies_cost price (stale_pairs pairs)
 
 -- In an area of so many sectors of a size, with this list. One sector is kept for collecting.
-abbrev pub space_of : Kind → ℕ → ℕ → List (ℕ × List ℕ) → Space
+abbrev pub space_of : SectorFormat → ℕ → ℕ → List (ℕ × List ℕ) → Space
 space_of k sectors size pairs = record {
   live = live_cost k.cost pairs;
   stale = stale_cost k.cost pairs;

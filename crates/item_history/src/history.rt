@@ -5,8 +5,8 @@ ghost use Rattle.flash_map.specs.Area.{sectors_of};
 ghost use Rattle.item_laws.specs.Area.{open_sector};
 ghost use Rattle.item_laws.specs.Forms.{AtRest};
 ghost use Rattle.item_laws.specs.Live.{bytes_of};
-ghost use Rattle.item_store.specs.Kind.{slots};
-ghost use Rattle.item_store.specs.Listed.{kind_on, list_on, IsListedOn, IsWithinOn};
+ghost use Rattle.item_store.specs.SectorFormat.{slots};
+ghost use Rattle.item_store.specs.Listed.{format_on, list_on, IsListedOn, IsWithinOn};
 ghost use Rattle.item_store.specs.Standing.{IsStoreArea};
 ghost use Rattle.item_store.specs.Stands.{StandsOn};
 ghost use Rattle.item_store.specs.Versions.{versions};
@@ -34,9 +34,9 @@ fn said<'a, T: SlotSectors, F: Flash, L: Ledger>(
     steps: &mut Steps<L>,
 ) -> Older<'a>
     requires area { IsStoreArea T.role (F.device flash.now).banks area.now }
-    requires listed { IsListedOn T.kind (F.device flash.now) area.now placed.now }
-    requires within { IsWithinOn T.kind (F.device flash.now) area.now placed.now.sector }
-    ensures { let d = F.device flash.now in let s = slots (kind_on T.kind d area.now) in
+    requires listed { IsListedOn T.format_of (F.device flash.now) area.now placed.now }
+    requires within { IsWithinOn T.format_of (F.device flash.now) area.now placed.now.sector }
+    ensures { let d = F.device flash.now in let s = slots (format_on T.format_of d area.now) in
         IsVersion (bytes_of s (sectors_of d area.now) placed.now ∷ []) 0 result }
 {
     if placed.len == 0 {
@@ -56,10 +56,10 @@ fn version<'a, T: SlotSectors, F: Flash, L: Ledger>(
 ) -> Older<'a>
     requires area { IsStoreArea T.role (F.device flash.now).banks area.now }
     requires current { let d = F.device flash.now in
-        current ≡ open_sector (kind_on T.kind d area.now).reading (sectors_of d area.now) }
+        current ≡ open_sector (format_on T.format_of d area.now).reading (sectors_of d area.now) }
     requires rested { let d = F.device flash.now in
-        AtRest (kind_on T.kind d area.now).reading (sectors_of d area.now) current }
-    ensures { IsVersion (versions (list_on T.kind (F.device flash.now) area.now) id) n result }
+        AtRest (format_on T.format_of d area.now).reading (sectors_of d area.now) current }
+    ensures { IsVersion (versions (list_on T.format_of (F.device flash.now) area.now) id) n result }
 {
     match nth_entry::<T, F, L>(flash, area, current, id, n, steps) {
         Some(placed) => said::<T, F, L>(flash, area, &placed, steps),
@@ -77,9 +77,9 @@ pub fn store_older<'a, T: SlotSectors, F: Flash, L: Ledger>(
     n: u32,
     steps: &mut Steps<L>,
 ) -> Older<'a>
-    requires { StandsOn T.role T.kind T.kept (F.device flash.now) store.now }
+    requires { StandsOn T.role T.format_of T.kept (F.device flash.now) store.now }
     ensures { let d = F.device flash.now in
-        IsVersion (versions (list_on T.kind d store.now.area) id) n result }
+        IsVersion (versions (list_on T.format_of d store.now.area) id) n result }
 {
     version::<T, F, L>(flash, store.area(), store.open_sector(), id, n, steps)
 }

@@ -5,8 +5,8 @@ ghost use Rattle.flash_map.specs.Area.{sectors_of, sector_at};
 ghost use Rattle.item_history.specs.Searches.{of_id, EndsIn, IfFound};
 ghost use Rattle.item_laws.specs.Area.{open_sector};
 ghost use Rattle.item_laws.specs.Forms.{AtRest};
-ghost use Rattle.item_store.specs.Kind.{entries, placed_at};
-ghost use Rattle.item_store.specs.Listed.{kind_on, entries_on, HasSlotOn, IsListedOn};
+ghost use Rattle.item_store.specs.SectorFormat.{entries, placed_at};
+ghost use Rattle.item_store.specs.Listed.{format_on, entries_on, HasSlotOn, IsListedOn};
 ghost use Rattle.item_store.specs.Standing.{IsStoreArea};
 
 use flash_map::Area;
@@ -47,11 +47,12 @@ fn pass_slot<T: SlotSectors, F: Flash, L: Ledger>(
 ) -> Search
     requires area { IsStoreArea T.role (F.device flash.now).banks area.now }
     requires inside { place < area.now.sectors }
-    requires slot { HasSlotOn T.kind (F.device flash.now) area.now place slot }
+    requires slot { HasSlotOn T.format_of (F.device flash.now) area.now place slot }
     ensures entry { let d = F.device flash.now in
-        let read = (kind_on T.kind d area.now).in_slot (sector_at (sectors_of d area.now) place) in
+        let read = (format_on T.format_of d area.now).in_slot
+        (sector_at (sectors_of d area.now) place) in
         EndsIn (of_id id (map (placed_at place) (filter_map read (slot ∷ [])))) left result }
-    ensures listed { IfFound result (IsListedOn T.kind (F.device flash.now) area.now) }
+    ensures listed { IfFound result (IsListedOn T.format_of (F.device flash.now) area.now) }
 {
     match T::entry_in(flash, area, place, slot, steps) {
         Some(placed) => pass(placed, id, left),
@@ -71,8 +72,9 @@ fn pass_sector<T: SlotSectors, F: Flash, L: Ledger>(
     requires area { IsStoreArea T.role (F.device flash.now).banks area.now }
     requires inside { place < area.now.sectors }
     ensures entry { let d = F.device flash.now in let b = sector_at (sectors_of d area.now) place in
-        EndsIn (of_id id (map (placed_at place) (entries (kind_on T.kind d area.now) b))) n result }
-    ensures listed { IfFound result (IsListedOn T.kind (F.device flash.now) area.now) }
+        EndsIn (of_id id (map (placed_at place) (entries (format_on T.format_of d area.now) b))) n
+        result }
+    ensures listed { IfFound result (IsListedOn T.format_of (F.device flash.now) area.now) }
 {
     let mut count = T::slots(flash, area, place, steps);
     let first = T::first_slot();
@@ -99,12 +101,12 @@ pub fn nth_entry<T: SlotSectors, F: Flash, L: Ledger>(
 ) -> Option<Placed>
     requires area { IsStoreArea T.role (F.device flash.now).banks area.now }
     requires current { let d = F.device flash.now in
-        current ≡ open_sector (kind_on T.kind d area.now).reading (sectors_of d area.now) }
+        current ≡ open_sector (format_on T.format_of d area.now).reading (sectors_of d area.now) }
     requires rested { let d = F.device flash.now in
-        AtRest (kind_on T.kind d area.now).reading (sectors_of d area.now) current }
+        AtRest (format_on T.format_of d area.now).reading (sectors_of d area.now) current }
     ensures entry { let d = F.device flash.now in
-        result ≡ slice_get (of_id id (entries_on T.kind d area.now)) n }
-    ensures listed { IfSome result (IsListedOn T.kind (F.device flash.now) area.now) }
+        result ≡ slice_get (of_id id (entries_on T.format_of d area.now)) n }
+    ensures listed { IfSome result (IsListedOn T.format_of (F.device flash.now) area.now) }
 {
     let oldest = area.next(current);
     let mut place = current;

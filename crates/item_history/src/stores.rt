@@ -33,7 +33,7 @@ pub fn nvs_older<'a, F: Flash, L: Ledger>(
 pub fn nvs_space<F: Flash, L: Ledger>(store: &Nvs, flash: &F, steps: &mut Steps<L>) -> Space
     requires { nvs.StandsOn (F.device flash.now) store.now }
     ensures { let d = F.device flash.now in let area = store.now.store.area in
-        let k = nvs.kind_on d area in
+        let k = nvs.format_on d area in
         result ≡ space_of k area.sectors (sector_size d area) (nvs.list_on d area) }
 {
     store_space(store.store(), flash, steps)
@@ -58,7 +58,7 @@ pub fn zms_older<'a, F: Flash, L: Ledger>(
 pub fn zms_space<F: Flash, L: Ledger>(store: &Zms, flash: &F, steps: &mut Steps<L>) -> Space
     requires { zms.StandsOn (F.device flash.now) store.now }
     ensures { let d = F.device flash.now in let area = store.now.store.area in
-        let k = zms.kind_on d area in
+        let k = zms.format_on d area in
         result ≡ space_of k area.sectors (sector_size d area) (zms.list_on d area) }
 {
     store_space(store.store(), flash, steps)

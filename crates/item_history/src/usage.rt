@@ -7,8 +7,8 @@ ghost use Rattle.item_laws.specs.PairRounds.{copies_cost};
 ghost use Rattle.item_laws.specs.Area.{open_sector};
 ghost use Rattle.item_laws.specs.Forms.{AtRest};
 ghost use Rattle.item_laws.specs.Live.{cost_of};
-ghost use Rattle.item_store.specs.Kind.{entries, placed_at, slots};
-ghost use Rattle.item_store.specs.Listed.{kind_on, list_on, HasSlotOn};
+ghost use Rattle.item_store.specs.SectorFormat.{entries, placed_at, slots};
+ghost use Rattle.item_store.specs.Listed.{format_on, list_on, HasSlotOn};
 ghost use Rattle.item_store.specs.Standing.{IsStoreArea};
 ghost use Rattle.item_store.specs.Stands.{StandsOn};
 
@@ -38,8 +38,8 @@ fn slot_cost<T: SlotSectors, F: Flash, L: Ledger>(
 ) -> u64
     requires area { IsStoreArea T.role (F.device flash.now).banks area.now }
     requires inside { place < area.now.sectors }
-    requires slot { HasSlotOn T.kind (F.device flash.now) area.now place slot }
-    ensures cost { let d = F.device flash.now in let k = kind_on T.kind d area.now in
+    requires slot { HasSlotOn T.format_of (F.device flash.now) area.now place slot }
+    ensures cost { let d = F.device flash.now in let k = format_on T.format_of d area.now in
         let read = k.in_slot (sector_at (sectors_of d area.now) place) in
         result ≡ cost_of (slots k) (option_map (placed_at place) (read slot)) }
     ensures small { result ≤ 2 ^ 18 }
@@ -60,7 +60,7 @@ fn sector_cost<T: SlotSectors, F: Flash, L: Ledger>(
 ) -> u64
     requires area { IsStoreArea T.role (F.device flash.now).banks area.now }
     requires inside { place < area.now.sectors }
-    ensures cost { let d = F.device flash.now in let k = kind_on T.kind d area.now in
+    ensures cost { let d = F.device flash.now in let k = format_on T.format_of d area.now in
         let b = sector_at (sectors_of d area.now) place in
         result ≡ sum_by (λ p. k.cost p.len) (map (placed_at place) (entries k b)) }
     ensures small { result ≤ 2 ^ 33 }
@@ -81,10 +81,10 @@ fn total_cost<T: SlotSectors, F: Flash, L: Ledger>(
     steps: &mut Steps<L>,
 ) -> u64
     requires area { IsStoreArea T.role (F.device flash.now).banks area.now }
-    requires rested { let d = F.device flash.now in let k = kind_on T.kind d area.now in
+    requires rested { let d = F.device flash.now in let k = format_on T.format_of d area.now in
         AtRest k.reading (sectors_of d area.now) (open_sector k.reading (sectors_of d area.now)) }
-    ensures { let d = F.device flash.now in let k = kind_on T.kind d area.now in
-        result ≡ copies_cost k.cost (list_on T.kind d area.now) }
+    ensures { let d = F.device flash.now in let k = format_on T.format_of d area.now in
+        result ≡ copies_cost k.cost (list_on T.format_of d area.now) }
 {
     let mut cost = 0;
     for place in 0..area.sectors {
@@ -96,7 +96,7 @@ fn total_cost<T: SlotSectors, F: Flash, L: Ledger>(
 // What all sectors but one have for items.
 fn room<T: SlotSectors, F: Flash>(flash: &F, area: &Area) -> u64
     requires { IsStoreArea T.role (F.device flash.now).banks area.now }
-    ensures { let d = F.device flash.now in let k = kind_on T.kind d area.now in
+    ensures { let d = F.device flash.now in let k = format_on T.format_of d area.now in
         result ≡ (area.now.sectors - 1) * k.cap (sector_size d area.now) }
 {
     let geometry = geometry(flash, area);
@@ -110,10 +110,10 @@ pub fn store_space<T: SlotSectors, F: Flash, L: Ledger>(
     flash: &F,
     steps: &mut Steps<L>,
 ) -> Space
-    requires { StandsOn T.role T.kind T.kept (F.device flash.now) store.now }
+    requires { StandsOn T.role T.format_of T.kept (F.device flash.now) store.now }
     ensures { let d = F.device flash.now in let area = store.now.area in
-        let k = kind_on T.kind d area in
-        result ≡ space_of k area.sectors (sector_size d area) (list_on T.kind d area) }
+        let k = format_on T.format_of d area in
+        result ≡ space_of k area.sectors (sector_size d area) (list_on T.format_of d area) }
 {
     let live = store.live_cost(flash, steps);
     let total = total_cost::<T, F, L>(flash, store.area(), steps);

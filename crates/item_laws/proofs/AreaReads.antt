@@ -22,9 +22,9 @@ pub previous_there : (d : Device) (area : Area) (place : ℕ) → before area.se
 previous_there d area place = ap (λ (n : ℕ). before n place) (sym (length-sectors d area))
 
 module _ (reading : Reading) (sectors : List (List ℕ)) where
-  -- a place counts where it is not the hidden one
-  pub counts_closed : (place k hidden : ℕ) (done : Bool) → is_closed_at reading sectors (next sectors place) ≡ true → reading.has_gc_done (sector_at sectors place) ≡ done → hidden ≡ cond done (next sectors place) place → not (eqb k hidden) ≡ counts_at reading sectors place k
-  counts_closed place k hidden done c d is = ap (λ (h : ℕ). not (eqb k h)) is ∙ sym (counts-next reading sectors place k true done c d)
+  -- a place counts where it is not the ignored one
+  pub counts_closed : (place k ignored : ℕ) (done : Bool) → is_closed_at reading sectors (next sectors place) ≡ true → reading.has_gc_done (sector_at sectors place) ≡ done → ignored ≡ cond done (next sectors place) place → not (eqb k ignored) ≡ counts_at reading sectors place k
+  counts_closed place k ignored done c d is = ap (λ (h : ℕ). not (eqb k h)) is ∙ sym (counts-next reading sectors place k true done c d)
 
   pub counts_open : (place k : ℕ) → is_closed_at reading sectors (next sectors place) ≡ false → true ≡ counts_at reading sectors place k
   counts_open place k c = sym (counts-next reading sectors place k false (reading.has_gc_done (sector_at sectors place)) c refl)

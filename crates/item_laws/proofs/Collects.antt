@@ -98,7 +98,7 @@ others-next reading sectors place new within several =
     let long : length (set sectors place new) ≡ length sectors = length-set sectors place new in
     let s = split (length sectors) place within several in
     ap (λ (n : ℕ). flat_map (pairs_at reading (set sectors place new)) (others n (next sectors place))) long
-    ∙ ap (flat_map (pairs_at reading (set sectors place new))) s.turned
+    ∙ ap (flat_map (pairs_at reading (set sectors place new))) s.rotated
     ∙ flat_map-append (pairs_at reading (set sectors place new)) (rest (length sectors) place) (place ∷ [])
     ∙ ap (λ ps. ps ++ flat_map (pairs_at reading (set sectors place new)) (place ∷ [])) (rest-kept reading sectors place place new within several (inl refl))
     ∙ ap (λ ps. flat_map (pairs_at reading sectors) (rest (length sectors) place) ++ ps) (append-nil (pairs_at reading (set sectors place new) place) ∙ ap (reading.pairs) (there sectors place new within))
@@ -116,7 +116,7 @@ close reading laws sectors place new form closes sound =
     let ring = form.ring in
     let some = form.some in
     let long : length (set sectors place new) ≡ length sectors = length-set sectors place new in
-    let turned = ring-next reading sectors place form.blanks new ring form.some closes.closed in
+    let rotated = ring-next reading sectors place form.blanks new ring form.some closes.closed in
     let other : next sectors place ≡ place → ⊥ = after-apart (length sectors) place ring.within ring.several in
     let opened : is_blank_at reading (set sectors place new) (next sectors place) ≡ true = ap reading.is_blank (elsewhere sectors place new (next sectors place) other) ∙ next_blank reading sectors place form in
     let all_sound : (k : ℕ) → k < length (set sectors place new) → is_sound reading (sector_at (set sectors place new) k) ≡ true =
@@ -125,14 +125,14 @@ close reading laws sectors place new form closes sound =
     others-next reading sectors place new ring.within ring.several ∙ ap (λ ps. flat_map (pairs_at reading sectors) (rest (length sectors) place) ++ ps) closes.list ∙ sym (list-before_close reading laws sectors place form) in
     elim (cases_lt 1 form.blanks) [
       | inl more ↦ (
-        inl (record { blanks = form.blanks - 1; ring = turned; some = omega arith; sound = all_sound }),
-        list-at_rest reading (set sectors place new) (next sectors place) (form.blanks - 1) turned (omega arith)
+        inl (record { blanks = form.blanks - 1; ring = rotated; some = omega arith; sound = all_sound }),
+        list-at_rest reading (set sectors place new) (next sectors place) (form.blanks - 1) rotated (omega arith)
             ∙ ap (λ ps. flat_map (pairs_at reading (set sectors place new)) (others (length (set sectors place new)) (next sectors place)) ++ ps) (laws.pairs (sector_at (set sectors place new) (next sectors place)) opened)
             ∙ append-nil (flat_map (pairs_at reading (set sectors place new)) (others (length (set sectors place new)) (next sectors place))) ∙ list,
       )
       | inr le ↦
           let none : form.blanks - 1 ≡ 0 = omega arith in
-          let last_blank : IsRing reading (set sectors place new) (next sectors place) 0 = subst (λ (n : ℕ). IsRing reading (set sectors place new) (next sectors place) n) none turned in
+          let last_blank : IsRing reading (set sectors place new) (next sectors place) 0 = subst (λ (n : ℕ). IsRing reading (set sectors place new) (next sectors place) n) none rotated in
           let unmarked = laws.gc_done (sector_at (set sectors place new) (next sectors place)) opened in
           (inr (record { ring = last_blank; not_done = unmarked; sound = λ k lt apart. all_sound k lt }), list-collecting reading (set sectors place new) (next sectors place) last_blank unmarked ∙ list)
     ]
@@ -187,7 +187,7 @@ put_mark reading sectors place new form copied marks sound =
 
 -- ---- the erase
 
--- the victim, which counts for nothing, changes and stays closed: its emptying was cut
+-- the victim, which is ignored, changes and stays closed: its emptying was cut
 pub put_victim : (reading : Reading) (sectors : List (List ℕ)) (place : ℕ) (new : List ℕ) → Collected reading sectors place → reading.is_closed new ≡ true
     → Collected reading (set sectors (next sectors place) new) place × (area_pairs reading (set sectors (next sectors place) new) place ≡ area_pairs reading sectors place)
 put_victim reading sectors place new form shut =

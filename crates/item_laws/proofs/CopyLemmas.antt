@@ -66,8 +66,8 @@ module _ {Entry Placed : Type 0} (k : Entries Entry Placed) (are : AreEntries k)
   abbrev found_in : ℕ → List Placed
   found_in j = map (k.placed_at j) (k.entries (sector_at sectors j))
 
-  hidden : counted_in k sectors place place ≡ []
-  hidden = ap (λ (t : Bool). cond t (found_in place) []) (counted place ∙ ap not (eq-eqb place place refl))
+  ignored : counted_in k sectors place place ≡ []
+  ignored = ap (λ (t : Bool). cond t (found_in place) []) (counted place ∙ ap not (eq-eqb place place refl))
 
   shown : (j : ℕ) → (j ≡ place → ⊥) → counted_in k sectors place j ≡ map (k.placed_at j) (k.entries (sector_at sectors j))
   shown j apart = ap (λ (t : Bool). cond t (found_in j) []) (counts_else j apart)
@@ -83,7 +83,7 @@ module _ {Entry Placed : Type 0} (k : Entries Entry Placed) (are : AreEntries k)
       ap (λ (j : ℕ). flat_map (counted_in k sectors j) (round (length sectors) j)) open_here
       ∙ ap (flat_map (counted_in k sectors place)) (round-is (length sectors) place)
       ∙ flat_map-append (counted_in k sectors place) (others (length sectors) place) (place ∷ [])
-      ∙ ap (λ (xs : List Placed). flat_map (counted_in k sectors place) (others (length sectors) place) ++ xs) (append-nil (counted_in k sectors place place) ∙ hidden)
+      ∙ ap (λ (xs : List Placed). flat_map (counted_in k sectors place) (others (length sectors) place) ++ xs) (append-nil (counted_in k sectors place place) ∙ ignored)
       ∙ append-nil (flat_map (counted_in k sectors place) (others (length sectors) place))
       ∙ ap (flat_map (counted_in k sectors place)) s.first
       ∙ flat_map-cons (counted_in k sectors place) (next sectors place) (rest (length sectors) place)

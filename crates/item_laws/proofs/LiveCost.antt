@@ -7,9 +7,9 @@ use Rattle.item_laws.specs.LivePairs.{names, live_pairs}
 use Rattle.item_laws.specs.PairRounds.{copies_cost, stored_cost, joined, live_cost, collect_oldest}
 use Rattle.item_laws.proofs.LivePairs.{names-append}
 use Rattle.item_laws.proofs.NoRoom.{joined-push}
-use Rattle.item_laws.proofs.RoundLemmas.{AreHidden, live-all, live-same, hidden}
+use Rattle.item_laws.proofs.RoundLemmas.{AreIgnored, live-all, live-same, ignored}
 
-pub live-split : (front back tail : List (ℕ × List ℕ)) → live_pairs (front ++ back) tail ≡ live_pairs front (back ++ tail) ++ live_pairs back tail
+pub live-split : (prefix back tail : List (ℕ × List ℕ)) → live_pairs (prefix ++ back) tail ≡ live_pairs prefix (back ++ tail) ++ live_pairs back tail
 unfolding live_pairs
 live-split [] back tail = refl
 live-split (pair ∷ rest) back tail =
@@ -26,8 +26,8 @@ live-split (pair ∷ rest) back tail =
           ∙ sym (ap (λ (t : Bool). cond t (live_pairs rest (back ++ tail)) (pair ∷ live_pairs rest (back ++ tail)) ++ live_pairs back tail) live)
     ]
 
-live-ignores : (xs extra : List (ℕ × List ℕ)) → AreHidden xs extra → live_pairs xs extra ≡ live_pairs xs []
-unfolding live_pairs AreHidden
+live-ignores : (xs extra : List (ℕ × List ℕ)) → AreIgnored xs extra → live_pairs xs extra ≡ live_pairs xs []
+unfolding live_pairs AreIgnored
 live-ignores [] extra h = refl
 live-ignores (pair ∷ rest) extra (apart, more) =
     let same : names pair.0 (rest ++ extra) ≡ names pair.0 (rest ++ []) = names-append pair.0 rest extra ∙ ap (λ (t : Bool). names pair.0 rest || t) apart ∙ sym (names-append pair.0 rest []) in
@@ -39,7 +39,7 @@ live-round price victim others =
     let copies = live_pairs victim others in
     let new : live_pairs (others ++ live_pairs victim others) [] ≡ live_pairs others [] ++ live_pairs victim others =
     live-split others (live_pairs victim others) [] ∙ ap (λ ps. live_pairs others ps ++ live_pairs (live_pairs victim others) []) (append-nil (live_pairs victim others))
-    ∙ ap (λ ps. ps ++ live_pairs (live_pairs victim others) []) (live-ignores others (live_pairs victim others) (hidden [] others victim))
+    ∙ ap (λ ps. ps ++ live_pairs (live_pairs victim others) []) (live-ignores others (live_pairs victim others) (ignored [] others victim))
     ∙ ap (λ ps. live_pairs others [] ++ ps) (live-same (live_pairs victim others) (live-all victim others)) in
     let old : live_pairs (victim ++ others) [] ≡ live_pairs victim others ++ live_pairs others [] = live-split victim others [] ∙ ap (λ ps. live_pairs victim ps ++ live_pairs others []) (append-nil others) in
     let a : live_cost price (others ++ live_pairs victim others) ≡ copies_cost price (live_pairs others []) + copies_cost price (live_pairs victim others) =

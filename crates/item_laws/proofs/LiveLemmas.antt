@@ -71,17 +71,17 @@ module _ {Entry Placed : Type 0} (k : Entries Entry Placed) where
 
   -- live entries are live pairs
 
-  -- An entry in front of others is live where none of them has its id, and it has bytes.
-  live-head : (sectors : List (List ℕ)) (f : Placed) (front behind : List Placed) → All (Apart f) behind → HasBytes sectors f
-      → is_at k f (last_of k (k.id f) (front ++ f ∷ behind)) ≡ not (names (k.id f) (map (pair_of k sectors) behind) || eqb (length (bytes_of k sectors f)) 0)
-  live-head sectors f front behind apart long =
+  -- An entry before others is live where none of them has its id, and it has bytes.
+  live-head : (sectors : List (List ℕ)) (f : Placed) (prefix behind : List Placed) → All (Apart f) behind → HasBytes sectors f
+      → is_at k f (last_of k (k.id f) (prefix ++ f ∷ behind)) ≡ not (names (k.id f) (map (pair_of k sectors) behind) || eqb (length (bytes_of k sectors f)) 0)
+  live-head sectors f prefix behind apart long =
       let own : last_of k (k.id f) (f ∷ behind) ≡ option_or (last_of k (k.id f) behind) (Some f) =
       last-append k (k.id f) (f ∷ []) behind ∙ ap (λ (t : Bool). option_or (last_of k (k.id f) behind) (cond t (Some f) None)) (eq-eqb (k.id f) (k.id f) refl) in
-      let all : last_of k (k.id f) (front ++ f ∷ behind) ≡ option_or (option_or (last_of k (k.id f) behind) (Some f)) (last_of k (k.id f) front) = last-append k (k.id f) front (f ∷ behind) ∙ ap (λ (o : Option Placed). option_or o (last_of k (k.id f) front)) own in
+      let all : last_of k (k.id f) (prefix ++ f ∷ behind) ≡ option_or (option_or (last_of k (k.id f) behind) (Some f)) (last_of k (k.id f) prefix) = last-append k (k.id f) prefix (f ∷ behind) ∙ ap (λ (o : Option Placed). option_or o (last_of k (k.id f) prefix)) own in
       elim (option_cases (last_of k (k.id f) behind)) [
         | inl none ↦
             let unnamed : names (k.id f) (map (pair_of k sectors) behind) ≡ false = sym (last-names sectors (k.id f) behind) ∙ ap (λ (o : Option Placed). is_some o) none in
-            ap (is_at k f) (all ∙ ap (λ (o : Option Placed). option_or (option_or o (Some f)) (last_of k (k.id f) front)) none)
+            ap (is_at k f) (all ∙ ap (λ (o : Option Placed). option_or (option_or o (Some f)) (last_of k (k.id f) prefix)) none)
             ∙ ap (λ (t : Bool). t && eqb (k.slot f) (k.slot f) && ltb 0 (k.len f)) (eq-eqb (k.sector f) (k.sector f) refl) ∙ ap (λ (t : Bool). true && t && ltb 0 (k.len f)) (eq-eqb (k.slot f) (k.slot f) refl)
             ∙ some_data (k.len f)
             ∙ ap (λ (n : ℕ). not (eqb n 0)) (sym long)
@@ -89,27 +89,27 @@ module _ {Entry Placed : Type 0} (k : Entries Entry Placed) where
         | inr (g, some) ↦
             let named : names (k.id f) (map (pair_of k sectors) behind) ≡ true = sym (last-names sectors (k.id f) behind) ∙ ap (λ (o : Option Placed). is_some o) some in
             let off : (eqb (k.sector g) (k.sector f) && eqb (k.slot g) (k.slot f)) ≡ false = last-all (Apart f) (k.id f) behind None g apart (λ h e. absurd (some_none h (sym e))) some in
-            ap (is_at k f) (all ∙ ap (λ (o : Option Placed). option_or (option_or o (Some f)) (last_of k (k.id f) front)) some)
+            ap (is_at k f) (all ∙ ap (λ (o : Option Placed). option_or (option_or o (Some f)) (last_of k (k.id f) prefix)) some)
             ∙ ap (λ (t : Bool). t && ltb 0 (k.len f)) off
             ∙ sym (ap (λ (t : Bool). not (t || eqb (length (bytes_of k sectors f)) 0)) named)
       ]
 
   -- The live pairs of some entries are the pairs of the live ones.
-  live-list : (sectors : List (List ℕ)) (all front xs tail : List Placed) → all ≡ front ++ (xs ++ tail) → AreApart xs tail → All (HasBytes sectors) xs
+  live-list : (sectors : List (List ℕ)) (all prefix xs tail : List Placed) → all ≡ prefix ++ (xs ++ tail) → AreApart xs tail → All (HasBytes sectors) xs
       → live_pairs (map (pair_of k sectors) xs) (map (pair_of k sectors) tail) ≡ map (pair_of k sectors) (filter (λ f. is_at k f (last_of k (k.id f) all)) xs)
   unfolding live_pairs AreApart
-  live-list sectors all front [] tail is apart long = refl
-  live-list sectors all front (f ∷ back) tail is apart long =
-      let shift : front ++ (f ∷ back ++ tail) ≡ (front ++ f ∷ []) ++ (back ++ tail) = sym (append_assoc front (f ∷ []) (back ++ tail)) in
-      let rest = live-list sectors all (front ++ f ∷ []) back tail (is ∙ shift) apart.1 (All-tail (HasBytes sectors) f back long) in
+  live-list sectors all prefix [] tail is apart long = refl
+  live-list sectors all prefix (f ∷ back) tail is apart long =
+      let shift : prefix ++ (f ∷ back ++ tail) ≡ (prefix ++ f ∷ []) ++ (back ++ tail) = sym (append_assoc prefix (f ∷ []) (back ++ tail)) in
+      let rest = live-list sectors all (prefix ++ f ∷ []) back tail (is ∙ shift) apart.1 (All-tail (HasBytes sectors) f back long) in
       let joined : map (pair_of k sectors) (back ++ tail) ≡ map (pair_of k sectors) back ++ map (pair_of k sectors) tail = map-append (pair_of k sectors) back tail in
       let test : is_at k f (last_of k (k.id f) all) ≡ not (names (k.id f) (map (pair_of k sectors) back ++ map (pair_of k sectors) tail) || eqb (length (bytes_of k sectors f)) 0) =
-      ap (λ (xs : List Placed). is_at k f (last_of k (k.id f) xs)) is ∙ live-head sectors f front (back ++ tail) apart.0 (All-head (HasBytes sectors) f back long)
+      ap (λ (xs : List Placed). is_at k f (last_of k (k.id f) xs)) is ∙ live-head sectors f prefix (back ++ tail) apart.0 (All-head (HasBytes sectors) f back long)
       ∙ ap (λ (ps : List (ℕ × List ℕ)). not (names (k.id f) ps || eqb (length (bytes_of k sectors f)) 0)) joined in
       by_test (names (k.id f) (map (pair_of k sectors) back ++ map (pair_of k sectors) tail) || eqb (length (bytes_of k sectors f)) 0) (is_at k f (last_of k (k.id f) all))
       (live_pairs (map (pair_of k sectors) back) (map (pair_of k sectors) tail)) (filter (λ g. is_at k g (last_of k (k.id g) all)) back) test rest
     where
-      by_test : (hidden live : Bool) (ps : List (ℕ × List ℕ)) (fs : List Placed) → live ≡ not hidden → ps ≡ map (pair_of k sectors) fs → cond hidden ps (pair_of k sectors f ∷ ps) ≡ map (pair_of k sectors) (cond live (f ∷ fs) fs)
+      by_test : (ignored live : Bool) (ps : List (ℕ × List ℕ)) (fs : List Placed) → live ≡ not ignored → ps ≡ map (pair_of k sectors) fs → cond ignored ps (pair_of k sectors f ∷ ps) ≡ map (pair_of k sectors) (cond live (f ∷ fs) fs)
       by_test true true ps fs e same = absurd (cc)
       by_test true false ps fs e same = same
       by_test false true ps fs e same = ap (λ (xs : List (ℕ × List ℕ)). pair_of k sectors f ∷ xs) same
@@ -181,12 +181,12 @@ module _ {Entry Placed : Type 0} (k : Entries Entry Placed) (are : AreEntries k)
   all_from : found_from k.first (k.slots (sector_at sectors place)) ≡ map (k.placed_at place) (k.entries (sector_at sectors place))
   all_from = ap (map (k.placed_at place)) (sym (are.listed (sector_at sectors place)))
 
-  -- The live pairs of a sector whose entries stand in the list in front of others.
-  pub live-sector : (front tail : List Placed) → k.is_sound (sector_at sectors place) ≡ true → all_placed k sectors ≡ front ++ (map (k.placed_at place) (k.entries (sector_at sectors place)) ++ tail) → All (λ g. k.sector g ≡ place → ⊥) tail
+  -- The live pairs of a sector whose entries stand in the list before others.
+  pub live-sector : (prefix tail : List Placed) → k.is_sound (sector_at sectors place) ≡ true → all_placed k sectors ≡ prefix ++ (map (k.placed_at place) (k.entries (sector_at sectors place)) ++ tail) → All (λ g. k.sector g ≡ place → ⊥) tail
       → live_pairs (map (pair_of k sectors) (map (k.placed_at place) (k.entries (sector_at sectors place)))) (map (pair_of k sectors) tail) ≡ live_to k sectors place (k.slots (sector_at sectors place))
-  live-sector front tail sound is others =
+  live-sector prefix tail sound is others =
       let n = k.slots (sector_at sectors place) in
-      let all : all_placed k sectors ≡ front ++ (found_from k.first n ++ tail) = is ∙ ap (λ (xs : List Placed). front ++ (xs ++ tail)) (sym all_from) in
+      let all : all_placed k sectors ≡ prefix ++ (found_from k.first n ++ tail) = is ∙ ap (λ (xs : List Placed). prefix ++ (xs ++ tail)) (sym all_from) in
       ap (λ (xs : List Placed). live_pairs (map (pair_of k sectors) xs) (map (pair_of k sectors) tail)) (sym all_from)
-      ∙ live-list k sectors (all_placed k sectors) front (found_from k.first n) tail all (apart_from tail others k.first n) (bytes_from sound k.first n (omega arith) (omega arith))
+      ∙ live-list k sectors (all_placed k sectors) prefix (found_from k.first n) tail all (apart_from tail others k.first n) (bytes_from sound k.first n (omega arith) (omega arith))
       ∙ ap (map (pair_of k sectors)) (live_from k.first n)

@@ -56,11 +56,11 @@ live-absent id (pair ∷ rest) others h =
     ]
 
 -- nor is one that a later part has
-pub live-hidden : (id : ℕ) (victim others : List (ℕ × List ℕ)) → names id others ≡ true → names id (live_pairs victim others) ≡ false
+pub live-ignored : (id : ℕ) (victim others : List (ℕ × List ℕ)) → names id others ≡ true → names id (live_pairs victim others) ≡ false
 unfolding live_pairs
-live-hidden id [] others h = refl
-live-hidden id (pair ∷ rest) others h =
-    let tail : names id (live_pairs rest others) ≡ false = live-hidden id rest others h in
+live-ignored id [] others h = refl
+live-ignored id (pair ∷ rest) others h =
+    let tail : names id (live_pairs rest others) ≡ false = live-ignored id rest others h in
     elim (cases_Bool (names pair.0 (rest ++ others) || (eqb (length pair.1) 0))) [
       | inl skip ↦ ap (λ (t : Bool). names id (cond t (live_pairs rest others) (pair ∷ live_pairs rest others))) skip ∙ tail
       | inr kept ↦
@@ -84,9 +84,9 @@ live-last id found (pair ∷ rest) others h none =
       | inl here ↦
           elim (cases_Bool (names id rest)) [
             | inl later ↦
-                let hidden : (names pair.0 (rest ++ others) || (eqb (length pair.1) 0)) ≡ true =
+                let ignored : (names pair.0 (rest ++ others) || (eqb (length pair.1) 0)) ≡ true =
                 or_left (names pair.0 (rest ++ others)) (eqb (length pair.1) 0) (ap (λ (n : ℕ). names n (rest ++ others)) (eqb-true pair.0 id here) ∙ names-append id rest others ∙ or_left (names id rest) (names id others) later) in
-                ap (λ (t : Bool). last_from id None (cond t (live_pairs rest others) (pair ∷ live_pairs rest others))) hidden
+                ap (λ (t : Bool). last_from id None (cond t (live_pairs rest others) (pair ∷ live_pairs rest others))) ignored
                 ∙ live-last id (step id found pair) rest others h (λ apart. absurd (false≢true (sym apart ∙ later)))
             | inr last_one ↦
                 let tail : names id (live_pairs rest others) ≡ false = live-absent id rest others last_one in
@@ -160,7 +160,7 @@ collected victim others id =
     let right = last-append victim others id in
     elim (cases_Bool (names id others)) [
       | inl named ↦
-          left ∙ absent id (last others id) (live_pairs victim others) (live-hidden id victim others named) ∙ last-is others id ∙ present id None (last victim id) others named ∙ sym right
+          left ∙ absent id (last others id) (live_pairs victim others) (live-ignored id victim others named) ∙ last-is others id ∙ present id None (last victim id) others named ∙ sym right
       | inr unnamed ↦
           left ∙ ap (λ (o : Option (List ℕ)). last_from id o (live_pairs victim others)) (last-is others id ∙ absent id None others unnamed)
           ∙ live-last id None victim others unnamed (λ none. refl) ∙ sym (last-is victim id) ∙ sym (absent id (last victim id) others unnamed) ∙ sym right

@@ -60,16 +60,16 @@ module _ {Entry Placed : Type 0} (k : Entries Entry Placed) (are : AreEntries k)
       (All-weaker (λ (g : Placed). k.sector g ≡ i) (λ (g : Placed). k.sector g ≡ j → ⊥) (λ g at (e : k.sector g ≡ j). off (sym at ∙ e)) (found_in i) (places_of k are i (k.entries (sector_at sectors i))))
       (elsewhere_in j js (All-tail (λ i. i ≡ j → ⊥) i js apart)))
 
-  live_sum : (front : List Placed) (js : List ℕ) → all_placed k sectors ≡ front ++ flat_map found_in js → AreDistinct js → All (λ j. k.is_sound (sector_at sectors j) ≡ true) js → copies_cost k.cost (live_pairs (map (pair_of k sectors) (flat_map found_in js)) []) ≡ sum_by cost_at js
+  live_sum : (prefix : List Placed) (js : List ℕ) → all_placed k sectors ≡ prefix ++ flat_map found_in js → AreDistinct js → All (λ j. k.is_sound (sector_at sectors j) ≡ true) js → copies_cost k.cost (live_pairs (map (pair_of k sectors) (flat_map found_in js)) []) ≡ sum_by cost_at js
   unfolding AreDistinct live_pairs
-  live_sum front [] is apart sound = refl
-  live_sum front (j ∷ js) is apart sound =
+  live_sum prefix [] is apart sound = refl
+  live_sum prefix (j ∷ js) is apart sound =
       let later = flat_map found_in js in
       let cons : flat_map found_in (j ∷ js) ≡ found_in j ++ flat_map found_in js = flat_map-cons found_in j js in
-      let all : all_placed k sectors ≡ front ++ (found_in j ++ flat_map found_in js) = is ∙ ap (λ (xs : List Placed). front ++ xs) cons in
-      let next_all : all_placed k sectors ≡ (front ++ found_in j) ++ flat_map found_in js = all ∙ sym (append_assoc front (found_in j) (flat_map found_in js)) in
-      let own = live-sector k are sectors j front (flat_map found_in js) (All-head (λ i. k.is_sound (sector_at sectors i) ≡ true) j js sound) all (elsewhere_in j js apart.0) in
-      let rest = live_sum (front ++ found_in j) js next_all apart.1 (All-tail (λ i. k.is_sound (sector_at sectors i) ≡ true) j js sound) in
+      let all : all_placed k sectors ≡ prefix ++ (found_in j ++ flat_map found_in js) = is ∙ ap (λ (xs : List Placed). prefix ++ xs) cons in
+      let next_all : all_placed k sectors ≡ (prefix ++ found_in j) ++ flat_map found_in js = all ∙ sym (append_assoc prefix (found_in j) (flat_map found_in js)) in
+      let own = live-sector k are sectors j prefix (flat_map found_in js) (All-head (λ i. k.is_sound (sector_at sectors i) ≡ true) j js sound) all (elsewhere_in j js apart.0) in
+      let rest = live_sum (prefix ++ found_in j) js next_all apart.1 (All-tail (λ i. k.is_sound (sector_at sectors i) ≡ true) j js sound) in
       ap (λ (xs : List Placed). copies_cost k.cost (live_pairs (map (pair_of k sectors) xs) [])) cons
       ∙ ap (λ ps. copies_cost k.cost (live_pairs ps [])) (map-append (pair_of k sectors) (found_in j) (flat_map found_in js))
       ∙ ap (copies_cost k.cost) (live-split (map (pair_of k sectors) (found_in j)) (map (pair_of k sectors) (flat_map found_in js)) [])

@@ -9,7 +9,7 @@ use Rattle.item_laws.specs.PairRounds.{joined, LeavesNoRoom}
 -- them; costs add up.
 pub record AreRounds {A : Type 0} (live : List A → List A → List A) (cost : List A → ℕ) : Type 0 where
   pub none : live [] [] ≡ []
-  pub again : (victim front back : List A) → live back [] ≡ back → live (back ++ live victim (front ++ back)) [] ≡ back ++ live victim (front ++ back)
+  pub again : (victim prefix back : List A) → live back [] ≡ back → live (back ++ live victim (prefix ++ back)) [] ≡ back ++ live victim (prefix ++ back)
   pub sums : (xs ys : List A) → cost (xs ++ ys) ≡ cost xs + cost ys
 
 pub joined-append : {A : Type 0} → (old new : List (List A)) → joined (old ++ new) ≡ joined old ++ joined new

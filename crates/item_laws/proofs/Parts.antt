@@ -62,7 +62,7 @@ close_parts reading sectors place new within several closes =
     let here : pairs_at reading sectors place ≡ pairs_at reading (set sectors place new) place = sym (ap reading.pairs (there sectors place new within) ∙ closes.list) in
     ap (λ xs. xs ++ pairs_at reading sectors place ∷ []) far ∙ ap (λ x. map (pairs_at reading (set sectors place new)) (rest (length sectors) place) ++ x ∷ []) here
     ∙ sym (map-append (pairs_at reading (set sectors place new)) (rest (length sectors) place) (place ∷ []))
-    ∙ ap (map (pairs_at reading (set sectors place new))) (sym s.turned) ∙ ap (map (pairs_at reading (set sectors place new))) t.first
+    ∙ ap (map (pairs_at reading (set sectors place new))) (sym s.rotated) ∙ ap (map (pairs_at reading (set sectors place new))) t.first
 
 -- After the collection it is gone, and its live pairs are the last part.
 pub collect_parts : (reading : Reading) (sectors : List (List ℕ)) (place : ℕ) (marked blank : List ℕ) → place < length sectors → 2 ≤ length sectors → reading.pairs marked ≡ to_copy reading sectors place

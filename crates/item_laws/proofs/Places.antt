@@ -199,9 +199,9 @@ pub find_none : (p : ℕ → Bool) (xs : List ℕ) → All (λ k. p k ≡ false)
 find_none p [] h = refl
 find_none p (x ∷ xs) h = ap (λ (t : Bool). cond t (Some x) (find p xs)) (All-head (λ k. p k ≡ false) x xs h) ∙ find_none p xs (All-tail (λ k. p k ≡ false) x xs h)
 
-pub find-front : (p : ℕ → Bool) (xs ys : List ℕ) → All (λ k. p k ≡ false) xs → find p (xs ++ ys) ≡ find p ys
-find-front p [] ys h = refl
-find-front p (x ∷ xs) ys h = ap (λ (t : Bool). cond t (Some x) (find p (xs ++ ys))) (All-head (λ k. p k ≡ false) x xs h) ∙ find-front p xs ys (All-tail (λ k. p k ≡ false) x xs h)
+pub find-prefix : (p : ℕ → Bool) (xs ys : List ℕ) → All (λ k. p k ≡ false) xs → find p (xs ++ ys) ≡ find p ys
+find-prefix p [] ys h = refl
+find-prefix p (x ∷ xs) ys h = ap (λ (t : Bool). cond t (Some x) (find p (xs ++ ys))) (All-head (λ k. p k ≡ false) x xs h) ∙ find-prefix p xs ys (All-tail (λ k. p k ≡ false) x xs h)
 
 pub flat_map-agree : {X : Type 0} (f g : ℕ → List X) (xs : List ℕ) → All (λ k. f k ≡ g k) xs → flat_map f xs ≡ flat_map g xs
 flat_map-agree f g [] h = refl
@@ -224,7 +224,7 @@ filter_only p place count lt here others =
 
 pub find_first : (p : ℕ → Bool) (place count : ℕ) → place < count → p place ≡ true → ((k : ℕ) → k < place → p k ≡ false) → find p (range_with_len 0 count) ≡ Some place
 find_first p place count lt here others =
-    ap (find p) (range_at place count lt) ∙ find-front p (range_with_len 0 place) (place ∷ range_with_len (place + 1) (count - place - 1)) (All-range (λ k. p k ≡ false) 0 place (λ k low high. others k (omega arith)))
+    ap (find p) (range_at place count lt) ∙ find-prefix p (range_with_len 0 place) (place ∷ range_with_len (place + 1) (count - place - 1)) (All-range (λ k. p k ≡ false) 0 place (λ k low high. others k (omega arith)))
     ∙ ap (λ (t : Bool). cond t (Some place) (find p (range_with_len (place + 1) (count - place - 1)))) here
 
 -- ---- the round, in its parts
@@ -250,7 +250,7 @@ pub record IsFar (count place k : ℕ) : Type 0 where
 pub record IsSplit (count place : ℕ) : Type 0 where
   pub first : others count place ≡ after count place ∷ rest count place
   pub inside : All (IsFar count place) (rest count place)
-  pub turned : others count (after count place) ≡ rest count place ++ place ∷ []
+  pub rotated : others count (after count place) ≡ rest count place ++ place ∷ []
 
 split-inner : (count place : ℕ) → place + 1 < count → IsSplit count place
 split-inner count place lt =
@@ -266,7 +266,7 @@ split-inner count place lt =
           (All-append P tail (range_with_len 0 place)
           (All-range P (place + 1 + 1) (count - (place + 1) - 1) (λ k low high. record { within = omega arith; apart = λ (e : k ≡ place). omega arith; not_after = λ (e : k ≡ after count place). omega arith }))
           (All-range P 0 place (λ k low high. record { within = omega arith; apart = λ (e : k ≡ place). omega arith; not_after = λ (e : k ≡ after count place). omega arith })));
-      turned =
+      rotated =
           let n : count - (place + 1 + 1) ≡ count - (place + 1) - 1 = omega arith in
           ap (others count) a ∙ ap (λ (k : ℕ). range_with_len (place + 1 + 1) k ++ range_with_len 0 (place + 1)) n
           ∙ ap (λ ys. tail ++ ys) (range-append 0 place 1 ∙ ap (λ (k : ℕ). range_with_len 0 place ++ k ∷ []) (omega arith))
@@ -282,7 +282,7 @@ split-last count place e two =
     record {
       first = start ∙ ap (λ (k : ℕ). k ∷ range_with_len 1 (place - 1)) (sym a) ∙ ap (λ ys. after count place ∷ ys) (sym rest-is);
       inside = subst (All (IsFar count place)) (sym rest-is) (All-range (IsFar count place) 1 (place - 1) (λ k low high. record { within = omega arith; apart = λ (same : k ≡ place). omega arith; not_after = λ (same : k ≡ after count place). omega arith }));
-      turned =
+      rotated =
           let n : count - (0 + 1) ≡ (place - 1) + 1 = omega arith in
           let last_one : 1 + (place - 1) ≡ place = omega arith in
           ap (others count) a ∙ append-nil (range_with_len 1 (count - (0 + 1))) ∙ ap (range_with_len 1) n ∙ range-append 1 (place - 1) 1 ∙ ap (λ (k : ℕ). range_with_len 1 (place - 1) ++ k ∷ []) last_one

@@ -19,19 +19,19 @@ round-at count current place low high =
     elim (cases_lt current place) [
       | inl lt ↦
           let test = lt-ltb current place lt in
-          let front : List ℕ = range_with_len (current + 1) (place - (current + 1)) in
+          let prefix : List ℕ = range_with_len (current + 1) (place - (current + 1)) in
           let back : List ℕ = range_with_len (place + 1) (count - (place + 1)) in
           let is_before : places_before count current place ≡ range_with_len (current + 1) (place - (current + 1)) = ap (λ (t : Bool). cond t (range_with_len (current + 1) (place - (current + 1))) (range_with_len (current + 1) (count - (current + 1)) ++ range_with_len 0 place)) test in
           let is_behind : places_after count current place ≡ range_with_len (place + 1) (count - (place + 1)) ++ range_with_len 0 (current + 1) = ap (λ (t : Bool). cond t (range_with_len (place + 1) (count - (place + 1)) ++ range_with_len 0 (current + 1)) (range_with_len (place + 1) (current - place))) test in
           let width : count - (current + 1) ≡ place - (current + 1) + (count - place) = omega arith in
           let at : current + 1 + (place - (current + 1)) ≡ place = omega arith in
           let less : count - place - 1 ≡ count - (place + 1) = omega arith in
-          let upper : range_with_len (current + 1) (count - (current + 1)) ≡ front ++ place ∷ back =
+          let upper : range_with_len (current + 1) (count - (current + 1)) ≡ prefix ++ place ∷ back =
           ap (range_with_len (current + 1)) width ∙ range-append (current + 1) (place - (current + 1)) (count - place)
           ∙ ap (λ (k : ℕ). range_with_len (current + 1) (place - (current + 1)) ++ range_with_len k (count - place)) at
           ∙ ap (λ (ks : List ℕ). range_with_len (current + 1) (place - (current + 1)) ++ ks) (range_from place (count - place) (omega arith) ∙ ap (λ (n : ℕ). place ∷ range_with_len (place + 1) n) less) in
           record {
-            split = ap (λ (ks : List ℕ). ks ++ range_with_len 0 (current + 1)) upper ∙ append_assoc front (place ∷ back) (range_with_len 0 (current + 1))
+            split = ap (λ (ks : List ℕ). ks ++ range_with_len 0 (current + 1)) upper ∙ append_assoc prefix (place ∷ back) (range_with_len 0 (current + 1))
                 ∙ ap (λ (ks : List ℕ). ks ++ place ∷ (back ++ range_with_len 0 (current + 1))) (sym is_before) ∙ ap (λ (ks : List ℕ). places_before count current place ++ place ∷ ks) (sym is_behind);
             before = subst (All (λ k. k ≡ place → ⊥)) (sym is_before) (All-range (λ k. k ≡ place → ⊥) (current + 1) (place - (current + 1)) (λ k ge less e. omega arith));
             behind = subst (All (λ k. k ≡ place → ⊥)) (sym is_behind)
@@ -39,17 +39,17 @@ round-at count current place low high =
           }
       | inr ge ↦
           let test = le-ltb current place ge in
-          let front : List ℕ = range_with_len (current + 1) (count - (current + 1)) in
+          let prefix : List ℕ = range_with_len (current + 1) (count - (current + 1)) in
           let is_before : places_before count current place ≡ range_with_len (current + 1) (count - (current + 1)) ++ range_with_len 0 place = ap (λ (t : Bool). cond t (range_with_len (current + 1) (place - (current + 1))) (range_with_len (current + 1) (count - (current + 1)) ++ range_with_len 0 place)) test in
           let is_behind : places_after count current place ≡ range_with_len (place + 1) (current - place) = ap (λ (t : Bool). cond t (range_with_len (place + 1) (count - (place + 1)) ++ range_with_len 0 (current + 1)) (range_with_len (place + 1) (current - place))) test in
           let less : current + 1 - place - 1 ≡ current - place = omega arith in
           let lower : range_with_len 0 (current + 1) ≡ range_with_len 0 place ++ place ∷ range_with_len (place + 1) (current - place) =
           range_at place (current + 1) (omega arith) ∙ ap (λ (n : ℕ). range_with_len 0 place ++ place ∷ range_with_len (place + 1) n) less in
           record {
-            split = ap (λ (ks : List ℕ). front ++ ks) lower ∙ sym (append_assoc front (range_with_len 0 place) (place ∷ range_with_len (place + 1) (current - place)))
+            split = ap (λ (ks : List ℕ). prefix ++ ks) lower ∙ sym (append_assoc prefix (range_with_len 0 place) (place ∷ range_with_len (place + 1) (current - place)))
                 ∙ ap (λ (ks : List ℕ). ks ++ place ∷ range_with_len (place + 1) (current - place)) (sym is_before) ∙ ap (λ (ks : List ℕ). places_before count current place ++ place ∷ ks) (sym is_behind);
             before = subst (All (λ k. k ≡ place → ⊥)) (sym is_before)
-                (All-append (λ k. k ≡ place → ⊥) front (range_with_len 0 place) (All-range (λ k. k ≡ place → ⊥) (current + 1) (count - (current + 1)) (λ k low less e. omega arith)) (All-range (λ k. k ≡ place → ⊥) 0 place (λ k low less e. omega arith)));
+                (All-append (λ k. k ≡ place → ⊥) prefix (range_with_len 0 place) (All-range (λ k. k ≡ place → ⊥) (current + 1) (count - (current + 1)) (λ k low less e. omega arith)) (All-range (λ k. k ≡ place → ⊥) 0 place (λ k low less e. omega arith)));
             behind = subst (All (λ k. k ≡ place → ⊥)) (sym is_behind) (All-range (λ k. k ≡ place → ⊥) (place + 1) (current - place) (λ k low less e. omega arith));
           }
     ]

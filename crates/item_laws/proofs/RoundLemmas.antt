@@ -6,7 +6,7 @@ use Rattle.std.proofs.lemmas.List.Sums.{sum_by-append}
 use Rattle.item_laws.specs.LivePairs.{names, live_pairs}
 use Rattle.item_laws.specs.PairRounds.{copies_cost}
 use Rattle.item_laws.proofs.NoRoom.{AreRounds}
-use Rattle.item_laws.proofs.LivePairs.{names-append, live-absent, live-hidden}
+use Rattle.item_laws.proofs.LivePairs.{names-append, live-absent, live-ignored}
 
 -- each pair is the last of its id and has bytes
 pub AllLive : List (ℕ × List ℕ) → Type 0
@@ -35,28 +35,28 @@ live-same (pair ∷ rest) (unnamed, bytes, later) =
     (or_from (names pair.0 (rest ++ [])) (eqb (length pair.1) 0) (ap (names pair.0) (append-nil rest) ∙ unnamed) bytes) ∙ ap (λ ys. pair ∷ ys) (live-same rest later)
 
 -- each id of the first list is hidden from the second
-unfoldable pub AreHidden : List (ℕ × List ℕ) → List (ℕ × List ℕ) → Type 0
-AreHidden [] ys = Unit {0}
-AreHidden (pair ∷ rest) ys = (names pair.0 ys ≡ false) × AreHidden rest ys
+unfoldable pub AreIgnored : List (ℕ × List ℕ) → List (ℕ × List ℕ) → Type 0
+AreIgnored [] ys = Unit {0}
+AreIgnored (pair ∷ rest) ys = (names pair.0 ys ≡ false) × AreIgnored rest ys
 
-all-append : (xs ys : List (ℕ × List ℕ)) → AllLive xs → AllLive ys → AreHidden xs ys → AllLive (xs ++ ys)
-unfolding AllLive AreHidden
+all-append : (xs ys : List (ℕ × List ℕ)) → AllLive xs → AllLive ys → AreIgnored xs ys → AllLive (xs ++ ys)
+unfolding AllLive AreIgnored
 all-append [] ys a b h = b
-all-append (pair ∷ rest) ys (unnamed, bytes, later) b (hidden, more) = (names-append pair.0 rest ys ∙ or_from (names pair.0 rest) (names pair.0 ys) unnamed hidden, bytes, all-append rest ys later b more)
+all-append (pair ∷ rest) ys (unnamed, bytes, later) b (ignored, more) = (names-append pair.0 rest ys ∙ or_from (names pair.0 rest) (names pair.0 ys) unnamed ignored, bytes, all-append rest ys later b more)
 
-pub hidden : (front xs : List (ℕ × List ℕ)) (victim : List (ℕ × List ℕ)) → AreHidden xs (live_pairs victim (front ++ xs))
-unfolding AreHidden
-hidden front [] victim = tt
-hidden front (pair ∷ rest) victim =
-    let here : names pair.0 (front ++ pair ∷ rest) ≡ true =
-    names-append pair.0 front (pair ∷ rest) ∙ or_right (names pair.0 front) (names pair.0 (pair ∷ rest)) (or_left (eqb pair.0 pair.0) (names pair.0 rest) (eq-eqb pair.0 pair.0 refl)) in
-    let shift : (front ++ pair ∷ []) ++ rest ≡ front ++ pair ∷ rest = append_assoc front (pair ∷ []) rest in
-    (live-hidden pair.0 victim (front ++ pair ∷ rest) here, subst (λ others. AreHidden rest (live_pairs victim others)) shift (hidden (front ++ pair ∷ []) rest victim))
+pub ignored : (prefix xs : List (ℕ × List ℕ)) (victim : List (ℕ × List ℕ)) → AreIgnored xs (live_pairs victim (prefix ++ xs))
+unfolding AreIgnored
+ignored prefix [] victim = tt
+ignored prefix (pair ∷ rest) victim =
+    let here : names pair.0 (prefix ++ pair ∷ rest) ≡ true =
+    names-append pair.0 prefix (pair ∷ rest) ∙ or_right (names pair.0 prefix) (names pair.0 (pair ∷ rest)) (or_left (eqb pair.0 pair.0) (names pair.0 rest) (eq-eqb pair.0 pair.0 refl)) in
+    let shift : (prefix ++ pair ∷ []) ++ rest ≡ prefix ++ pair ∷ rest = append_assoc prefix (pair ∷ []) rest in
+    (live-ignored pair.0 victim (prefix ++ pair ∷ rest) here, subst (λ others. AreIgnored rest (live_pairs victim others)) shift (ignored (prefix ++ pair ∷ []) rest victim))
 
 -- what is live of a part stays so behind other live pairs, and hides none of them
-pub live-again : (victim front back : List (ℕ × List ℕ)) → live_pairs back [] ≡ back → live_pairs (back ++ live_pairs victim (front ++ back)) [] ≡ back ++ live_pairs victim (front ++ back)
-live-again victim front back live =
-    live-same (back ++ live_pairs victim (front ++ back)) (all-append back (live_pairs victim (front ++ back)) (subst AllLive live (live-all back [])) (live-all victim (front ++ back)) (hidden front back victim))
+pub live-again : (victim prefix back : List (ℕ × List ℕ)) → live_pairs back [] ≡ back → live_pairs (back ++ live_pairs victim (prefix ++ back)) [] ≡ back ++ live_pairs victim (prefix ++ back)
+live-again victim prefix back live =
+    live-same (back ++ live_pairs victim (prefix ++ back)) (all-append back (live_pairs victim (prefix ++ back)) (subst AllLive live (live-all back [])) (live-all victim (prefix ++ back)) (ignored prefix back victim))
 
 live-empty : live_pairs [] [] ≡ []
 unfolding live_pairs

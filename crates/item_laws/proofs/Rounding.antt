@@ -51,7 +51,7 @@ collection reading laws sectors place full marked blank form free unmarked copie
       parts = collect_parts reading sectors place marked blank ring.within ring.several (marks.list ∙ copies);
     }
 
--- A collection into another open sector, in place of the one that counts for nothing, is one of the area.
+-- A collection into another open sector, in place of the one that is ignored, is one of the area.
 pub collects_from : (reading : Reading) (sectors : List (List ℕ)) (place : ℕ) (start : List ℕ) (new : List (List ℕ)) → Collecting reading sectors place → reading.is_closed start ≡ false → reading.has_gc_done start ≡ false
     → Collects reading (set sectors place start) place new → Collects reading sectors place new
 collects_from reading sectors place start new form free unmarked collects =

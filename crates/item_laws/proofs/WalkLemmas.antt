@@ -31,21 +31,21 @@ in_middle : {X : Type 0} (P : X → Type 0) (xs ys : List X) (f : X) → All P (
 in_middle P [] ys f all = All-head P f ys all
 in_middle P (x ∷ xs) ys f all = in_middle P xs ys f (All-tail P x (xs ++ f ∷ ys) all)
 
-front_all : {X : Type 0} (P : X → Type 0) (xs ys : List X) → All P (xs ++ ys) → All P xs
-front_all P [] ys all = All-nil P
-front_all P (x ∷ xs) ys all = All-cons P x xs (All-head P x (xs ++ ys) all) (front_all P xs ys (All-tail P x (xs ++ ys) all))
+prefix_all : {X : Type 0} (P : X → Type 0) (xs ys : List X) → All P (xs ++ ys) → All P xs
+prefix_all P [] ys all = All-nil P
+prefix_all P (x ∷ xs) ys all = All-cons P x xs (All-head P x (xs ++ ys) all) (prefix_all P xs ys (All-tail P x (xs ++ ys) all))
 
-front-is : {X : Type 0} (P : X → Type 0) (xs ys older newer : List X) (f : X) → All P xs → Leads P ys → (P f → ⊥) → xs ++ ys ≡ older ++ f ∷ newer → older ≡ xs
-front-is P [] ys [] newer f all leads here e = refl
-front-is P [] ys (o ∷ older) newer f all leads here e =
+prefix-is : {X : Type 0} (P : X → Type 0) (xs ys older newer : List X) (f : X) → All P xs → Leads P ys → (P f → ⊥) → xs ++ ys ≡ older ++ f ∷ newer → older ≡ xs
+prefix-is P [] ys [] newer f all leads here e = refl
+prefix-is P [] ys (o ∷ older) newer f all leads here e =
     elim leads [
       | inl none ↦ absurd (here (in_middle P (o ∷ older) newer f (subst (All P) e none)))
       | inr (y, rest, is, none) ↦ absurd (here (in_middle P older newer f (subst (All P) (cons_tail y o rest (older ++ f ∷ newer) (sym is ∙ e)) none)))
     ]
-front-is P (x ∷ xs) ys [] newer f all leads here e = absurd (here (subst P (cons_head x f (xs ++ ys) newer e) (All-head P x xs all)))
-front-is P (x ∷ xs) ys (o ∷ older) newer f all leads here e =
+prefix-is P (x ∷ xs) ys [] newer f all leads here e = absurd (here (subst P (cons_head x f (xs ++ ys) newer e) (All-head P x xs all)))
+prefix-is P (x ∷ xs) ys (o ∷ older) newer f all leads here e =
     ap (λ y. y ∷ older) (sym (cons_head x o (xs ++ ys) (older ++ f ∷ newer) e))
-    ∙ ap (λ zs. x ∷ zs) (front-is P xs ys older newer f (All-tail P x xs all) leads here (cons_tail x o (xs ++ ys) (older ++ f ∷ newer) e))
+    ∙ ap (λ zs. x ∷ zs) (prefix-is P xs ys older newer f (All-tail P x xs all) leads here (cons_tail x o (xs ++ ys) (older ++ f ∷ newer) e))
 
 module _ {Entry Placed : Type 0} (k : Entries Entry Placed) (are : AreEntries k) where
   -- ---- entries that stand elsewhere
@@ -144,19 +144,19 @@ module _ {Entry Placed : Type 0} (k : Entries Entry Placed) (are : AreEntries k)
     pub list-split : all_placed k sectors ≡ placed_up_to k sectors current place n ++ behind
     list-split =
         let ring = round-at (length sectors) current place low high in
-        let front : List Placed = flat_map (counted_in k sectors current) (places_before (length sectors) current place) in
+        let prefix : List Placed = flat_map (counted_in k sectors current) (places_before (length sectors) current place) in
         let within : List Placed = counted_within k sectors current place n in
         let rest : List Placed = cond (counts_at k.reading sectors current place) (map (k.placed_at place) under) [] in
         let after : List Placed = flat_map (counted_in k sectors current) (places_after (length sectors) current place) in
         ap (λ (c : ℕ). flat_map (counted_in k sectors c) (round (length sectors) c)) is
         ∙ ap (flat_map (counted_in k sectors current)) ring.split
         ∙ flat_map-append (counted_in k sectors current) (places_before (length sectors) current place) (place ∷ places_after (length sectors) current place)
-        ∙ ap (λ (ps : List Placed). front ++ ps) (flat_map-cons (counted_in k sectors current) place (places_after (length sectors) current place) ∙ ap (λ (ps : List Placed). ps ++ after) here-split ∙ append_assoc within rest after)
-        ∙ sym (append_assoc front within (rest ++ after))
+        ∙ ap (λ (ps : List Placed). prefix ++ ps) (flat_map-cons (counted_in k sectors current) place (places_after (length sectors) current place) ∙ ap (λ (ps : List Placed). ps ++ after) here-split ∙ append_assoc within rest after)
+        ∙ sym (append_assoc prefix within (rest ++ after))
 
     -- a part of the list has what the list has
     pub part_all : (P : Placed → Type 0) → All P (all_placed k sectors) → All P (placed_up_to k sectors current place n)
-    part_all P all = front_all P (placed_up_to k sectors current place n) behind (subst (All P) list-split all)
+    part_all P all = prefix_all P (placed_up_to k sectors current place n) behind (subst (All P) list-split all)
 
     module _ (slot : ℕ) (slots : n ≡ slot - k.first) where
       within-elsewhere : All (IsElsewhere place slot) (counted_within k sectors current place n)
@@ -189,18 +189,18 @@ module _ {Entry Placed : Type 0} (k : Entries Entry Placed) (are : AreEntries k)
       pub before-is : (older newer : List Placed) (p : Placed) → all_placed k sectors ≡ older ++ p ∷ newer → k.sector p ≡ place → k.slot p ≡ slot → older ≡ placed_up_to k sectors current place n
       before-is older newer p split in_sector in_slot =
           let ring = round-at (length sectors) current place low high in
-          let front : List Placed = flat_map (counted_in k sectors current) (places_before (length sectors) current place) in
-          front-is (IsElsewhere place slot) (placed_up_to k sectors current place n) behind older newer p
-          (All-append (IsElsewhere place slot) front (counted_within k sectors current place n) (other-sectors sectors current place slot (places_before (length sectors) current place) ring.before) within-elsewhere)
+          let prefix : List Placed = flat_map (counted_in k sectors current) (places_before (length sectors) current place) in
+          prefix-is (IsElsewhere place slot) (placed_up_to k sectors current place n) behind older newer p
+          (All-append (IsElsewhere place slot) prefix (counted_within k sectors current place n) (other-sectors sectors current place slot (places_before (length sectors) current place) ring.before) within-elsewhere)
           behind-leads (λ apart. apart in_sector in_slot) (sym list-split ∙ split)
 
   -- a walk from the end looks at the whole list
   pub whole-list : (sectors : List (List ℕ)) (current n : ℕ) → open_sector k.reading sectors ≡ current → current < length sectors → k.slots (sector_at sectors current) ≤ n → placed_up_to k sectors current current n ≡ all_placed k sectors
   whole-list sectors current n is low enough =
       let ring = round-at (length sectors) current current low low in
-      let front : List Placed = flat_map (counted_in k sectors current) (places_before (length sectors) current current) in
-      ap (λ (ps : List Placed). front ++ ps) (counted-whole sectors current current n enough ∙ sym (append-nil (counted_in k sectors current current)))
-      ∙ ap (λ (ps : List Placed). front ++ ps) (sym (flat_map-cons (counted_in k sectors current) current []))
+      let prefix : List Placed = flat_map (counted_in k sectors current) (places_before (length sectors) current current) in
+      ap (λ (ps : List Placed). prefix ++ ps) (counted-whole sectors current current n enough ∙ sym (append-nil (counted_in k sectors current current)))
+      ∙ ap (λ (ps : List Placed). prefix ++ ps) (sym (flat_map-cons (counted_in k sectors current) current []))
       ∙ sym (flat_map-append (counted_in k sectors current) (places_before (length sectors) current current) (current ∷ []))
       ∙ ap (λ (js : List ℕ). flat_map (counted_in k sectors current) (places_before (length sectors) current current ++ current ∷ js)) (sym (none_behind (length sectors) current))
       ∙ ap (flat_map (counted_in k sectors current)) (sym ring.split)

@@ -47,20 +47,20 @@ open_sector reading sectors =
 
 -- ---- the list, with this sector open
 
--- The sector that counts for nothing while a collection lasts: its victim, the next sector, once gc-done
+-- The sector that is ignored while a collection lasts: its victim, the next sector, once gc-done
 -- stands in the open one, which has all copies then; and until then the open sector, whose copies are not
 -- whole yet.
-abbrev pub hidden_place : Reading → List (List ℕ) → ℕ → ℕ
-hidden_place reading sectors open_place =
+abbrev pub ignored_place : Reading → List (List ℕ) → ℕ → ℕ
+ignored_place reading sectors open_place =
     if reading.has_gc_done (sector_at sectors open_place) then next sectors open_place else open_place
 
--- The next sector is closed only while a collection lasts. Then each sector but the hidden one counts, and
+-- The next sector is closed only while a collection lasts. Then each sector but the ignored one counts, and
 -- else each.
 abbrev pub counts_at : Reading → List (List ℕ) → ℕ → ℕ → Bool
 counts_at reading sectors open_place place =
     not
     (is_closed_at reading sectors (next sectors open_place)
-    && (place == hidden_place reading sectors open_place))
+    && (place == ignored_place reading sectors open_place))
 
 unfoldable pub area_pairs : Reading → List (List ℕ) → ℕ → List (ℕ × List ℕ)
 area_pairs reading sectors open_place =

@@ -6,9 +6,9 @@ use Rattle.std.specs.Cmp.Lexicographic.{slice_cmp}
 use Rattle.item_laws.specs.Items.{Items}
 
 -- greater than these bytes in byte order, where there are any
-abbrev pub is_past : Option (List ℕ) → List ℕ → Bool
-is_past None bytes = true
-is_past (Some after) bytes = is_lt (slice_cmp nat_cmp after bytes)
+abbrev pub is_behind : Option (List ℕ) → List ℕ → Bool
+is_behind None bytes = true
+is_behind (Some after) bytes = is_lt (slice_cmp nat_cmp after bytes)
 
 -- the item of this id, which is one from `least` to `most`, has these bytes
 pub record HasBytes (least most : ℕ) (items : Items) (id : ℕ) (bytes : List ℕ) : Type 0 where
@@ -24,10 +24,10 @@ IsIdOf least most items bytes (Some id) = HasBytes least most items id bytes
 -- the least bytes of an item of the range that are greater than these; none where there are none
 abbrev pub IsNextOf : ℕ → ℕ → Items → Option (List ℕ) → Option (List ℕ) → Type 0
 IsNextOf least most items after None =
-    (id : ℕ) (bytes : List ℕ) → HasBytes least most items id bytes → is_past after bytes ≡ false
+    (id : ℕ) (bytes : List ℕ) → HasBytes least most items id bytes → is_behind after bytes ≡ false
 IsNextOf least most items after (Some next) =
     ((id : ℕ) × HasBytes least most items id next)
-    × (is_past after next ≡ true)
+    × (is_behind after next ≡ true)
     ×
-    ((id : ℕ) (bytes : List ℕ) → HasBytes least most items id bytes → is_past after bytes ≡ true
+    ((id : ℕ) (bytes : List ℕ) → HasBytes least most items id bytes → is_behind after bytes ≡ true
     → is_lt (slice_cmp nat_cmp bytes next) ≡ false)

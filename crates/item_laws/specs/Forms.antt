@@ -29,14 +29,14 @@ pub record AtRest (reading : Reading) (sectors : List (List ℕ)) (place : ℕ) 
   pub some : 0 < blanks
   pub sound : (k : ℕ) → k < length sectors → is_sound reading (sector_at sectors k) ≡ true
 
--- A collection before gc-done. The open sector counts for nothing, whatever it holds: it is blank, or has
+-- A collection before gc-done. The open sector is ignored, whatever it holds: it is blank, or has
 -- copies, a cut copy or a cut gc-done.
 pub record Collecting (reading : Reading) (sectors : List (List ℕ)) (place : ℕ) : Type 0 where
   pub ring : IsRing reading sectors place 0
   pub not_done : reading.has_gc_done (sector_at sectors place) ≡ false
   pub sound : (k : ℕ) → k < length sectors → (k ≡ place → ⊥) → is_sound reading (sector_at sectors k) ≡ true
 
--- gc-done stands, and the victim, which counts for nothing, is not erased yet
+-- gc-done stands, and the victim, which is ignored, is not erased yet
 pub record Collected (reading : Reading) (sectors : List (List ℕ)) (place : ℕ) : Type 0 where
   pub ring : IsRing reading sectors place 0
   pub done : reading.has_gc_done (sector_at sectors place) ≡ true

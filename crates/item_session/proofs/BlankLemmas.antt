@@ -12,22 +12,22 @@ use Rattle.flash_map.specs.Area.{geometry_of, sector_at, sector_size, sectors_of
 use Rattle.flash_map.specs.Units.{is_erased}
 use Rattle.item_laws.specs.Area.{is_blank_at, open_sector}
 use Rattle.item_laws.proofs.AreaReads.{length-sectors}
-use Rattle.nvs_format.specs.Kinds as nvs
-use Rattle.nvs_format.proofs.KindLemmas.{nvs_is_kind}
-use Rattle.item_store.specs.Kind.{IsKind, Kind, is_clean_at}
-use Rattle.item_store.specs.Listed.{kind_on}
+use Rattle.nvs_format.specs.Formats as nvs
+use Rattle.nvs_format.proofs.FormatLemmas.{nvs_is_format}
+use Rattle.item_store.specs.SectorFormat.{IsSectorFormat, SectorFormat, is_clean_at}
+use Rattle.item_store.specs.Listed.{format_on}
 use Rattle.item_store.specs.Standing.{IsStoreArea}
 use Rattle.item_store.specs.Writing.{open_at}
 use Rattle.item_store.proofs.Areas.{large_there, open_inside, size_there, unit_is}
 use Rattle.item_store.proofs.BlankAreas.{blank-empty, blank-rests}
-use Rattle.zms_format.specs.Kinds as zms
+use Rattle.zms_format.specs.Formats as zms
 use Rattle.zms_format.proofs.Erased.{cycle_none, erased-unused}
 use Rattle.zms_format.specs.Area.{is_clean}
 use Rattle.zms_cycle.specs.Sector.{cycle_of, is_fresh}
 use Rattle.flash_map.proofs.ErasedBytes.{erased_is}
-use Rattle.flash_sim.specs.declared.flash.Kind.{Kind as BankKind}
+use Rattle.flash_sim.specs.declared.flash.Kind.{SectorFormat as BankKind}
 use Rattle.flash_sim.specs.declared.flash.Kind.TheVariants.{Erasing, Rewritable}
-use Rattle.zms_format.proofs.KindLemmas.{zms_is_kind}
+use Rattle.zms_format.proofs.FormatLemmas.{zms_is_format}
 use Rattle.item_session.specs.Laws.{NvsBlankIsFresh, ZmsBlankIsFresh}
 use Rattle.item_session.specs.Whole.{IsBlankOn, IsFresh, cap_on, free_on, spare_on}
 
@@ -40,11 +40,11 @@ erased-clean Erasing b erased =
     ap (λ (t : Bool). t && (not (is_some (cycle_of b)) || is_fresh b)) (erased-unused Erasing b erased)
     ∙ ap (λ (o : Option ℕ). not (is_some o) || is_fresh b) none
 
--- a kind that takes a sector of FF alone as a clean one
-module _ (role : Role) (kind : Geometry → Kind) (d : Device) (area : Area) (law : IsKind (kind_on kind d area)) (clean : (b : List ℕ) → is_erased b ≡ true → (kind_on kind d area).is_clean b ≡ true)
+-- a format that takes a sector of FF alone as a clean one
+module _ (role : Role) (format_of : Geometry → SectorFormat) (d : Device) (area : Area) (law : IsSectorFormat (format_on format_of d area)) (clean : (b : List ℕ) → is_erased b ≡ true → (format_on format_of d area).is_clean b ≡ true)
     (lawful : IsLawful d.banks d.bytes) (is : IsStoreArea role d.banks area) (blank : IsBlankOn d area) where
-  abbrev k : Kind
-  k = kind_on kind d area
+  abbrev k : SectorFormat
+  k = format_on format_of d area
 
   abbrev opened : ℕ
   opened = open_sector k.reading (sectors_of d area)
@@ -64,17 +64,17 @@ module _ (role : Role) (kind : Geometry → Kind) (d : Device) (area : Area) (la
   open_clean : k.is_clean (open_at k d area) ≡ true
   open_clean = let count = length-sectors d area in let within = inside in each_clean opened (omega (arith, count, within))
 
-  all_free : cap_on kind d area + spare_on kind d area ≤ free_on kind d area
+  all_free : cap_on format_of d area + spare_on format_of d area ≤ free_on format_of d area
   all_free =
       let full : k.free (open_at k d area) ≡ k.cap (length (open_at k d area)) + 3 * k.slot = law.room (open_at k d area) (large_there role d area lawful is opened inside) open_clean in
       let size : k.cap (length (open_at k d area)) ≡ k.cap (sector_size d area) = ap k.cap (size_there role d area lawful is opened inside) in
       omega (arith, full, size)
 
-  fresh : IsFresh kind d area
+  fresh : IsFresh format_of d area
   fresh = record { list = blank-empty k.reading law.reads (sectors_of d area) several each_blank; rests = blank-rests k.reading law.reads (sectors_of d area) several each_blank; room = all_free }
 
 pub nvs_blank_is_fresh : NvsBlankIsFresh
-nvs_blank_is_fresh d area lawful is blank = fresh Nvs nvs.kind d area (nvs_is_kind (unit_of d area) (unit_is d area lawful is.lawful)) (λ b erased. erased) lawful is blank
+nvs_blank_is_fresh d area lawful is blank = fresh Nvs nvs.format_of d area (nvs_is_format (unit_of d area) (unit_is d area lawful is.lawful)) (λ b erased. erased) lawful is blank
 
 pub zms_blank_is_fresh : ZmsBlankIsFresh
-zms_blank_is_fresh d area lawful is blank = fresh Zms zms.kind d area (zms_is_kind (geometry_of d area)) (erased-clean (geometry_of d area).kind) lawful is blank
+zms_blank_is_fresh d area lawful is blank = fresh Zms zms.format_of d area (zms_is_format (geometry_of d area)) (erased-clean (geometry_of d area).kind) lawful is blank

@@ -16,15 +16,15 @@ use Rattle.item_store.specs.Versions.{versions, AddsVersion, KeepsVersions}
 use Rattle.item_store.proofs.VersionLemmas.{keeps_all, keeps_more, keeps-push, newest-is, versions-items}
 use Rattle.session_table.specs.Follows.{Follows}
 use Rattle.session_table.proofs.FollowsLemmas.{seen, then}
-use Rattle.item_session.specs.History.{Adds, HistoryStep, IsKept, PowerStep, Recorded, TellsHistory}
+use Rattle.item_session.specs.History.{Adds, HistoryStep, IsKept, PowerStep, Recorded, ReportsHistory}
 use Rattle.item_session.specs.Laws.{HoldsAcknowledged, LosesPower, RunsInRow}
-use Rattle.item_session.specs.Step.{Answers, Arms, Deletes, Mounts, Rules, Sets, State, Step, Tells, TellsOlder, TellsSpace}
+use Rattle.item_session.specs.Step.{Answers, Arms, Deletes, Mounts, Rules, Sets, State, Step, Reports, ReportsOlder, ReportsSpace}
 
 -- ---- versions
 
 -- what a front has at a place the whole has there
-front_get : (xs ys : List (List ℕ)) (n : ℕ) (v : List ℕ) → slice_get xs n ≡ Some v → slice_get (xs ++ ys) n ≡ Some v
-front_get xs ys n v is =
+prefix_get : (xs ys : List (List ℕ)) (n : ℕ) (v : List ℕ) → slice_get xs n ≡ Some v → slice_get (xs ++ ys) n ≡ Some v
+prefix_get xs ys n v is =
     let below = slice_get_within xs n v is in
     let long = length-append xs ys in
     slice_get-get_or (xs ++ ys) n v (omega (arith, long, below)) ∙ ap Some (get_or_append_left xs ys v n below ∙ get_or_from_slice_get xs n v v is)
@@ -36,11 +36,11 @@ none_kept pairs id none =
 
 -- ---- one line
 
--- what a line adds to the plain list, what it tells of that, and that what is kept is the newest of it
+-- what a line adds to the plain list, what it knows that, and that what is kept is the newest of it
 pub record GoesOn (last : ℕ) (line : Line) (answer : Answer) (all : List (ℕ × List ℕ)) (old new : State) : Type 0 where
   pub added : List (ℕ × List ℕ)
   pub adds : Adds last line answer added
-  pub tells : TellsHistory line answer (record { state = old; all = all })
+  pub reports : ReportsHistory line answer (record { state = old; all = all })
   pub keeps : IsKept (record { state = new; all = all ++ added })
 
 pub kept_by : (all : List (ℕ × List ℕ)) (new : State) → KeepsVersions all new.list → IsKept (record { state = new; all = all })
@@ -48,25 +48,25 @@ kept_by all new keeps = record { versions_are = keeps; items_are = same_map new.
 
 module _ (last : ℕ) (all : List (ℕ × List ℕ)) (old : State) (holds : IsKept (record { state = old; all = all })) where
   -- a line that adds nothing
-  stays : (line : Line) (answer : Answer) (new : State) → Adds last line answer [] → TellsHistory line answer (record { state = old; all = all }) → KeepsVersions old.list new.list → GoesOn last line answer all old new
-  stays line answer new adds tells keeps = record {
+  stays : (line : Line) (answer : Answer) (new : State) → Adds last line answer [] → ReportsHistory line answer (record { state = old; all = all }) → KeepsVersions old.list new.list → GoesOn last line answer all old new
+  stays line answer new adds reports keeps = record {
     added = [];
     adds = adds;
-    tells = tells;
+    reports = reports;
     keeps = kept_by (all ++ []) new
         (subst (λ (pairs : List (ℕ × List ℕ)). KeepsVersions pairs new.list) (sym (append-nil all)) (keeps_more all old.list new.list holds.versions_are keeps));
   }
 
-  same : (line : Line) (answer : Answer) (new : State) → Adds last line answer [] → TellsHistory line answer (record { state = old; all = all }) → new ≡ old → GoesOn last line answer all old new
-  same line answer new adds tells is = stays line answer new adds tells (keeps_all old.list new.list (ap (λ (s : State). s.list) is))
+  same : (line : Line) (answer : Answer) (new : State) → Adds last line answer [] → ReportsHistory line answer (record { state = old; all = all }) → new ≡ old → GoesOn last line answer all old new
+  same line answer new adds reports is = stays line answer new adds reports (keeps_all old.list new.list (ap (λ (s : State). s.list) is))
 
   -- a line that adds a set or a delete
-  puts : (line : Line) (answer : Answer) (new : State) (id : ℕ) (bytes : List ℕ) → Adds last line answer ((id, bytes) ∷ []) → TellsHistory line answer (record { state = old; all = all }) → AddsVersion old.list new.list id bytes
+  puts : (line : Line) (answer : Answer) (new : State) (id : ℕ) (bytes : List ℕ) → Adds last line answer ((id, bytes) ∷ []) → ReportsHistory line answer (record { state = old; all = all }) → AddsVersion old.list new.list id bytes
       → GoesOn last line answer all old new
-  puts line answer new id bytes adds tells more = record {
+  puts line answer new id bytes adds reports more = record {
     added = (id, bytes) ∷ [];
     adds = adds;
-    tells = tells;
+    reports = reports;
     keeps = kept_by (all ++ (id, bytes) ∷ []) new
         (keeps_more (all ++ (id, bytes) ∷ []) (old.list ++ (id, bytes) ∷ []) new.list (keeps-push all old.list (id, bytes) holds.versions_are) more.keeps);
   }
@@ -91,29 +91,29 @@ module _ (last : ℕ) (all : List (ℕ × List ℕ)) (old : State) (holds : IsKe
   deletes rules id answer new none = absurd none
 
   -- what the plain list has of an id
-  told : (id : ℕ) (o : Option (List ℕ)) → get (items_of old.list) id ≡ o → get (items_of all) id ≡ o
-  told id o is = ap (λ (m : Items). get m id) (sym holds.items_are) ∙ is
+  reported : (id : ℕ) (o : Option (List ℕ)) → get (items_of old.list) id ≡ o → get (items_of all) id ≡ o
+  reported id o is = ap (λ (m : Items). get m id) (sym holds.items_are) ∙ is
 
   version : (id n : ℕ) (v : List ℕ) → slice_get (versions old.list id) n ≡ Some v → slice_get (versions all id) n ≡ Some v
   version id n v is =
-      ap (λ (vs : List (List ℕ)). slice_get vs n) (holds.versions_are.newest id) ∙ front_get (versions old.list id) (holds.versions_are.gone id) n v is
+      ap (λ (vs : List (List ℕ)). slice_get vs n) (holds.versions_are.newest id) ∙ prefix_get (versions old.list id) (holds.versions_are.gone id) n v is
 
-  tells : (id : ℕ) (answer : Answer) (new : State) → Tells id answer old new → GoesOn last (Get id) answer all old new
-  tells id (answers.Value value) new is = same (Get id) (answers.Value value) new refl (told id (Some value) is.0) is.1
-  tells id answers.Absent new is = same (Get id) answers.Absent new refl (told id None is.0) is.1
-  tells id answer new none = absurd none
+  reports : (id : ℕ) (answer : Answer) (new : State) → Reports id answer old new → GoesOn last (Get id) answer all old new
+  reports id (answers.Value value) new is = same (Get id) (answers.Value value) new refl (reported id (Some value) is.0) is.1
+  reports id answers.Absent new is = same (Get id) answers.Absent new refl (reported id None is.0) is.1
+  reports id answer new none = absurd none
 
-  tells_older : (id n : ℕ) (answer : Answer) (new : State) → TellsOlder id n answer old new → GoesOn last (Older id n) answer all old new
-  tells_older id n (answers.Value value) new is = same (Older id n) (answers.Value value) new refl (version id n value is.0) is.2
-  tells_older id n answers.Deleted new is = same (Older id n) answers.Deleted new refl (version id n [] is.0) is.1
-  tells_older id n answers.Gone new is =
+  reports_older : (id n : ℕ) (answer : Answer) (new : State) → ReportsOlder id n answer old new → GoesOn last (Older id n) answer all old new
+  reports_older id n (answers.Value value) new is = same (Older id n) (answers.Value value) new refl (version id n value is.0) is.2
+  reports_older id n answers.Deleted new is = same (Older id n) answers.Deleted new refl (version id n [] is.0) is.1
+  reports_older id n answers.Gone new is =
       same (Older id n) answers.Gone new refl
-      (λ first. told id None (none_kept old.list id (subst (λ (m : ℕ). length (versions old.list id) ≤ m) first is.0))) is.1
-  tells_older id n answer new none = absurd none
+      (λ first. reported id None (none_kept old.list id (subst (λ (m : ℕ). length (versions old.list id) ≤ m) first is.0))) is.1
+  reports_older id n answer new none = absurd none
 
-  tells_space : (rules : Rules) (answer : Answer) (new : State) → TellsSpace rules answer old new → GoesOn last Space answer all old new
-  tells_space rules (answers.Space live stale free) new is = same Space (answers.Space live stale free) new refl tt is.3
-  tells_space rules answer new none = absurd none
+  reports_space : (rules : Rules) (answer : Answer) (new : State) → ReportsSpace rules answer old new → GoesOn last Space answer all old new
+  reports_space rules (answers.Space live stale free) new is = same Space (answers.Space live stale free) new refl tt is.3
+  reports_space rules answer new none = absurd none
 
   mounts : (rules : Rules) (answer : Answer) (new : State) → Mounts rules answer old new → GoesOn last Mount answer all old new
   mounts rules (answers.Done units) new is = stays Mount (answers.Done units) new refl tt is.1.versions_are
@@ -131,9 +131,9 @@ module _ (last : ℕ) (all : List (ℕ × List ℕ)) (old : State) (holds : IsKe
   by_line : (rules : Rules) (line : Line) (answer : Answer) (new : State) → Answers rules last line answer old new → GoesOn last line answer all old new
   by_line rules (Set id value) answer new is = sets rules id value answer new is
   by_line rules (Delete id) answer new is = deletes rules id answer new is
-  by_line rules (Get id) answer new is = tells id answer new is
-  by_line rules (Older id n) answer new is = tells_older id n answer new is
-  by_line rules Space answer new is = tells_space rules answer new is
+  by_line rules (Get id) answer new is = reports id answer new is
+  by_line rules (Older id n) answer new is = reports_older id n answer new is
+  by_line rules Space answer new is = reports_space rules answer new is
   by_line rules Mount answer new is = mounts rules answer new is
   by_line rules (Cut units) answer new is = arms_cut units answer new is
   by_line rules Uncut answer new is = arms_uncut answer new is
@@ -171,7 +171,7 @@ continues rules last (line ∷ lines) (answer ∷ answers) all old new holds run
       all = tail.all;
       runs = (
         record { state = runs.0; all = all ++ head.added },
-        (runs.1, record { added = head.added; adds = head.adds; all = refl; tells = head.tells; keeps = head.keeps }),
+        (runs.1, record { added = head.added; adds = head.adds; all = refl; reports = head.reports; keeps = head.keeps }),
         tail.runs,
       );
     }
@@ -199,18 +199,18 @@ delete_power rules last id (answers.Done units) old new on (few, inr is) = is.3 
 delete_power rules last id (answers.Lost units) old new on is = is.1.off
 delete_power rules last id answer old new on none = absurd none
 
-get_power : (id : ℕ) (answer : Answer) (old new : State) → Tells id answer old new → PowerStep (Get id) answer old.is_on new.is_on
+get_power : (id : ℕ) (answer : Answer) (old new : State) → Reports id answer old new → PowerStep (Get id) answer old.is_on new.is_on
 get_power id (answers.Value value) old new is = power old new is.1
 get_power id answers.Absent old new is = power old new is.1
 get_power id answer old new none = absurd none
 
-older_power : (id n : ℕ) (answer : Answer) (old new : State) → TellsOlder id n answer old new → PowerStep (Older id n) answer old.is_on new.is_on
+older_power : (id n : ℕ) (answer : Answer) (old new : State) → ReportsOlder id n answer old new → PowerStep (Older id n) answer old.is_on new.is_on
 older_power id n (answers.Value value) old new is = power old new is.2
 older_power id n answers.Deleted old new is = power old new is.1
 older_power id n answers.Gone old new is = power old new is.1
 older_power id n answer old new none = absurd none
 
-space_power : (rules : Rules) (answer : Answer) (old new : State) → TellsSpace rules answer old new → PowerStep Space answer old.is_on new.is_on
+space_power : (rules : Rules) (answer : Answer) (old new : State) → ReportsSpace rules answer old new → PowerStep Space answer old.is_on new.is_on
 space_power rules (answers.Space live stale free) old new is = power old new is.3
 space_power rules answer old new none = absurd none
 

@@ -21,8 +21,8 @@ use Rattle.item_session.specs.declared.answer.Answer.{Answer}
 use Rattle.item_session.specs.declared.answer.Answer.TheVariants as answers
 use Rattle.item_session.specs.Plan.{units_of, is_lost, replan}
 use Rattle.item_laws.specs.Items.{items_of}
-use Rattle.item_store.specs.Kind.{Kind}
-use Rattle.item_store.specs.Listed.{kind_on, list_on}
+use Rattle.item_store.specs.SectorFormat.{SectorFormat}
+use Rattle.item_store.specs.Listed.{format_on, list_on}
 use Rattle.item_store.specs.Standing.{KeepsItems}
 use Rattle.item_store.specs.Versions.{versions}
 use Rattle.script_lines.specs.Plan.Replan.{keeps}
@@ -58,9 +58,9 @@ older_no_mount id n is = cc
 space_no_mount : Space ≡ Mount → ⊥
 space_no_mount is = cc
 
-module _ (kind : Geometry → Kind) (area : Area) (d : Device) where
-  quiet : (line : Line) (answer : Answer) → ((last : ℕ) → Step (rules_on kind d area) last line answer (state_of kind area d) (state_of kind area d))
-      → powered_for line d ≡ d → replan line ≡ keeps → is_lost answer ≡ false → units_of answer ≡ 0 → WritesBy kind area line answer d d → (line ≡ Mount → ⊥) → LineDone kind area line answer d d
+module _ (format_of : Geometry → SectorFormat) (area : Area) (d : Device) where
+  quiet : (line : Line) (answer : Answer) → ((last : ℕ) → Step (rules_on format_of d area) last line answer (state_of format_of area d) (state_of format_of area d))
+      → powered_for line d ≡ d → replan line ≡ keeps → is_lost answer ≡ false → units_of answer ≡ 0 → WritesBy format_of area line answer d d → (line ≡ Mount → ⊥) → LineDone format_of area line answer d d
   quiet line answer step same stays lasts units writes no_mount = record {
     step = λ last within. step last;
     accounts = kept (area ∷ []) line answer d d (untouched (area ∷ []) d) stays lasts (none_spent (units_of answer) d.spent units);
@@ -70,64 +70,64 @@ module _ (kind : Geometry → Kind) (area : Area) (d : Device) where
         (subst (λ (x : Device). Touches (area ∷ []) x d false) (sym same) (untouched (area ∷ []) d));
     writes = writes;
     mounts = λ is. absurd (no_mount is);
-    tells = λ is. refl;
+    reports = λ is. refl;
     plans = λ other. absurd (other stays);
   }
 
   -- with power off
 
-  pub set_off : (id : ℕ) (value : List ℕ) → d.is_on ≡ false → LineDone kind area (Set id value) answers.Off d d
+  pub set_off : (id : ℕ) (value : List ℕ) → d.is_on ≡ false → LineDone format_of area (Set id value) answers.Off d d
   set_off id value dark = quiet (Set id value) answers.Off (λ last. (refl, dark, refl)) refl refl refl refl tt (set_no_mount id value)
 
-  pub delete_off : (id : ℕ) → d.is_on ≡ false → LineDone kind area (Delete id) answers.Off d d
+  pub delete_off : (id : ℕ) → d.is_on ≡ false → LineDone format_of area (Delete id) answers.Off d d
   delete_off id dark = quiet (Delete id) answers.Off (λ last. (refl, dark, refl)) refl refl refl refl tt (delete_no_mount id)
 
-  pub get_off : (id : ℕ) → d.is_on ≡ false → LineDone kind area (Get id) answers.Off d d
+  pub get_off : (id : ℕ) → d.is_on ≡ false → LineDone format_of area (Get id) answers.Off d d
   get_off id dark = quiet (Get id) answers.Off (λ last. (refl, dark, refl)) refl refl refl refl tt (get_no_mount id)
 
-  pub older_off : (id n : ℕ) → d.is_on ≡ false → LineDone kind area (Older id n) answers.Off d d
+  pub older_off : (id n : ℕ) → d.is_on ≡ false → LineDone format_of area (Older id n) answers.Off d d
   older_off id n dark = quiet (Older id n) answers.Off (λ last. (refl, dark, refl)) refl refl refl refl tt (older_no_mount id n)
 
-  pub space_off : d.is_on ≡ false → LineDone kind area Space answers.Off d d
+  pub space_off : d.is_on ≡ false → LineDone format_of area Space answers.Off d d
   space_off dark = quiet Space answers.Off (λ last. (refl, dark, refl)) refl refl refl refl tt space_no_mount
 
   -- with power on
 
-  pub value_told : (id : ℕ) (value : List ℕ) → d.is_on ≡ true → get (items_of (list_on kind d area)) id ≡ Some value → LineDone kind area (Get id) (answers.Value value) d d
-  value_told id value on is = quiet (Get id) (answers.Value value) (λ last. (λ needs. on, (is, refl))) refl refl refl refl tt (get_no_mount id)
+  pub value_reported : (id : ℕ) (value : List ℕ) → d.is_on ≡ true → get (items_of (list_on format_of d area)) id ≡ Some value → LineDone format_of area (Get id) (answers.Value value) d d
+  value_reported id value on is = quiet (Get id) (answers.Value value) (λ last. (λ needs. on, (is, refl))) refl refl refl refl tt (get_no_mount id)
 
-  pub none_told : (id : ℕ) → d.is_on ≡ true → get (items_of (list_on kind d area)) id ≡ None → LineDone kind area (Get id) answers.Absent d d
-  none_told id on is = quiet (Get id) answers.Absent (λ last. (λ needs. on, (is, refl))) refl refl refl refl tt (get_no_mount id)
+  pub none_reported : (id : ℕ) → d.is_on ≡ true → get (items_of (list_on format_of d area)) id ≡ None → LineDone format_of area (Get id) answers.Absent d d
+  none_reported id on is = quiet (Get id) answers.Absent (λ last. (λ needs. on, (is, refl))) refl refl refl refl tt (get_no_mount id)
 
-  pub version_told : (id n : ℕ) (value : List ℕ) → d.is_on ≡ true → slice_get (versions (list_on kind d area) id) n ≡ Some value → 0 < length value → LineDone kind area (Older id n) (answers.Value value) d d
-  version_told id n value on is some = quiet (Older id n) (answers.Value value) (λ last. (λ needs. on, (is, some, refl))) refl refl refl refl tt (older_no_mount id n)
+  pub version_reported : (id n : ℕ) (value : List ℕ) → d.is_on ≡ true → slice_get (versions (list_on format_of d area) id) n ≡ Some value → 0 < length value → LineDone format_of area (Older id n) (answers.Value value) d d
+  version_reported id n value on is some = quiet (Older id n) (answers.Value value) (λ last. (λ needs. on, (is, some, refl))) refl refl refl refl tt (older_no_mount id n)
 
-  pub deleted_told : (id n : ℕ) → d.is_on ≡ true → slice_get (versions (list_on kind d area) id) n ≡ Some [] → LineDone kind area (Older id n) answers.Deleted d d
-  deleted_told id n on is = quiet (Older id n) answers.Deleted (λ last. (λ needs. on, (is, refl))) refl refl refl refl tt (older_no_mount id n)
+  pub deleted_reported : (id n : ℕ) → d.is_on ≡ true → slice_get (versions (list_on format_of d area) id) n ≡ Some [] → LineDone format_of area (Older id n) answers.Deleted d d
+  deleted_reported id n on is = quiet (Older id n) answers.Deleted (λ last. (λ needs. on, (is, refl))) refl refl refl refl tt (older_no_mount id n)
 
-  pub gone_told : (id n : ℕ) → d.is_on ≡ true → length (versions (list_on kind d area) id) ≤ n → LineDone kind area (Older id n) answers.Gone d d
-  gone_told id n on is = quiet (Older id n) answers.Gone (λ last. (λ needs. on, (is, refl))) refl refl refl refl tt (older_no_mount id n)
+  pub gone_reported : (id n : ℕ) → d.is_on ≡ true → length (versions (list_on format_of d area) id) ≤ n → LineDone format_of area (Older id n) answers.Gone d d
+  gone_reported id n on is = quiet (Older id n) answers.Gone (λ last. (λ needs. on, (is, refl))) refl refl refl refl tt (older_no_mount id n)
 
-  pub space_told : (live stale free : ℕ) → d.is_on ≡ true → record { live = live; stale = stale; free = free } ≡ space_of (kind_on kind d area) area.sectors (sector_size d area) (list_on kind d area)
-      → LineDone kind area Space (answers.Space live stale free) d d
-  space_told live stale free on is =
-      let lives : live ≡ (space_of (kind_on kind d area) area.sectors (sector_size d area) (list_on kind d area)).live = ap (λ (s : TheSpace). s.live) is in
-      let frees : free ≡ (area.sectors - 1) * (kind_on kind d area).cap (sector_size d area) - live =
-      ap (λ (s : TheSpace). s.free) is ∙ ap (λ (n : ℕ). (area.sectors - 1) * (kind_on kind d area).cap (sector_size d area) - n) (sym lives) in
+  pub space_reported : (live stale free : ℕ) → d.is_on ≡ true → record { live = live; stale = stale; free = free } ≡ space_of (format_on format_of d area) area.sectors (sector_size d area) (list_on format_of d area)
+      → LineDone format_of area Space (answers.Space live stale free) d d
+  space_reported live stale free on is =
+      let lives : live ≡ (space_of (format_on format_of d area) area.sectors (sector_size d area) (list_on format_of d area)).live = ap (λ (s : TheSpace). s.live) is in
+      let frees : free ≡ (area.sectors - 1) * (format_on format_of d area).cap (sector_size d area) - live =
+      ap (λ (s : TheSpace). s.free) is ∙ ap (λ (n : ℕ). (area.sectors - 1) * (format_on format_of d area).cap (sector_size d area) - n) (sym lives) in
       quiet Space (answers.Space live stale free)
-      (λ last. (λ needs. on, (lives ∙ items_cost-is (kind_on kind d area).cost (list_on kind d area), ap (λ (s : TheSpace). s.stale) is, frees, refl))) refl refl refl refl tt space_no_mount
+      (λ last. (λ needs. on, (lives ∙ items_cost-is (format_on format_of d area).cost (list_on format_of d area), ap (λ (s : TheSpace). s.stale) is, frees, refl))) refl refl refl refl tt space_no_mount
 
 -- as the code has it: a version that is no delete, where memory was there for it
 pub some_bytes : (bytes : List ℕ) → (bytes ≡ [] → ⊥) → 0 < length bytes
 some_bytes [] some = absurd (some refl)
 some_bytes (x ∷ bytes) some = omega arith
 
-pub version_at : (kind : Geometry → Kind) (area given : Area) (d : Device) (id n : ℕ) (value : List ℕ) (r : Result Answer NoMemory) → d.is_on ≡ true → given ≡ area → slice_get (versions (list_on kind d given) id) n ≡ Some value → (value ≡ [] → ⊥)
-    → IfOk r (λ answer. answer ≡ answers.Value value) → IfOk r (λ answer. LineDone kind area (Older id n) answer d d)
-version_at kind area given d id n value (Ok answer) on same is some told =
-    subst (λ (x : Answer). LineDone kind area (Older id n) x d d) (sym told)
-    (version_told kind area d id n value on (subst (λ (a : Area). slice_get (versions (list_on kind d a) id) n ≡ Some value) same is) (some_bytes value some))
-version_at kind area given d id n value (Err e) on same is some told = tt
+pub version_at : (format_of : Geometry → SectorFormat) (area given : Area) (d : Device) (id n : ℕ) (value : List ℕ) (r : Result Answer NoMemory) → d.is_on ≡ true → given ≡ area → slice_get (versions (list_on format_of d given) id) n ≡ Some value → (value ≡ [] → ⊥)
+    → IfOk r (λ answer. answer ≡ answers.Value value) → IfOk r (λ answer. LineDone format_of area (Older id n) answer d d)
+version_at format_of area given d id n value (Ok answer) on same is some reported =
+    subst (λ (x : Answer). LineDone format_of area (Older id n) x d d) (sym reported)
+    (version_reported format_of area d id n value on (subst (λ (a : Area). slice_get (versions (list_on format_of d a) id) n ≡ Some value) same is) (some_bytes value some))
+version_at format_of area given d id n value (Err e) on same is some reported = tt
 
 -- ---- plans
 
@@ -146,10 +146,10 @@ cut_no_mount units is = cc
 uncut_no_mount : Uncut ≡ Mount → ⊥
 uncut_no_mount is = cc
 
-module _ (kind : Geometry → Kind) (area : Area) (old new : Device) where
-  pub planned : (units : ℕ) → new ≡ record old { plan = replanned old.plan (After units) } → LineDone kind area (Cut units) (answers.Done 0) old new
+module _ (format_of : Geometry → SectorFormat) (area : Area) (old new : Device) where
+  pub planned : (units : ℕ) → new ≡ record old { plan = replanned old.plan (After units) } → LineDone format_of area (Cut units) (answers.Done 0) old new
   planned units is =
-      subst (λ (d : Device). LineDone kind area (Cut units) (answers.Done 0) old d) (sym is)
+      subst (λ (d : Device). LineDone format_of area (Cut units) (answers.Done 0) old d) (sym is)
       record {
         step = λ last within. (λ needs. absurd (false≢true needs), (refl, refl));
         accounts = record {
@@ -163,13 +163,13 @@ module _ (kind : Geometry → Kind) (area : Area) (old new : Device) where
         touches = λ stays. absurd (no_keeping units stays);
         writes = tt;
         mounts = λ is. absurd (cut_no_mount units is);
-        tells = λ is. absurd (false≢true is);
+        reports = λ is. absurd (false≢true is);
         plans = λ other. refl;
       }
 
-  pub unplanned : new ≡ record old { plan = dropped old.plan } → LineDone kind area Uncut (answers.Done 0) old new
+  pub unplanned : new ≡ record old { plan = dropped old.plan } → LineDone format_of area Uncut (answers.Done 0) old new
   unplanned is =
-      subst (λ (d : Device). LineDone kind area Uncut (answers.Done 0) old d) (sym is)
+      subst (λ (d : Device). LineDone format_of area Uncut (answers.Done 0) old d) (sym is)
       record {
         step = λ last within. (λ needs. absurd (false≢true needs), (refl, refl));
         accounts = record {
@@ -183,7 +183,7 @@ module _ (kind : Geometry → Kind) (area : Area) (old new : Device) where
         touches = λ stays. absurd (no_dropping stays);
         writes = tt;
         mounts = λ is. absurd (uncut_no_mount is);
-        tells = λ is. absurd (false≢true is);
+        reports = λ is. absurd (false≢true is);
         plans = λ other. refl;
       }
 
@@ -199,35 +199,35 @@ module _ (kind : Geometry → Kind) (area : Area) (old new : Device) where
       let none : units ≡ 0 = omega arith in
       ap (λ (n : ℕ). answers.Done n) none
 
-  module _ (none : (kind_on kind old area).damage (sectors_of old area) ≡ None) (stay : KeepsItems (kind_on kind old area) (sectors_of old area) (sectors_of new area))
-      (spends : SpendsBetween (turned_on old) new 0 (rules_on kind old area).mount) (units : ℕ) (are : units ≡ new.spent - old.spent) where
-    few : units ≤ (rules_on kind old area).mount
-    few = at_most units spends.units (rules_on kind old area).mount (subst (λ (n : ℕ). n ≤ spends.units) (sym are) (units_most old.spent new.spent spends.units spends.spent)) spends.at_most
+  module _ (none : (format_on format_of old area).damage (sectors_of old area) ≡ None) (stay : KeepsItems (format_on format_of old area) (sectors_of old area) (sectors_of new area))
+      (spends : SpendsBetween (turned_on old) new 0 (rules_on format_of old area).mount) (units : ℕ) (are : units ≡ new.spent - old.spent) where
+    few : units ≤ (rules_on format_of old area).mount
+    few = at_most units spends.units (rules_on format_of old area).mount (subst (λ (n : ℕ). n ≤ spends.units) (sym are) (units_most old.spent new.spent spends.units spends.spent)) spends.at_most
 
-    pub mount_done : (RestsOn kind old area → new ≡ turned_on old) → Redoes (kind_on kind old area) area (answers.Done units) (turned_on old) new → Touches (area ∷ []) (turned_on old) new false → LineDone kind area Mount (answers.Done units) old new
+    pub mount_done : (RestsOn format_of old area → new ≡ turned_on old) → Redoes (format_on format_of old area) area (answers.Done units) (turned_on old) new → Touches (area ∷ []) (turned_on old) new false → LineDone format_of area Mount (answers.Done units) old new
     mount_done idle redoes touches =
         let accounts = kept (area ∷ []) Mount (answers.Done units) (turned_on old) new touches refl refl are in
         record {
-          step = λ last within. (λ needs. absurd (false≢true needs), (few, stays_there kind area old new touches.banks stay, touches.ends.on));
+          step = λ last within. (λ needs. absurd (false≢true needs), (few, stays_there format_of area old new touches.banks stay, touches.ends.on));
           accounts = record { spent = accounts.spent; losses = accounts.losses; allows = accounts.allows; plan = accounts.plan; unplanned = accounts.unplanned };
           keeps = record { banks = touches.banks; loads = touches.loads; outside = touches.outside };
           touches = λ stays. touches;
           writes = tt;
           mounts = λ is. record { undamaged = none; items = stay; redoes = redoes; rests = λ rests. (idle_units units are (idle rests), idle rests) };
-          tells = λ is. absurd (false≢true is);
+          reports = λ is. absurd (false≢true is);
           plans = λ other. absurd (other refl);
         }
 
-    pub mount_lost : ¬ RestsOn kind old area → Redoes (kind_on kind old area) area (answers.Lost units) (turned_on old) new → Touches (area ∷ []) (turned_on old) new true → LineDone kind area Mount (answers.Lost units) old new
+    pub mount_lost : ¬ RestsOn format_of old area → Redoes (format_on format_of old area) area (answers.Lost units) (turned_on old) new → Touches (area ∷ []) (turned_on old) new true → LineDone format_of area Mount (answers.Lost units) old new
     mount_lost busy redoes touches =
         let accounts = lost (area ∷ []) Mount (answers.Lost units) (turned_on old) new refl touches refl refl are in
         record {
-          step = λ last within. (λ needs. absurd (false≢true needs), (few, stays_there kind area old new touches.banks stay, (touches.ends refl).off));
+          step = λ last within. (λ needs. absurd (false≢true needs), (few, stays_there format_of area old new touches.banks stay, (touches.ends refl).off));
           accounts = record { spent = accounts.spent; losses = accounts.losses; allows = accounts.allows; plan = accounts.plan; unplanned = accounts.unplanned };
           keeps = record { banks = touches.banks; loads = touches.loads; outside = touches.outside };
           touches = λ stays. touches;
           writes = tt;
           mounts = λ is. record { undamaged = none; items = stay; redoes = redoes; rests = λ rests. absurd (busy rests) };
-          tells = λ is. absurd (false≢true is);
+          reports = λ is. absurd (false≢true is);
           plans = λ other. absurd (other refl);
         }

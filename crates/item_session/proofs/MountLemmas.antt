@@ -14,8 +14,8 @@ use Rattle.flash_map.specs.Touches.{Touches}
 use Rattle.item_session.specs.declared.line.Line.TheVariants.{Mount}
 use Rattle.item_session.specs.declared.answer.Answer.TheVariants as answers
 use Rattle.item_store.specs.declared.store.Store.{Store}
-use Rattle.item_store.specs.Kind.{Kind}
-use Rattle.item_store.specs.Listed.{kind_on}
+use Rattle.item_store.specs.SectorFormat.{SectorFormat}
+use Rattle.item_store.specs.Listed.{format_on}
 use Rattle.item_store.specs.Stands.{MountEnds}
 use Rattle.item_session.specs.Device.{turned_on}
 use Rattle.item_session.specs.LineDone.{LineDone}
@@ -23,14 +23,14 @@ use Rattle.item_session.specs.Standing.{IsMounted, ShowsDamage, damage_on}
 use Rattle.item_session.proofs.LineLemmas.{mount_done, mount_lost as mount_cut}
 use Rattle.item_session.proofs.StateLemmas.{sound_there}
 
-module _ {T : Type 0} (role : Role) (kind : Geometry → Kind) (kept : Geometry → List ℕ → T) (area given : Area) (old mid new : Device) (on : mid ≡ turned_on old) (same : given ≡ area) (r : Result (Store T) MountFault)
-    (touches : Touches (given ∷ []) mid new (mount_lost r)) (ends : MountEnds role kind kept mid new given r)
-    (most : SpendsBetween mid new 0 ((kind_on kind mid given).units.mount (sector_size mid given))) where
-  ended : (x : Result (Store T) MountFault) → r ≡ x → MountEnds role kind kept (turned_on old) new area x
+module _ {T : Type 0} (role : Role) (format_of : Geometry → SectorFormat) (kept : Geometry → List ℕ → T) (area given : Area) (old mid new : Device) (on : mid ≡ turned_on old) (same : given ≡ area) (r : Result (Store T) MountFault)
+    (touches : Touches (given ∷ []) mid new (mount_lost r)) (ends : MountEnds role format_of kept mid new given r)
+    (most : SpendsBetween mid new 0 ((format_on format_of mid given).units.mount (sector_size mid given))) where
+  ended : (x : Result (Store T) MountFault) → r ≡ x → MountEnds role format_of kept (turned_on old) new area x
   ended x is =
-      subst (λ (d : Device). MountEnds role kind kept d new area x) on
-      (subst (λ (a : Area). MountEnds role kind kept mid new a x) same
-      (subst (λ (y : Result (Store T) MountFault). MountEnds role kind kept mid new given y) is ends))
+      subst (λ (d : Device). MountEnds role format_of kept d new area x) on
+      (subst (λ (a : Area). MountEnds role format_of kept mid new a x) same
+      (subst (λ (y : Result (Store T) MountFault). MountEnds role format_of kept mid new given y) is ends))
 
   touched : (x : Result (Store T) MountFault) → r ≡ x → Touches (area ∷ []) (turned_on old) new (mount_lost x)
   touched x is =
@@ -38,10 +38,10 @@ module _ {T : Type 0} (role : Role) (kind : Geometry → Kind) (kept : Geometry 
       (subst (λ (a : Area). Touches (a ∷ []) mid new (mount_lost x)) same
       (subst (λ (y : Result (Store T) MountFault). Touches (given ∷ []) mid new (mount_lost y)) is touches))
 
-  spends : SpendsBetween (turned_on old) new 0 ((kind_on kind old area).units.mount (sector_size old area))
+  spends : SpendsBetween (turned_on old) new 0 ((format_on format_of old area).units.mount (sector_size old area))
   spends =
-      subst (λ (d : Device). SpendsBetween d new 0 ((kind_on kind d area).units.mount (sector_size d area))) on
-      (subst (λ (a : Area). SpendsBetween mid new 0 ((kind_on kind mid a).units.mount (sector_size mid a))) same most)
+      subst (λ (d : Device). SpendsBetween d new 0 ((format_on format_of d area).units.mount (sector_size d area))) on
+      (subst (λ (a : Area). SpendsBetween mid new 0 ((format_on format_of mid a).units.mount (sector_size mid a))) same most)
 
   units_same : (units : ℕ) → units ≡ new.spent - mid.spent → units ≡ new.spent - old.spent
   units_same units are = are ∙ ap (λ (d : Device). new.spent - d.spent) on
@@ -49,40 +49,40 @@ module _ {T : Type 0} (role : Role) (kind : Geometry → Kind) (kept : Geometry 
   -- ---- it was carried out
 
   module _ (store : Store T) (whole : r ≡ Ok store) where
-    pub whole_line : (units : ℕ) → units ≡ new.spent - mid.spent → LineDone kind area Mount (answers.Done units) old new
+    pub whole_line : (units : ℕ) → units ≡ new.spent - mid.spent → LineDone format_of area Mount (answers.Done units) old new
     whole_line units are =
         let e = ended (Ok store) whole in
-        mount_done kind area old new e.0 e.3 spends units (units_same units are) e.5 (e.4, e.6) (touched (Ok store) whole)
+        mount_done format_of area old new e.0 e.3 spends units (units_same units are) e.5 (e.4, e.6) (touched (Ok store) whole)
 
-    pub whole_mounted : IsMounted role kind kept new area (Some store)
+    pub whole_mounted : IsMounted role format_of kept new area (Some store)
     whole_mounted = let e = ended (Ok store) whole in (e.2, λ now. e.1)
 
-    pub whole_before : damage_on kind old area ≡ None
+    pub whole_before : damage_on format_of old area ≡ None
     whole_before = let e = ended (Ok store) whole in e.0
 
-    pub whole_sound : damage_on kind new area ≡ None
-    whole_sound = let e = ended (Ok store) whole in let there = touched (Ok store) whole in sound_there kind area old new there.banks e.3.undamaged
+    pub whole_sound : damage_on format_of new area ≡ None
+    whole_sound = let e = ended (Ok store) whole in let there = touched (Ok store) whole in sound_there format_of area old new there.banks e.3.undamaged
 
   -- ---- power was lost in it
 
   module _ (lost : r ≡ Err PowerLost) where
-    pub lost_line : (units : ℕ) → units ≡ new.spent - mid.spent → LineDone kind area Mount (answers.Lost units) old new
+    pub lost_line : (units : ℕ) → units ≡ new.spent - mid.spent → LineDone format_of area Mount (answers.Lost units) old new
     lost_line units are =
         let e = ended (Err PowerLost) lost in
-        mount_cut kind area old new e.0 e.1 spends units (units_same units are) e.3 (e.2, e.4) (touched (Err PowerLost) lost)
+        mount_cut format_of area old new e.0 e.1 spends units (units_same units are) e.3 (e.2, e.4) (touched (Err PowerLost) lost)
 
     pub lost_off : new.is_on ≡ false
     lost_off = let cut = touched (Err PowerLost) lost in (cut.ends refl).off
 
-    pub lost_before : damage_on kind old area ≡ None
+    pub lost_before : damage_on format_of old area ≡ None
     lost_before = let e = ended (Err PowerLost) lost in e.0
 
-    pub lost_sound : damage_on kind new area ≡ None
-    lost_sound = let e = ended (Err PowerLost) lost in let there = touched (Err PowerLost) lost in sound_there kind area old new there.banks e.1.undamaged
+    pub lost_sound : damage_on format_of new area ≡ None
+    lost_sound = let e = ended (Err PowerLost) lost in let there = touched (Err PowerLost) lost in sound_there format_of area old new there.banks e.1.undamaged
 
   -- ---- it was not
 
-  pub damaged_shown : (damaged : Damaged) → r ≡ Err (HasDamage damaged) → ShowsDamage kind area old new damaged
+  pub damaged_shown : (damaged : Damaged) → r ≡ Err (HasDamage damaged) → ShowsDamage format_of area old new damaged
   damaged_shown damaged is = let e = ended (Err (HasDamage damaged)) is in (e.0, e.1)
 
   pub memory_left : r ≡ Err NoMemory → new ≡ turned_on old

@@ -8,8 +8,8 @@ use Rattle.flash_map.specs.declared.area.Geometry.{Geometry}
 use Rattle.item_session.specs.declared.line.Line.TheVariants.{Set, Delete}
 use Rattle.item_session.specs.declared.answer.Answer.{Answer}
 use Rattle.item_session.specs.declared.answer.Answer.TheVariants as answers
-use Rattle.item_store.specs.Kind.{IsKind, Kind}
-use Rattle.item_store.specs.Listed.{kind_on}
+use Rattle.item_store.specs.SectorFormat.{IsSectorFormat, SectorFormat}
+use Rattle.item_store.specs.Listed.{format_on}
 use Rattle.item_store.specs.Room.{has_room_at}
 use Rattle.item_store.specs.Standing.{RestsAt}
 use Rattle.item_store.specs.Writing.{Appends, StopsAppending, open_at}
@@ -19,12 +19,12 @@ use Rattle.item_session.specs.LineDone.{LineDone}
 use Rattle.item_session.specs.Whole.{free_on}
 use Rattle.item_session.proofs.FitLemmas.{no_round, not_begun}
 
--- what it leaves of an area that this kind reads
-record LeavesRoomAt (k : Kind) (old new : Device) (area : Area) (cost : ℕ) : Type 0 where
+-- what it leaves of an area that this format reads
+record LeavesRoomAt (k : SectorFormat) (old new : Device) (area : Area) (cost : ℕ) : Type 0 where
   pub rests : RestsAt k new area
   pub room : k.free (open_at k old area) ≤ k.free (open_at k new area) + cost
 
-module _ (k : Kind) (law : IsKind k) (old new : Device) (area : Area) (id : ℕ) (bytes : List ℕ) (fits : has_room_at k old area (length bytes) ≡ true) where
+module _ (k : SectorFormat) (law : IsSectorFormat k) (old new : Device) (area : Area) (id : ℕ) (bytes : List ℕ) (fits : has_room_at k old area (length bytes) ≡ true) where
   -- no round was made
   from_mid : (mid : Device) → mid ≡ old → LeavesRoomAt k mid new area (k.cost (length bytes)) → LeavesRoomAt k old new area (k.cost (length bytes))
   from_mid mid same leaves = subst (λ (d : Device). LeavesRoomAt k d new area (k.cost (length bytes))) same leaves
@@ -42,62 +42,62 @@ module _ (k : Kind) (law : IsKind k) (old new : Device) (area : Area) (id : ℕ)
       from_mid entry.mid (no_round k law old new area (length bytes) fits entry.mid entry.makes) (record { rests = stops.rests; room = stops.room })
 
 -- the same of any area
-pub record LeavesRoom (kind : Geometry → Kind) (area : Area) (old new : Device) (cost : ℕ) : Type 0 where
-  pub rests : RestsOn kind new area
-  pub room : free_on kind old area ≤ free_on kind new area + cost
+pub record LeavesRoom (format_of : Geometry → SectorFormat) (area : Area) (old new : Device) (cost : ℕ) : Type 0 where
+  pub rests : RestsOn format_of new area
+  pub room : free_on format_of old area ≤ free_on format_of new area + cost
 
-module _ (kind : Geometry → Kind) (area : Area) (old new : Device) (rests : RestsOn kind old area) where
+module _ (format_of : Geometry → SectorFormat) (area : Area) (old new : Device) (rests : RestsOn format_of old area) where
   -- nothing changed
-  left_alone : (cost : ℕ) → new ≡ old → LeavesRoom kind area old new cost
+  left_alone : (cost : ℕ) → new ≡ old → LeavesRoom format_of area old new cost
   left_alone cost same =
-      subst (λ (d : Device). LeavesRoom kind area old d cost) (sym same) (record { rests = rests; room = omega arith })
+      subst (λ (d : Device). LeavesRoom format_of area old d cost) (sym same) (record { rests = rests; room = omega arith })
 
   -- its unit is the same behind a call
-  left_there : (cost : ℕ) → new.banks ≡ old.banks → LeavesRoomAt (kind_on kind old area) old new area cost → LeavesRoom kind area old new cost
+  left_there : (cost : ℕ) → new.banks ≡ old.banks → LeavesRoomAt (format_on format_of old area) old new area cost → LeavesRoom format_of area old new cost
   left_there cost banks leaves = record {
-    rests = from_geometry (λ (u : Geometry). RestsAt (kind u) new area) old new area banks leaves.rests;
-    room = from_geometry (λ (u : Geometry). free_on kind old area ≤ (kind u).free (open_at (kind u) new area) + cost) old new area banks leaves.room;
+    rests = from_geometry (λ (u : Geometry). RestsAt (format_of u) new area) old new area banks leaves.rests;
+    room = from_geometry (λ (u : Geometry). free_on format_of old area ≤ (format_of u).free (open_at (format_of u) new area) + cost) old new area banks leaves.room;
   }
 
-  module _ (law : IsKind (kind_on kind old area)) where
-    pub set_room : (id : ℕ) (value : List ℕ) (answer : Answer) → has_room_at (kind_on kind old area) old area (length value) ≡ true → LineDone kind area (Set id value) answer old new
-        → LeavesRoom kind area old new ((kind_on kind old area).cost (length value))
+  module _ (law : IsSectorFormat (format_on format_of old area)) where
+    pub set_room : (id : ℕ) (value : List ℕ) (answer : Answer) → has_room_at (format_on format_of old area) old area (length value) ≡ true → LineDone format_of area (Set id value) answer old new
+        → LeavesRoom format_of area old new ((format_on format_of old area).cost (length value))
     set_room id value (answers.Done units) fits done =
         let step = done.step new.spent (omega arith) in
         let writes = done.writes in
         elim step.1.1 [
-          | inl held ↦ left_alone ((kind_on kind old area).cost (length value)) (writes.equal held.0)
-          | inr gets ↦ left_there ((kind_on kind old area).cost (length value)) done.keeps.banks (appended_room (kind_on kind old area) law old new area id value fits (writes.appends gets.0))
+          | inl held ↦ left_alone ((format_on format_of old area).cost (length value)) (writes.equal held.0)
+          | inr gets ↦ left_there ((format_on format_of old area).cost (length value)) done.keeps.banks (appended_room (format_on format_of old area) law old new area id value fits (writes.appends gets.0))
         ]
     set_room id value (answers.NoSpace units need live) fits done = let writes = done.writes in absurd (false≢true (sym writes.unfit ∙ fits))
     set_room id value (answers.Lost units) fits done =
         let writes = done.writes in
-        left_there ((kind_on kind old area).cost (length value)) done.keeps.banks (stopped_room (kind_on kind old area) law old new area id value fits writes.stops)
+        left_there ((format_on format_of old area).cost (length value)) done.keeps.banks (stopped_room (format_on format_of old area) law old new area id value fits writes.stops)
     set_room id value answers.Off fits done =
         let step = done.step new.spent (omega arith) in
         let touches = done.touches refl in
-        left_alone ((kind_on kind old area).cost (length value)) (touches.off step.1)
+        left_alone ((format_on format_of old area).cost (length value)) (touches.off step.1)
     set_room id value (answers.Value bytes) fits done = let step = done.step new.spent (omega arith) in absurd step.1
     set_room id value answers.Absent fits done = let step = done.step new.spent (omega arith) in absurd step.1
     set_room id value answers.Deleted fits done = let step = done.step new.spent (omega arith) in absurd step.1
     set_room id value answers.Gone fits done = let step = done.step new.spent (omega arith) in absurd step.1
     set_room id value (answers.Space live stale free) fits done = let step = done.step new.spent (omega arith) in absurd step.1
 
-    pub delete_room : (id : ℕ) (answer : Answer) → has_room_at (kind_on kind old area) old area 0 ≡ true → LineDone kind area (Delete id) answer old new → LeavesRoom kind area old new ((kind_on kind old area).cost 0)
+    pub delete_room : (id : ℕ) (answer : Answer) → has_room_at (format_on format_of old area) old area 0 ≡ true → LineDone format_of area (Delete id) answer old new → LeavesRoom format_of area old new ((format_on format_of old area).cost 0)
     delete_room id (answers.Done units) fits done =
         let step = done.step new.spent (omega arith) in
         let deletes = done.writes in
         elim step.1.1 [
-          | inl absent ↦ left_alone ((kind_on kind old area).cost 0) (deletes.absent absent.0)
-          | inr loses ↦ left_there ((kind_on kind old area).cost 0) done.keeps.banks (appended_room (kind_on kind old area) law old new area id [] fits (deletes.appends loses.0))
+          | inl absent ↦ left_alone ((format_on format_of old area).cost 0) (deletes.absent absent.0)
+          | inr loses ↦ left_there ((format_on format_of old area).cost 0) done.keeps.banks (appended_room (format_on format_of old area) law old new area id [] fits (deletes.appends loses.0))
         ]
     delete_room id (answers.Lost units) fits done =
         let deletes = done.writes in
-        left_there ((kind_on kind old area).cost 0) done.keeps.banks (stopped_room (kind_on kind old area) law old new area id [] fits deletes.stops)
+        left_there ((format_on format_of old area).cost 0) done.keeps.banks (stopped_room (format_on format_of old area) law old new area id [] fits deletes.stops)
     delete_room id answers.Off fits done =
         let step = done.step new.spent (omega arith) in
         let touches = done.touches refl in
-        left_alone ((kind_on kind old area).cost 0) (touches.off step.1)
+        left_alone ((format_on format_of old area).cost 0) (touches.off step.1)
     delete_room id (answers.NoSpace units need live) fits done = let step = done.step new.spent (omega arith) in absurd step.1
     delete_room id (answers.Value bytes) fits done = let step = done.step new.spent (omega arith) in absurd step.1
     delete_room id answers.Absent fits done = let step = done.step new.spent (omega arith) in absurd step.1

@@ -15,7 +15,7 @@ use Rattle.session_table.proofs.FollowsLemmas.{kept, summed}
 use Rattle.item_session.specs.declared.line.Line.{Line}
 use Rattle.item_session.specs.declared.answer.Answer.{Answer}
 use Rattle.item_session.specs.Plan.{units_of, is_lost, losses_in, Planned, plan_through, PlansNoLoss}
-use Rattle.item_store.specs.Kind.{Kind}
+use Rattle.item_store.specs.SectorFormat.{SectorFormat}
 use Rattle.session_table.specs.Bench.{Keeps, StaysUnplanned}
 use Rattle.item_session.specs.LineDone.{LineDone, Runs}
 use Rattle.item_session.specs.Laws.{LinesMakeRuns}
@@ -23,7 +23,7 @@ use Rattle.item_session.specs.Device.{rules_of, rules_on, state_of}
 use Rattle.session_table.specs.Rules.{IsCounted}
 use Rattle.item_session.specs.Step.{Rules, Step}
 
-module _ (kind : Geometry → Kind) (area : Area) where
+module _ (format_of : Geometry → SectorFormat) (area : Area) where
   keeps_same : (d : Device) → Keeps (area ∷ []) d d
   keeps_same d = record { banks = refl; loads = refl; outside = λ bank offset out. refl }
 
@@ -34,30 +34,30 @@ module _ (kind : Geometry → Kind) (area : Area) where
     outside = λ bank offset out. two.outside bank offset (subst (λ (banks : List Bank). ¬ IsInSome banks bank offset (area ∷ [])) (sym one.banks) out) ∙ one.outside bank offset out;
   }
 
-  spent_rises : (lines : List Line) (answers : List Answer) (old new : Device) → Follows (LineDone kind area) lines answers old new → old.spent ≤ new.spent
+  spent_rises : (lines : List Line) (answers : List Answer) (old new : Device) → Follows (LineDone format_of area) lines answers old new → old.spent ≤ new.spent
   spent_rises lines answers old new runs =
-      kept (LineDone kind area) (λ a b. a.spent ≤ b.spent) (λ s. omega arith) (λ a b c one two. omega (arith, one, two))
+      kept (LineDone format_of area) (λ a b. a.spent ≤ b.spent) (λ s. omega arith) (λ a b c one two. omega (arith, one, two))
       (λ line answer a b done. let spent = done.accounts.spent in omega (arith, spent)) lines answers old new runs
 
-  same_rules : (old new : Device) → new.banks ≡ old.banks → rules_on kind new area ≡ rules_on kind old area
-  same_rules old new same = ap (λ (g : Geometry). rules_of (kind g) g.sector area.sectors) (same_geometry old new area same)
+  same_rules : (old new : Device) → new.banks ≡ old.banks → rules_on format_of new area ≡ rules_on format_of old area
+  same_rules old new same = ap (λ (g : Geometry). rules_of (format_of g) g.sector area.sectors) (same_geometry old new area same)
 
   -- the table, where the count of units is no more than so much
-  session_of : (rules : Rules) (last : ℕ) (lines : List Line) (answers : List Answer) (old new : Device) → rules_on kind old area ≡ rules → new.spent ≤ last → Follows (LineDone kind area) lines answers old new
-      → Follows (Step rules last) lines answers (state_of kind area old) (state_of kind area new)
-  session_of rules last [] [] old new is within same = ap (state_of kind area) same
+  session_of : (rules : Rules) (last : ℕ) (lines : List Line) (answers : List Answer) (old new : Device) → rules_on format_of old area ≡ rules → new.spent ≤ last → Follows (LineDone format_of area) lines answers old new
+      → Follows (Step rules last) lines answers (state_of format_of area old) (state_of format_of area new)
+  session_of rules last [] [] old new is within same = ap (state_of format_of area) same
   session_of rules last [] (answer ∷ answers) old new is within none = absurd none
   session_of rules last (line ∷ lines) [] old new is within none = absurd none
   session_of rules last (line ∷ lines) (answer ∷ answers) old new is within runs =
       let mid : Device = runs.0 in
       let rises = spent_rises lines answers mid new runs.2 in
       let head = runs.1.step last (omega (arith, rises, within)) in (
-        state_of kind area mid,
-        subst (λ (r : Rules). Step r last line answer (state_of kind area old) (state_of kind area mid)) is head,
+        state_of format_of area mid,
+        subst (λ (r : Rules). Step r last line answer (state_of format_of area old) (state_of format_of area mid)) is head,
         session_of rules last lines answers mid new (same_rules old mid runs.1.keeps.banks ∙ is) within runs.2,
       )
 
-  losses_of : (lines : List Line) (answers : List Answer) (old new : Device) → Follows (LineDone kind area) lines answers old new → new.losses ≡ counted old.losses (losses_in answers)
+  losses_of : (lines : List Line) (answers : List Answer) (old new : Device) → Follows (LineDone format_of area) lines answers old new → new.losses ≡ counted old.losses (losses_in answers)
   losses_of [] [] old new same = ap (λ (d : Device). d.losses) same ∙ omega arith
   losses_of [] (answer ∷ answers) old new none = absurd none
   losses_of (line ∷ lines) [] old new none = absurd none
@@ -67,7 +67,7 @@ module _ (kind : Geometry → Kind) (area : Area) where
       ∙ counted_counted old.losses (cond (is_lost answer) 1 0) (losses_in answers)
       ∙ ap (counted old.losses) (sym (sum_by-cons (λ (a : Answer). cond (is_lost a) 1 0) answer answers))
 
-  planned_of : (lines : List Line) (answers : List Answer) (old new : Device) → IsCounted new.spent → Follows (LineDone kind area) lines answers old new
+  planned_of : (lines : List Line) (answers : List Answer) (old new : Device) → IsCounted new.spent → Follows (LineDone format_of area) lines answers old new
       → Planned old.plan lines answers × (new.plan ≡ plan_through old.plan lines answers)
   planned_of [] [] old new counts same = (tt, ap (λ (d : Device). d.plan) same)
   planned_of [] (answer ∷ answers) old new counts none = absurd none
@@ -80,7 +80,7 @@ module _ (kind : Geometry → Kind) (area : Area) where
         tail.1 ∙ ap (λ (plan : Plan). plan_through plan lines answers) (runs.1.accounts.plan mid),
       )
 
-  unplanned_of : (lines : List Line) (answers : List Answer) (old new : Device) → Follows (LineDone kind area) lines answers old new → All PlansNoLoss lines → StaysUnplanned old new
+  unplanned_of : (lines : List Line) (answers : List Answer) (old new : Device) → Follows (LineDone format_of area) lines answers old new → All PlansNoLoss lines → StaysUnplanned old new
   unplanned_of [] [] old new same free never = (ap (λ (d : Device). d.plan) same ∙ never, ap (λ (d : Device). d.losses) same)
   unplanned_of [] (answer ∷ answers) old new none free never = absurd none
   unplanned_of (line ∷ lines) [] old new none free never = absurd none
@@ -89,15 +89,15 @@ module _ (kind : Geometry → Kind) (area : Area) where
       let tail = unplanned_of lines answers runs.0 new runs.2 (All-tail PlansNoLoss line lines free) head.0 in
       (tail.0, tail.1 ∙ head.1)
 
-  pub runs_of : (lines : List Line) (answers : List Answer) (old new : Device) → Follows (LineDone kind area) lines answers old new → Runs kind area lines answers old new
+  pub runs_of : (lines : List Line) (answers : List Answer) (old new : Device) → Follows (LineDone format_of area) lines answers old new → Runs format_of area lines answers old new
   runs_of lines answers old new runs = record {
-    session = session_of (rules_on kind old area) new.spent lines answers old new refl (omega arith) runs;
-    spent = summed (LineDone kind area) (λ d. d.spent) units_of (λ line answer a b done. done.accounts.spent) lines answers old new runs;
+    session = session_of (rules_on format_of old area) new.spent lines answers old new refl (omega arith) runs;
+    spent = summed (LineDone format_of area) (λ d. d.spent) units_of (λ line answer a b done. done.accounts.spent) lines answers old new runs;
     losses = losses_of lines answers old new runs;
     planned = λ counts. planned_of lines answers old new counts runs;
-    keeps = kept (LineDone kind area) (Keeps (area ∷ [])) keeps_same keeps_both (λ line answer a b done. done.keeps) lines answers old new runs;
+    keeps = kept (LineDone format_of area) (Keeps (area ∷ [])) keeps_same keeps_both (λ line answer a b done. done.keeps) lines answers old new runs;
     unplanned = unplanned_of lines answers old new runs;
   }
 
 pub lines_make_runs : LinesMakeRuns
-lines_make_runs kind area lines answers old new runs = runs_of kind area lines answers old new runs
+lines_make_runs format_of area lines answers old new runs = runs_of format_of area lines answers old new runs

@@ -5,7 +5,7 @@ use Rattle.text_parts.specs.Parts.{parts}
 use Rattle.script_lines.specs.Forms.{Form, Field, Said, SaysAll, Spells, form, form_at}
 use Rattle.script_lines.specs.Forms.Field.{below, some_bytes}
 use Rattle.script_lines.specs.Forms.Said.{bytes, number}
-use Rattle.script_lines.specs.Script.{SpellsAll, told}
+use Rattle.script_lines.specs.Script.{SpellsAll, spoken}
 use Rattle.item_session.specs.Line.{item_forms, row_of}
 use Rattle.item_session.specs.declared.line.Line.{Line}
 use Rattle.item_session.specs.declared.line.Line.TheVariants.{Set, Get, Delete, Older, Space, Cut, Uncut, Mount}
@@ -64,4 +64,4 @@ lines_fit ids limit (text ∷ texts) (first ∷ lines) is zero line inside = lin
 lines_fit ids limit (text ∷ texts) (first ∷ lines) is (suc k) line inside = lines_fit ids limit texts lines is.1 k line (omega arith)
 
 pub lines_are_served : LinesAreServed
-lines_are_served ids limit text lines is = lines_fit ids limit (told (parts 10 text)) lines is
+lines_are_served ids limit text lines is = lines_fit ids limit (spoken (parts 10 text)) lines is

@@ -14,8 +14,8 @@ use Rattle.flash_map.specs.declared.area.Geometry.{Geometry}
 use Rattle.flash_map.specs.Area.{sectors_of}
 use Rattle.item_laws.specs.Items.{Items, items_of, with_pair}
 use Rattle.item_laws.proofs.ItemLemmas.{items_of-push, same_map}
-use Rattle.item_store.specs.Kind.{Kind}
-use Rattle.item_store.specs.Listed.{kind_on, list_on}
+use Rattle.item_store.specs.SectorFormat.{SectorFormat}
+use Rattle.item_store.specs.Listed.{format_on, list_on}
 use Rattle.item_store.specs.Standing.{KeepsItems, list_at}
 use Rattle.item_store.specs.Versions.{AddsVersion, KeepsVersions}
 use Rattle.item_store.proofs.CallFacts.{from_geometry}
@@ -92,25 +92,25 @@ loses_changes id old new present loses same =
 
 -- ---- an area
 
-module _ (kind : Geometry → Kind) (area : Area) (old new : Device) (banks : new.banks ≡ old.banks) where
+module _ (format_of : Geometry → SectorFormat) (area : Area) (old new : Device) (banks : new.banks ≡ old.banks) where
   -- its unit is the same behind a call
-  pub list_there : list_at (kind_on kind old area) new area ≡ list_on kind new area
-  list_there = from_geometry (λ (u : Geometry). list_at (kind_on kind old area) new area ≡ list_at (kind u) new area) old new area banks refl
+  pub list_there : list_at (format_on format_of old area) new area ≡ list_on format_of new area
+  list_there = from_geometry (λ (u : Geometry). list_at (format_on format_of old area) new area ≡ list_at (format_of u) new area) old new area banks refl
 
-  pub keeps_there : KeepsVersions (list_at (kind_on kind old area) old area) (list_at (kind_on kind old area) new area) → KeepsVersions (list_on kind old area) (list_on kind new area)
-  keeps_there keeps = subst (λ (pairs : List (ℕ × List ℕ)). KeepsVersions (list_on kind old area) pairs) list_there keeps
+  pub keeps_there : KeepsVersions (list_at (format_on format_of old area) old area) (list_at (format_on format_of old area) new area) → KeepsVersions (list_on format_of old area) (list_on format_of new area)
+  keeps_there keeps = subst (λ (pairs : List (ℕ × List ℕ)). KeepsVersions (list_on format_of old area) pairs) list_there keeps
 
-  pub adds_there : (id : ℕ) (bytes : List ℕ) → AddsVersion (list_at (kind_on kind old area) old area) (list_at (kind_on kind old area) new area) id bytes → AddsVersion (list_on kind old area) (list_on kind new area) id bytes
-  adds_there id bytes adds = subst (λ (pairs : List (ℕ × List ℕ)). AddsVersion (list_on kind old area) pairs id bytes) list_there adds
+  pub adds_there : (id : ℕ) (bytes : List ℕ) → AddsVersion (list_at (format_on format_of old area) old area) (list_at (format_on format_of old area) new area) id bytes → AddsVersion (list_on format_of old area) (list_on format_of new area) id bytes
+  adds_there id bytes adds = subst (λ (pairs : List (ℕ × List ℕ)). AddsVersion (list_on format_of old area) pairs id bytes) list_there adds
 
-  pub stays_there : KeepsItems (kind_on kind old area) (sectors_of old area) (sectors_of new area) → Stays (state_of kind area old) (state_of kind area new)
-  stays_there keeps = stays_if (state_of kind area old) (state_of kind area new) (keeps_there keeps.versions)
+  pub stays_there : KeepsItems (format_on format_of old area) (sectors_of old area) (sectors_of new area) → Stays (state_of format_of area old) (state_of format_of area new)
+  stays_there keeps = stays_if (state_of format_of area old) (state_of format_of area new) (keeps_there keeps.versions)
 
-  pub sound_there : (kind_on kind old area).damage (sectors_of new area) ≡ None → damage_on kind new area ≡ None
-  sound_there none = from_geometry (λ (u : Geometry). (kind u).damage (sectors_of new area) ≡ None) old new area banks none
+  pub sound_there : (format_on format_of old area).damage (sectors_of new area) ≡ None → damage_on format_of new area ≡ None
+  sound_there none = from_geometry (λ (u : Geometry). (format_of u).damage (sectors_of new area) ≡ None) old new area banks none
 
   -- where no byte changed its list is the same
-  pub list_same : new.bytes ≡ old.bytes → list_on kind new area ≡ list_on kind old area
+  pub list_same : new.bytes ≡ old.bytes → list_on format_of new area ≡ list_on format_of old area
   list_same bytes =
-      ap (λ (banks : List Bank). list_on kind (record new { banks = banks }) area) banks
-      ∙ ap (λ (bytes : List (List ℕ)). list_on kind (record new { banks = old.banks; bytes = bytes }) area) bytes
+      ap (λ (banks : List Bank). list_on format_of (record new { banks = banks }) area) banks
+      ∙ ap (λ (bytes : List (List ℕ)). list_on format_of (record new { banks = old.banks; bytes = bytes }) area) bytes

@@ -11,8 +11,8 @@ use Rattle.item_session.specs.declared.line.Line.{Line}
 use Rattle.item_session.specs.declared.line.Line.TheVariants.{Set, Get, Delete, Older, Space, Cut, Uncut, Mount}
 use Rattle.item_session.specs.declared.answer.Answer.{Answer}
 use Rattle.item_session.specs.declared.answer.Answer.TheVariants as answers
-use Rattle.item_store.specs.Kind.{IsKind, Kind, fits}
-use Rattle.item_store.specs.Listed.{kind_on, list_on}
+use Rattle.item_store.specs.SectorFormat.{IsSectorFormat, SectorFormat, fits}
+use Rattle.item_store.specs.Listed.{format_on, list_on}
 use Rattle.item_store.specs.Versions.{versions}
 use Rattle.item_store.specs.Writing.{open_at}
 use Rattle.item_store.proofs.CallFacts.{from_geometry}
@@ -20,7 +20,7 @@ use Rattle.item_store.proofs.VersionLemmas.{keeps_all}
 use Rattle.session_table.specs.Follows.{Follows}
 use Rattle.item_session.specs.Device.{RestsOn, rules_on, state_of, turned_on}
 use Rattle.item_session.specs.Fits.{FitsOpen}
-use Rattle.item_session.specs.History.{Adds, IsKept, TellsHistory}
+use Rattle.item_session.specs.History.{Adds, IsKept, ReportsHistory}
 use Rattle.item_session.specs.Laws.{HistoryStaysWhole}
 use Rattle.item_session.specs.LineDone.{LineDone}
 use Rattle.item_session.specs.Whole.{Tracked, WholeStep, cap_on, free_on, line_cost, spare_on}
@@ -31,7 +31,7 @@ use Rattle.item_session.proofs.RoomLemmas.{LeavesRoom, delete_room, set_room}
 
 -- ---- what fits
 
-module _ (k : Kind) (b : List ℕ) (len : ℕ) (enough : k.cost len + 3 * k.slot ≤ k.free b) where
+module _ (k : SectorFormat) (b : List ℕ) (len : ℕ) (enough : k.cost len + 3 * k.slot ≤ k.free b) where
   by_mark : (t : Bool) → leb (k.cost len + cond t 2 3 * k.slot) (k.free b) ≡ true
   by_mark true = le-leb (k.cost len + 2 * k.slot) (k.free b) (omega (arith, enough))
   by_mark false = le-leb (k.cost len + 3 * k.slot) (k.free b) enough
@@ -45,29 +45,29 @@ module _ (k : Kind) (b : List ℕ) (len : ℕ) (enough : k.cost len + 3 * k.slot
 
 -- ---- an area that kept the whole history so far
 
-record WholeNow (kind : Geometry → Kind) (area : Area) (d : Device) (all : List (ℕ × List ℕ)) (costs : ℕ) : Type 0 where
-  pub list : list_on kind d area ≡ all
-  pub rests : RestsOn kind d area
-  pub room : cap_on kind d area + spare_on kind d area ≤ free_on kind d area + costs
+record WholeNow (format_of : Geometry → SectorFormat) (area : Area) (d : Device) (all : List (ℕ × List ℕ)) (costs : ℕ) : Type 0 where
+  pub list : list_on format_of d area ≡ all
+  pub rests : RestsOn format_of d area
+  pub room : cap_on format_of d area + spare_on format_of d area ≤ free_on format_of d area + costs
 
 -- what of that is no list
-record RoomNow (kind : Geometry → Kind) (area : Area) (d : Device) (costs : ℕ) : Type 0 where
-  pub rests : RestsOn kind d area
-  pub room : cap_on kind d area + spare_on kind d area ≤ free_on kind d area + costs
+record RoomNow (format_of : Geometry → SectorFormat) (area : Area) (d : Device) (costs : ℕ) : Type 0 where
+  pub rests : RestsOn format_of d area
+  pub room : cap_on format_of d area + spare_on format_of d area ≤ free_on format_of d area + costs
 
-module _ (kind : Geometry → Kind) (area : Area) (old new : Device) where
-  same_cap : new.banks ≡ old.banks → cap_on kind new area ≡ cap_on kind old area
-  same_cap banks = ap (λ (g : Geometry). (kind g).cap g.sector) (same_geometry old new area banks)
+module _ (format_of : Geometry → SectorFormat) (area : Area) (old new : Device) where
+  same_cap : new.banks ≡ old.banks → cap_on format_of new area ≡ cap_on format_of old area
+  same_cap banks = ap (λ (g : Geometry). (format_of g).cap g.sector) (same_geometry old new area banks)
 
-  same_spare : new.banks ≡ old.banks → spare_on kind new area ≡ spare_on kind old area
-  same_spare banks = ap (λ (g : Geometry). 3 * (kind g).slot) (same_geometry old new area banks)
+  same_spare : new.banks ≡ old.banks → spare_on format_of new area ≡ spare_on format_of old area
+  same_spare banks = ap (λ (g : Geometry). 3 * (format_of g).slot) (same_geometry old new area banks)
 
-  module _ (law : IsKind (kind_on kind old area)) (all : List (ℕ × List ℕ)) (costs : ℕ) (now : WholeNow kind area old all costs) where
+  module _ (law : IsSectorFormat (format_on format_of old area)) (all : List (ℕ × List ℕ)) (costs : ℕ) (now : WholeNow format_of area old all costs) where
     -- so much more fits
-    entry_fits : (len : ℕ) → costs + (kind_on kind old area).cost len ≤ cap_on kind old area → fits (kind_on kind old area) (open_at (kind_on kind old area) old area) len ≡ true
-    entry_fits len few = let room = now.room in room_fits (kind_on kind old area) (open_at (kind_on kind old area) old area) len (omega (arith, room, few))
+    entry_fits : (len : ℕ) → costs + (format_on format_of old area).cost len ≤ cap_on format_of old area → fits (format_on format_of old area) (open_at (format_on format_of old area) old area) len ≡ true
+    entry_fits len few = let room = now.room in room_fits (format_on format_of old area) (open_at (format_on format_of old area) old area) len (omega (arith, room, few))
 
-    line_fits : (line : Line) → costs + line_cost (kind_on kind old area).cost line ≤ cap_on kind old area → FitsOpen kind old area line
+    line_fits : (line : Line) → costs + line_cost (format_on format_of old area).cost line ≤ cap_on format_of old area → FitsOpen format_of old area line
     line_fits (Set id value) few = entry_fits (length value) few
     line_fits (Delete id) few = entry_fits 0 few
     line_fits Mount few = now.rests
@@ -77,13 +77,13 @@ module _ (kind : Geometry → Kind) (area : Area) (old new : Device) where
     line_fits (Cut units) few = tt
     line_fits Uncut few = tt
 
-    as_before : RoomNow kind area old (costs + 0)
+    as_before : RoomNow format_of area old (costs + 0)
     as_before = let room = now.room in record { rests = now.rests; room = omega (arith, room) }
 
-    moved : (x : Device) → new ≡ x → RoomNow kind area x (costs + 0) → RoomNow kind area new (costs + 0)
-    moved x is room = subst (λ (d : Device). RoomNow kind area d (costs + 0)) (sym is) room
+    moved : (x : Device) → new ≡ x → RoomNow format_of area x (costs + 0) → RoomNow format_of area new (costs + 0)
+    moved x is room = subst (λ (d : Device). RoomNow format_of area d (costs + 0)) (sym is) room
 
-    after_write : (cost : ℕ) → new.banks ≡ old.banks → LeavesRoom kind area old new cost → RoomNow kind area new (costs + cost)
+    after_write : (cost : ℕ) → new.banks ≡ old.banks → LeavesRoom format_of area old new cost → RoomNow format_of area new (costs + cost)
     after_write cost banks leaves =
         let room = now.room in
         let cap = same_cap banks in
@@ -91,13 +91,13 @@ module _ (kind : Geometry → Kind) (area : Area) (old new : Device) where
         let left = leaves.room in
         record { rests = leaves.rests; room = omega (arith, room, cap, spare, left) }
 
-    after : (line : Line) (answer : Answer) → LineDone kind area line answer old new → costs + line_cost (kind_on kind old area).cost line ≤ cap_on kind old area → RoomNow kind area new (costs + line_cost (kind_on kind old area).cost line)
+    after : (line : Line) (answer : Answer) → LineDone format_of area line answer old new → costs + line_cost (format_on format_of old area).cost line ≤ cap_on format_of old area → RoomNow format_of area new (costs + line_cost (format_on format_of old area).cost line)
     after (Set id value) answer is few =
-        after_write ((kind_on kind old area).cost (length value)) is.keeps.banks (set_room kind area old new now.rests law id value answer (entry_fits (length value) few) is)
-    after (Delete id) answer is few = after_write ((kind_on kind old area).cost 0) is.keeps.banks (delete_room kind area old new now.rests law id answer (entry_fits 0 few) is)
-    after (Get id) answer is few = moved old (is.tells refl) as_before
-    after (Older id n) answer is few = moved old (is.tells refl) as_before
-    after Space answer is few = moved old (is.tells refl) as_before
+        after_write ((format_on format_of old area).cost (length value)) is.keeps.banks (set_room format_of area old new now.rests law id value answer (entry_fits (length value) few) is)
+    after (Delete id) answer is few = after_write ((format_on format_of old area).cost 0) is.keeps.banks (delete_room format_of area old new now.rests law id answer (entry_fits 0 few) is)
+    after (Get id) answer is few = moved old (is.reports refl) as_before
+    after (Older id n) answer is few = moved old (is.reports refl) as_before
+    after Space answer is few = moved old (is.reports refl) as_before
     after Mount answer is few =
         let mounts = is.mounts refl in
         let rests = mounts.rests now.rests in
@@ -108,92 +108,92 @@ module _ (kind : Geometry → Kind) (area : Area) (old new : Device) where
 
 -- ---- one line
 
-abbrev WholeSoFar : (Geometry → Kind) → Area → Device → List (ℕ × List ℕ) → ℕ → Type 0
-WholeSoFar kind area d all costs = costs ≤ cap_on kind d area → WholeNow kind area d all costs
+abbrev WholeSoFar : (Geometry → SectorFormat) → Area → Device → List (ℕ × List ℕ) → ℕ → Type 0
+WholeSoFar format_of area d all costs = costs ≤ cap_on format_of d area → WholeNow format_of area d all costs
 
-record Goes (kind : Geometry → Kind) (area : Area) (line : Line) (answer : Answer) (old new : Device) (all : List (ℕ × List ℕ)) (costs : ℕ) : Type 0 where
+record Goes (format_of : Geometry → SectorFormat) (area : Area) (line : Line) (answer : Answer) (old new : Device) (all : List (ℕ × List ℕ)) (costs : ℕ) : Type 0 where
   pub added : List (ℕ × List ℕ)
   pub adds : Adds new.spent line answer added
-  pub tells : TellsHistory line answer (record { state = state_of kind area old; all = all })
-  pub keeps : IsKept (record { state = state_of kind area new; all = all ++ added })
-  pub whole : WholeSoFar kind area new (all ++ added) (costs + line_cost (kind_on kind old area).cost line)
+  pub reports : ReportsHistory line answer (record { state = state_of format_of area old; all = all })
+  pub keeps : IsKept (record { state = state_of format_of area new; all = all ++ added })
+  pub whole : WholeSoFar format_of area new (all ++ added) (costs + line_cost (format_on format_of old area).cost line)
 
-module _ (kind : Geometry → Kind) (area : Area) (line : Line) (answer : Answer) (old new : Device) (all : List (ℕ × List ℕ)) (costs : ℕ) (law : IsKind (kind_on kind old area))
-    (kept : IsKept (record { state = state_of kind area old; all = all })) (so_far : WholeSoFar kind area old all costs) (is : LineDone kind area line answer old new) where
-  told : GoesOn new.spent line answer all (state_of kind area old) (state_of kind area new)
-  told = goes_on new.spent all (state_of kind area old) kept (rules_on kind old area) line answer (state_of kind area new) (is.step new.spent (omega arith))
+module _ (format_of : Geometry → SectorFormat) (area : Area) (line : Line) (answer : Answer) (old new : Device) (all : List (ℕ × List ℕ)) (costs : ℕ) (law : IsSectorFormat (format_on format_of old area))
+    (kept : IsKept (record { state = state_of format_of area old; all = all })) (so_far : WholeSoFar format_of area old all costs) (is : LineDone format_of area line answer old new) where
+  reported : GoesOn new.spent line answer all (state_of format_of area old) (state_of format_of area new)
+  reported = goes_on new.spent all (state_of format_of area old) kept (rules_on format_of old area) line answer (state_of format_of area new) (is.step new.spent (omega arith))
 
   -- more than a sector has
-  goes_past : cap_on kind old area < costs + line_cost (kind_on kind old area).cost line → Goes kind area line answer old new all costs
+  goes_past : cap_on format_of old area < costs + line_cost (format_on format_of old area).cost line → Goes format_of area line answer old new all costs
   goes_past many =
       let keeps = is.keeps in
-      let cap = same_cap kind area old new keeps.banks in
-      record { added = told.added; adds = told.adds; tells = told.tells; keeps = told.keeps; whole = λ few. absurd (omega (arith, many, cap, few)) }
+      let cap = same_cap format_of area old new keeps.banks in
+      record { added = reported.added; adds = reported.adds; reports = reported.reports; keeps = reported.keeps; whole = λ few. absurd (omega (arith, many, cap, few)) }
 
-  goes_whole : costs + line_cost (kind_on kind old area).cost line ≤ cap_on kind old area → Goes kind area line answer old new all costs
+  goes_whole : costs + line_cost (format_on format_of old area).cost line ≤ cap_on format_of old area → Goes format_of area line answer old new all costs
   goes_whole few =
       let now = so_far (omega (arith, few)) in
-      let forgets = forgets_for_room kind area line answer old new law is (line_fits kind area old new law all costs now line few) in
-      let room = after kind area old new law all costs now line answer is few in
-      let list : list_on kind new area ≡ all ++ forgets.added = forgets.list ∙ ap (λ (pairs : List (ℕ × List ℕ)). pairs ++ forgets.added) now.list in
+      let forgets = forgets_for_room format_of area line answer old new law is (line_fits format_of area old new law all costs now line few) in
+      let room = after format_of area old new law all costs now line answer is few in
+      let list : list_on format_of new area ≡ all ++ forgets.added = forgets.list ∙ ap (λ (pairs : List (ℕ × List ℕ)). pairs ++ forgets.added) now.list in
       record {
         added = forgets.added;
         adds = forgets.adds;
-        tells = told.tells;
-        keeps = kept_by (all ++ forgets.added) (state_of kind area new) (keeps_all (all ++ forgets.added) (list_on kind new area) list);
+        reports = reported.reports;
+        keeps = kept_by (all ++ forgets.added) (state_of format_of area new) (keeps_all (all ++ forgets.added) (list_on format_of new area) list);
         whole = λ within. record { list = list; rests = room.rests; room = room.room };
       }
 
-  goes : Goes kind area line answer old new all costs
-  goes = elim (cases_lt (cap_on kind old area) (costs + line_cost (kind_on kind old area).cost line)) [
+  goes : Goes format_of area line answer old new all costs
+  goes = elim (cases_lt (cap_on format_of old area) (costs + line_cost (format_on format_of old area).cost line)) [
     | inl many ↦ goes_past many
     | inr few ↦ goes_whole few
   ]
 
   -- what is kept no more there never was
-  gone : (id n : ℕ) → line ≡ Older id n → answer ≡ answers.Gone → costs ≤ cap_on kind old area → length (versions all id) ≤ n
-  gone id n asked told within =
+  gone : (id n : ℕ) → line ≡ Older id n → answer ≡ answers.Gone → costs ≤ cap_on format_of old area → length (versions all id) ≤ n
+  gone id n asked reported within =
       let now = so_far within in
-      let done = subst (λ (l : Line). LineDone kind area l answers.Gone old new) asked (subst (λ (a : Answer). LineDone kind area line a old new) told is) in
+      let done = subst (λ (l : Line). LineDone format_of area l answers.Gone old new) asked (subst (λ (a : Answer). LineDone format_of area line a old new) reported is) in
       let step = done.step new.spent (omega arith) in
       subst (λ (pairs : List (ℕ × List ℕ)). length (versions pairs id) ≤ n) now.list step.1.0
 
 -- ---- a whole run
 
-record Continues (kind : Geometry → Kind) (area : Area) (lines : List Line) (answers : List Answer) (from : Tracked) (new : Device) : Type 0 where
+record Continues (format_of : Geometry → SectorFormat) (area : Area) (lines : List Line) (answers : List Answer) (from : Tracked) (new : Device) : Type 0 where
   pub all : List (ℕ × List ℕ)
   pub costs : ℕ
-  pub runs : Follows (WholeStep kind area) lines answers from (record { device = new; all = all; costs = costs })
+  pub runs : Follows (WholeStep format_of area) lines answers from (record { device = new; all = all; costs = costs })
 
-continues : (kind : Geometry → Kind) (area : Area) (lines : List Line) (answers : List Answer) (old new : Device) (all : List (ℕ × List ℕ)) (costs : ℕ) → IsKind (kind_on kind old area) → IsKept (record { state = state_of kind area old; all = all })
-    → WholeSoFar kind area old all costs → Follows (LineDone kind area) lines answers old new → Continues kind area lines answers (record { device = old; all = all; costs = costs }) new
-continues kind area [] [] old new all costs law kept so_far same = record { all = all; costs = costs; runs = ap (λ (d : Device). record { device = d; all = all; costs = costs }) same }
-continues kind area [] (answer ∷ answers) old new all costs law kept so_far none = absurd none
-continues kind area (line ∷ lines) [] old new all costs law kept so_far none = absurd none
-continues kind area (line ∷ lines) (answer ∷ answers) old new all costs law kept so_far runs =
+continues : (format_of : Geometry → SectorFormat) (area : Area) (lines : List Line) (answers : List Answer) (old new : Device) (all : List (ℕ × List ℕ)) (costs : ℕ) → IsSectorFormat (format_on format_of old area) → IsKept (record { state = state_of format_of area old; all = all })
+    → WholeSoFar format_of area old all costs → Follows (LineDone format_of area) lines answers old new → Continues format_of area lines answers (record { device = old; all = all; costs = costs }) new
+continues format_of area [] [] old new all costs law kept so_far same = record { all = all; costs = costs; runs = ap (λ (d : Device). record { device = d; all = all; costs = costs }) same }
+continues format_of area [] (answer ∷ answers) old new all costs law kept so_far none = absurd none
+continues format_of area (line ∷ lines) [] old new all costs law kept so_far none = absurd none
+continues format_of area (line ∷ lines) (answer ∷ answers) old new all costs law kept so_far runs =
     let mid : Device = runs.0 in
-    let head = goes kind area line answer old mid all costs law kept so_far runs.1 in
-    let there = from_geometry (λ (u : Geometry). IsKind (kind u)) old mid area runs.1.keeps.banks law in
-    let tail = continues kind area lines answers mid new (all ++ head.added) (costs + line_cost (kind_on kind old area).cost line) there head.keeps head.whole runs.2 in
+    let head = goes format_of area line answer old mid all costs law kept so_far runs.1 in
+    let there = from_geometry (λ (u : Geometry). IsSectorFormat (format_of u)) old mid area runs.1.keeps.banks law in
+    let tail = continues format_of area lines answers mid new (all ++ head.added) (costs + line_cost (format_on format_of old area).cost line) there head.keeps head.whole runs.2 in
     record {
       all = tail.all;
       costs = tail.costs;
       runs = (
-        record { device = mid; all = all ++ head.added; costs = costs + line_cost (kind_on kind old area).cost line },
+        record { device = mid; all = all ++ head.added; costs = costs + line_cost (format_on format_of old area).cost line },
         record {
           done = runs.1;
-          records = record { added = head.added; adds = head.adds; all = refl; tells = head.tells; keeps = head.keeps };
+          records = record { added = head.added; adds = head.adds; all = refl; reports = head.reports; keeps = head.keeps };
           costs = refl;
           whole = λ within. let now = head.whole within in now.list;
-          gone = gone kind area line answer old mid all costs law kept so_far runs.1;
+          gone = gone format_of area line answer old mid all costs law kept so_far runs.1;
         },
         tail.runs,
       );
     }
 
 pub history_stays_whole : HistoryStaysWhole
-history_stays_whole kind area lines answers old new law fresh runs =
+history_stays_whole format_of area lines answers old new law fresh runs =
     let room = fresh.room in
-    let whole = continues kind area lines answers old new [] 0 law (kept_by [] (state_of kind area old) (keeps_all [] (list_on kind old area) fresh.list))
+    let whole = continues format_of area lines answers old new [] 0 law (kept_by [] (state_of format_of area old) (keeps_all [] (list_on format_of old area) fresh.list))
     (λ within. record { list = fresh.list; rests = fresh.rests; room = omega (arith, room) }) runs in
     record { all = whole.all; costs = whole.costs; runs = whole.runs }

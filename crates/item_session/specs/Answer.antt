@@ -1,4 +1,4 @@
--- The words that an answer is told in, and their text.
+-- The words that an answer is printed in, and their text.
 use Rattle.std.specs.Prelude.{ℕ, List, [], ◌∷◌, codes}
 use Rattle.std.specs.Fmt.{decimal}
 use Rattle.hex.specs.Hex.{encode_lower}

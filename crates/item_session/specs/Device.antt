@@ -1,4 +1,4 @@
--- What the table is told of an area on a device, for any kind of store.
+-- What the table knows of an area on a device, for any format of store.
 use Rattle.std.specs.Prelude.{ℕ, ◌<◌, ◌≤◌, ⊤, true, length}
 use Rattle.flash_sim.specs.Device.{Device}
 use Rattle.flash_map.specs.declared.area.Area.{Area}
@@ -6,14 +6,14 @@ use Rattle.flash_map.specs.declared.area.Geometry.{Geometry}
 use Rattle.flash_map.specs.Area.{sector_size, value_limit}
 use Rattle.item_session.specs.declared.line.Line.{Line}
 use Rattle.item_session.specs.declared.line.Line.TheVariants.{Set, Get, Delete, Older}
-use Rattle.item_store.specs.Kind.{Kind}
-use Rattle.item_store.specs.Listed.{kind_on, list_on}
+use Rattle.item_store.specs.SectorFormat.{SectorFormat}
+use Rattle.item_store.specs.Listed.{format_on, list_on}
 use Rattle.item_store.specs.Room.{IsShort}
 use Rattle.item_store.specs.Standing.{RestsAt}
 use Rattle.item_session.specs.Step.{Rules, State}
 
--- those of a kind, in an area of so many sectors of this size
-abbrev pub rules_of : Kind → ℕ → ℕ → Rules
+-- those of a format, in an area of so many sectors of this size
+abbrev pub rules_of : SectorFormat → ℕ → ℕ → Rules
 rules_of k size sectors = record {
   cost = k.cost;
   cap = k.cap size;
@@ -23,23 +23,24 @@ rules_of k size sectors = record {
   mount = k.units.mount size;
 }
 
-abbrev pub rules_on : (Geometry → Kind) → Device → Area → Rules
-rules_on kind d area = rules_of (kind_on kind d area) (sector_size d area) area.sectors
+abbrev pub rules_on : (Geometry → SectorFormat) → Device → Area → Rules
+rules_on format_of d area = rules_of (format_on format_of d area) (sector_size d area) area.sectors
 
 -- the state that the flash's bytes and power are
-abbrev pub state_of : (Geometry → Kind) → Area → Device → State
-state_of kind area d = record { list = list_on kind d area; is_on = d.is_on }
+abbrev pub state_of : (Geometry → SectorFormat) → Area → Device → State
+state_of format_of area d = record { list = list_on format_of d area; is_on = d.is_on }
 
 abbrev pub turned_on : Device → Device
 turned_on d = record d { is_on = true }
 
 -- nothing is left to do for a mount
-abbrev pub RestsOn : (Geometry → Kind) → Device → Area → Type 0
-RestsOn kind d area = RestsAt (kind_on kind d area) d area
+abbrev pub RestsOn : (Geometry → SectorFormat) → Device → Area → Type 0
+RestsOn format_of d area = RestsAt (format_on format_of d area) d area
 
 -- a value that the area's limit lets through fits a sector
-abbrev pub TakesValues : (Geometry → Kind) → Device → Area → Type 0
-TakesValues kind d area = (len : ℕ) → len ≤ value_limit area → IsShort (kind_on kind d area) d area len
+abbrev pub TakesValues : (Geometry → SectorFormat) → Device → Area → Type 0
+TakesValues format_of d area = (len : ℕ) → len ≤ value_limit area
+    → IsShort (format_on format_of d area) d area len
 
 -- the line's id is below this end, and its value has one byte at least and at most so many
 abbrev pub IsServed : ℕ → ℕ → Line → Type 0
@@ -50,5 +51,5 @@ IsServed ids limit (Older id n) = id < ids
 IsServed ids limit line = ⊤
 
 -- the same of an area
-abbrev pub IsServedOn : (Geometry → Kind) → Device → Area → Line → Type 0
-IsServedOn kind d area line = IsServed (kind_on kind d area).ids (value_limit area) line
+abbrev pub IsServedOn : (Geometry → SectorFormat) → Device → Area → Line → Type 0
+IsServedOn format_of d area line = IsServed (format_on format_of d area).ids (value_limit area) line

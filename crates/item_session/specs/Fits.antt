@@ -6,23 +6,24 @@ use Rattle.flash_map.specs.declared.area.Geometry.{Geometry}
 use Rattle.item_session.specs.declared.line.Line.{Line}
 use Rattle.item_session.specs.declared.line.Line.TheVariants.{Set, Delete, Mount}
 use Rattle.item_session.specs.declared.answer.Answer.{Answer}
-use Rattle.item_store.specs.Kind.{Kind}
-use Rattle.item_store.specs.Listed.{kind_on, list_on}
+use Rattle.item_store.specs.SectorFormat.{SectorFormat}
+use Rattle.item_store.specs.Listed.{format_on, list_on}
 use Rattle.item_store.specs.Room.{has_room_at}
 use Rattle.item_session.specs.Device.{RestsOn}
 use Rattle.item_session.specs.History.{Adds}
 
 -- the entry of a set or of a delete fits the open sector, and a mount finds nothing to do
-abbrev pub FitsOpen : (Geometry → Kind) → Device → Area → Line → Type 0
-FitsOpen kind d area (Set id value) = has_room_at (kind_on kind d area) d area (length value) ≡ true
-FitsOpen kind d area (Delete id) = has_room_at (kind_on kind d area) d area 0 ≡ true
-FitsOpen kind d area Mount = RestsOn kind d area
-FitsOpen kind d area line = ⊤
+abbrev pub FitsOpen : (Geometry → SectorFormat) → Device → Area → Line → Type 0
+FitsOpen format_of d area (Set id value) = has_room_at (format_on format_of d area) d area (length value)
+    ≡ true
+FitsOpen format_of d area (Delete id) = has_room_at (format_on format_of d area) d area 0 ≡ true
+FitsOpen format_of d area Mount = RestsOn format_of d area
+FitsOpen format_of d area line = ⊤
 
 -- what the area says of items is as before, but for what the line adds: each version that was kept still is
-pub record ForgetsNone (kind : Geometry → Kind) (area : Area) (line : Line) (answer : Answer)
+pub record ForgetsNone (format_of : Geometry → SectorFormat) (area : Area) (line : Line) (answer : Answer)
     (old new : Device)
     : Type 0 where
   pub added : List (ℕ × List ℕ)
   pub adds : Adds new.spent line answer added
-  pub list : list_on kind new area ≡ list_on kind old area ++ added
+  pub list : list_on format_of new area ≡ list_on format_of old area ++ added

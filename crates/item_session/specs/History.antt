@@ -46,21 +46,21 @@ pub record IsKept (now : Recorded) : Type 0 where
   pub versions_are : KeepsVersions now.all now.state.list
   pub items_are : items now.state ≡ plain_items now
 
--- `get` tells the item of the plain list, and `older` the version of the whole history, where it tells
+-- `get` reports the item of the plain list, and `older` the version of the whole history, where it reports
 -- one; none at 0 only of an id that has no value.
-abbrev pub TellsHistory : Line → Answer → Recorded → Type 0
-TellsHistory (Get id) (answers.Value value) now = get (plain_items now) id ≡ Some value
-TellsHistory (Get id) answers.Absent now = get (plain_items now) id ≡ None
-TellsHistory (Older id n) (answers.Value value) now = slice_get (history now id) n ≡ Some value
-TellsHistory (Older id n) answers.Deleted now = slice_get (history now id) n ≡ Some []
-TellsHistory (Older id n) answers.Gone now = n ≡ 0 → get (plain_items now) id ≡ None
-TellsHistory line answer now = ⊤
+abbrev pub ReportsHistory : Line → Answer → Recorded → Type 0
+ReportsHistory (Get id) (answers.Value value) now = get (plain_items now) id ≡ Some value
+ReportsHistory (Get id) answers.Absent now = get (plain_items now) id ≡ None
+ReportsHistory (Older id n) (answers.Value value) now = slice_get (history now id) n ≡ Some value
+ReportsHistory (Older id n) answers.Deleted now = slice_get (history now id) n ≡ Some []
+ReportsHistory (Older id n) answers.Gone now = n ≡ 0 → get (plain_items now) id ≡ None
+ReportsHistory line answer now = ⊤
 
 pub record Records (last : ℕ) (line : Line) (answer : Answer) (old new : Recorded) : Type 0 where
   pub added : List (ℕ × List ℕ)
   pub adds : Adds last line answer added
   pub all : new.all ≡ old.all ++ added
-  pub tells : TellsHistory line answer old
+  pub reports : ReportsHistory line answer old
   pub keeps : IsKept new
 
 abbrev pub HistoryStep : Rules → ℕ → Line → Answer → Recorded → Recorded → Type 0

@@ -12,11 +12,11 @@ use Rattle.session_table.specs.Follows.{Follows}
 use Rattle.item_session.specs.Line.{item_forms, row_of}
 use Rattle.item_session.specs.declared.line.Line.{Line}
 use Rattle.item_session.specs.declared.answer.Answer.{Answer}
-use Rattle.nvs_format.specs.Kinds as nvs
-use Rattle.item_store.specs.Kind.{IsKind, Kind}
-use Rattle.item_store.specs.Listed.{kind_on}
+use Rattle.nvs_format.specs.Formats as nvs
+use Rattle.item_store.specs.SectorFormat.{IsSectorFormat, SectorFormat}
+use Rattle.item_store.specs.Listed.{format_on}
 use Rattle.item_store.specs.Standing.{IsStoreArea}
-use Rattle.zms_format.specs.Kinds as zms
+use Rattle.zms_format.specs.Formats as zms
 use Rattle.item_session.specs.Device.{IsServed, TakesValues}
 use Rattle.item_session.specs.Fits.{FitsOpen, ForgetsNone}
 use Rattle.item_session.specs.History.{HasHistory, PowerStep}
@@ -48,36 +48,39 @@ RunsInRow =
 -- say, and no byte changed outside the area
 abbrev pub LinesMakeRuns : Type 0
 LinesMakeRuns =
-    (kind : Geometry → Kind) (area : Area) (lines : List Line) (answers : List Answer) (old new : Device)
-    → Follows (LineDone kind area) lines answers old new → Runs kind area lines answers old new
+    (format_of : Geometry → SectorFormat) (area : Area) (lines : List Line) (answers : List Answer)
+    (old new : Device)
+    → Follows (LineDone format_of area) lines answers old new → Runs format_of area lines answers old new
 
 -- a line whose entry fits the open sector forgets no version, nor does a mount of an area at rest
 abbrev pub ForgetsForRoom : Type 0
 ForgetsForRoom =
-    (kind : Geometry → Kind) (area : Area) (line : Line) (answer : Answer) (old new : Device)
-    → IsKind (kind_on kind old area) → LineDone kind area line answer old new → FitsOpen kind old area line
-    → ForgetsNone kind area line answer old new
+    (format_of : Geometry → SectorFormat) (area : Area) (line : Line) (answer : Answer) (old new : Device)
+    → IsSectorFormat (format_on format_of old area) → LineDone format_of area line answer old new
+    → FitsOpen format_of old area line
+    → ForgetsNone format_of area line answer old new
 
 -- From a fresh area the whole history of each id is kept as long as the sets and deletes of the lines, each
 -- whatever it answered, cost no more than a sector has, wherever power is lost.
 abbrev pub HistoryStaysWhole : Type 0
 HistoryStaysWhole =
-    (kind : Geometry → Kind) (area : Area) (lines : List Line) (answers : List Answer) (old new : Device)
-    → IsKind (kind_on kind old area) → IsFresh kind old area
-    → Follows (LineDone kind area) lines answers old new
-    → KeepsWhole kind area lines answers old new
+    (format_of : Geometry → SectorFormat) (area : Area) (lines : List Line) (answers : List Answer)
+    (old new : Device)
+    → IsSectorFormat (format_on format_of old area) → IsFresh format_of old area
+    → Follows (LineDone format_of area) lines answers old new
+    → KeepsWhole format_of area lines answers old new
 
 -- areas of NVS and of ZMS that are blank are fresh
-abbrev pub BlankIsFresh : Role → (Geometry → Kind) → Type 0
-BlankIsFresh role kind =
+abbrev pub BlankIsFresh : Role → (Geometry → SectorFormat) → Type 0
+BlankIsFresh role format_of =
     (d : Device) (area : Area) → IsLawful d.banks d.bytes → IsStoreArea role d.banks area → IsBlankOn d area
-    → IsFresh kind d area
+    → IsFresh format_of d area
 
 abbrev pub NvsBlankIsFresh : Type 0
-NvsBlankIsFresh = BlankIsFresh Nvs nvs.kind
+NvsBlankIsFresh = BlankIsFresh Nvs nvs.format_of
 
 abbrev pub ZmsBlankIsFresh : Type 0
-ZmsBlankIsFresh = BlankIsFresh Zms zms.kind
+ZmsBlankIsFresh = BlankIsFresh Zms zms.format_of
 
 -- the lines of a text have ids below the end and values within the limit
 abbrev pub LinesAreServed : Type 0
@@ -87,7 +90,7 @@ LinesAreServed =
 
 -- the areas of NVS and of ZMS take each value within their limit
 abbrev pub NvsTakesValues : Type 0
-NvsTakesValues = (d : Device) (area : Area) → IsStoreArea Nvs d.banks area → TakesValues nvs.kind d area
+NvsTakesValues = (d : Device) (area : Area) → IsStoreArea Nvs d.banks area → TakesValues nvs.format_of d area
 
 abbrev pub ZmsTakesValues : Type 0
-ZmsTakesValues = (d : Device) (area : Area) → IsStoreArea Zms d.banks area → TakesValues zms.kind d area
+ZmsTakesValues = (d : Device) (area : Area) → IsStoreArea Zms d.banks area → TakesValues zms.format_of d area

@@ -15,8 +15,8 @@ use Rattle.item_session.specs.declared.answer.Answer.TheVariants as answers
 use Rattle.item_session.specs.Plan.{units_of, is_lost, units_in, losses_in, replan, Allows, plan_after, Planned, plan_through, PlansNoLoss}
 use Rattle.item_laws.specs.Area.{open_sector}
 use Rattle.item_store.specs.Collecting.{redo_of, redo_list, redo_units, KeepsOrRedoes}
-use Rattle.item_store.specs.Kind.{Kind}
-use Rattle.item_store.specs.Listed.{kind_on}
+use Rattle.item_store.specs.SectorFormat.{SectorFormat}
+use Rattle.item_store.specs.Listed.{format_on}
 use Rattle.item_store.specs.Standing.{list_at, KeepsItems, SpendsIn, SpendsUpTo}
 use Rattle.item_store.specs.Writing.{Deletes, FindsNoSpace, StopsDeleting, StopsWriting, Writes}
 use Rattle.item_session.specs.Device.{RestsOn, rules_on, state_of, turned_on}
@@ -37,22 +37,23 @@ pub record Accounts (line : Line) (answer : Answer) (old new : Device) : Type 0 
   pub unplanned : PlansNoLoss line → StaysUnplanned old new
 
 -- A set or a delete ends as the store's: it collects only where its entry does not fit, and so on.
-abbrev pub WritesBy : (Geometry → Kind) → Area → Line → Answer → Device → Device → Type 0
-WritesBy kind area (Set id value) (answers.Done units) old new =
-    Writes (kind_on kind old area) old new area id value
-WritesBy kind area (Set id value) (answers.NoSpace units need live) old new =
-    FindsNoSpace (kind_on kind old area) old new area id value need live
-WritesBy kind area (Set id value) (answers.Lost units) old new =
-    StopsWriting (kind_on kind old area) old new area id value
-WritesBy kind area (Delete id) (answers.Done units) old new = Deletes (kind_on kind old area) old new area id
-WritesBy kind area (Delete id) (answers.Lost units) old new =
-    StopsDeleting (kind_on kind old area) old new area id
-WritesBy kind area line answer old new = ⊤
+abbrev pub WritesBy : (Geometry → SectorFormat) → Area → Line → Answer → Device → Device → Type 0
+WritesBy format_of area (Set id value) (answers.Done units) old new =
+    Writes (format_on format_of old area) old new area id value
+WritesBy format_of area (Set id value) (answers.NoSpace units need live) old new =
+    FindsNoSpace (format_on format_of old area) old new area id value need live
+WritesBy format_of area (Set id value) (answers.Lost units) old new =
+    StopsWriting (format_on format_of old area) old new area id value
+WritesBy format_of area (Delete id) (answers.Done units) old new =
+    Deletes (format_on format_of old area) old new area id
+WritesBy format_of area (Delete id) (answers.Lost units) old new =
+    StopsDeleting (format_on format_of old area) old new area id
+WritesBy format_of area line answer old new = ⊤
 
 -- A mount spends what there is to redo, by the area's bytes, and its list is what that leaves. A cut one
 -- spends at most the `lost` of that range, which may be above its `most`, and leaves that list or the one
 -- before.
-abbrev pub Redoes : Kind → Area → Answer → Device → Device → Type 0
+abbrev pub Redoes : SectorFormat → Area → Answer → Device → Device → Type 0
 Redoes k area (answers.Done units) old new =
     let place = open_sector k.reading (sectors_of old area) in
     let redo = redo_of k (sectors_of old area) place in
@@ -66,11 +67,12 @@ Redoes k area (answers.Lost units) old new =
 Redoes k area answer old new = ⊥
 
 -- An area that shows no damage is mounted, and shows none afterwards. At rest nothing is done.
-pub record MountsBy (kind : Geometry → Kind) (area : Area) (answer : Answer) (old new : Device) : Type 0 where
-  pub undamaged : (kind_on kind old area).damage (sectors_of old area) ≡ None
-  pub items : KeepsItems (kind_on kind old area) (sectors_of old area) (sectors_of new area)
-  pub redoes : Redoes (kind_on kind old area) area answer (turned_on old) new
-  pub rests : RestsOn kind old area → (answer ≡ answers.Done 0) × (new ≡ turned_on old)
+pub record MountsBy (format_of : Geometry → SectorFormat) (area : Area) (answer : Answer) (old new : Device)
+    : Type 0 where
+  pub undamaged : (format_on format_of old area).damage (sectors_of old area) ≡ None
+  pub items : KeepsItems (format_on format_of old area) (sectors_of old area) (sectors_of new area)
+  pub redoes : Redoes (format_on format_of old area) area answer (turned_on old) new
+  pub rests : RestsOn format_of old area → (answer ≡ answers.Done 0) × (new ≡ turned_on old)
 
 -- the line only asks
 abbrev pub asks : Line → Bool
@@ -86,26 +88,29 @@ SameButPlan old new = new ≡ record old { plan = new.plan }
 -- A line was carried out by the table. But for the plan, the bench was touched in the area alone: a
 -- loss of power lies in it, and without a unit no byte changed. A line on the plan changes nothing
 -- else, and one that only asks changes nothing.
-pub record LineDone (kind : Geometry → Kind) (area : Area) (line : Line) (answer : Answer) (old new : Device)
+pub record LineDone (format_of : Geometry → SectorFormat) (area : Area) (line : Line) (answer : Answer)
+    (old new : Device)
     : Type 0 where
   pub step :
       (last : ℕ) → new.spent ≤ last
-      → Step (rules_on kind old area) last line answer (state_of kind area old) (state_of kind area new)
+      → Step (rules_on format_of old area) last line answer (state_of format_of area old)
+      (state_of format_of area new)
   pub accounts : Accounts line answer old new
   pub keeps : Keeps (area ∷ []) old new
   pub touches : replan line ≡ keeps_plan → Touches (area ∷ []) (powered_for line old) new (is_lost answer)
-  pub writes : WritesBy kind area line answer old new
-  pub mounts : line ≡ Mount → MountsBy kind area answer old new
-  pub tells : asks line ≡ true → new ≡ old
+  pub writes : WritesBy format_of area line answer old new
+  pub mounts : line ≡ Mount → MountsBy format_of area answer old new
+  pub reports : asks line ≡ true → new ≡ old
   pub plans : (replan line ≡ keeps_plan → ⊥) → SameButPlan old new
 
 -- a whole run of lines
-pub record Runs (kind : Geometry → Kind) (area : Area) (lines : List Line) (answers : List Answer)
+pub record Runs (format_of : Geometry → SectorFormat) (area : Area) (lines : List Line)
+    (answers : List Answer)
     (old new : Device)
     : Type 0 where
   pub session :
-      Follows (Step (rules_on kind old area) new.spent) lines answers
-      (state_of kind area old) (state_of kind area new)
+      Follows (Step (rules_on format_of old area) new.spent) lines answers
+      (state_of format_of area old) (state_of format_of area new)
   pub spent : old.spent + units_in answers ≡ new.spent
   pub losses : new.losses ≡ counted old.losses (losses_in answers)
   pub planned :

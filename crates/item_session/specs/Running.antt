@@ -7,7 +7,7 @@ use Rattle.session_table.specs.Follows.{Follows}
 use Rattle.item_session.specs.declared.line.Line.{Line}
 use Rattle.item_session.specs.declared.line.Line.TheVariants.{Get, Older, Mount}
 use Rattle.item_session.specs.declared.answer.Answer.{Answer}
-use Rattle.item_store.specs.Kind.{Kind}
+use Rattle.item_store.specs.SectorFormat.{SectorFormat}
 use Rattle.item_session.specs.declared.fault.SessionFault.{SessionFault}
 use Rattle.item_session.specs.declared.fault.SessionFault.TheVariants.{Damaged as IsDamaged, NoMemory}
 use Rattle.item_session.specs.Device.{state_of, turned_on}
@@ -17,46 +17,48 @@ use Rattle.item_session.specs.Step.{IsStored, kept}
 
 -- Why a mount was not carried out: the area shows this damage, or memory was wanting. But for power,
 -- which is on, nothing changed.
-abbrev pub MountStops : (Geometry → Kind) → Area → Device → Device → SessionFault → Type 0
-MountStops kind area old new (IsDamaged damaged) = ShowsDamage kind area old new damaged
-MountStops kind area old new NoMemory = new ≡ turned_on old
+abbrev pub MountStops : (Geometry → SectorFormat) → Area → Device → Device → SessionFault → Type 0
+MountStops format_of area old new (IsDamaged damaged) = ShowsDamage format_of area old new damaged
+MountStops format_of area old new NoMemory = new ≡ turned_on old
 
 -- Memory was wanting for a line, which left the bench, but that a mount turned power on: for the bytes that
--- it tells, with power on, or for what a mount keeps of the area. No other line wants any.
-abbrev pub WantsMemory : (Geometry → Kind) → Area → Line → Device → Device → Type 0
-WantsMemory kind area (Get id) old new =
-    (new ≡ old) × (old.is_on ≡ true) × ((value : List ℕ) × IsStored (state_of kind area old) id value)
-WantsMemory kind area (Older id n) old new =
+-- it reports, with power on, or for what a mount keeps of the area. No other line wants any.
+abbrev pub WantsMemory : (Geometry → SectorFormat) → Area → Line → Device → Device → Type 0
+WantsMemory format_of area (Get id) old new =
+    (new ≡ old) × (old.is_on ≡ true) × ((value : List ℕ) × IsStored (state_of format_of area old) id value)
+WantsMemory format_of area (Older id n) old new =
     (new ≡ old) × (old.is_on ≡ true)
-    × ((value : List ℕ) × (slice_get (kept (state_of kind area old) id) n ≡ Some value) × (0 < length value))
-WantsMemory kind area Mount old new = new ≡ turned_on old
-WantsMemory kind area line old new = ⊥
+    × ((value : List ℕ) × (slice_get (kept (state_of format_of area old) id) n ≡ Some value)
+    × (0 < length value))
+WantsMemory format_of area Mount old new = new ≡ turned_on old
+WantsMemory format_of area line old new = ⊥
 
 -- Lines were carried out one after another, and as a whole they follow the table, and the counts, the
 -- plan and the bytes of the bench are those that the answers say.
-pub record Ran (kind : Geometry → Kind) (area : Area) (lines : List Line) (answers : List Answer)
+pub record Ran (format_of : Geometry → SectorFormat) (area : Area) (lines : List Line) (answers : List Answer)
     (old new : Device)
     : Type 0 where
-  pub in_turn : Follows (LineDone kind area) lines answers old new
-  pub whole : Runs kind area lines answers old new
+  pub in_turn : Follows (LineDone format_of area) lines answers old new
+  pub whole : Runs format_of area lines answers old new
 
 -- The first lines were carried out, and then memory was wanting, for the next one or for an answer.
 -- Nothing changed behind them, but that power may be on, and that only where a mount was next.
-pub record RunStops (kind : Geometry → Kind) (area : Area) (lines : List Line) (old new : Device) :
+pub record RunStops (format_of : Geometry → SectorFormat) (area : Area) (lines : List Line)
+    (old new : Device) :
     Type 0 where
-  pub front : List Line
+  pub prefix : List Line
   pub rest : List Line
-  pub are : lines ≡ front ++ rest
+  pub are : lines ≡ prefix ++ rest
   pub answers : List Answer
   pub mid : Device
-  pub ran : Ran kind area front answers old mid
+  pub ran : Ran format_of area prefix answers old mid
   pub left : (new ≡ mid) ⊎ ((more : List Line) × (rest ≡ Mount ∷ more) × (new ≡ turned_on mid))
 
 -- All were carried out, with these answers; or the opening mount found the damage that the area shows;
 -- or memory was wanting. An area that shows none is mounted.
-abbrev pub RunEnds : (Geometry → Kind) → Area → List Line → Device → Device
+abbrev pub RunEnds : (Geometry → SectorFormat) → Area → List Line → Device → Device
     → Result (List Answer) SessionFault → Type 0
-RunEnds kind area lines old new (Ok answers) =
-    (damage_on kind old area ≡ None) × Ran kind area lines answers old new
-RunEnds kind area lines old new (Err (IsDamaged damaged)) = ShowsDamage kind area old new damaged
-RunEnds kind area lines old new (Err NoMemory) = RunStops kind area lines old new
+RunEnds format_of area lines old new (Ok answers) =
+    (damage_on format_of old area ≡ None) × Ran format_of area lines answers old new
+RunEnds format_of area lines old new (Err (IsDamaged damaged)) = ShowsDamage format_of area old new damaged
+RunEnds format_of area lines old new (Err NoMemory) = RunStops format_of area lines old new

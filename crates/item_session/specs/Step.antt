@@ -132,28 +132,28 @@ Deletes rules last id answer old new = ⊥
 
 -- ---- lines that ask
 
-abbrev pub Tells : ℕ → Answer → State → State → Type 0
-Tells id (answers.Value value) old new = (get (items old) id ≡ Some value) × (new ≡ old)
-Tells id answers.Absent old new = (get (items old) id ≡ None) × (new ≡ old)
-Tells id answer old new = ⊥
+abbrev pub Reports : ℕ → Answer → State → State → Type 0
+Reports id (answers.Value value) old new = (get (items old) id ≡ Some value) × (new ≡ old)
+Reports id answers.Absent old new = (get (items old) id ≡ None) × (new ≡ old)
+Reports id answer old new = ⊥
 
 -- the n-th version that is kept of the id
-abbrev pub TellsOlder : ℕ → ℕ → Answer → State → State → Type 0
-TellsOlder id n (answers.Value value) old new =
+abbrev pub ReportsOlder : ℕ → ℕ → Answer → State → State → Type 0
+ReportsOlder id n (answers.Value value) old new =
     (slice_get (kept old id) n ≡ Some value) × (0 < length value) × (new ≡ old)
-TellsOlder id n answers.Deleted old new = (slice_get (kept old id) n ≡ Some []) × (new ≡ old)
-TellsOlder id n answers.Gone old new = (length (kept old id) ≤ n) × (new ≡ old)
-TellsOlder id n answer old new = ⊥
+ReportsOlder id n answers.Deleted old new = (slice_get (kept old id) n ≡ Some []) × (new ≡ old)
+ReportsOlder id n answers.Gone old new = (length (kept old id) ≤ n) × (new ≡ old)
+ReportsOlder id n answer old new = ⊥
 
 -- what the items cost, what the other versions cost that are kept, and what a collection of these would
 -- leave free
-abbrev pub TellsSpace : Rules → Answer → State → State → Type 0
-TellsSpace rules (answers.Space live stale free) old new =
+abbrev pub ReportsSpace : Rules → Answer → State → State → Type 0
+ReportsSpace rules (answers.Space live stale free) old new =
     (live ≡ items_cost rules.cost (items old))
     × (stale ≡ stale_cost rules.cost old.list)
     × (free ≡ (rules.sectors - 1) * rules.cap - live)
     × (new ≡ old)
-TellsSpace rules answer old new = ⊥
+ReportsSpace rules answer old new = ⊥
 
 -- ---- power
 
@@ -180,9 +180,9 @@ needs_power line = true
 abbrev pub Answers : Rules → ℕ → Line → Answer → State → State → Type 0
 Answers rules last (Set id value) answer old new = Sets rules last id value answer old new
 Answers rules last (Delete id) answer old new = Deletes rules last id answer old new
-Answers rules last (Get id) answer old new = Tells id answer old new
-Answers rules last (Older id n) answer old new = TellsOlder id n answer old new
-Answers rules last Space answer old new = TellsSpace rules answer old new
+Answers rules last (Get id) answer old new = Reports id answer old new
+Answers rules last (Older id n) answer old new = ReportsOlder id n answer old new
+Answers rules last Space answer old new = ReportsSpace rules answer old new
 Answers rules last Mount answer old new = Mounts rules answer old new
 Answers rules last (Cut units) answer old new = Arms answer old new
 Answers rules last Uncut answer old new = Arms answer old new

@@ -10,8 +10,8 @@ use Rattle.item_session.specs.declared.line.Line.{Line}
 use Rattle.item_session.specs.declared.line.Line.TheVariants.{Set, Delete, Older}
 use Rattle.item_session.specs.declared.answer.Answer.{Answer}
 use Rattle.item_session.specs.declared.answer.Answer.TheVariants as answers
-use Rattle.item_store.specs.Kind.{Kind}
-use Rattle.item_store.specs.Listed.{kind_on, list_on}
+use Rattle.item_store.specs.SectorFormat.{SectorFormat}
+use Rattle.item_store.specs.Listed.{format_on, list_on}
 use Rattle.item_store.specs.Versions.{versions}
 use Rattle.item_store.specs.Writing.{open_at}
 use Rattle.session_table.specs.Follows.{Follows}
@@ -26,25 +26,25 @@ line_cost cost (Delete id) = cost 0
 line_cost cost line = 0
 
 -- what is free in the open sector, in bytes
-abbrev pub free_on : (Geometry → Kind) → Device → Area → ℕ
-free_on kind d area = let k = kind_on kind d area in k.free (open_at k d area)
+abbrev pub free_on : (Geometry → SectorFormat) → Device → Area → ℕ
+free_on format_of d area = let k = format_on format_of d area in k.free (open_at k d area)
 
 -- what a sector of the area has for values and entries, and the slots that it keeps beside these
-abbrev pub cap_on : (Geometry → Kind) → Device → Area → ℕ
-cap_on kind d area = (kind_on kind d area).cap (sector_size d area)
+abbrev pub cap_on : (Geometry → SectorFormat) → Device → Area → ℕ
+cap_on format_of d area = (format_on format_of d area).cap (sector_size d area)
 
-abbrev pub spare_on : (Geometry → Kind) → Device → Area → ℕ
-spare_on kind d area = 3 * (kind_on kind d area).slot
+abbrev pub spare_on : (Geometry → SectorFormat) → Device → Area → ℕ
+spare_on format_of d area = 3 * (format_on format_of d area).slot
 
 -- each byte of the area is FF
 abbrev pub IsBlankOn : Device → Area → Type 0
 IsBlankOn d area = All (λ sector. is_erased sector ≡ true) (sectors_of d area)
 
 -- nothing was said of any item yet, and the open sector is all free
-pub record IsFresh (kind : Geometry → Kind) (d : Device) (area : Area) : Type 0 where
-  pub list : list_on kind d area ≡ []
-  pub rests : RestsOn kind d area
-  pub room : cap_on kind d area + spare_on kind d area ≤ free_on kind d area
+pub record IsFresh (format_of : Geometry → SectorFormat) (d : Device) (area : Area) : Type 0 where
+  pub list : list_on format_of d area ≡ []
+  pub rests : RestsOn format_of d area
+  pub room : cap_on format_of d area + spare_on format_of d area ≤ free_on format_of d area
 
 -- a bench, all sets and deletes that were carried out so far, and what the lines cost so far: each set and
 -- delete of them, whatever it answered
@@ -54,28 +54,29 @@ pub record Tracked : Type 0 where
   pub costs : ℕ
 
 -- The history goes on, and all of it is kept as long as the sets and deletes of the lines so far, each
--- whatever it answered, cost no more than a sector has. So long `gone` tells that there never was such a
+-- whatever it answered, cost no more than a sector has. So long `gone` reports that there never was such a
 -- version.
-pub record WholeStep (kind : Geometry → Kind) (area : Area) (line : Line) (answer : Answer)
+pub record WholeStep (format_of : Geometry → SectorFormat) (area : Area) (line : Line) (answer : Answer)
     (old new : Tracked)
     : Type 0 where
-  pub done : LineDone kind area line answer old.device new.device
+  pub done : LineDone format_of area line answer old.device new.device
   pub records :
       Records new.device.spent line answer
-      (record { state = state_of kind area old.device; all = old.all })
-      (record { state = state_of kind area new.device; all = new.all })
-  pub costs : new.costs ≡ old.costs + line_cost (kind_on kind old.device area).cost line
-  pub whole : new.costs ≤ cap_on kind new.device area → list_on kind new.device area ≡ new.all
+      (record { state = state_of format_of area old.device; all = old.all })
+      (record { state = state_of format_of area new.device; all = new.all })
+  pub costs : new.costs ≡ old.costs + line_cost (format_on format_of old.device area).cost line
+  pub whole : new.costs ≤ cap_on format_of new.device area → list_on format_of new.device area ≡ new.all
   pub gone :
       (id n : ℕ) → line ≡ Older id n → answer ≡ answers.Gone
-      → old.costs ≤ cap_on kind old.device area → length (versions old.all id) ≤ n
+      → old.costs ≤ cap_on format_of old.device area → length (versions old.all id) ≤ n
 
 -- The history begins empty, and goes on so line by line.
-pub record KeepsWhole (kind : Geometry → Kind) (area : Area) (lines : List Line) (answers : List Answer)
+pub record KeepsWhole (format_of : Geometry → SectorFormat) (area : Area) (lines : List Line)
+    (answers : List Answer)
     (old new : Device) : Type 0 where
   pub all : List (ℕ × List ℕ)
   pub costs : ℕ
   pub runs :
-      Follows (WholeStep kind area) lines answers
+      Follows (WholeStep format_of area) lines answers
       (record { device = old; all = []; costs = 0 })
       (record { device = new; all = all; costs = costs })

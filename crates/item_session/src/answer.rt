@@ -58,7 +58,7 @@ fn written(alloc: Global, answer: &Answer) -> Result<String, AllocError>
 }
 
 /// The bytes of an answer's text: one line with its LF, numbers in decimal, bytes in lower-case
-/// hexadecimal digits. A refusal for want of room tells its units alone.
+/// hexadecimal digits. A refusal for want of room gives its units alone.
 ///
 /// # Errors
 /// Want of memory alone.

@@ -12,10 +12,10 @@ mod mounting;
 mod plan;
 mod planning;
 mod reading;
+mod reporting;
 mod running;
 mod script;
 mod session;
-mod telling;
 mod writing;
 
 pub use answer::{Answer, answer_text};

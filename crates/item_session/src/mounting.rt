@@ -32,13 +32,14 @@ pub(crate) fn mount<T: SlotSectors, B: Bench, L: Ledger>(
     requires { IsStoreArea T.role (B.device bench.old).banks area.now }
 
     ensures done { IfOk result (λ mounted.
-        LineDone T.kind area.now Mount mounted.answer (B.device bench.old) (B.device bench.new)) }
+        LineDone T.format_of area.now Mount mounted.answer (B.device bench.old)
+        (B.device bench.new)) }
     ensures mounted { IfOk result (λ mounted.
-        IsMounted T.role T.kind T.kept (B.device bench.new) area.now mounted.store) }
-    ensures before { OnOk result (damage_on T.kind (B.device bench.old) area.now ≡ None) }
-    ensures undamaged { OnOk result (damage_on T.kind (B.device bench.new) area.now ≡ None) }
+        IsMounted T.role T.format_of T.kept (B.device bench.new) area.now mounted.store) }
+    ensures before { OnOk result (damage_on T.format_of (B.device bench.old) area.now ≡ None) }
+    ensures undamaged { OnOk result (damage_on T.format_of (B.device bench.new) area.now ≡ None) }
     ensures stops { IfErr result
-        (MountStops T.kind area.now (B.device bench.old) (B.device bench.new)) }
+        (MountStops T.format_of area.now (B.device bench.old) (B.device bench.new)) }
 {
     bench.restore();
     let before = bench.spent();

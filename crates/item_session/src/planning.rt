@@ -10,7 +10,7 @@ use item_store::SlotSectors;
 
 // Plans a loss of power.
 pub(crate) fn plan_loss<T: SlotSectors, B: Bench>(bench: &mut B, area: &Area, units: u64) -> Answer
-    ensures done { LineDone T.kind area.now (Cut units) result (B.device bench.old)
+    ensures done { LineDone T.format_of area.now (Cut units) result (B.device bench.old)
         (B.device bench.new) }
     ensures same { B.device bench.new
         ≡ record (B.device bench.old) { plan = (B.device bench.new).plan } }
@@ -21,7 +21,8 @@ pub(crate) fn plan_loss<T: SlotSectors, B: Bench>(bench: &mut B, area: &Area, un
 
 // Drops that plan.
 pub(crate) fn drop_plan<T: SlotSectors, B: Bench>(bench: &mut B, area: &Area) -> Answer
-    ensures done { LineDone T.kind area.now Uncut result (B.device bench.old) (B.device bench.new) }
+    ensures done { LineDone T.format_of area.now Uncut result (B.device bench.old)
+        (B.device bench.new) }
     ensures same { B.device bench.new
         ≡ record (B.device bench.old) { plan = (B.device bench.new).plan } }
 {

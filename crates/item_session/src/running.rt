@@ -32,15 +32,15 @@ pub fn run_lines<T: SlotSectors, B: Bench, L: Ledger>(
     steps: &mut Steps<L>,
 ) -> Result<Answers, SessionFault>
     requires area { IsStoreArea T.role (B.device bench.old).banks area.now }
-    requires values { TakesValues T.kind (B.device bench.old) area.now }
-    requires lines { All (IsServedOn T.kind (B.device bench.old) area.now) lines.now }
+    requires values { TakesValues T.format_of (B.device bench.old) area.now }
+    requires lines { All (IsServedOn T.format_of (B.device bench.old) area.now) lines.now }
 
-    ensures ends { RunEnds T.kind area.now (Mount ∷ lines.now)
+    ensures ends { RunEnds T.format_of area.now (Mount ∷ lines.now)
         (B.device bench.old) (B.device bench.new) result }
-    ensures undamaged { damage_on T.kind (B.device bench.old) area.now ≡ None
-        → damage_on T.kind (B.device bench.new) area.now ≡ None }
+    ensures undamaged { damage_on T.format_of (B.device bench.old) area.now ≡ None
+        → damage_on T.format_of (B.device bench.new) area.now ≡ None }
     ensures rests { OnOk result ((B.device bench.new).is_on ≡ true
-        → RestsOn T.kind (B.device bench.new) area.now) }
+        → RestsOn T.format_of (B.device bench.new) area.now) }
 {
     let (mut session, first) = match ItemSession::<T>::open(alloc, bench, area, steps) {
         Ok(opened) => opened,

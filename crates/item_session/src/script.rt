@@ -24,7 +24,7 @@ impl<I: IdsEnd> ScriptLine for LineBelow<I> {
 
     ghost forms = { item_forms I.below };
 
-    ghost says = { λ told. row_of told.line };
+    ghost says = { λ reported. row_of reported.line };
 
     fn read(alloc: Global, text: &[u8], limit: usize) -> Result<LineBelow<I>, LineFault> {
         match read_line(alloc, text, I::end(), limit) {
@@ -38,12 +38,12 @@ impl<I: IdsEnd> ScriptLine for LineBelow<I> {
 }
 
 // The lines alone.
-fn lines_of<I>(alloc: Global, told: Vec<LineBelow<I>>) -> Result<Vec<Line>, NoMemory>
+fn lines_of<I>(alloc: Global, reported: Vec<LineBelow<I>>) -> Result<Vec<Line>, NoMemory>
     ensures { IfOk result
-        (λ lines. map row_of lines.items ≡ map (λ below. row_of below.line) told.items) }
+        (λ lines. map row_of lines.items ≡ map (λ below. row_of below.line) reported.items) }
 {
     let mut lines = Vec::new(alloc);
-    for below in told {
+    for below in reported {
         match lines.push(below.line) {
             Ok(()) => {}
             Err(_) => return Err(NoMemory),
@@ -60,7 +60,7 @@ fn read_below<I: IdsEnd>(
     ensures { ReadsLines (item_forms I.below) row_of limit bytes.now result }
 {
     match read_lines::<LineBelow<I>>(alloc, bytes, limit) {
-        Ok(told) => match lines_of(alloc, told) {
+        Ok(reported) => match lines_of(alloc, reported) {
             Ok(lines) => Ok(lines),
             Err(_) => Err(ScriptFault::NoMemory),
         },

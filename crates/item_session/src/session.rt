@@ -12,7 +12,7 @@ use crate::fault::SessionFault;
 use crate::line::Line;
 use crate::mounting::mount;
 use crate::planning::{drop_plan, plan_loss};
-use crate::telling::{tell_item, tell_older, tell_space};
+use crate::reporting::{report_item, report_older, report_space};
 use crate::writing::{delete_item, set_item};
 use flash_map::Area;
 use flash_sim::{Bench, Flash, NoMemory, Steps};
@@ -42,16 +42,17 @@ impl<T: SlotSectors> ItemSession<T> {
         steps: &mut Steps<L>,
     ) -> Result<(ItemSession<T>, Answer), SessionFault>
         requires area { IsStoreArea T.role (B.device bench.old).banks area.now }
-        requires values { TakesValues T.kind (B.device bench.old) area.now }
+        requires values { TakesValues T.format_of (B.device bench.old) area.now }
 
         ensures done { IfOk result (λ opened.
-            LineDone T.kind area.now Mount opened.1 (B.device bench.old) (B.device bench.new)) }
+            LineDone T.format_of area.now Mount opened.1 (B.device bench.old)
+            (B.device bench.new)) }
         ensures ready { IfOk result
-            (λ opened. IsReady T.role T.kind T.kept (B.device bench.new) opened.0) }
+            (λ opened. IsReady T.role T.format_of T.kept (B.device bench.new) opened.0) }
         ensures area { IfOk result (λ opened. opened.0.area ≡ area.now) }
-        ensures before { OnOk result (damage_on T.kind (B.device bench.old) area.now ≡ None) }
+        ensures before { OnOk result (damage_on T.format_of (B.device bench.old) area.now ≡ None) }
         ensures stops { IfErr result
-            (MountStops T.kind area.now (B.device bench.old) (B.device bench.new)) }
+            (MountStops T.format_of area.now (B.device bench.old) (B.device bench.new)) }
     {
         match mount::<T, B, L>(alloc, bench, area, steps) {
             Ok(mounted) => {
@@ -69,7 +70,7 @@ impl<T: SlotSectors> ItemSession<T> {
     /// mount of an area at rest spends nothing, and each mount that is not cut succeeds.
     ///
     /// # Errors
-    /// `NoMemory`, for the bytes that `get` or `older` tells, or for what a mount keeps of the area; no
+    /// `NoMemory`, for the bytes that `get` or `older` reports, or for what a mount keeps of the area; no
     /// other line wants memory. The bench is then as before, but that a mount turned power on; the
     /// session carries out no more lines.
     pub fn carry_out<B: Bench, L: Ledger>(
@@ -79,16 +80,17 @@ impl<T: SlotSectors> ItemSession<T> {
         bench: &mut B,
         steps: &mut Steps<L>,
     ) -> Result<Answer, NoMemory>
-        requires ready { IsReady T.role T.kind T.kept (B.device bench.old) self.old }
-        requires line { IsServedOn T.kind (B.device bench.old) self.old.area line.now }
+        requires ready { IsReady T.role T.format_of T.kept (B.device bench.old) self.old }
+        requires line { IsServedOn T.format_of (B.device bench.old) self.old.area line.now }
 
         ensures done { IfOk result
-            (λ answer. LineDone T.kind self.old.area line.now answer (B.device bench.old)
+            (λ answer. LineDone T.format_of self.old.area line.now answer (B.device bench.old)
             (B.device bench.new)) }
-        ensures ready { OnOk result (IsReady T.role T.kind T.kept (B.device bench.new) self.new) }
+        ensures ready { OnOk result
+            (IsReady T.role T.format_of T.kept (B.device bench.new) self.new) }
         ensures area { self.new.area ≡ self.old.area }
-        ensures undamaged { damage_on T.kind (B.device bench.new) self.old.area ≡ None }
-        ensures wants { OnErr result (WantsMemory T.kind self.old.area line.now
+        ensures undamaged { damage_on T.format_of (B.device bench.new) self.old.area ≡ None }
+        ensures wants { OnErr result (WantsMemory T.format_of self.old.area line.now
             (B.device bench.old) (B.device bench.new)) }
     {
         let area = self.area.copy();
@@ -104,14 +106,14 @@ fn mount_again<T: SlotSectors, B: Bench, L: Ledger>(
     store: &mut Option<Store<T>>,
     steps: &mut Steps<L>,
 ) -> Result<Answer, NoMemory>
-    requires { IsSound T.role T.kind (B.device bench.old) area.now }
+    requires { IsSound T.role T.format_of (B.device bench.old) area.now }
 
     ensures done { IfOk result (λ answer.
-        LineDone T.kind area.now Mount answer (B.device bench.old) (B.device bench.new)) }
-    ensures sound { IsSound T.role T.kind (B.device bench.new) area.now }
+        LineDone T.format_of area.now Mount answer (B.device bench.old) (B.device bench.new)) }
+    ensures sound { IsSound T.role T.format_of (B.device bench.new) area.now }
     ensures mounted { OnOk result
-        (IsMounted T.role T.kind T.kept (B.device bench.new) area.now store.new) }
-    ensures wants { OnErr result (WantsMemory T.kind area.now Mount
+        (IsMounted T.role T.format_of T.kept (B.device bench.new) area.now store.new) }
+    ensures wants { OnErr result (WantsMemory T.format_of area.now Mount
         (B.device bench.old) (B.device bench.new)) }
 {
     match mount::<T, B, L>(alloc, bench, area, steps) {
@@ -133,16 +135,16 @@ fn run_line<T: SlotSectors, B: Bench, L: Ledger>(
     store: &mut Option<Store<T>>,
     steps: &mut Steps<L>,
 ) -> Result<Answer, NoMemory>
-    requires sound { IsSound T.role T.kind (B.device bench.old) area.now }
-    requires mounted { IsMounted T.role T.kind T.kept (B.device bench.old) area.now store.old }
-    requires line { IsServedOn T.kind (B.device bench.old) area.now line.now }
+    requires sound { IsSound T.role T.format_of (B.device bench.old) area.now }
+    requires mounted { IsMounted T.role T.format_of T.kept (B.device bench.old) area.now store.old }
+    requires line { IsServedOn T.format_of (B.device bench.old) area.now line.now }
 
     ensures done { IfOk result (λ answer.
-        LineDone T.kind area.now line.now answer (B.device bench.old) (B.device bench.new)) }
-    ensures sound { IsSound T.role T.kind (B.device bench.new) area.now }
+        LineDone T.format_of area.now line.now answer (B.device bench.old) (B.device bench.new)) }
+    ensures sound { IsSound T.role T.format_of (B.device bench.new) area.now }
     ensures mounted { OnOk result
-        (IsMounted T.role T.kind T.kept (B.device bench.new) area.now store.new) }
-    ensures wants { OnErr result (WantsMemory T.kind area.now line.now
+        (IsMounted T.role T.format_of T.kept (B.device bench.new) area.now store.new) }
+    ensures wants { OnErr result (WantsMemory T.format_of area.now line.now
         (B.device bench.old) (B.device bench.new)) }
 {
     match line {
@@ -155,15 +157,15 @@ fn run_line<T: SlotSectors, B: Bench, L: Ledger>(
             _ => Ok(Answer::Off),
         },
         Line::Get { id } => match store {
-            Some(store) if bench.is_on() => tell_item(alloc, bench, store, area, *id, steps),
+            Some(store) if bench.is_on() => report_item(alloc, bench, store, area, *id, steps),
             _ => Ok(Answer::Off),
         },
         Line::Older { id, n } => match store {
-            Some(store) if bench.is_on() => tell_older(alloc, bench, store, area, *id, *n, steps),
+            Some(store) if bench.is_on() => report_older(alloc, bench, store, area, *id, *n, steps),
             _ => Ok(Answer::Off),
         },
         Line::Space => match store {
-            Some(store) if bench.is_on() => Ok(tell_space(bench, store, area, steps)),
+            Some(store) if bench.is_on() => Ok(report_space(bench, store, area, steps)),
             _ => Ok(Answer::Off),
         },
         Line::Mount => mount_again(alloc, bench, area, store, steps),

@@ -24,16 +24,16 @@ pub fn set_item<T: SlotSectors, B: Bench, L: Ledger>(
 ) -> Answer
     requires on { (B.device bench.old).is_on ≡ true }
     requires area { store.old.area ≡ area.now }
-    requires mounted { StandsOn T.role T.kind T.kept (B.device bench.old) store.old }
-    requires values { TakesValues T.kind (B.device bench.old) area.now }
-    requires line { IsServedOn T.kind (B.device bench.old) area.now (Set id value.now) }
+    requires mounted { StandsOn T.role T.format_of T.kept (B.device bench.old) store.old }
+    requires values { TakesValues T.format_of (B.device bench.old) area.now }
+    requires line { IsServedOn T.format_of (B.device bench.old) area.now (Set id value.now) }
 
-    ensures done { LineDone T.kind area.now (Set id value.now) result
+    ensures done { LineDone T.format_of area.now (Set id value.now) result
         (B.device bench.old) (B.device bench.new) }
-    ensures undamaged { damage_on T.kind (B.device bench.new) area.now ≡ None }
+    ensures undamaged { damage_on T.format_of (B.device bench.new) area.now ≡ None }
     ensures area { store.new.area ≡ area.now }
     ensures mounted { (B.device bench.new).is_on ≡ true
-        → StandsOn T.role T.kind T.kept (B.device bench.new) store.new }
+        → StandsOn T.role T.format_of T.kept (B.device bench.new) store.new }
 {
     let before = bench.spent();
     let end = store.write(bench, id, value.as_slice(), steps);
@@ -56,15 +56,15 @@ pub fn delete_item<T: SlotSectors, B: Bench, L: Ledger>(
 ) -> Answer
     requires on { (B.device bench.old).is_on ≡ true }
     requires area { store.old.area ≡ area.now }
-    requires mounted { StandsOn T.role T.kind T.kept (B.device bench.old) store.old }
-    requires line { IsServedOn T.kind (B.device bench.old) area.now (Delete id) }
+    requires mounted { StandsOn T.role T.format_of T.kept (B.device bench.old) store.old }
+    requires line { IsServedOn T.format_of (B.device bench.old) area.now (Delete id) }
 
-    ensures done { LineDone T.kind area.now (Delete id) result (B.device bench.old)
+    ensures done { LineDone T.format_of area.now (Delete id) result (B.device bench.old)
         (B.device bench.new) }
-    ensures undamaged { damage_on T.kind (B.device bench.new) area.now ≡ None }
+    ensures undamaged { damage_on T.format_of (B.device bench.new) area.now ≡ None }
     ensures area { store.new.area ≡ area.now }
     ensures mounted { (B.device bench.new).is_on ≡ true
-        → StandsOn T.role T.kind T.kept (B.device bench.new) store.new }
+        → StandsOn T.role T.format_of T.kept (B.device bench.new) store.new }
 {
     let before = bench.spent();
     let end = store.delete(bench, id, steps);

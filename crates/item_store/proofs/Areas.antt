@@ -31,7 +31,7 @@ use Rattle.flash_map.specs.Units.{IsUnit}
 use Rattle.flash_map.proofs.Rounding.{is_unit}
 use Rattle.item_laws.proofs.Rounding.{marked_copies, collection}
 use Rattle.item_laws.proofs.Undamaged.{form-of}
-use Rattle.item_store.specs.Kind.{Kind, IsKind}
+use Rattle.item_store.specs.SectorFormat.{SectorFormat, IsSectorFormat}
 use Rattle.item_store.specs.Steps.{KeepsMarks, Adds, Marks}
 use Rattle.item_store.specs.Standing.{IsStoreArea, list_of, KeepsItems}
 use Rattle.item_store.specs.Collecting.{HasCopied, StopsCopying, CollectsAt}
@@ -42,7 +42,7 @@ use Rattle.item_store.proofs.VersionSteps.{marked-versions, collects-versions}
 -- An area of a role on two devices with the same banks.
 
 pub same_geometry : (a d : Device) (area : Area) → d.banks ≡ a.banks → geometry_of d area ≡ geometry_of a area
-same_geometry a d area banks = ap (λ (l : List Bank). record { unit = (bank_at l area.bank).unit; sector = (bank_at l area.bank).sector; sectors = area.sectors; kind = (bank_at l area.bank).kind }) banks
+same_geometry a d area banks = ap (λ (l : List Bank). record { unit = (bank_at l area.bank).unit; sector = (bank_at l area.bank).sector; sectors = area.sectors; format_of = (bank_at l area.bank).kind }) banks
 
 pub same_size : (a d : Device) (area : Area) → d.banks ≡ a.banks → sector_size d area ≡ sector_size a area
 same_size a d area banks = ap (λ (l : List Bank). (bank_at l area.bank).sector) banks
@@ -57,7 +57,7 @@ pub large_there : (role : Role) (d : Device) (area : Area) → IsLawful d.banks 
 large_there role d area lawful is place within = let least = is.lawful.at_least in let size = size_there role d area lawful is place within in omega arith
 
 -- the open sector is one of the area
-pub open_inside : (k : Kind) (d : Device) (area : Area) (current : ℕ) → IsLawfulFor d.banks area → current ≡ open_sector k.reading (sectors_of d area) → current < area.sectors
+pub open_inside : (k : SectorFormat) (d : Device) (area : Area) (current : ℕ) → IsLawfulFor d.banks area → current ≡ open_sector k.reading (sectors_of d area) → current < area.sectors
 open_inside k d area current lawful at =
     let count = length-sectors d area in
     let inside : open_sector k.reading (sectors_of d area) < length (sectors_of d area) = open_within k.reading (sectors_of d area) (omega (arith, lawful.several)) in
@@ -84,14 +84,14 @@ pub only_else : (a b : List (List ℕ)) (place j : ℕ) → ChangesOnly a b plac
 only_else a b place j only apart = ap (λ (s : List (List ℕ)). sector_at s j) only ∙ elsewhere a place (sector_at b place) j apart
 
 -- nothing changed
-pub keeps_none : (k : Kind) (sectors : List (List ℕ)) → k.damage sectors ≡ None → KeepsItems k sectors sectors
+pub keeps_none : (k : SectorFormat) (sectors : List (List ℕ)) → k.damage sectors ≡ None → KeepsItems k sectors sectors
 keeps_none k sectors undamaged = record { items = refl; versions = keeps_all (list_of k sectors) (list_of k sectors) refl; undamaged = undamaged }
 
 -- the list stays
-pub keeps_list : (k : Kind) (old new : List (List ℕ)) → list_of k new ≡ list_of k old → k.damage new ≡ None → KeepsItems k old new
+pub keeps_list : (k : SectorFormat) (old new : List (List ℕ)) → list_of k new ≡ list_of k old → k.damage new ≡ None → KeepsItems k old new
 keeps_list k old new same undamaged = record { items = ap items_of same; versions = keeps_all (list_of k old) (list_of k new) same; undamaged = undamaged }
 
-module _ (k : Kind) (law : IsKind k) where
+module _ (k : SectorFormat) (law : IsSectorFormat k) where
   abbrev R : Reading
   R = k.reading
 

@@ -9,7 +9,7 @@ use Rattle.flash_sim.specs.Device.{Device}
 use Rattle.flash_map.specs.declared.area.Role.{Role}
 use Rattle.flash_map.specs.declared.area.Geometry.{Geometry}
 use Rattle.flash_map.specs.Area.{geometry_of, sectors_of}
-use Rattle.item_laws.specs.Bytes.{is_past, HasBytes, IsNextOf}
+use Rattle.item_laws.specs.Bytes.{is_behind, HasBytes, IsNextOf}
 use Rattle.item_laws.specs.Items.{Items, value_of}
 use Rattle.item_laws.specs.Live.{all_placed, last_placed, bytes_of}
 use Rattle.item_laws.proofs.LiveLemmas.{some_none}
@@ -17,8 +17,8 @@ use Rattle.item_store.specs.declared.entry.Placed.{Placed}
 use Rattle.item_store.specs.declared.lasts.Lasts.{Lasts}
 use Rattle.item_store.specs.declared.store.Store.{Store}
 use Rattle.item_store.specs.Asking.{is_below, lesser_of}
-use Rattle.item_store.specs.Kind.{Kind, IsKind, slots}
-use Rattle.item_store.specs.Lasts.{in_range, WasTold, IsLastIn, TellsNext}
+use Rattle.item_store.specs.SectorFormat.{SectorFormat, IsSectorFormat, slots}
+use Rattle.item_store.specs.Lasts.{in_range, WasGiven, IsLastIn, GivesNext}
 use Rattle.item_store.specs.Listed.{IsPlaced, items_on}
 use Rattle.item_store.specs.Stands.{StandsOn}
 use Rattle.item_store.proofs.ReadFacts.{placed_len, value_by, value_none, value_some}
@@ -41,36 +41,36 @@ not_below x y z less not_less =
 same_some : {X : Type 0} (x y : X) → Some x ≡ Some y → x ≡ y
 same_some x y e = cc
 
--- ---- the least bytes of those that were told
+-- ---- the least bytes of those that were reported
 
 module _ (least most : ℕ) (items : Items) (after : Option (List ℕ)) where
   -- of some bytes the least that are greater than these, which an item of the range has
   abbrev pub IsLeastTo : (List ℕ → Type 0) → Option (List ℕ) → Type 0
-  IsLeastTo Told None = (bytes : List ℕ) → Told bytes → is_past after bytes ≡ false
-  IsLeastTo Told (Some found) =
+  IsLeastTo Covered None = (bytes : List ℕ) → Covered bytes → is_behind after bytes ≡ false
+  IsLeastTo Covered (Some found) =
       ((id : ℕ) × HasBytes least most items id found)
-      × (is_past after found ≡ true)
-      × ((bytes : List ℕ) → Told bytes → is_past after bytes ≡ true → is_lt (slice_cmp nat_cmp bytes found) ≡ false)
+      × (is_behind after found ≡ true)
+      × ((bytes : List ℕ) → Covered bytes → is_behind after bytes ≡ true → is_lt (slice_cmp nat_cmp bytes found) ≡ false)
 
-  -- all bytes of the range were told
-  pub least-end : (Told : List ℕ → Type 0) (found : Option (List ℕ)) → ((id : ℕ) (bytes : List ℕ) → HasBytes least most items id bytes → Told bytes) → IsLeastTo Told found → IsNextOf least most items after found
-  least-end Told None all so_far = λ id bytes has. so_far bytes (all id bytes has)
-  least-end Told (Some found) all so_far = (so_far.0, so_far.1, λ id bytes has past. so_far.2 bytes (all id bytes has) past)
+  -- all bytes of the range were reported
+  pub least-end : (Covered : List ℕ → Type 0) (found : Option (List ℕ)) → ((id : ℕ) (bytes : List ℕ) → HasBytes least most items id bytes → Covered bytes) → IsLeastTo Covered found → IsNextOf least most items after found
+  least-end Covered None all so_far = λ id bytes has. so_far bytes (all id bytes has)
+  least-end Covered (Some found) all so_far = (so_far.0, so_far.1, λ id bytes has past. so_far.2 bytes (all id bytes has) past)
 
   -- those of one entry more
   module _ (Old New : List ℕ → Type 0) (own : List ℕ) (more : (bytes : List ℕ) → New bytes → (Some own ≡ Some bytes) ⊎ Old bytes) where
-    kept : (found : Option (List ℕ)) → (is_past after own ≡ true → is_below own found ≡ false) → IsLeastTo Old found → IsLeastTo New found
-    kept None no_better so_far = λ bytes told.
-        elim (more bytes told) [
-          | inl e ↦ ap (is_past after) (sym (same_some own bytes e)) ∙ elim (cases_Bool (is_past after own)) [ inl past ↦ absurd (false≢true (sym (no_better past))) | inr other ↦ other ]
+    kept : (found : Option (List ℕ)) → (is_behind after own ≡ true → is_below own found ≡ false) → IsLeastTo Old found → IsLeastTo New found
+    kept None no_better so_far = λ bytes covered.
+        elim (more bytes covered) [
+          | inl e ↦ ap (is_behind after) (sym (same_some own bytes e)) ∙ elim (cases_Bool (is_behind after own)) [ inl past ↦ absurd (false≢true (sym (no_better past))) | inr other ↦ other ]
           | inr before ↦ so_far bytes before
         ]
     kept (Some found) no_better so_far = (
       so_far.0,
       so_far.1,
-      λ bytes told past. elim (more bytes told) [
+      λ bytes covered past. elim (more bytes covered) [
         | inl e ↦
-            ap (λ (bs : List ℕ). is_lt (slice_cmp nat_cmp bs found)) (sym (same_some own bytes e)) ∙ no_better (ap (is_past after) (same_some own bytes e) ∙ past)
+            ap (λ (bs : List ℕ). is_lt (slice_cmp nat_cmp bs found)) (sym (same_some own bytes e)) ∙ no_better (ap (is_behind after) (same_some own bytes e) ∙ past)
         | inr before ↦ so_far.2 bytes before past
       ],
     )
@@ -78,11 +78,11 @@ module _ (least most : ℕ) (items : Items) (after : Option (List ℕ)) where
     itself : (bytes : List ℕ) → Some own ≡ Some bytes → is_lt (slice_cmp nat_cmp bytes own) ≡ false
     itself bytes e = ap (λ (bs : List ℕ). is_lt (slice_cmp nat_cmp bs own)) (sym (same_some own bytes e)) ∙ ap is_lt (tied_itself nat_list_cmp_total own)
 
-    replaced : (found : Option (List ℕ)) → ((id : ℕ) × HasBytes least most items id own) → is_past after own ≡ true → is_below own found ≡ true → IsLeastTo Old found → IsLeastTo New (Some own)
+    replaced : (found : Option (List ℕ)) → ((id : ℕ) × HasBytes least most items id own) → is_behind after own ≡ true → is_below own found ≡ true → IsLeastTo Old found → IsLeastTo New (Some own)
     replaced None has past below so_far = (
       has,
       past,
-      λ bytes told behind. elim (more bytes told) [
+      λ bytes covered behind. elim (more bytes covered) [
         | inl e ↦ itself bytes e
         | inr before ↦ absurd (false≢true (sym (so_far bytes before) ∙ behind))
       ],
@@ -90,7 +90,7 @@ module _ (least most : ℕ) (items : Items) (after : Option (List ℕ)) where
     replaced (Some found) has past below so_far = (
       has,
       past,
-      λ bytes told behind. elim (more bytes told) [
+      λ bytes covered behind. elim (more bytes covered) [
         | inl e ↦ itself bytes e
         | inr before ↦ not_below bytes own found below (so_far.2 bytes before behind)
       ],
@@ -98,7 +98,7 @@ module _ (least most : ℕ) (items : Items) (after : Option (List ℕ)) where
 
     step-some : (found : Option (List ℕ)) → ((id : ℕ) × HasBytes least most items id own) → IsLeastTo Old found → IsLeastTo New (lesser_of after (Some own) found)
     step-some found has so_far =
-        elim (cases_Bool (is_past after own)) [
+        elim (cases_Bool (is_behind after own)) [
           | inr passed ↦
               subst (λ (t : Bool). IsLeastTo New (cond (t && is_below own found) (Some own) found)) (sym passed)
               (kept found (λ past. absurd (false≢true (sym passed ∙ past))) so_far)
@@ -111,13 +111,13 @@ module _ (least most : ℕ) (items : Items) (after : Option (List ℕ)) where
         ]
 
   step-none : (Old New : List ℕ → Type 0) (found : Option (List ℕ)) → ((bytes : List ℕ) → New bytes → Old bytes) → IsLeastTo Old found → IsLeastTo New found
-  step-none Old New None more so_far = λ bytes told. so_far bytes (more bytes told)
-  step-none Old New (Some found) more so_far = (so_far.0, so_far.1, λ bytes told past. so_far.2 bytes (more bytes told) past)
+  step-none Old New None more so_far = λ bytes covered. so_far bytes (more bytes covered)
+  step-none Old New (Some found) more so_far = (so_far.0, so_far.1, λ bytes covered past. so_far.2 bytes (more bytes covered) past)
 
   pub least-step : (Old New : List ℕ → Type 0) (own found : Option (List ℕ)) → ((bytes : List ℕ) → own ≡ Some bytes → (id : ℕ) × HasBytes least most items id bytes) → ((bytes : List ℕ) → New bytes → (own ≡ Some bytes) ⊎ Old bytes)
       → IsLeastTo Old found → IsLeastTo New (lesser_of after own found)
   least-step Old New None found has more so_far =
-      step-none Old New found (λ bytes told. elim (more bytes told) [ inl e ↦ absurd (some_none bytes (sym e)) | inr before ↦ before ]) so_far
+      step-none Old New found (λ bytes covered. elim (more bytes covered) [ inl e ↦ absurd (some_none bytes (sym e)) | inr before ↦ before ]) so_far
   least-step Old New (Some own) found has more so_far = step-some Old New own more found (has own refl) so_far
 
 -- ---- the last entries of ids
@@ -131,74 +131,74 @@ own-id id (p ∷ ps) o so_far = own-id id ps (cond (eqb p.id id) (Some p) o) (he
     here true e = eqb-true p.id id e
     here false e = so_far
 
-module _ {T : Type 0} (role : Role) (kind : Geometry → Kind) (kept : Geometry → List ℕ → T) (d : Device) (store : Store T) where
+module _ {T : Type 0} (role : Role) (format_of : Geometry → SectorFormat) (kept : Geometry → List ℕ → T) (d : Device) (store : Store T) where
   -- what an entry gives its id
   abbrev pub value : Placed → Option (List ℕ)
-  value p = value_of (bytes_of (slots (kind (geometry_of d store.area))) (sectors_of d store.area) p)
+  value p = value_of (bytes_of (slots (format_of (geometry_of d store.area))) (sectors_of d store.area) p)
 
-  -- an entry that a walk told has these bytes
-  pub record ToldBytes (walk : Lasts) (bytes : List ℕ) : Type 0 where
+  -- an entry that a walk gave has these bytes
+  pub record KnownBytes (walk : Lasts) (bytes : List ℕ) : Type 0 where
     pub placed : Placed
-    pub told : WasTold (kind (geometry_of d store.area)) (sectors_of d store.area) store.current walk placed
-    pub is : value_of (bytes_of (slots (kind (geometry_of d store.area))) (sectors_of d store.area) placed) ≡ Some bytes
+    pub covered : WasGiven (format_of (geometry_of d store.area)) (sectors_of d store.area) store.current walk placed
+    pub is : value_of (bytes_of (slots (format_of (geometry_of d store.area))) (sectors_of d store.area) placed) ≡ Some bytes
 
-module _ {T : Type 0} (role : Role) (kind : Geometry → Kind) (kept : Geometry → List ℕ → T) (d : Device) (store : Store T) (law : IsKind (kind (geometry_of d store.area))) (lawful : IsLawful d.banks d.bytes) (on : StandsOn role kind kept d store) where
-  abbrev k : Kind
-  k = kind (geometry_of d store.area)
+module _ {T : Type 0} (role : Role) (format_of : Geometry → SectorFormat) (kept : Geometry → List ℕ → T) (d : Device) (store : Store T) (law : IsSectorFormat (format_of (geometry_of d store.area))) (lawful : IsLawful d.banks d.bytes) (on : StandsOn role format_of kept d store) where
+  abbrev k : SectorFormat
+  k = format_of (geometry_of d store.area)
 
   abbrev here : List (List ℕ)
   here = sectors_of d store.area
 
   abbrev own_value : Placed → Option (List ℕ)
-  own_value p = value_of (bytes_of (slots (kind (geometry_of d store.area))) (sectors_of d store.area) p)
+  own_value p = value_of (bytes_of (slots (format_of (geometry_of d store.area))) (sectors_of d store.area) p)
 
   -- bytes that an entry gives are as long as it says
-  pub value-long : (p : Placed) → IsPlaced (kind (geometry_of d store.area)) (sectors_of d store.area) store.current p → (bytes : List ℕ) → value_of (bytes_of (slots (kind (geometry_of d store.area))) (sectors_of d store.area) p) ≡ Some bytes → p.len ≡ length bytes
+  pub value-long : (p : Placed) → IsPlaced (format_of (geometry_of d store.area)) (sectors_of d store.area) store.current p → (bytes : List ℕ) → value_of (bytes_of (slots (format_of (geometry_of d store.area))) (sectors_of d store.area) p) ≡ Some bytes → p.len ≡ length bytes
   value-long p placed bytes is =
       elim (cases_eq p.len 0) [
-        | inl none ↦ absurd (some_none bytes (sym is ∙ value_none role kind kept d store law lawful on p placed none))
+        | inl none ↦ absurd (some_none bytes (sym is ∙ value_none role format_of kept d store law lawful on p placed none))
         | inr some ↦
-            sym (placed_len role kind kept d store law lawful on p placed)
-            ∙ ap length (same_some (bytes_of (slots k) here p) bytes (sym (value_some role kind kept d store law lawful on p placed some) ∙ is))
+            sym (placed_len role format_of kept d store law lawful on p placed)
+            ∙ ap length (same_some (bytes_of (slots k) here p) bytes (sym (value_some role format_of kept d store law lawful on p placed some) ∙ is))
       ]
 
   module _ (walk : Lasts) (least most : ℕ) (from : walk.least ≡ least) (to : walk.most ≡ most) where
     -- the last entry of an id of the range
-    pub has-bytes : (p : Placed) → IsLastIn (kind (geometry_of d store.area)) (sectors_of d store.area) walk p → (bytes : List ℕ) → value_of (bytes_of (slots (kind (geometry_of d store.area))) (sectors_of d store.area) p) ≡ Some bytes → HasBytes least most (items_on kind d store.area) p.id bytes
+    pub has-bytes : (p : Placed) → IsLastIn (format_of (geometry_of d store.area)) (sectors_of d store.area) walk p → (bytes : List ℕ) → value_of (bytes_of (slots (format_of (geometry_of d store.area))) (sectors_of d store.area) p) ≡ Some bytes → HasBytes least most (items_on format_of d store.area) p.id bytes
     has-bytes p last bytes is =
         let parts = and_parts (leb walk.least p.id) (leb p.id walk.most) last.own in
         record {
           from = subst (λ (n : ℕ). n ≤ p.id) from (leb-true walk.least p.id parts.0);
           to = subst (λ (n : ℕ). p.id ≤ n) to (leb-true p.id walk.most parts.1);
-          has = value_by role kind kept d store law lawful on (Some p) p.id (sym last.last) ∙ is;
+          has = value_by role format_of kept d store law lawful on (Some p) p.id (sym last.last) ∙ is;
         }
 
-    -- an item of the range was told, where there is no next one
-    pub told-all : TellsNext (kind (geometry_of d store.area)) (sectors_of d store.area) store.current walk walk None → (id : ℕ) (bytes : List ℕ) → HasBytes least most (items_on kind d store.area) id bytes → ToldBytes role kind kept d store walk bytes
-    told-all all id bytes has = at (last_placed (slots k) here id) refl (own-id id (all_placed (slots k) here) None tt)
+    -- an item of the range was reported, where there is no next one
+    pub covered-all : GivesNext (format_of (geometry_of d store.area)) (sectors_of d store.area) store.current walk walk None → (id : ℕ) (bytes : List ℕ) → HasBytes least most (items_on format_of d store.area) id bytes → KnownBytes role format_of kept d store walk bytes
+    covered-all all id bytes has = at (last_placed (slots k) here id) refl (own-id id (all_placed (slots k) here) None tt)
       where
         inside : in_range walk.least walk.most id ≡ true
         inside =
             ap (λ (n : ℕ). leb n id && leb id walk.most) from ∙ ap (λ (n : ℕ). leb least id && leb id n) to
             ∙ ap (λ (t : Bool). t && leb id most) (le-leb least id has.from) ∙ le-leb id most has.to
 
-        at : (o : Option Placed) → last_placed (slots (kind (geometry_of d store.area))) (sectors_of d store.area) id ≡ o → IfSome o (λ p. p.id ≡ id) → ToldBytes role kind kept d store walk bytes
-        at None none own = absurd (some_none bytes (sym has.has ∙ value_by role kind kept d store law lawful on None id (sym none)))
+        at : (o : Option Placed) → last_placed (slots (format_of (geometry_of d store.area))) (sectors_of d store.area) id ≡ o → IfSome o (λ p. p.id ≡ id) → KnownBytes role format_of kept d store walk bytes
+        at None none own = absurd (some_none bytes (sym has.has ∙ value_by role format_of kept d store law lawful on None id (sym none)))
         at (Some p) some own = record {
           placed = p;
-          told = all p (record {
+          covered = all p (record {
             own = ap (in_range walk.least walk.most) own ∙ inside;
             last = ap (last_placed (slots k) here) own ∙ some;
           });
-          is = sym (value_by role kind kept d store law lawful on (Some p) id (sym some)) ∙ has.has;
+          is = sym (value_by role format_of kept d store law lawful on (Some p) id (sym some)) ∙ has.has;
         }
 
-  -- what was told with one entry more
-  pub told-more : (old new : Lasts) (p : Placed)
-      → ((q : Placed) → WasTold (kind (geometry_of d store.area)) (sectors_of d store.area) store.current new q → (q ≡ p) ⊎ WasTold (kind (geometry_of d store.area)) (sectors_of d store.area) store.current old q)
-      → (bytes : List ℕ) → ToldBytes role kind kept d store new bytes → (value_of (bytes_of (slots (kind (geometry_of d store.area))) (sectors_of d store.area) p) ≡ Some bytes) ⊎ ToldBytes role kind kept d store old bytes
-  told-more old new p more bytes t =
-      elim (more t.placed t.told) [
+  -- what was reported with one entry more
+  pub covered-more : (old new : Lasts) (p : Placed)
+      → ((q : Placed) → WasGiven (format_of (geometry_of d store.area)) (sectors_of d store.area) store.current new q → (q ≡ p) ⊎ WasGiven (format_of (geometry_of d store.area)) (sectors_of d store.area) store.current old q)
+      → (bytes : List ℕ) → KnownBytes role format_of kept d store new bytes → (value_of (bytes_of (slots (format_of (geometry_of d store.area))) (sectors_of d store.area) p) ≡ Some bytes) ⊎ KnownBytes role format_of kept d store old bytes
+  covered-more old new p more bytes t =
+      elim (more t.placed t.covered) [
         | inl same ↦ inl (ap own_value (sym same) ∙ t.is)
-        | inr before ↦ inr (record { placed = t.placed; told = before; is = t.is })
+        | inr before ↦ inr (record { placed = t.placed; covered = before; is = t.is })
       ]

@@ -15,7 +15,7 @@ use Rattle.item_laws.specs.Live.{all_placed}
 use Rattle.item_laws.proofs.LiveLemmas.{option_cases, some_none}
 use Rattle.item_store.specs.declared.entry.Placed.{Placed}
 use Rattle.item_store.specs.Cached.{latest_of, stands_at, IsCacheOf, IsCacheOn, AddsEntry}
-use Rattle.item_store.specs.Kind.{Kind, IsKind, placed_at, slots}
+use Rattle.item_store.specs.SectorFormat.{SectorFormat, IsSectorFormat, placed_at, slots}
 use Rattle.item_store.specs.Latest.{last_of_id}
 use Rattle.item_store.specs.Listed.{IsPlaced}
 use Rattle.item_store.specs.Steps.{new_entry}
@@ -42,21 +42,21 @@ cache-noted cache before p is = record {
     here id false = is.latest id
 
 -- the slot behind an entry that was put
-pub entry-behind : (kind : Geometry → Kind) (a d : Device) (area : Area) (place id len : ℕ) → d.banks ≡ a.banks → (adds : AddsEntry (kind (geometry_of a area)) (sectors_of a area) (sectors_of d area) place id len)
-    → (behind : ℕ) → behind ≡ (kind (geometry_of d area)).first + (kind (geometry_of d area)).count (sector_at (sectors_of d area) place) → adds.slot + 1 ≡ behind
-entry-behind kind a d area place id len banks adds behind at =
-    adds.last ∙ sym (to_geometry (λ u. behind ≡ (kind u).first + (kind u).count (sector_at (sectors_of d area) place)) a d area banks at)
+pub entry-behind : (format_of : Geometry → SectorFormat) (a d : Device) (area : Area) (place id len : ℕ) → d.banks ≡ a.banks → (adds : AddsEntry (format_of (geometry_of a area)) (sectors_of a area) (sectors_of d area) place id len)
+    → (behind : ℕ) → behind ≡ (format_of (geometry_of d area)).first + (format_of (geometry_of d area)).count (sector_at (sectors_of d area) place) → adds.slot + 1 ≡ behind
+entry-behind format_of a d area place id len banks adds behind at =
+    adds.last ∙ sym (to_geometry (λ u. behind ≡ (format_of u).first + (format_of u).count (sector_at (sectors_of d area) place)) a d area banks at)
 
 -- an entry that was put, and noted where it stands
-pub cache-put : (kind : Geometry → Kind) (a d : Device) (area : Area) (place id len : ℕ) → d.banks ≡ a.banks → AddsEntry (kind (geometry_of a area)) (sectors_of a area) (sectors_of d area) place id len
-    → (cache : List (Option (ℕ × ℕ))) → IsCacheOn kind a area cache → (noted : List (Option (ℕ × ℕ))) (behind : ℕ) → behind ≡ (kind (geometry_of d area)).first + (kind (geometry_of d area)).count (sector_at (sectors_of d area) place)
-    → noted ≡ with_note cache id place (behind - 1) → IsCacheOn kind d area noted
-cache-put kind a d area place id len banks adds cache is noted behind at noted_is =
-    let k : Kind = kind (geometry_of a area) in
+pub cache-put : (format_of : Geometry → SectorFormat) (a d : Device) (area : Area) (place id len : ℕ) → d.banks ≡ a.banks → AddsEntry (format_of (geometry_of a area)) (sectors_of a area) (sectors_of d area) place id len
+    → (cache : List (Option (ℕ × ℕ))) → IsCacheOn format_of a area cache → (noted : List (Option (ℕ × ℕ))) (behind : ℕ) → behind ≡ (format_of (geometry_of d area)).first + (format_of (geometry_of d area)).count (sector_at (sectors_of d area) place)
+    → noted ≡ with_note cache id place (behind - 1) → IsCacheOn format_of d area noted
+cache-put format_of a d area place id len banks adds cache is noted behind at noted_is =
+    let k : SectorFormat = format_of (geometry_of a area) in
     let p : Placed = placed_at place (new_entry adds.slot id len) in
-    let there = entry-behind kind a d area place id len banks adds behind at in
+    let there = entry-behind format_of a d area place id len banks adds behind at in
     let same : adds.slot ≡ behind - 1 = omega arith in
-    from_geometry (λ u. IsCacheOf noted (all_placed (slots (kind u)) (sectors_of d area))) a d area banks
+    from_geometry (λ u. IsCacheOf noted (all_placed (slots (format_of u)) (sectors_of d area))) a d area banks
     (subst (λ (c : List (Option (ℕ × ℕ))). IsCacheOf c (all_placed (slots k) (sectors_of d area))) (ap (λ (n : ℕ). with_note cache id place n) same ∙ sym noted_is)
     (subst (λ (placed : List Placed). IsCacheOf (with_note cache id place adds.slot) placed) (sym adds.list) (cache-noted cache (all_placed (slots k) (sectors_of a area)) p is)))
 
@@ -82,7 +82,7 @@ latest-some id placed p is same = subst (λ (o : Option Placed). Decides id o (l
 -- ---- the place of the latest one
 
 -- The latest entry of a cache slot is this one, which stands in its slot.
-pub record IsLatestAt (k : Kind) (sectors : List (List ℕ)) (n sector slot : ℕ) : Type 0 where
+pub record IsLatestAt (k : SectorFormat) (sectors : List (List ℕ)) (n sector slot : ℕ) : Type 0 where
   pub placed : Placed
   pub latest : latest_of n (all_placed (slots k) sectors) ≡ Some placed
   pub sector_is : placed.sector ≡ sector
@@ -90,10 +90,10 @@ pub record IsLatestAt (k : Kind) (sectors : List (List ℕ)) (n sector slot : �
   pub stands : IsPlaced k sectors (open_sector k.reading sectors) placed
 
 -- it stands in its slot
-pub latest-placed : (k : Kind) (law : IsKind k) (sectors : List (List ℕ)) (n : ℕ) → 0 < length sectors → IfSome (latest_of n (all_placed (slots k) sectors)) (IsPlaced k sectors (open_sector k.reading sectors))
+pub latest-placed : (k : SectorFormat) (law : IsSectorFormat k) (sectors : List (List ℕ)) (n : ℕ) → 0 < length sectors → IfSome (latest_of n (all_placed (slots k) sectors)) (IsPlaced k sectors (open_sector k.reading sectors))
 latest-placed k law sectors n some = last-placed_by k law sectors (λ p. eqb (p.id % 64) n) some
 
-module _ (k : Kind) (law : IsKind k) (sectors : List (List ℕ)) (cache : List (Option (ℕ × ℕ))) (is : IsCacheOf cache (all_placed (slots k) sectors)) (some_sector : 0 < length sectors) (id : ℕ) where
+module _ (k : SectorFormat) (law : IsSectorFormat k) (sectors : List (List ℕ)) (cache : List (Option (ℕ × ℕ))) (is : IsCacheOf cache (all_placed (slots k) sectors)) (some_sector : 0 < length sectors) (id : ℕ) where
   pub no-latest : place_of cache id ≡ None → latest_of (id % 64) (all_placed (slots k) sectors) ≡ None
   no-latest none =
       elim (option_cases (latest_of (id % 64) (all_placed (slots k) sectors))) [
@@ -123,7 +123,7 @@ module _ (k : Kind) (law : IsKind k) (sectors : List (List ℕ)) (cache : List (
       same_some x y e = cc
 
 -- what is read at that place
-pub read-latest : (k : Kind) (sectors : List (List ℕ)) (n sector slot : ℕ) (at : IsLatestAt k sectors n sector slot)
+pub read-latest : (k : SectorFormat) (sectors : List (List ℕ)) (n sector slot : ℕ) (at : IsLatestAt k sectors n sector slot)
     → option_map (placed_at sector) (k.in_slot (sector_at sectors sector) slot) ≡ latest_of n (all_placed (slots k) sectors)
 read-latest k sectors n sector slot at =
     ap (λ (j : ℕ). option_map (placed_at j) (k.in_slot (sector_at sectors j) slot)) (sym at.sector_is)

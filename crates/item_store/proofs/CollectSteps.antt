@@ -13,7 +13,7 @@ use Rattle.item_laws.proofs.Rounding.{collects_from}
 use Rattle.item_laws.proofs.Parts.{to_copy-kept}
 use Rattle.item_laws.proofs.Places.{after}
 use Rattle.item_store.specs.declared.entry.Redo.TheVariants.{Nothing, ClearNext, CollectAgain}
-use Rattle.item_store.specs.Kind.{Kind, IsKind}
+use Rattle.item_store.specs.SectorFormat.{SectorFormat, IsSectorFormat}
 use Rattle.item_store.specs.Steps.{Keeps, KeepsMarks, Begins, Clears, StopsClearing}
 use Rattle.item_store.specs.Standing.{KeepsItems}
 use Rattle.item_store.specs.Collecting.{HasBegun, HasCopied, StopsCopying, CollectsAt, redo_of}
@@ -22,13 +22,13 @@ use Rattle.item_store.proofs.Areas.{keeps-by, stopped, has_stopped, none_copied,
 
 -- An open sector that has no entry and is ready for one.
 
-pub has_begun : (k : Kind) (old start : List (List ℕ)) (place : ℕ) → ChangesOnly old start place → k.is_clean (sector_at old place) ≡ true → Begins k (sector_at old place) (sector_at start place) → HasBegun k old start place
+pub has_begun : (k : SectorFormat) (old start : List (List ℕ)) (place : ℕ) → ChangesOnly old start place → k.is_clean (sector_at old place) ≡ true → Begins k (sector_at old place) (sector_at start place) → HasBegun k old start place
 has_begun k old start place only clean begins = record { only = only; clean = begins.clean clean; ready = begins.ready; long = begins.long }
 
-pub has_cleared : (k : Kind) (old start : List (List ℕ)) (place : ℕ) → ChangesOnly old start place → Clears k (sector_at old place) (sector_at start place) → HasBegun k old start place
+pub has_cleared : (k : SectorFormat) (old start : List (List ℕ)) (place : ℕ) → ChangesOnly old start place → Clears k (sector_at old place) (sector_at start place) → HasBegun k old start place
 has_cleared k old start place only clears = record { only = only; clean = clears.clean; ready = clears.ready; long = clears.long }
 
-module _ (k : Kind) (law : IsKind k) where
+module _ (k : SectorFormat) (law : IsSectorFormat k) where
   abbrev R : Reading
   R = k.reading
 

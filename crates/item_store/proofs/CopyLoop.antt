@@ -21,7 +21,7 @@ use Rattle.item_laws.proofs.CopyLemmas as laws
 use Rattle.item_laws.proofs.LiveLemmas.{option_cases}
 use Rattle.item_store.specs.declared.entry.Entry.{Entry}
 use Rattle.item_store.specs.declared.entry.Placed.{Placed}
-use Rattle.item_store.specs.Kind.{Kind, IsKind, placed_at, slots}
+use Rattle.item_store.specs.SectorFormat.{SectorFormat, IsSectorFormat, placed_at, slots}
 use Rattle.item_store.specs.Steps.{KeepsMarks, Adds}
 use Rattle.item_store.specs.Spending.{copies}
 use Rattle.item_store.specs.Standing.{SpendsIn, SpendsUpTo}
@@ -36,8 +36,8 @@ priced s price = record s { cost = price }
 pub are_priced : (s : Entries Entry Placed) (price : ℕ → ℕ) → AreEntries s → AreEntries (priced s price)
 are_priced s price are = record { listed = are.listed; sector = are.sector; slot = are.slot; pairs = are.pairs; long = are.long }
 
--- the entries of a kind are those of its slots
-pub are : (k : Kind) → IsKind k → AreEntries (slots k)
+-- the entries of a format are those of its slots
+pub are : (k : SectorFormat) → IsSectorFormat k → AreEntries (slots k)
 are k law = record {
   listed = λ b. refl;
   sector = λ place e. refl;
@@ -47,12 +47,12 @@ are k law = record {
 }
 
 -- After so many slots of the victim: what was copied, and the units.
-pub record IsCopying (k : Kind) (a d : Device) (area : Area) (place n : ℕ) : Type 0 where
+pub record IsCopying (k : SectorFormat) (a d : Device) (area : Area) (place n : ℕ) : Type 0 where
   pub touches : Touches (area ∷ []) a d false
   pub has : HasCopied k (sectors_of a area) (sectors_of d area) place (live_to (slots k) (sectors_of a area) (next (sectors_of a area) place) n)
   pub spent : SpendsIn a d (copies k (live_to (slots k) (sectors_of a area) (next (sectors_of a area) place) n))
 
-module _ (k : Kind) (law : IsKind k) where
+module _ (k : SectorFormat) (law : IsSectorFormat k) where
   abbrev R : Reading
   R = k.reading
 

@@ -12,7 +12,7 @@ use Rattle.item_laws.specs.Live.{counted_in, live_to}
 use Rattle.item_laws.specs.RoundParts.{places_before, places_after}
 use Rattle.item_laws.proofs.Places.{after, before, after-last, after-inner, range-append, range_from}
 use Rattle.item_laws.proofs.RoundAt.{round-at, none_behind}
-use Rattle.item_store.specs.Kind.{Kind, slots}
+use Rattle.item_store.specs.SectorFormat.{SectorFormat, slots}
 use Rattle.item_store.specs.Seen.{behind}
 
 -- ---- places
@@ -69,8 +69,8 @@ before-after count current place low high apart =
     ]
 
 -- the oldest sector stands in front
-oldest-front : (count current : ℕ) → current < count → places_before count current (after count current) ≡ []
-oldest-front count current low =
+oldest-prefix : (count current : ℕ) → current < count → places_before count current (after count current) ≡ []
+oldest-prefix count current low =
     elim (cases_eq (current + 1) count) [
       | inl last ↦
           let is = after-last count current last in
@@ -89,7 +89,7 @@ oldest-front count current low =
 pub round-oldest : (count current : ℕ) → current < count → after count current < count → round count current ≡ after count current ∷ places_after count current (after count current)
 round-oldest count current low high =
     let at = round-at count current (after count current) low high in
-    at.split ∙ ap (λ (xs : List ℕ). xs ++ after count current ∷ places_after count current (after count current)) (oldest-front count current low)
+    at.split ∙ ap (λ (xs : List ℕ). xs ++ after count current ∷ places_after count current (after count current)) (oldest-prefix count current low)
 
 -- a sum over the round is one over all places
 pub round-sum : (f : ℕ → ℕ) (count current : ℕ) → current < count → sum_by f (round count current) ≡ sum_by f (range_with_len 0 count)
@@ -139,10 +139,10 @@ fewer_left count current place low high apart =
 -- ---- the walk
 
 -- what the items in a sector cost
-abbrev pub sector_costs : Kind → List (List ℕ) → ℕ → ℕ
+abbrev pub sector_costs : SectorFormat → List (List ℕ) → ℕ → ℕ
 sector_costs k sectors place = copies_cost k.cost (live_to (slots k) sectors place (k.count (sector_at sectors place)))
 
-module _ (k : Kind) (sectors : List (List ℕ)) (current : ℕ) (low : current < length sectors) where
+module _ (k : SectorFormat) (sectors : List (List ℕ)) (current : ℕ) (low : current < length sectors) where
   -- what the items in the sectors behind a place cost
   abbrev pub cost_behind : ℕ → ℕ
   cost_behind place = sum_by (sector_costs k sectors) (places_after (length sectors) current place)

@@ -15,10 +15,10 @@ use Rattle.item_laws.proofs.RingSteps.{reads}
 use Rattle.item_store.specs.declared.entry.Entry.{Entry}
 use Rattle.item_store.specs.declared.entry.Placed.{Placed}
 use Rattle.item_store.specs.Cached.{AddsEntry}
-use Rattle.item_store.specs.Kind.{Kind, IsKind, placed_at, slots, entries}
+use Rattle.item_store.specs.SectorFormat.{SectorFormat, IsSectorFormat, placed_at, slots, entries}
 use Rattle.item_store.specs.Steps.{new_entry, Begins, Adds}
 
-module _ (k : Kind) (law : IsKind k) where
+module _ (k : SectorFormat) (law : IsSectorFormat k) where
   -- the entries of one sector
   abbrev row : List (List ℕ) → ℕ → List Placed
   row sectors j = map (placed_at j) (entries k (sector_at sectors j))
@@ -55,15 +55,15 @@ module _ (k : Kind) (law : IsKind k) where
     pub one-more : (e : Entry) → entries k (sector_at new place) ≡ entries k (sector_at old place) ++ e ∷ [] → all_placed (slots k) new ≡ all_placed (slots k) old ++ placed_at place e ∷ []
     one-more e more =
         let ring = before.ring in
-        let front : List Placed = flat_map (row old) (others (length old) place) in
+        let prefix : List Placed = flat_map (row old) (others (length old) place) in
         let long : length new ≡ length old = ap length only ∙ length-set old place (sector_at new place) in
         let same : (j : ℕ) → (j ≡ place → ⊥) → sector_at new j ≡ sector_at old j = λ j apart. ap (λ (s : List (List ℕ)). sector_at s j) only ∙ elsewhere old place (sector_at new place) j apart in
         all-at_rest new place after
         ∙ ap (λ (n : ℕ). flat_map (row new) (others n place) ++ row new place) long
         ∙ ap (λ (xs : List Placed). xs ++ row new place)
         (flat_map-agree (row new) (row old) (others (length old) place) (others-All (λ j. row new j ≡ row old j) (length old) place ring.within (λ j lt apart. ap (λ (b : List ℕ). map (placed_at j) (entries k b)) (same j apart))))
-        ∙ ap (λ (xs : List Placed). front ++ xs) (ap (map (placed_at place)) more ∙ map_push (placed_at place) (entries k (sector_at old place)) e)
-        ∙ sym (append_assoc front (row old place) (placed_at place e ∷ []))
+        ∙ ap (λ (xs : List Placed). prefix ++ xs) (ap (map (placed_at place)) more ∙ map_push (placed_at place) (entries k (sector_at old place)) e)
+        ∙ sym (append_assoc prefix (row old place) (placed_at place e ∷ []))
         ∙ ap (λ (xs : List Placed). xs ++ placed_at place e ∷ []) (sym (all-at_rest old place before))
 
     -- a sector that was made ready, and then took an entry

@@ -1,4 +1,4 @@
--- The last entry of an id, and of all ids of which a function tells the same.
+-- The last entry of an id, and of all ids of which a function gives the same.
 use Rattle.std.proofs.Common.{◌≡◌, ℕ, ◌+◌, ◌-◌, Bool, true, false, cond, eqb, List, [], ◌∷◌, ◌++◌, length, Option, Some, None, refl, sym, ap, subst, ◌∙◌, arith}
 use Rattle.std.specs.Prelude.{fold}
 use Rattle.std.specs.List.{flat_map, range_with_len}
@@ -8,19 +8,19 @@ use Rattle.item_laws.specs.Area.{round, open_sector}
 use Rattle.item_laws.specs.Live.{all_placed, counted_in}
 use Rattle.item_laws.proofs.LastLemmas.{among}
 use Rattle.item_store.specs.declared.entry.Placed.{Placed}
-use Rattle.item_store.specs.Kind.{Kind, slots}
+use Rattle.item_store.specs.SectorFormat.{SectorFormat, slots}
 
 -- The sectors behind the open one, and then those up to it, are the list.
-pub whole_list : (k : Kind) (P : List Placed → Type 0) (sectors : List (List ℕ)) (current count : ℕ) → count ≡ length sectors → current ≡ open_sector k.reading sectors
+pub whole_list : (k : SectorFormat) (P : List Placed → Type 0) (sectors : List (List ℕ)) (current count : ℕ) → count ≡ length sectors → current ≡ open_sector k.reading sectors
     → P (among (slots k) sectors current (current + 1) (count - (current + 1)) ++ among (slots k) sectors current 0 (current + 1 - 0)) → P (all_placed (slots k) sectors)
-whole_list k P sectors current count long is tells =
+whole_list k P sectors current count long is knows =
     let width : current + 1 - 0 ≡ current + 1 = omega arith in
     subst P
     (ap (λ (n : ℕ). among (slots k) sectors current (current + 1) (count - (current + 1)) ++ among (slots k) sectors current 0 n) width
     ∙ ap (λ (n : ℕ). among (slots k) sectors current (current + 1) (n - (current + 1)) ++ among (slots k) sectors current 0 (current + 1)) long
     ∙ sym (ap (λ (j : ℕ). flat_map (counted_in (slots k) sectors j) (round (length sectors) j)) (sym is)
     ∙ flat_map-append (counted_in (slots k) sectors current) (range_with_len (current + 1) (length sectors - (current + 1))) (range_with_len 0 (current + 1))))
-    tells
+    knows
 
 -- ---- the last of a key, and the last of an id
 

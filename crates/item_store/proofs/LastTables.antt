@@ -11,7 +11,7 @@ use Rattle.item_laws.proofs.LiveLemmas.{some_none}
 use Rattle.item_laws.proofs.Newest.{last-append}
 use Rattle.item_store.specs.declared.entry.Placed.{Placed}
 use Rattle.item_store.specs.declared.latest.LastSlots.{LastSlots}
-use Rattle.item_store.specs.Latest.{last_of_id, with_bytes, held, IsTold, Rises, TellsBelow, HadBytes, Tells, DropsGreatest}
+use Rattle.item_store.specs.Latest.{last_of_id, with_bytes, held, IsKnown, Rises, KnowsBelow, HadBytes, Knows, DropsGreatest}
 
 -- ---- the last of an id
 
@@ -49,9 +49,9 @@ held-other p id true apart = refl
 held-other p id false apart = ap (λ (t : Bool). cond t (Some p) None) (ne_eqb p.id id apart)
 
 -- An entry, if it has bytes, in place of those of its id.
-put-told : (p : Placed) (xs mid ys : List Placed) → All (λ q. q.id < p.id) xs → All (λ q. q.id ≡ p.id) mid → All (λ q. p.id < q.id) ys
+put-covered : (p : Placed) (xs mid ys : List Placed) → All (λ q. q.id < p.id) xs → All (λ q. q.id ≡ p.id) mid → All (λ q. p.id < q.id) ys
     → (id : ℕ) (o : Option Placed) → last_of_id id (xs ++ (mid ++ ys)) ≡ with_bytes o → last_of_id id (xs ++ (held p ++ ys)) ≡ with_bytes (cond (eqb p.id id) (Some p) o)
-put-told p xs mid ys less own greater id o was =
+put-covered p xs mid ys less own greater id o was =
     elim (cases_Bool (eqb p.id id)) [
       | inl same ↦
           let is : p.id ≡ id = eqb-true p.id id same in
@@ -76,12 +76,12 @@ put-told p xs mid ys less own greater id o was =
 -- ---- the order of ids
 
 pub pairs-append : {X : Type 0} (R : X → X → Type 0) (xs ys : List X) → AllPairs R xs → AllPairs R ys → All (λ x. All (R x) ys) xs → AllPairs R (xs ++ ys)
-pairs-append R xs ys front back across i j d less within =
+pairs-append R xs ys prefix back across i j d less within =
     let long = length-append xs ys in
     elim (cases_lt j (length xs)) [
       | inl low ↦
           subst (λ y. R (get_or (xs ++ ys) i d) y) (sym (get_or_append_left xs ys d j low))
-          (subst (λ x. R x (get_or xs j d)) (sym (get_or_append_left xs ys d i (omega arith))) (front i j d less low))
+          (subst (λ x. R x (get_or xs j d)) (sym (get_or_append_left xs ys d i (omega arith))) (prefix i j d less low))
       | inr high ↦ elim (cases_lt i (length xs)) [
         | inl low ↦
             subst (λ y. R (get_or (xs ++ ys) i d) y) (sym (get_or-append_right xs ys (length xs) j d refl high))
@@ -92,8 +92,8 @@ pairs-append R xs ys front back across i j d less within =
       ]
     ]
 
-pairs-front : {X : Type 0} (R : X → X → Type 0) (xs ys : List X) → AllPairs R (xs ++ ys) → AllPairs R xs
-pairs-front R xs ys pairs i j d less within =
+pairs-prefix : {X : Type 0} (R : X → X → Type 0) (xs ys : List X) → AllPairs R (xs ++ ys) → AllPairs R xs
+pairs-prefix R xs ys pairs i j d less within =
     let long = length-append xs ys in
     subst (λ y. R (get_or xs i d) y) (get_or_append_left xs ys d j within)
     (subst (λ x. R x (get_or (xs ++ ys) j d)) (get_or_append_left xs ys d i (omega arith)) (pairs i j d less (omega arith)))
@@ -123,24 +123,24 @@ Less p q = p.id < q.id
 
 -- an entry between lesser and greater ones
 rises-held : (p : Placed) (xs ys : List Placed) (empty : Bool) → Rises xs → Rises ys → All (λ q. q.id < p.id) xs → All (λ q. p.id < q.id) ys → Rises (xs ++ (cond empty [] (p ∷ []) ++ ys))
-rises-held p xs ys true front back less greater =
-    pairs-append Less xs ys front back (All-weaker (λ (q : Placed). q.id < p.id) (λ (q : Placed). All (Less q) ys)
+rises-held p xs ys true prefix back less greater =
+    pairs-append Less xs ys prefix back (All-weaker (λ (q : Placed). q.id < p.id) (λ (q : Placed). All (Less q) ys)
     (λ q lt. All-weaker (λ (r : Placed). p.id < r.id) (Less q) (λ r gt. omega arith) ys greater) xs less)
-rises-held p xs ys false front back less greater =
-    pairs-append Less xs (p ∷ ys) front
+rises-held p xs ys false prefix back less greater =
+    pairs-append Less xs (p ∷ ys) prefix
     (pairs-append Less (p ∷ []) ys (λ i j d lt within. absurd (omega arith)) back (All-cons (λ (q : Placed). All (Less q) ys) p [] greater (All-nil (λ (q : Placed). All (Less q) ys))))
     (All-weaker (λ (q : Placed). q.id < p.id) (λ (q : Placed). All (Less q) (p ∷ ys))
     (λ q lt. All-cons (Less q) p ys lt (All-weaker (λ (r : Placed). p.id < r.id) (Less q) (λ r gt. omega arith) ys greater)) xs less)
 
 all-held : (P : Placed → Type 0) (p : Placed) (xs ys : List Placed) (empty : Bool) → P p → All P xs → All P ys → All P (xs ++ (cond empty [] (p ∷ []) ++ ys))
-all-held P p xs ys true here front back = All-append P xs ys front back
-all-held P p xs ys false here front back = All-append P xs (p ∷ ys) front (All-cons P p ys here back)
+all-held P p xs ys true here prefix back = All-append P xs ys prefix back
+all-held P p xs ys false here prefix back = All-append P xs (p ∷ ys) prefix (All-cons P p ys here back)
 
 -- ---- bounds
 
-pub told-less : (bound : Option ℕ) (id greater : ℕ) → id ≤ greater → IsTold bound greater → IsTold bound id
-told-less None id greater le told = tt
-told-less (Some bound) id greater le told = omega arith
+pub covered-less : (bound : Option ℕ) (id greater : ℕ) → id ≤ greater → IsKnown bound greater → IsKnown bound id
+covered-less None id greater le covered = tt
+covered-less (Some bound) id greater le covered = omega arith
 
 -- ---- how many ids had bytes
 
@@ -155,20 +155,20 @@ had-push ids greatest before p had = record {
 }
 
 -- a table with the same bound, of one entry more
-pub still-full : (limit : ℕ) (old new : LastSlots) (before : List Placed) (p : Placed) → Tells limit old before → new.bound ≡ old.bound
-    → TellsBelow limit new (before ++ p ∷ []) → Tells limit new (before ++ p ∷ [])
-still-full limit old new before p tells same below = record {
+pub still-full : (limit : ℕ) (old new : LastSlots) (before : List Placed) (p : Placed) → Knows limit old before → new.bound ≡ old.bound
+    → KnowsBelow limit new (before ++ p ∷ []) → Knows limit new (before ++ p ∷ [])
+still-full limit old new before p knows same below = record {
   below = below;
-  full = λ bound is. had-push 801 bound before p (tells.full bound (sym same ∙ is));
+  full = λ bound is. had-push 801 bound before p (knows.full bound (sym same ∙ is));
 }
 
 -- ---- a table
 
-pub tells-none : (limit : ℕ) (last : LastSlots) → last.entries.items ≡ [] → last.bound ≡ None → Tells limit last []
-tells-none limit last none free = record {
+pub knows-none : (limit : ℕ) (last : LastSlots) → last.entries.items ≡ [] → last.bound ≡ None → Knows limit last []
+knows-none limit last none free = record {
   below = record {
-    told = λ id told. ap (last_of_id id) none;
-    within = subst (λ (xs : List Placed). All (λ p. IsTold last.bound p.id) xs) (sym none) (All-nil (λ (p : Placed). IsTold last.bound p.id));
+    covered = λ id covered. ap (last_of_id id) none;
+    within = subst (λ (xs : List Placed). All (λ p. IsKnown last.bound p.id) xs) (sym none) (All-nil (λ (p : Placed). IsKnown last.bound p.id));
     rises = subst (λ (xs : List Placed). Rises xs) (sym none) (λ i j d lt within. absurd (omega arith));
     few = (let long : length last.entries.items ≡ 0 = ap length none in omega arith);
     known = All-nil (λ (p : Placed). p.id < limit);
@@ -180,85 +180,85 @@ known-push : (limit : ℕ) (before : List Placed) (p : Placed) → p.id < limit 
 known-push limit before p small known =
     All-append (λ (q : Placed). q.id < limit) before (p ∷ []) known (All-cons (λ (q : Placed). q.id < limit) p [] small (All-nil (λ (q : Placed). q.id < limit)))
 
--- an entry of which the table does not tell
-pub tells-passed : (limit : ℕ) (last : LastSlots) (before : List Placed) (p : Placed) → p.id < limit → (IsTold last.bound p.id → ⊥) → Tells limit last before → Tells limit last (before ++ p ∷ [])
-tells-passed limit last before p small untold tells =
-    still-full limit last last before p tells refl (record {
-      told = λ id told.
-          let apart : p.id ≡ id → ⊥ = λ (e : p.id ≡ id). untold (subst (λ (n : ℕ). IsTold last.bound n) (sym e) told) in
-          tells.below.told id told ∙ ap with_bytes (sym (last-other id before p apart));
-      within = tells.below.within;
-      rises = tells.below.rises;
-      few = tells.below.few;
-      known = known-push limit before p small tells.below.known;
+-- an entry which the table does not know
+pub knows-passed : (limit : ℕ) (last : LastSlots) (before : List Placed) (p : Placed) → p.id < limit → (IsKnown last.bound p.id → ⊥) → Knows limit last before → Knows limit last (before ++ p ∷ [])
+knows-passed limit last before p small unknown knows =
+    still-full limit last last before p knows refl (record {
+      covered = λ id covered.
+          let apart : p.id ≡ id → ⊥ = λ (e : p.id ≡ id). unknown (subst (λ (n : ℕ). IsKnown last.bound n) (sym e) covered) in
+          knows.below.covered id covered ∙ ap with_bytes (sym (last-other id before p apart));
+      within = knows.below.within;
+      rises = knows.below.rises;
+      few = knows.below.few;
+      known = known-push limit before p small knows.below.known;
     })
 
--- an entry of which it tells, in place of those of its id
-pub tells-put : (limit : ℕ) (old new : LastSlots) (before : List Placed) (p : Placed) (xs mid ys : List Placed) → p.id < limit → IsTold old.bound p.id → TellsBelow limit old before
+-- an entry which it knows, in place of those of its id
+pub knows-put : (limit : ℕ) (old new : LastSlots) (before : List Placed) (p : Placed) (xs mid ys : List Placed) → p.id < limit → IsKnown old.bound p.id → KnowsBelow limit old before
     → old.entries.items ≡ xs ++ (mid ++ ys) → new.entries.items ≡ xs ++ (held p ++ ys) → new.bound ≡ old.bound → length new.entries.items ≤ 800
-    → All (λ q. q.id < p.id) xs → All (λ q. q.id ≡ p.id) mid → All (λ q. p.id < q.id) ys → TellsBelow limit new (before ++ p ∷ [])
-tells-put limit old new before p xs mid ys small told tells was is same few less own greater =
-    let rises : Rises (xs ++ (mid ++ ys)) = subst (λ (l : List Placed). Rises l) was tells.rises in
-    let within : All (λ q. IsTold old.bound q.id) (xs ++ (mid ++ ys)) = subst (λ (l : List Placed). All (λ q. IsTold old.bound q.id) l) was tells.within in
-    let front : All (λ q. IsTold old.bound q.id) xs = all-front (λ (q : Placed). IsTold old.bound q.id) xs (mid ++ ys) within in
-    let back : All (λ q. IsTold old.bound q.id) ys = all-back (λ (q : Placed). IsTold old.bound q.id) mid ys (all-back (λ (q : Placed). IsTold old.bound q.id) xs (mid ++ ys) within) in
+    → All (λ q. q.id < p.id) xs → All (λ q. q.id ≡ p.id) mid → All (λ q. p.id < q.id) ys → KnowsBelow limit new (before ++ p ∷ [])
+knows-put limit old new before p xs mid ys small covered knows was is same few less own greater =
+    let rises : Rises (xs ++ (mid ++ ys)) = subst (λ (l : List Placed). Rises l) was knows.rises in
+    let within : All (λ q. IsKnown old.bound q.id) (xs ++ (mid ++ ys)) = subst (λ (l : List Placed). All (λ q. IsKnown old.bound q.id) l) was knows.within in
+    let prefix : All (λ q. IsKnown old.bound q.id) xs = all-prefix (λ (q : Placed). IsKnown old.bound q.id) xs (mid ++ ys) within in
+    let back : All (λ q. IsKnown old.bound q.id) ys = all-back (λ (q : Placed). IsKnown old.bound q.id) mid ys (all-back (λ (q : Placed). IsKnown old.bound q.id) xs (mid ++ ys) within) in
     record {
-      told = λ id here.
+      covered = λ id here.
           ap (last_of_id id) is
-          ∙ put-told p xs mid ys less own greater id (last_of_id id before) (ap (last_of_id id) (sym was) ∙ tells.told id (subst (λ (b : Option ℕ). IsTold b id) same here))
+          ∙ put-covered p xs mid ys less own greater id (last_of_id id before) (ap (last_of_id id) (sym was) ∙ knows.covered id (subst (λ (b : Option ℕ). IsKnown b id) same here))
           ∙ ap with_bytes (sym (last-push id before p));
-      within = subst (λ (l : List Placed). All (λ q. IsTold new.bound q.id) l) (sym is)
-          (subst (λ (b : Option ℕ). All (λ q. IsTold b q.id) (xs ++ (held p ++ ys))) (sym same) (all-held (λ (q : Placed). IsTold old.bound q.id) p xs ys (eqb p.len 0) told front back));
+      within = subst (λ (l : List Placed). All (λ q. IsKnown new.bound q.id) l) (sym is)
+          (subst (λ (b : Option ℕ). All (λ q. IsKnown b q.id) (xs ++ (held p ++ ys))) (sym same) (all-held (λ (q : Placed). IsKnown old.bound q.id) p xs ys (eqb p.len 0) covered prefix back));
       rises = subst (λ (l : List Placed). Rises l) (sym is)
-          (rises-held p xs ys (eqb p.len 0) (pairs-front Less xs (mid ++ ys) rises) (pairs-back Less mid ys (pairs-back Less xs (mid ++ ys) rises)) less greater);
+          (rises-held p xs ys (eqb p.len 0) (pairs-prefix Less xs (mid ++ ys) rises) (pairs-back Less mid ys (pairs-back Less xs (mid ++ ys) rises)) less greater);
       few = few;
-      known = known-push limit before p small tells.known;
+      known = known-push limit before p small knows.known;
     }
   where
-    all-front : (P : Placed → Type 0) (xs ys : List Placed) → All P (xs ++ ys) → All P xs
-    all-front P [] ys all = All-nil P
-    all-front P (x ∷ xs) ys all = All-cons P x xs (All-head P x (xs ++ ys) all) (all-front P xs ys (All-tail P x (xs ++ ys) all))
+    all-prefix : (P : Placed → Type 0) (xs ys : List Placed) → All P (xs ++ ys) → All P xs
+    all-prefix P [] ys all = All-nil P
+    all-prefix P (x ∷ xs) ys all = All-cons P x xs (All-head P x (xs ++ ys) all) (all-prefix P xs ys (All-tail P x (xs ++ ys) all))
 
     all-back : (P : Placed → Type 0) (xs ys : List Placed) → All P (xs ++ ys) → All P ys
     all-back P [] ys all = all
     all-back P (x ∷ xs) ys all = all-back P xs ys (All-tail P x (xs ++ ys) all)
 
 -- the entry of the greatest id is taken out
-pub tells-dropped : (limit : ℕ) (old new : LastSlots) (before : List Placed) → DropsGreatest old new → TellsBelow limit old before → TellsBelow limit new before
-tells-dropped limit old new before drops tells =
+pub knows-dropped : (limit : ℕ) (old new : LastSlots) (before : List Placed) → DropsGreatest old new → KnowsBelow limit old before → KnowsBelow limit new before
+knows-dropped limit old new before drops knows =
     let q : Placed = drops.greatest in
-    let rises : Rises (new.entries.items ++ q ∷ []) = subst (λ (l : List Placed). Rises l) drops.entries tells.rises in
-    let all : All (λ p. IsTold old.bound p.id) (new.entries.items ++ q ∷ []) = subst (λ (l : List Placed). All (λ p. IsTold old.bound p.id) l) drops.entries tells.within in
-    let own : IsTold old.bound q.id = last-told new.entries.items q all in
+    let rises : Rises (new.entries.items ++ q ∷ []) = subst (λ (l : List Placed). Rises l) drops.entries knows.rises in
+    let all : All (λ p. IsKnown old.bound p.id) (new.entries.items ++ q ∷ []) = subst (λ (l : List Placed). All (λ p. IsKnown old.bound p.id) l) drops.entries knows.within in
+    let own : IsKnown old.bound q.id = last-covered new.entries.items q all in
     let less : All (λ p. p.id < q.id) new.entries.items =
     All-weaker (λ (p : Placed). All (Less p) (q ∷ [])) (λ (p : Placed). p.id < q.id) (λ p all. All-head (Less p) q [] all) new.entries.items (pairs-across Less new.entries.items (q ∷ []) rises) in
     let long : length old.entries.items ≡ length new.entries.items + 1 = ap length drops.entries ∙ length-append new.entries.items (q ∷ []) in
     record {
-      told = λ id told.
-          let below : id < q.id = subst (λ (b : Option ℕ). IsTold b id) drops.bound told in
+      covered = λ id covered.
+          let below : id < q.id = subst (λ (b : Option ℕ). IsKnown b id) drops.bound covered in
           sym (last-other id new.entries.items q (λ (e : q.id ≡ id). absurd (omega arith))) ∙ ap (last_of_id id) (sym drops.entries)
-          ∙ tells.told id (told-less old.bound id q.id (omega arith) own);
-      within = subst (λ (b : Option ℕ). All (λ p. IsTold b p.id) new.entries.items) (sym drops.bound) less;
-      rises = pairs-front Less new.entries.items (q ∷ []) rises;
-      few = (let many = tells.few in omega arith);
-      known = tells.known;
+          ∙ knows.covered id (covered-less old.bound id q.id (omega arith) own);
+      within = subst (λ (b : Option ℕ). All (λ p. IsKnown b p.id) new.entries.items) (sym drops.bound) less;
+      rises = pairs-prefix Less new.entries.items (q ∷ []) rises;
+      few = (let many = knows.few in omega arith);
+      known = knows.known;
     }
   where
-    last-told : (xs : List Placed) (q : Placed) → All (λ p. IsTold old.bound p.id) (xs ++ q ∷ []) → IsTold old.bound q.id
-    last-told [] q all = All-head (λ (p : Placed). IsTold old.bound p.id) q [] all
-    last-told (x ∷ xs) q all = last-told xs q (All-tail (λ (p : Placed). IsTold old.bound p.id) x (xs ++ q ∷ []) all)
+    last-covered : (xs : List Placed) (q : Placed) → All (λ p. IsKnown old.bound p.id) (xs ++ q ∷ []) → IsKnown old.bound q.id
+    last-covered [] q all = All-head (λ (p : Placed). IsKnown old.bound p.id) q [] all
+    last-covered (x ∷ xs) q all = last-covered xs q (All-tail (λ (p : Placed). IsKnown old.bound p.id) x (xs ++ q ∷ []) all)
 
 -- an entry behind all of a table, whose id is the bound
-pub tells-bounded : (limit : ℕ) (old new : LastSlots) (before : List Placed) (p : Placed) → p.id < limit → IsTold old.bound p.id → TellsBelow limit old before
-    → new.entries.items ≡ old.entries.items → new.bound ≡ Some p.id → All (λ q. q.id < p.id) old.entries.items → TellsBelow limit new (before ++ p ∷ [])
-tells-bounded limit old new before p small told tells same is less =
+pub knows-bounded : (limit : ℕ) (old new : LastSlots) (before : List Placed) (p : Placed) → p.id < limit → IsKnown old.bound p.id → KnowsBelow limit old before
+    → new.entries.items ≡ old.entries.items → new.bound ≡ Some p.id → All (λ q. q.id < p.id) old.entries.items → KnowsBelow limit new (before ++ p ∷ [])
+knows-bounded limit old new before p small covered knows same is less =
     record {
-      told = λ id here.
-          let below : id < p.id = subst (λ (b : Option ℕ). IsTold b id) is here in
-          ap (last_of_id id) same ∙ tells.told id (told-less old.bound id p.id (omega arith) told)
+      covered = λ id here.
+          let below : id < p.id = subst (λ (b : Option ℕ). IsKnown b id) is here in
+          ap (last_of_id id) same ∙ knows.covered id (covered-less old.bound id p.id (omega arith) covered)
           ∙ ap with_bytes (sym (last-other id before p (λ (e : p.id ≡ id). absurd (omega arith))));
-      within = subst (λ (b : Option ℕ). All (λ q. IsTold b q.id) new.entries.items) (sym is) (subst (λ (l : List Placed). All (λ q. q.id < p.id) l) (sym same) less);
-      rises = subst (λ (l : List Placed). Rises l) (sym same) tells.rises;
-      few = (let many = tells.few in let long = ap length same in omega arith);
-      known = known-push limit before p small tells.known;
+      within = subst (λ (b : Option ℕ). All (λ q. IsKnown b q.id) new.entries.items) (sym is) (subst (λ (l : List Placed). All (λ q. q.id < p.id) l) (sym same) less);
+      rises = subst (λ (l : List Placed). Rises l) (sym same) knows.rises;
+      few = (let many = knows.few in let long = ap length same in omega arith);
+      known = known-push limit before p small knows.known;
     }

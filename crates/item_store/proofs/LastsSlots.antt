@@ -11,13 +11,13 @@ use Rattle.item_laws.specs.Live.{last_of, last_placed}
 use Rattle.item_store.specs.declared.entry.Entry.{Entry}
 use Rattle.item_store.specs.declared.entry.Placed.{Placed}
 use Rattle.item_store.specs.declared.lasts.Lasts.{Lasts}
-use Rattle.item_store.specs.Kind.{Kind, IsKind, placed_at, slots}
-use Rattle.item_store.specs.Lasts.{in_range, IsOther, AreOthers, has_id, told_at, IsAt, WasTold, IsLastIn, SameRange}
+use Rattle.item_store.specs.SectorFormat.{SectorFormat, IsSectorFormat, placed_at, slots}
+use Rattle.item_store.specs.Lasts.{in_range, IsOther, AreOthers, has_id, given_at, IsAt, WasGiven, IsLastIn, SameRange}
 use Rattle.item_store.specs.Latest.{last_of_id}
 use Rattle.item_store.specs.Seen.{has_bit, AreBehind, behind}
 use Rattle.item_store.proofs.LiveSteps.{own-last, later_from, later_at, later_step, stand_behind}
 use Rattle.item_store.proofs.SeenSteps.{or-true}
-use Rattle.item_store.proofs.TellSteps.{front-last, front-other, front-skipped}
+use Rattle.item_store.proofs.IndexSteps.{prefix-last, prefix-other, prefix-skipped}
 
 -- ---- ids of some entries
 
@@ -45,7 +45,7 @@ other-id : (least most own id : ℕ) → in_range least most own ≡ false → i
 other-id least most own id other here = ne_eqb own id (λ (e : own ≡ id). false≢true (sym other ∙ ap (in_range least most) e ∙ here))
 
 -- what was read of a slot, by the number of the first slot as the code has it
-pub read-of : (k : Kind) (b : List ℕ) (place n first : ℕ) (o x : Option Placed) → first ≡ k.first → o ≡ option_map (placed_at place) (k.in_slot b (first + n)) → o ≡ x
+pub read-of : (k : SectorFormat) (b : List ℕ) (place n first : ℕ) (o x : Option Placed) → first ≡ k.first → o ≡ option_map (placed_at place) (k.in_slot b (first + n)) → o ≡ x
     → x ≡ option_map (placed_at place) (k.in_slot b (k.first + n))
 read-of k b place n first o x is read same = sym same ∙ read ∙ ap (λ (j : ℕ). option_map (placed_at place) (k.in_slot b (j + n))) is
 
@@ -56,7 +56,7 @@ module _ {X : Type 0} (least most : ℕ) (f : List Placed → X) (same : (p : Pl
   pass-one place None later other = refl
   pass-one place (Some e) later other = same (placed_at place e) later other
 
-  module _ (k : Kind) (law : IsKind k) (sectors : List (List ℕ)) (current place : ℕ) where
+  module _ (k : SectorFormat) (law : IsSectorFormat k) (sectors : List (List ℕ)) (current place : ℕ) where
     pass-more : (to d : ℕ) → to + d ≤ k.count (sector_at sectors place) → AreOthers k (sector_at sectors place) to (to + d) least most
         → f (later_at k law sectors current place to) ≡ f (later_at k law sectors current place (to + d))
     pass-more to zero within others =
@@ -79,14 +79,14 @@ same-ids : (least most id : ℕ) → in_range least most id ≡ true → (p : Pl
 same-ids least most id own p later other = ap (λ (t : Bool). t || has_id id later) (other-id least most p.id id other own)
 
 same-last : (least most id : ℕ) → in_range least most id ≡ true → (p : Placed) (later : List Placed) → in_range least most p.id ≡ false → last_of_id id (p ∷ later) ≡ last_of_id id later
-same-last least most id own p later other = front-other id p later (other-id least most p.id id other own)
+same-last least most id own p later other = prefix-other id p later (other-id least most p.id id other own)
 
 -- ---- one slot more
 
 -- the last one of its id, where none behind it has it
-pub last-in : (k : Kind) (sectors : List (List ℕ)) (p : Placed) (later : List Placed) → AreBehind k sectors p later → has_id p.id later ≡ false → last_placed (slots k) sectors p.id ≡ Some p
+pub last-in : (k : SectorFormat) (sectors : List (List ℕ)) (p : Placed) (later : List Placed) → AreBehind k sectors p later → has_id p.id later ≡ false → last_placed (slots k) sectors p.id ≡ Some p
 last-in k sectors p later at none =
-    own-last k sectors p later at ∙ ap (λ (o : Option Placed). option_or (option_or o (Some p)) (last_of (slots k) p.id at.front)) (id-none p.id later none)
+    own-last k sectors p later at ∙ ap (λ (o : Option Placed). option_or (option_or o (Some p)) (last_of (slots k) p.id at.prefix)) (id-none p.id later none)
 
 and-own : (own bit : Bool) → (own && not bit) ≡ true → own ≡ true
 and-own true bit e = refl
@@ -102,10 +102,10 @@ seen-so true true e is = refl
 seen-so true false e is = sym e
 seen-so false bit e is = absurd (false≢true is)
 
-module _ (k : Kind) (law : IsKind k) (sectors : List (List ℕ)) (current : ℕ) where
-  -- what was told of a sector that counts
-  told-is : (place left : ℕ) → counts_at k.reading sectors current place ≡ true → told_at k sectors current place left ≡ later_at k law sectors current place left
-  told-is place left counts = ap (λ (t : Bool). cond t (later_from k law sectors current place left) [] ++ behind k sectors current place) counts
+module _ (k : SectorFormat) (law : IsSectorFormat k) (sectors : List (List ℕ)) (current : ℕ) where
+  -- what was reported of a sector that counts
+  covered-is : (place left : ℕ) → counts_at k.reading sectors current place ≡ true → given_at k sectors current place left ≡ later_at k law sectors current place left
+  covered-is place left counts = ap (λ (t : Bool). cond t (later_from k law sectors current place left) [] ++ behind k sectors current place) counts
 
   module _ (old new : Lasts) (at : IsAt k sectors current old) (some : 0 < old.left) (range : SameRange old new) (place : new.place ≡ old.place) (fewer : new.left ≤ old.left - 1)
       (others : AreOthers k (sector_at sectors old.place) new.left (old.left - 1) old.least old.most) where
@@ -119,16 +119,16 @@ module _ (k : Kind) (law : IsKind k) (sectors : List (List ℕ)) (current : ℕ)
     abbrev pub read : Option Entry
     read = k.in_slot (sector_at sectors old.place) (k.first + (old.left - 1))
 
-    was : told_at k sectors current old.place old.left ≡ later
-    was = told-is old.place old.left counts
+    was : given_at k sectors current old.place old.left ≡ later
+    was = covered-is old.place old.left counts
 
     -- what any test of the range makes of the entries behind the slots that are left now
     now-is : {X : Type 0} (f : List Placed → X) → ((p : Placed) (later : List Placed) → in_range old.least old.most p.id ≡ false → f (p ∷ later) ≡ f later)
-        → f (told_at k sectors current new.place new.left) ≡ f (option_to_list (option_map (placed_at old.place) read) ++ later)
+        → f (given_at k sectors current new.place new.left) ≡ f (option_to_list (option_map (placed_at old.place) read) ++ later)
     now-is f same =
         let up : old.left - 1 + 1 ≡ old.left = omega (arith, some) in
-        ap (λ (n : ℕ). f (told_at k sectors current n new.left)) place
-        ∙ ap f (told-is old.place new.left counts)
+        ap (λ (n : ℕ). f (given_at k sectors current n new.left)) place
+        ∙ ap f (covered-is old.place new.left counts)
         ∙ passed old.least old.most f same k law sectors current old.place new.left (old.left - 1) fewer (omega (arith, at.left)) others
         ∙ ap f (sym (later_step k law sectors current old.place (old.left - 1) (omega (arith, at.left, some))))
         ∙ ap (λ (n : ℕ). f (option_to_list (option_map (placed_at old.place) read) ++ later_at k law sectors current old.place n)) up
@@ -148,14 +148,14 @@ module _ (k : Kind) (law : IsKind k) (sectors : List (List ℕ)) (current : ℕ)
           ∙ sym (now-is (has_id id) (same-ids old.least old.most id (own-range id own)));
     }
 
-    -- the last entry of an id that was told by now
-    last-now : (p : Placed) (o : Option Placed) → o ≡ option_map (placed_at old.place) read → WasTold k sectors current new p → last_of_id p.id (option_to_list o ++ later) ≡ Some p
-    last-now p o is told =
+    -- the last entry of an id that was reported by now
+    last-now : (p : Placed) (o : Option Placed) → o ≡ option_map (placed_at old.place) read → WasGiven k sectors current new p → last_of_id p.id (option_to_list o ++ later) ≡ Some p
+    last-now p o is covered =
         ap (λ (x : Option Placed). last_of_id p.id (option_to_list x ++ later)) is
-        ∙ sym (now-is (last_of_id p.id) (same-last old.least old.most p.id (own-range p.id told.own))) ∙ told.last
+        ∙ sym (now-is (last_of_id p.id) (same-last old.least old.most p.id (own-range p.id covered.own))) ∙ covered.last
 
-    was-told : (p : Placed) → WasTold k sectors current new p → last_of_id p.id later ≡ Some p → WasTold k sectors current old p
-    was-told p told last = record { own = own-range p.id told.own; last = ap (last_of_id p.id) was ∙ last }
+    was-covered : (p : Placed) → WasGiven k sectors current new p → last_of_id p.id later ≡ Some p → WasGiven k sectors current old p
+    was-covered p covered last = record { own = own-range p.id covered.own; last = ap (last_of_id p.id) was ∙ last }
 
     -- ---- the slot has no entry
 
@@ -164,8 +164,8 @@ module _ (k : Kind) (law : IsKind k) (sectors : List (List ℕ)) (current : ℕ)
         ap (λ (bits : List ℕ). has_bit bits (id - old.least)) same ∙ at.noted id own ∙ ap (has_id id) was
         ∙ ap (λ (o : Option Placed). has_id id (option_to_list o ++ later)) none)
 
-    pub told-none : None ≡ option_map (placed_at old.place) read → (p : Placed) → WasTold k sectors current new p → WasTold k sectors current old p
-    told-none none p told = was-told p told (last-now p None none told)
+    pub covered-none : None ≡ option_map (placed_at old.place) read → (p : Placed) → WasGiven k sectors current new p → WasGiven k sectors current old p
+    covered-none none p covered = was-covered p covered (last-now p None none covered)
 
     -- ---- it has one, whose id is noted
 
@@ -198,38 +198,38 @@ module _ (k : Kind) (law : IsKind k) (sectors : List (List ℕ)) (current : ℕ)
                 (unseen fresh);
           }
 
-      pub told-new : (result : Bool) → result ≡ is-new → result ≡ true → (p : Placed) → WasTold k sectors current new p → (Some p ≡ Some q) ⊎ WasTold k sectors current old p
-      told-new result means yes-new p told =
+      pub covered-new : (result : Bool) → result ≡ is-new → result ≡ true → (p : Placed) → WasGiven k sectors current new p → (Some p ≡ Some q) ⊎ WasGiven k sectors current old p
+      covered-new result means yes-new p covered =
           let fresh : is-new ≡ true = sym means ∙ yes-new in
-          let last : last_of_id p.id (q ∷ later) ≡ Some p = last-now p (Some q) found told in
+          let last : last_of_id p.id (q ∷ later) ≡ Some p = last-now p (Some q) found covered in
           elim (cases_Bool (eqb q.id p.id)) [
             | inl own ↦
                 let none : last_of_id p.id later ≡ None = ap (λ (n : ℕ). last_of_id n later) (sym (eqb-true q.id p.id own)) ∙ id-none q.id later (unseen fresh) in
-                inl (sym last ∙ front-last p.id q later ∙ ap (λ (o : Option Placed). option_or o (cond (eqb q.id p.id) (Some q) None)) none ∙ ap (λ (t : Bool). cond t (Some q) None) own)
-            | inr other ↦ inr (was-told p told (sym (front-other p.id q later other) ∙ last))
+                inl (sym last ∙ prefix-last p.id q later ∙ ap (λ (o : Option Placed). option_or o (cond (eqb q.id p.id) (Some q) None)) none ∙ ap (λ (t : Bool). cond t (Some q) None) own)
+            | inr other ↦ inr (was-covered p covered (sym (prefix-other p.id q later other) ∙ last))
           ]
 
       -- of one that is not new, either the id is none of the range or an entry behind it has it
-      pub told-old : (result : Bool) → result ≡ is-new → result ≡ false → (p : Placed) → WasTold k sectors current new p → WasTold k sectors current old p
-      told-old result means not-new p told =
-          let last : last_of_id p.id (q ∷ later) ≡ Some p = last-now p (Some q) found told in
+      pub covered-old : (result : Bool) → result ≡ is-new → result ≡ false → (p : Placed) → WasGiven k sectors current new p → WasGiven k sectors current old p
+      covered-old result means not-new p covered =
+          let last : last_of_id p.id (q ∷ later) ≡ Some p = last-now p (Some q) found covered in
           elim (cases_Bool (eqb q.id p.id)) [
             | inl own ↦
                 let is : q.id ≡ p.id = eqb-true q.id p.id own in
-                let here : in_range old.least old.most q.id ≡ true = ap (in_range old.least old.most) is ∙ own-range p.id told.own in
+                let here : in_range old.least old.most q.id ≡ true = ap (in_range old.least old.most) is ∙ own-range p.id covered.own in
                 let bit : has_bit old.seen (q.id - old.least) ≡ true = seen-so (in_range old.least old.most q.id) (has_bit old.seen (q.id - old.least)) (sym means ∙ not-new) here in
                 let has : has_id q.id later ≡ true = sym (at.noted q.id here ∙ ap (has_id q.id) was) ∙ bit in
-                was-told p told (front-skipped p.id q later (id-some q.id later has) ∙ last)
-            | inr other ↦ was-told p told (sym (front-other p.id q later other) ∙ last)
+                was-covered p covered (prefix-skipped p.id q later (id-some q.id later has) ∙ last)
+            | inr other ↦ was-covered p covered (sym (prefix-other p.id q later other) ∙ last)
           ]
 
 -- ---- slots one after the other
 
--- a slot that gave no entry has told none
-pub told-before : (k : Kind) (sectors : List (List ℕ)) (current : ℕ) (old : Lasts) (p : Placed) (o : Option Placed) (some : Bool) → some ≡ is_some o → some ≡ false
-    → (Some p ≡ o) ⊎ WasTold k sectors current old p → WasTold k sectors current old p
-told-before k sectors current old p o some is none (inl here) = absurd (false≢true (sym none ∙ is ∙ ap is_some (sym here)))
-told-before k sectors current old p o some is none (inr was) = was
+-- a slot that gave no entry has reported none
+pub covered-before : (k : SectorFormat) (sectors : List (List ℕ)) (current : ℕ) (old : Lasts) (p : Placed) (o : Option Placed) (some : Bool) → some ≡ is_some o → some ≡ false
+    → (Some p ≡ o) ⊎ WasGiven k sectors current old p → WasGiven k sectors current old p
+covered-before k sectors current old p o some is none (inl here) = absurd (false≢true (sym none ∙ is ∙ ap is_some (sym here)))
+covered-before k sectors current old p o some is none (inr was) = was
 
 -- what holds anyway holds where there is an entry
 pub some-fewer : (o : Option Placed) (now before : ℕ) → now < before → IfSome o (λ _. now < before)

@@ -1,4 +1,4 @@
--- What a walk over the last entries of the ids in a range told, from sector to sector.
+-- What a walk over the last entries of the ids in a range reported, from sector to sector.
 use Rattle.std.proofs.Common.{◌≡◌, ◌⊎◌, ℕ, zero, suc, ◌+◌, ◌-◌, ◌*◌, ◌^◌, ◌<◌, ◌≤◌, ◌/◌, Bool, true, false, ◌||◌, cond, eqb, leb, List, [], ◌++◌, length, map, Option, Some, None, refl, sym, ap, subst, ◌∙◌, inl, inr, arith}
 use Rattle.std.specs.Prelude.{replicate, IfSome}
 use Rattle.std.specs.List.{All, filter_map, flat_map, range_with_len}
@@ -16,8 +16,8 @@ use Rattle.item_laws.proofs.Newest.{last-append}
 use Rattle.item_laws.proofs.Places.{after, before, before-within}
 use Rattle.item_store.specs.declared.entry.Placed.{Placed}
 use Rattle.item_store.specs.declared.lasts.Lasts.{Lasts}
-use Rattle.item_store.specs.Kind.{Kind, IsKind, placed_at, slots}
-use Rattle.item_store.specs.Lasts.{in_range, IsOther, AreOthers, has_id, counted_from, told_at, sectors_left, slots_left, IsAt, WasTold, IsLastIn, TellsNext, SameRange}
+use Rattle.item_store.specs.SectorFormat.{SectorFormat, IsSectorFormat, placed_at, slots}
+use Rattle.item_store.specs.Lasts.{in_range, IsOther, AreOthers, has_id, counted_from, given_at, sectors_left, slots_left, IsAt, WasGiven, IsLastIn, GivesNext, SameRange}
 use Rattle.item_store.specs.Latest.{last_of_id}
 use Rattle.item_store.specs.Listed.{IsPlaced}
 use Rattle.item_store.specs.Seen.{behind}
@@ -45,7 +45,7 @@ module _ (least most : ℕ) where
         (All-weaker (λ (p : Placed). in_range least most p.id ≡ false) (λ (p : Placed). eqb p.id id ≡ false)
         (λ p other. ne_eqb p.id id (λ (e : p.id ≡ id). false≢true (sym other ∙ ap (in_range least most) e ∙ own))) xs others)
 
-    -- in front of others they tell nothing of an id of the range
+    -- before others they report nothing of an id of the range
     pub others-any : has_id id (xs ++ ys) ≡ has_id id ys
     others-any = list_any-append (λ (p : Placed). eqb p.id id) xs ys ∙ ap (λ (t : Bool). t || has_id id ys) none-has
 
@@ -55,7 +55,7 @@ module _ (least most : ℕ) where
         ∙ ap (λ (o : Option Placed). option_or (last_of_id id ys) o) (id-none id xs none-has) ∙ or-none (last_of_id id ys)
 
   -- the entries of slots that have none of these ids
-  pub slots-others : (k : Kind) (b : List ℕ) (place a n : ℕ) → ((slot : ℕ) → a ≤ slot → slot < a + n → IsOther least most (k.in_slot b slot))
+  pub slots-others : (k : SectorFormat) (b : List ℕ) (place a n : ℕ) → ((slot : ℕ) → a ≤ slot → slot < a + n → IsOther least most (k.in_slot b slot))
       → All (λ p. in_range least most p.id ≡ false) (map (placed_at place) (filter_map (k.in_slot b) (range_with_len a n)))
   slots-others k b place a zero others = All-nil (λ (p : Placed). in_range least most p.id ≡ false)
   slots-others k b place a (suc n) others =
@@ -67,7 +67,7 @@ module _ (least most : ℕ) where
             rw some (All-cons (λ (p : Placed). in_range least most p.id ≡ false) (placed_at place e) (map (placed_at place) (filter_map (k.in_slot b) (range_with_len (a + 1) n))) here rest)
       ]
 
-module _ (k : Kind) (sectors : List (List ℕ)) (current : ℕ) where
+module _ (k : SectorFormat) (sectors : List (List ℕ)) (current : ℕ) where
   -- ---- a sector that is begun
 
   module _ (place left least most : ℕ) (few : left ≤ k.count (sector_at sectors place))
@@ -85,16 +85,16 @@ module _ (k : Kind) (sectors : List (List ℕ)) (current : ℕ) where
         ]
 
     -- of the range there are only the ids of the sectors behind it
-    pub begun-any : (id : ℕ) → in_range least most id ≡ true → has_id id (told_at k sectors current place left) ≡ has_id id (behind k sectors current place)
+    pub begun-any : (id : ℕ) → in_range least most id ≡ true → has_id id (given_at k sectors current place left) ≡ has_id id (behind k sectors current place)
     begun-any id own = others-any least most id own (counted_from k sectors current place left) (behind k sectors current place) from-others
 
-    pub begun-last : (id : ℕ) → in_range least most id ≡ true → last_of_id id (told_at k sectors current place left) ≡ last_of_id id (behind k sectors current place)
+    pub begun-last : (id : ℕ) → in_range least most id ≡ true → last_of_id id (given_at k sectors current place left) ≡ last_of_id id (behind k sectors current place)
     begun-last id own = others-last least most id own (counted_from k sectors current place left) (behind k sectors current place) from-others
 
   -- ---- a sector with no slot left
 
-  pub told-all : (place : ℕ) → told_at k sectors current place 0 ≡ counted_in (slots k) sectors current place ++ behind k sectors current place
-  told-all place =
+  pub covered-all : (place : ℕ) → given_at k sectors current place 0 ≡ counted_in (slots k) sectors current place ++ behind k sectors current place
+  covered-all place =
       let b = sector_at sectors place in
       let from : k.first + 0 ≡ k.first = omega arith in
       let all : k.count (sector_at sectors place) - 0 ≡ k.count (sector_at sectors place) = omega arith in
@@ -120,9 +120,9 @@ module _ (k : Kind) (sectors : List (List ℕ)) (current : ℕ) where
           ∙ sym (begun-any current left least most few others id own ∙ ap (has_id id) (start_seen k sectors current low));
     }
 
-    pub start-none : (p : Placed) → WasTold k sectors current first_walk p → ⊥
-    start-none p told =
-        some_none p (sym told.last ∙ begun-last current left least most few others p.id told.own ∙ ap (last_of_id p.id) (start_seen k sectors current low))
+    pub start-none : (p : Placed) → WasGiven k sectors current first_walk p → ⊥
+    start-none p covered =
+        some_none p (sym covered.last ∙ begun-last current left least most few others p.id covered.own ∙ ap (last_of_id p.id) (start_seen k sectors current low))
 
   -- ---- one sector back
 
@@ -132,10 +132,10 @@ module _ (k : Kind) (sectors : List (List ℕ)) (current : ℕ) where
     abbrev pub back_walk : Lasts
     back_walk = record { least = old.least; most = old.most; place = place; left = left; seen = old.seen }
 
-    -- all that was told stands behind the sector before
-    left-behind : told_at k sectors current old.place old.left ≡ behind k sectors current place
+    -- all that was reported stands behind the sector before
+    left-behind : given_at k sectors current old.place old.left ≡ behind k sectors current place
     left-behind =
-        ap (told_at k sectors current old.place) none_left ∙ told-all old.place ∙ more_seen k sectors current low old.place at.inside apart ∙ ap (behind k sectors current) (sym back)
+        ap (given_at k sectors current old.place) none_left ∙ covered-all old.place ∙ more_seen k sectors current low old.place at.inside apart ∙ ap (behind k sectors current) (sym back)
 
     pub back-at : (0 < left → counts_at k.reading sectors current place ≡ true) → IsAt k sectors current back_walk
     back-at counts = record {
@@ -147,30 +147,30 @@ module _ (k : Kind) (sectors : List (List ℕ)) (current : ℕ) where
       noted = λ id own. at.noted id own ∙ ap (has_id id) left-behind ∙ sym (begun-any place left old.least old.most few others id own);
     }
 
-    pub back-told : (p : Placed) → WasTold k sectors current back_walk p → WasTold k sectors current old p
-    back-told p told = record {
-      own = told.own;
-      last = ap (last_of_id p.id) left-behind ∙ sym (begun-last place left old.least old.most few others p.id told.own) ∙ told.last;
+    pub back-covered : (p : Placed) → WasGiven k sectors current back_walk p → WasGiven k sectors current old p
+    back-covered p covered = record {
+      own = covered.own;
+      last = ap (last_of_id p.id) left-behind ∙ sym (begun-last place left old.least old.most few others p.id covered.own) ∙ covered.last;
     }
 
   -- ---- the end
 
-  -- with no slot left in the oldest sector all is told
-  told-whole : current < length sectors → after (length sectors) current < length sectors → current ≡ open_sector k.reading sectors → told_at k sectors current (after (length sectors) current) 0 ≡ all_placed (slots k) sectors
-  told-whole low high is =
+  -- with no slot left in the oldest sector all is reported
+  covered-whole : current < length sectors → after (length sectors) current < length sectors → current ≡ open_sector k.reading sectors → given_at k sectors current (after (length sectors) current) 0 ≡ all_placed (slots k) sectors
+  covered-whole low high is =
       let oldest : ℕ = after (length sectors) current in
-      told-all (after (length sectors) current)
+      covered-all (after (length sectors) current)
       ∙ sym (flat_map-cons (counted_in (slots k) sectors current) oldest (places_after (length sectors) current oldest))
       ∙ sym (ap (flat_map (counted_in (slots k) sectors current)) (round-oldest (length sectors) current low high))
       ∙ ap (λ (j : ℕ). flat_map (counted_in (slots k) sectors j) (round (length sectors) j)) is
 
-  pub all-told : (old new : Lasts) → current < length sectors → after (length sectors) current < length sectors → current ≡ open_sector k.reading sectors → new.place ≡ after (length sectors) current → new.left ≡ 0 → SameRange old new
-      → (p : Placed) → IsLastIn k sectors old p → WasTold k sectors current new p
-  all-told old new low high is oldest none same p last = record {
+  pub all-covered : (old new : Lasts) → current < length sectors → after (length sectors) current < length sectors → current ≡ open_sector k.reading sectors → new.place ≡ after (length sectors) current → new.left ≡ 0 → SameRange old new
+      → (p : Placed) → IsLastIn k sectors old p → WasGiven k sectors current new p
+  all-covered old new low high is oldest none same p last = record {
     own = ap (λ (a : ℕ). in_range a new.most p.id) same.0 ∙ ap (λ (b : ℕ). in_range old.least b p.id) same.1 ∙ last.own;
-    last = ap (λ (j : ℕ). last_of_id p.id (told_at k sectors current j new.left)) oldest
-        ∙ ap (λ (n : ℕ). last_of_id p.id (told_at k sectors current (after (length sectors) current) n)) none
-        ∙ ap (last_of_id p.id) (told-whole low high is) ∙ last.last;
+    last = ap (λ (j : ℕ). last_of_id p.id (given_at k sectors current j new.left)) oldest
+        ∙ ap (λ (n : ℕ). last_of_id p.id (given_at k sectors current (after (length sectors) current) n)) none
+        ∙ ap (last_of_id p.id) (covered-whole low high is) ∙ last.last;
   }
 
   -- ---- one walk after another
@@ -184,11 +184,11 @@ module _ (k : Kind) (sectors : List (List ℕ)) (current : ℕ) where
   }
 
   -- nothing was found so far; the walk goes one sector back, and on from there
-  pub told-more : (old now mid new : Lasts) (o found : Option Placed) → o ≡ None → ((p : Placed) → WasTold k sectors current now p → (Some p ≡ o) ⊎ WasTold k sectors current old p)
-      → ((p : Placed) → WasTold k sectors current mid p → WasTold k sectors current now p) → ((p : Placed) → WasTold k sectors current new p → (Some p ≡ found) ⊎ WasTold k sectors current mid p)
-      → (p : Placed) → WasTold k sectors current new p → (Some p ≡ found) ⊎ WasTold k sectors current old p
-  told-more old now mid new o found none so_far back more p told =
-      elim (more p told) [
+  pub covered-more : (old now mid new : Lasts) (o found : Option Placed) → o ≡ None → ((p : Placed) → WasGiven k sectors current now p → (Some p ≡ o) ⊎ WasGiven k sectors current old p)
+      → ((p : Placed) → WasGiven k sectors current mid p → WasGiven k sectors current now p) → ((p : Placed) → WasGiven k sectors current new p → (Some p ≡ found) ⊎ WasGiven k sectors current mid p)
+      → (p : Placed) → WasGiven k sectors current new p → (Some p ≡ found) ⊎ WasGiven k sectors current old p
+  covered-more old now mid new o found none so_far back more p covered =
+      elim (more p covered) [
         | inl here ↦ inl here
         | inr before ↦ elim (so_far p (back p before)) [
           | inl some ↦ absurd (some_none p (some ∙ none))
@@ -196,24 +196,24 @@ module _ (k : Kind) (sectors : List (List ℕ)) (current : ℕ) where
         ]
       ]
 
-  pub tells-next : (old new : Lasts) (found : Option Placed) → IfSome found (IsLastIn k sectors old) → ((p : Placed) → WasTold k sectors current new p → (Some p ≡ found) ⊎ WasTold k sectors current old p)
-      → (found ≡ None → (p : Placed) → IsLastIn k sectors old p → WasTold k sectors current new p) → TellsNext k sectors current old new found
-  tells-next old new None last told all = λ p is.
-      elim (told p (all refl p is)) [
+  pub knows-next : (old new : Lasts) (found : Option Placed) → IfSome found (IsLastIn k sectors old) → ((p : Placed) → WasGiven k sectors current new p → (Some p ≡ found) ⊎ WasGiven k sectors current old p)
+      → (found ≡ None → (p : Placed) → IsLastIn k sectors old p → WasGiven k sectors current new p) → GivesNext k sectors current old new found
+  knows-next old new None last covered all = λ p is.
+      elim (covered p (all refl p is)) [
         | inl some ↦ absurd (some_none p some)
         | inr was ↦ was
       ]
-  tells-next old new (Some next) last told all = (last, λ p was. by_case p (told p was))
+  knows-next old new (Some next) last covered all = (last, λ p was. by_case p (covered p was))
     where
       one_entry : (x y : Placed) → Some x ≡ Some y → x ≡ y
       one_entry x y e = cc
 
-      by_case : (p : Placed) → (Some p ≡ Some next) ⊎ WasTold k sectors current old p → (p ≡ next) ⊎ WasTold k sectors current old p
+      by_case : (p : Placed) → (Some p ≡ Some next) ⊎ WasGiven k sectors current old p → (p ≡ next) ⊎ WasGiven k sectors current old p
       by_case p (inl same) = inl (one_entry p next same)
       by_case p (inr was) = inr was
 
 -- what is the last entry of its id stands in its slot
-pub last-stands : (k : Kind) → IsKind k → (sectors : List (List ℕ)) (current : ℕ) (walk : Lasts) (o : Option Placed) → 0 < length sectors → current ≡ open_sector k.reading sectors → IfSome o (IsLastIn k sectors walk) → IfSome o (IsPlaced k sectors current)
+pub last-stands : (k : SectorFormat) → IsSectorFormat k → (sectors : List (List ℕ)) (current : ℕ) (walk : Lasts) (o : Option Placed) → 0 < length sectors → current ≡ open_sector k.reading sectors → IfSome o (IsLastIn k sectors walk) → IfSome o (IsPlaced k sectors current)
 last-stands k law sectors current walk None some is last = tt
 last-stands k law sectors current walk (Some p) some is last =
     subst (λ (j : ℕ). IsPlaced k sectors j p) (sym is)

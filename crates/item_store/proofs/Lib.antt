@@ -36,8 +36,8 @@ mod SlotFacts
 mod Standings
 mod TableFacts
 mod TablePlaces
-mod TellSteps
-mod TurnSteps
+mod IndexSteps
+mod PassSteps
 pub mod VersionLemmas
 mod VersionSteps
 mod VersionWrites

@@ -17,10 +17,10 @@ use Rattle.item_laws.proofs.Places.{after}
 use Rattle.item_laws.proofs.Parts.{close_parts}
 use Rattle.item_laws.proofs.Rings.{next-closed}
 use Rattle.item_laws.proofs.RingSteps.{reads}
-use Rattle.item_store.specs.Kind.{Kind, IsKind}
+use Rattle.item_store.specs.SectorFormat.{SectorFormat, IsSectorFormat}
 use Rattle.item_store.specs.Steps.{KeepsMarks, Marks, Closes, StopsClearing}
 use Rattle.item_store.specs.Standing.{list_of}
-use Rattle.item_store.specs.Collecting.{HasBegun, HasCopied, StopsCopying, CollectsAt, collected_list, KeepsOrCollects, KeepsOrTurns, KeepsOrRedoes, redo_list}
+use Rattle.item_store.specs.Collecting.{HasBegun, HasCopied, StopsCopying, CollectsAt, collected_list, KeepsOrCollects, KeepsOrDoesPass, KeepsOrRedoes, redo_list}
 use Rattle.item_store.proofs.Areas.{stopped, one_marked, cut_stands}
 use Rattle.item_store.proofs.CollectSteps.{redo-at_rest, redo-collecting, start_stops, start_copies}
 use Rattle.item_store.proofs.RoundSteps.{closed-form, closed-is, closed-list}
@@ -33,7 +33,7 @@ joined-oldest victim others =
     flat_map-append (λ (part : List (ℕ × List ℕ)). part) others (live_pairs victim (joined others) ∷ [])
     ∙ ap (λ ps. joined others ++ ps) (append-nil (live_pairs victim (joined others)))
 
-module _ (k : Kind) (law : IsKind k) where
+module _ (k : SectorFormat) (law : IsSectorFormat k) where
   abbrev R : Reading
   R = k.reading
 
@@ -118,8 +118,8 @@ module _ (k : Kind) (law : IsKind k) where
           ∙ ap (λ (n : ℕ). pairs_at R mid (after n (next old place)) ∷ map (pairs_at R mid) (rest n (next old place))) (sym long)
 
       -- what its collection leaves is the list without the oldest part
-      turned-list : collected_list k mid (next old place) ≡ joined (collect_oldest (parts k.reading old place))
-      turned-list =
+      pass_done-list : collected_list k mid (next old place) ≡ joined (collect_oldest (parts k.reading old place))
+      pass_done-list =
           let flat : joined (map (pairs_at R mid) (rest (length mid) (next old place))) ≡ flat_map (pairs_at R mid) (rest (length mid) (next old place)) =
           flat_map-map (λ (part : List (ℕ × List ℕ)). part) (pairs_at R mid) (rest (length mid) (next old place)) in
           sym
@@ -128,13 +128,13 @@ module _ (k : Kind) (law : IsKind k) where
           ∙ ap (λ ps. ps ++ live_pairs (pairs_at R mid (next mid (next old place))) ps) flat)
 
       -- power was lost behind the close
-      pub round-list : (new : List (List ℕ)) → KeepsOrRedoes k mid new (next old place) → KeepsOrTurns k old new place
+      pub round-list : (new : List (List ℕ)) → KeepsOrRedoes k mid new (next old place) → KeepsOrDoesPass k old new place
       round-list new either =
           elim either [
             | inl same ↦ inl (same ∙ shut-list)
             | inr redone ↦
                 elim (closed-form k law old mid place form only closes) [
                   | inl rested ↦ inl (redone ∙ ap (redo_list k mid (next old place)) (redo-at_rest k law mid (next old place) rested) ∙ shut-list)
-                  | inr collecting ↦ inr (redone ∙ ap (redo_list k mid (next old place)) (redo-collecting k law mid (next old place) collecting) ∙ turned-list)
+                  | inr collecting ↦ inr (redone ∙ ap (redo_list k mid (next old place)) (redo-collecting k law mid (next old place) collecting) ∙ pass_done-list)
                 ]
           ]

@@ -24,7 +24,7 @@ use Rattle.item_laws.proofs.WalkLemmas.{list-split}
 use Rattle.item_store.specs.declared.entry.Entry.{Entry}
 use Rattle.item_store.specs.declared.entry.Placed.{Placed}
 use Rattle.item_store.specs.declared.seen.Seen.{Seen}
-use Rattle.item_store.specs.Kind.{Kind, IsKind, placed_at, slots, entries}
+use Rattle.item_store.specs.SectorFormat.{SectorFormat, IsSectorFormat, placed_at, slots, entries}
 use Rattle.item_store.specs.Seen.{key_of, is_other, is_long, usual_id, has_bit, HasSeen, IsExact, AreBehind, behind, holds_live}
 use Rattle.item_store.proofs.CopyLoop.{are}
 
@@ -117,16 +117,16 @@ exact_all limit id seen placed noted exact =
 
 -- ---- one entry
 
-module _ (k : Kind) (sectors : List (List ℕ)) (p : Placed) (later : List Placed) (at : AreBehind k sectors p later) where
-  pub own-last : last_placed (slots k) sectors p.id ≡ option_or (option_or (last_of (slots k) p.id later) (Some p)) (last_of (slots k) p.id at.front)
+module _ (k : SectorFormat) (sectors : List (List ℕ)) (p : Placed) (later : List Placed) (at : AreBehind k sectors p later) where
+  pub own-last : last_placed (slots k) sectors p.id ≡ option_or (option_or (last_of (slots k) p.id later) (Some p)) (last_of (slots k) p.id at.prefix)
   own-last =
       let own : last_of (slots k) p.id (p ∷ later) ≡ option_or (last_of (slots k) p.id later) (Some p) =
       last-append (slots k) p.id (p ∷ []) later ∙ ap (λ (t : Bool). option_or (last_of (slots k) p.id later) (cond t (Some p) None)) (eq-eqb p.id p.id refl) in
-      ap (last_of (slots k) p.id) at.split ∙ last-append (slots k) p.id at.front (p ∷ later) ∙ ap (λ (o : Option Placed). option_or o (last_of (slots k) p.id at.front)) own
+      ap (last_of (slots k) p.id) at.split ∙ last-append (slots k) p.id at.prefix (p ∷ later) ∙ ap (λ (o : Option Placed). option_or o (last_of (slots k) p.id at.prefix)) own
 
   live_last : last_of (slots k) p.id later ≡ None → 0 < p.len → is_live (slots k) sectors p ≡ true
   live_last none some =
-      ap (is_at (slots k) p) (own-last ∙ ap (λ (o : Option Placed). option_or (option_or o (Some p)) (last_of (slots k) p.id at.front)) none)
+      ap (is_at (slots k) p) (own-last ∙ ap (λ (o : Option Placed). option_or (option_or o (Some p)) (last_of (slots k) p.id at.prefix)) none)
       ∙ ap (λ (t : Bool). t && eqb p.slot p.slot && ltb 0 p.len) (eq-eqb p.sector p.sector refl) ∙ ap (λ (t : Bool). true && t && ltb 0 p.len) (eq-eqb p.slot p.slot refl)
       ∙ lt-ltb 0 p.len some
 
@@ -134,7 +134,7 @@ module _ (k : Kind) (sectors : List (List ℕ)) (p : Placed) (later : List Place
   dead_by q some =
       let apart : IfSome (last_of (slots k) p.id later) (λ q. q.sector ≡ p.sector → q.slot ≡ p.slot → ⊥) = last-all (λ (q : Placed). eqb q.id p.id) (λ q. q.sector ≡ p.sector → q.slot ≡ p.slot → ⊥) later None tt at.apart in
       let here : q.sector ≡ p.sector → q.slot ≡ p.slot → ⊥ = subst (λ (o : Option Placed). IfSome o (λ q. q.sector ≡ p.sector → q.slot ≡ p.slot → ⊥)) some apart in
-      ap (is_at (slots k) p) (own-last ∙ ap (λ (o : Option Placed). option_or (option_or o (Some p)) (last_of (slots k) p.id at.front)) some)
+      ap (is_at (slots k) p) (own-last ∙ ap (λ (o : Option Placed). option_or (option_or o (Some p)) (last_of (slots k) p.id at.prefix)) some)
       ∙ off q here
     where
       off : (q : Placed) → (q.sector ≡ p.sector → q.slot ≡ p.slot → ⊥) → (eqb q.sector p.sector && eqb q.slot p.slot && ltb 0 p.len) ≡ false
@@ -152,12 +152,12 @@ module _ (k : Kind) (sectors : List (List ℕ)) (p : Placed) (later : List Place
   later_by last found =
       elim (option_cases (last_of (slots k) p.id later)) [
         | inl none ↦
-            let same : p ≡ last = one_entry p last (sym (own-last ∙ ap (λ (o : Option Placed). option_or (option_or o (Some p)) (last_of (slots k) p.id at.front)) none) ∙ found) in
+            let same : p ≡ last = one_entry p last (sym (own-last ∙ ap (λ (o : Option Placed). option_or (option_or o (Some p)) (last_of (slots k) p.id at.prefix)) none) ∙ found) in
             ap (λ (t : Bool). not (t && eqb last.slot p.slot)) (eq-eqb last.sector p.sector (sym (ap (λ (x : Placed). x.sector) same)))
             ∙ ap (λ (t : Bool). not (true && t)) (eq-eqb last.slot p.slot (sym (ap (λ (x : Placed). x.slot) same)))
             ∙ sym (ap (λ (o : Option Placed). is_some o) none)
         | inr (q, some) ↦
-            let same : q ≡ last = one_entry q last (sym (own-last ∙ ap (λ (o : Option Placed). option_or (option_or o (Some p)) (last_of (slots k) p.id at.front)) some) ∙ found) in
+            let same : q ≡ last = one_entry q last (sym (own-last ∙ ap (λ (o : Option Placed). option_or (option_or o (Some p)) (last_of (slots k) p.id at.prefix)) some) ∙ found) in
             let apart : IfSome (last_of (slots k) p.id later) (λ q. q.sector ≡ p.sector → q.slot ≡ p.slot → ⊥) = last-all (λ (q : Placed). eqb q.id p.id) (λ q. q.sector ≡ p.sector → q.slot ≡ p.slot → ⊥) later None tt at.apart in
             let here : q.sector ≡ p.sector → q.slot ≡ p.slot → ⊥ = subst (λ (o : Option Placed). IfSome o (λ q. q.sector ≡ p.sector → q.slot ≡ p.slot → ⊥)) some apart in
             subst (λ (x : Placed). not (eqb x.sector p.sector && eqb x.slot p.slot) ≡ true) same (elsewhere_is q here) ∙ sym (ap (λ (o : Option Placed). is_some o) some)
@@ -176,8 +176,8 @@ module _ (k : Kind) (sectors : List (List ℕ)) (p : Placed) (later : List Place
   pub never_none : last_placed (slots k) sectors p.id ≡ None → ⊥
   never_none none =
       elim (option_cases (last_of (slots k) p.id later)) [
-        | inl empty ↦ some_none p (sym (own-last ∙ ap (λ (o : Option Placed). option_or (option_or o (Some p)) (last_of (slots k) p.id at.front)) empty) ∙ none)
-        | inr (q, some) ↦ some_none q (sym (own-last ∙ ap (λ (o : Option Placed). option_or (option_or o (Some p)) (last_of (slots k) p.id at.front)) some) ∙ none)
+        | inl empty ↦ some_none p (sym (own-last ∙ ap (λ (o : Option Placed). option_or (option_or o (Some p)) (last_of (slots k) p.id at.prefix)) empty) ∙ none)
+        | inr (q, some) ↦ some_none q (sym (own-last ∙ ap (λ (o : Option Placed). option_or (option_or o (Some p)) (last_of (slots k) p.id at.prefix)) some) ∙ none)
       ]
 
   -- a delete
@@ -219,10 +219,10 @@ module _ (k : Kind) (sectors : List (List ℕ)) (p : Placed) (later : List Place
 
 -- ---- the entry of a slot
 
-pub live_none : (k : Kind) (sectors : List (List ℕ)) (place slot : ℕ) → None ≡ option_map (placed_at place) (k.in_slot (sector_at sectors place) slot) → false ≡ holds_live k sectors place slot
+pub live_none : (k : SectorFormat) (sectors : List (List ℕ)) (place slot : ℕ) → None ≡ option_map (placed_at place) (k.in_slot (sector_at sectors place) slot) → false ≡ holds_live k sectors place slot
 live_none k sectors place slot none = ap (λ (o : Option Placed). is_some (option_and_then (λ p. cond (is_live (slots k) sectors p) (Some p) None) o)) none
 
-pub live_some : (k : Kind) (sectors : List (List ℕ)) (place slot : ℕ) (p : Placed) (live : Bool) → Some p ≡ option_map (placed_at place) (k.in_slot (sector_at sectors place) slot) → live ≡ is_live (slots k) sectors p → live ≡ holds_live k sectors place slot
+pub live_some : (k : SectorFormat) (sectors : List (List ℕ)) (place slot : ℕ) (p : Placed) (live : Bool) → Some p ≡ option_map (placed_at place) (k.in_slot (sector_at sectors place) slot) → live ≡ is_live (slots k) sectors p → live ≡ holds_live k sectors place slot
 live_some k sectors place slot p live some is =
     by_flag live ∙ ap (λ (t : Bool). is_some (cond t (Some p) None)) is ∙ ap (λ (o : Option Placed). is_some (option_and_then (λ p. cond (is_live (slots k) sectors p) (Some p) None) o)) some
   where
@@ -232,7 +232,7 @@ live_some k sectors place slot p live some is =
 
 -- ---- what stands behind a slot
 
-module _ (k : Kind) (law : IsKind k) (sectors : List (List ℕ)) (current place : ℕ) where
+module _ (k : SectorFormat) (law : IsSectorFormat k) (sectors : List (List ℕ)) (current place : ℕ) where
   -- the entries of the sector from so many slots on, and those of the sectors behind it
   abbrev pub later_from : ℕ → List Placed
   later_from n = map (placed_at place) (entries_from (slots k) (sector_at sectors place) (k.first + n) (k.count (sector_at sectors place) - n))
@@ -315,15 +315,15 @@ module _ (k : Kind) (law : IsKind k) (sectors : List (List ℕ)) (current place 
               let own : e.slot ≡ k.first + n = law.own_slot (sector_at sectors place) (k.first + n) e found in
               let in_sector : place ≡ p.sector = ap (λ (q : Placed). q.sector) same in
               let in_slot : e.slot ≡ p.slot = ap (λ (q : Placed). q.slot) same in
-              let front_is : later_at n ≡ p ∷ later_at (n + 1) = sym (later_step n more) ∙ ap (λ (o : Option Placed). option_to_list o ++ later_at (n + 1)) some in
+              let prefix_is : later_at n ≡ p ∷ later_at (n + 1) = sym (later_step n more) ∙ ap (λ (o : Option Placed). option_to_list o ++ later_at (n + 1)) some in
               let round = round-at (length sectors) current place low high in
               let own_sector : All (λ q. q.sector ≡ p.sector → q.slot ≡ p.slot → ⊥) (later_from (n + 1)) =
               All-weaker (λ (q : Placed). k.first + (n + 1) ≤ q.slot) (λ q. q.sector ≡ p.sector → q.slot ≡ p.slot → ⊥) (λ q h here at. absurd (omega arith)) (later_from (n + 1)) (low_slots (k.first + (n + 1)) (k.count (sector_at sectors place) - (n + 1))) in
               let others : All (λ q. q.sector ≡ p.sector → q.slot ≡ p.slot → ⊥) (behind k sectors current place) =
               All-weaker (λ (q : Placed). q.sector ≡ place → ⊥) (λ q. q.sector ≡ p.sector → q.slot ≡ p.slot → ⊥) (λ q h here at. h (here ∙ sym in_sector)) (behind k sectors current place) (elsewhere (places_after (length sectors) current place) round.behind) in
               record {
-                front = placed_up_to (slots k) sectors current place n;
-                split = split_at ∙ ap (λ (xs : List Placed). placed_up_to (slots k) sectors current place n ++ xs) front_is;
+                prefix = placed_up_to (slots k) sectors current place n;
+                split = split_at ∙ ap (λ (xs : List Placed). placed_up_to (slots k) sectors current place n ++ xs) prefix_is;
                 apart = All-append (λ q. q.sector ≡ p.sector → q.slot ≡ p.slot → ⊥) (later_from (n + 1)) (behind k sectors current place) own_sector others;
               }
         ]
@@ -333,14 +333,14 @@ module _ (k : Kind) (law : IsKind k) (sectors : List (List ℕ)) (current place 
 
 -- ---- the victim of a collection
 
-pub victim_counts : (k : Kind) (sectors : List (List ℕ)) (place victim : ℕ) → Collecting k.reading sectors place → victim ≡ next sectors place → counts_at k.reading sectors place victim ≡ true
+pub victim_counts : (k : SectorFormat) (sectors : List (List ℕ)) (place victim : ℕ) → Collecting k.reading sectors place → victim ≡ next sectors place → counts_at k.reading sectors place victim ≡ true
 victim_counts k sectors place victim form at =
     let ring = form.ring in
     let apart : victim ≡ place → ⊥ = λ (e : victim ≡ place). after-apart (length sectors) place ring.within ring.several (sym at ∙ e) in
     counts-collecting k.reading sectors place victim form.ring form.not_done ∙ ap not (ne_eqb victim place apart)
 
 -- the live entry of a slot, where there is one
-pub live_here : (k : Kind) (sectors : List (List ℕ)) (place slot : ℕ) (o : Option Placed) → o ≡ option_map (placed_at place) (k.in_slot (sector_at sectors place) slot) → holds_live k sectors place slot ≡ true → o ≡ live_in (slots k) sectors place slot
+pub live_here : (k : SectorFormat) (sectors : List (List ℕ)) (place slot : ℕ) (o : Option Placed) → o ≡ option_map (placed_at place) (k.in_slot (sector_at sectors place) slot) → holds_live k sectors place slot ≡ true → o ≡ live_in (slots k) sectors place slot
 live_here k sectors place slot o is live =
     by_entry o (sym (ap (λ (x : Option Placed). is_some (option_and_then (λ p. cond (is_live (slots k) sectors p) (Some p) None) x)) (sym is)) ∙ live)
     ∙ ap (λ (x : Option Placed). option_and_then (λ p. cond (is_live (slots k) sectors p) (Some p) None) x) is
@@ -353,5 +353,5 @@ live_here k sectors place slot o is live =
     by_entry None e = refl
     by_entry (Some p) e = by_flag p (is_live (slots k) sectors p) e
 
-pub none_live : (k : Kind) (sectors : List (List ℕ)) (place slot : ℕ) → holds_live k sectors place slot ≡ false → None ≡ live_in (slots k) sectors place slot
+pub none_live : (k : SectorFormat) (sectors : List (List ℕ)) (place slot : ℕ) → holds_live k sectors place slot ≡ false → None ≡ live_in (slots k) sectors place slot
 none_live k sectors place slot dead = sym (not_some (live_in (slots k) sectors place slot) dead)

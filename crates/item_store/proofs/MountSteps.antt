@@ -14,14 +14,14 @@ use Rattle.item_laws.proofs.AreaReads.{length-sectors}
 use Rattle.item_laws.proofs.Places.{after-within}
 use Rattle.item_store.specs.declared.entry.Redo.{Redo}
 use Rattle.item_store.specs.declared.entry.Redo.TheVariants.{Nothing, ClearNext, CollectAgain}
-use Rattle.item_store.specs.Kind.{Kind, IsKind}
+use Rattle.item_store.specs.SectorFormat.{SectorFormat, IsSectorFormat}
 use Rattle.item_store.specs.Collecting.{redo_of, redo_units}
 use Rattle.item_store.specs.Standing.{IsStoreArea, SpendsIn, SpendsUpTo}
 use Rattle.item_store.proofs.Areas.{size_there, large_there, form_here, copied-le}
 use Rattle.item_store.proofs.CollectSteps.{collecting_from}
 use Rattle.item_store.proofs.Ranges.{again-lost, redo-covers}
 
-module _ (k : Kind) (law : IsKind k) (role : Role) (a : Device) (area : Area) (lawful : IsLawful a.banks a.bytes) (own : IsStoreArea role a.banks area) (undamaged : k.damage (sectors_of a area) ≡ None) (place : ℕ) (is : place ≡ open_sector k.reading (sectors_of a area)) where
+module _ (k : SectorFormat) (law : IsSectorFormat k) (role : Role) (a : Device) (area : Area) (lawful : IsLawful a.banks a.bytes) (own : IsStoreArea role a.banks area) (undamaged : k.damage (sectors_of a area) ≡ None) (place : ℕ) (is : place ≡ open_sector k.reading (sectors_of a area)) where
   count : length (sectors_of a area) ≡ area.sectors
   count = length-sectors a area
 

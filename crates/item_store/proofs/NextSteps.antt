@@ -14,10 +14,10 @@ use Rattle.item_laws.proofs.NextIds.{least_kept, least_none, least_push, no_valu
 use Rattle.item_laws.proofs.Places.{range-append, range_one}
 use Rattle.item_store.specs.declared.entry.Entry.{Entry}
 use Rattle.item_store.specs.declared.entry.Placed.{Placed}
-use Rattle.item_store.specs.Kind.{Kind, IsKind, placed_at}
+use Rattle.item_store.specs.SectorFormat.{SectorFormat, IsSectorFormat, placed_at}
 use Rattle.item_store.specs.Standing.{items}
 
-module _ (k : Kind) where
+module _ (k : SectorFormat) where
   abbrev pub pair_in : List ℕ → Entry → ℕ × List ℕ
   pair_in b e = (e.id, k.bytes b e.slot)
 
@@ -50,7 +50,7 @@ module _ (k : Kind) where
       ]
 
   -- all its slots
-  pub least_end : (law : IsKind k) (m : Items) (after : Option ℕ) (b : List ℕ) (n : ℕ) (least : Option ℕ) → n ≡ k.count b → IsLeastOf m after (pairs_to b n) least → IsLeastOf m after (k.reading.pairs b) least
+  pub least_end : (law : IsSectorFormat k) (m : Items) (after : Option ℕ) (b : List ℕ) (n : ℕ) (least : Option ℕ) → n ≡ k.count b → IsLeastOf m after (pairs_to b n) least → IsLeastOf m after (k.reading.pairs b) least
   least_end law m after b n least all so_far = subst (λ ps. IsLeastOf m after ps least) (ap (pairs_to b) all ∙ sym (law.pairs b)) so_far
 
   pub next_is : (sectors : List (List ℕ)) (after least : Option ℕ) → open_sector k.reading sectors < length sectors → IfSome least (Follows (items k sectors) after)

@@ -16,7 +16,7 @@ use Rattle.item_laws.proofs.Places.{range-append, range_one}
 use Rattle.item_laws.proofs.SlotWalks.{last_that}
 use Rattle.item_laws.proofs.WalkLemmas as walks
 use Rattle.item_store.specs.declared.entry.Placed.{Placed}
-use Rattle.item_store.specs.Kind.{Kind, IsKind, placed_at, slots}
+use Rattle.item_store.specs.SectorFormat.{SectorFormat, IsSectorFormat, placed_at, slots}
 use Rattle.item_store.specs.Older.{IsNextOlder}
 use Rattle.item_store.proofs.CopyLoop.{are}
 
@@ -37,7 +37,7 @@ newest-before xs ys o older is none older-is = newest.newest-before (λ (p : Pla
 last_push : (xs : List Placed) (p : Placed) → last_or None (xs ++ p ∷ []) ≡ Some p
 last_push xs p = sym (newest-behind xs (p ∷ []) (Some p) refl refl)
 
-module _ (k : Kind) where
+module _ (k : SectorFormat) where
   -- ---- the search in one sector
 
   abbrev pub placed_to : List ℕ → ℕ → ℕ → List Placed
@@ -52,7 +52,7 @@ module _ (k : Kind) where
   placed_more : (b : List ℕ) (place count slot : ℕ) → 0 < count → slot ≡ k.first + (count - 1) → placed_to b place count ≡ placed_to b place (count - 1) ++ map (placed_at place) (filter_map (k.in_slot b) (slot ∷ []))
   placed_more b place count slot positive at = let up : count ≡ count - 1 + 1 = omega arith in ap (placed_to b place) up ∙ to_more b place (count - 1) slot at
 
-module _ (k : Kind) (law : IsKind k) where
+module _ (k : SectorFormat) (law : IsSectorFormat k) where
   same_some : (x y : Placed) → Some x ≡ Some y → x ≡ y
   same_some x y e = cc
 

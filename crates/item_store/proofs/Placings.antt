@@ -15,10 +15,10 @@ use Rattle.item_laws.proofs.Places.{All-range}
 use Rattle.item_laws.proofs.Stays.{open_within}
 use Rattle.item_store.specs.declared.entry.Entry.{Entry}
 use Rattle.item_store.specs.declared.entry.Placed.{Placed}
-use Rattle.item_store.specs.Kind.{Kind, IsKind, placed_at, slots, entries}
+use Rattle.item_store.specs.SectorFormat.{SectorFormat, IsSectorFormat, placed_at, slots, entries}
 use Rattle.item_store.specs.Listed.{IsListed, IsPlaced}
 
-module _ (k : Kind) (law : IsKind k) (sectors : List (List ℕ)) where
+module _ (k : SectorFormat) (law : IsSectorFormat k) (sectors : List (List ℕ)) where
   -- the entry of a slot
   pub listed_here : (place slot : ℕ) (e : Entry) → place < length sectors → k.first ≤ slot → slot < k.first + k.count (sector_at sectors place) → k.in_slot (sector_at sectors place) slot ≡ Some e → IsListed k sectors (placed_at place e)
   listed_here place slot e within from listed is =

@@ -14,7 +14,7 @@ use Rattle.item_laws.specs.Reading.{is_sound}
 use Rattle.item_laws.proofs.RingSteps.{reads}
 use Rattle.item_laws.proofs.Rings.{open-not_closed}
 use Rattle.item_store.specs.Cached.{AddsEntry}
-use Rattle.item_store.specs.Kind.{Range, Kind, IsKind, fits}
+use Rattle.item_store.specs.SectorFormat.{Range, SectorFormat, IsSectorFormat, fits}
 use Rattle.item_store.specs.Room.{has_room, open_bytes}
 use Rattle.item_store.specs.Standing.{IsStoreArea, RestsAt, SpendsIn, SpendsUpTo}
 use Rattle.item_store.specs.Stands.{StandsAt}
@@ -30,39 +30,39 @@ use Rattle.item_store.proofs.Ranges.{first-lost, then-lost}
 use Rattle.item_store.proofs.RoomFacts.{inside, rest_on}
 use Rattle.item_store.proofs.Standings.{stands}
 
-module _ {T : Type 0} (role : Role) (kind : Geometry → Kind) (kept : Geometry → List ℕ → T) (a : Device) (area : Area) (place : ℕ) (opened : T) (law : IsKind (kind (geometry_of a area))) (lawful : IsLawful a.banks a.bytes) (on : StandsAt role kind kept a area place opened) where
-  abbrev k : Kind
-  k = kind (geometry_of a area)
+module _ {T : Type 0} (role : Role) (format_of : Geometry → SectorFormat) (kept : Geometry → List ℕ → T) (a : Device) (area : Area) (place : ℕ) (opened : T) (law : IsSectorFormat (format_of (geometry_of a area))) (lawful : IsLawful a.banks a.bytes) (on : StandsAt role format_of kept a area place opened) where
+  abbrev k : SectorFormat
+  k = format_of (geometry_of a area)
 
   abbrev old : List (List ℕ)
   old = sectors_of a area
 
-  form : AtRest (kind (geometry_of a area)).reading (sectors_of a area) place
-  form = rest_on role kind kept a area place opened law lawful on
+  form : AtRest (format_of (geometry_of a area)).reading (sectors_of a area) place
+  form = rest_on role format_of kept a area place opened law lawful on
 
   large : 512 ≤ length (sector_at (sectors_of a area) place)
-  large = large_there role a area lawful on.area place (inside role kind kept a area place opened on)
+  large = large_there role a area lawful on.area place (inside role format_of kept a area place opened on)
 
-  pub open_sound : is_sound (kind (geometry_of a area)).reading (sector_at (sectors_of a area) place) ≡ true
+  pub open_sound : is_sound (format_of (geometry_of a area)).reading (sector_at (sectors_of a area) place) ≡ true
   open_sound = form.sound place form.ring.within
 
-  pub open_not_closed : is_closed_at (kind (geometry_of a area)).reading (sectors_of a area) place ≡ false
+  pub open_not_closed : is_closed_at (format_of (geometry_of a area)).reading (sectors_of a area) place ≡ false
   open_not_closed = open-not_closed k.reading old place form.blanks form.ring
 
   -- an area that is at rest with this sector open: nothing is to do, and its room is that of this sector
-  rests_in : (e : Device) → AtRest (kind (geometry_of a area)).reading (sectors_of e area) place → RestsAt (kind (geometry_of a area)) e area
+  rests_in : (e : Device) → AtRest (format_of (geometry_of a area)).reading (sectors_of e area) place → RestsAt (format_of (geometry_of a area)) e area
   rests_in e rested =
       subst (λ (p : ℕ). AtRest k.reading (sectors_of e area) p) (sym (reads k.reading (sectors_of e area) place (inl rested)).0) rested
 
-  free_in : (e : Device) → AtRest (kind (geometry_of a area)).reading (sectors_of e area) place
-      → (kind (geometry_of a area)).free (open_at (kind (geometry_of a area)) e area) ≡ (kind (geometry_of a area)).free (sector_at (sectors_of e area) place)
+  free_in : (e : Device) → AtRest (format_of (geometry_of a area)).reading (sectors_of e area) place
+      → (format_of (geometry_of a area)).free (open_at (format_of (geometry_of a area)) e area) ≡ (format_of (geometry_of a area)).free (sector_at (sectors_of e area) place)
   free_in e rested =
       ap (λ (p : ℕ). k.free (sector_at (sectors_of e area) p)) (reads k.reading (sectors_of e area) place (inl rested)).0
 
   -- power was lost while the sector was made ready
-  pub begin_stops : (e : Device) (id : ℕ) (bytes : List ℕ) → ChangesOnly (sectors_of a area) (sectors_of e area) place → Keeps (kind (geometry_of a area)) (sector_at (sectors_of a area) place) (sector_at (sectors_of e area) place)
-      → LeavesRoom (kind (geometry_of a area)) (sector_at (sectors_of a area) place) (sector_at (sectors_of e area) place) 0
-      → SpendsUpTo a e ((kind (geometry_of a area)).units.begin (sector_at (sectors_of a area) place)) → StopsPutting (kind (geometry_of a area)) a e area id bytes
+  pub begin_stops : (e : Device) (id : ℕ) (bytes : List ℕ) → ChangesOnly (sectors_of a area) (sectors_of e area) place → Keeps (format_of (geometry_of a area)) (sector_at (sectors_of a area) place) (sector_at (sectors_of e area) place)
+      → LeavesRoom (format_of (geometry_of a area)) (sector_at (sectors_of a area) place) (sector_at (sectors_of e area) place) 0
+      → SpendsUpTo a e ((format_of (geometry_of a area)).units.begin (sector_at (sectors_of a area) place)) → StopsPutting (format_of (geometry_of a area)) a e area id bytes
   begin_stops e id bytes only keeps room spends =
       let not_put = has_not_put k law old (sectors_of e area) place form only keeps.list keeps.used (keeps.sound open_sound) in
       let free_old = free_in a form in
@@ -77,7 +77,7 @@ module _ {T : Type 0} (role : Role) (kind : Geometry → Kind) (kept : Geometry 
         at_most = between_within spends 0 (k.units.entry (length bytes)) (omega arith) (omega arith);
       }
 
-  module _ (b : Device) (banks : b.banks ≡ a.banks) (first : ChangesOnly (sectors_of a area) (sectors_of b area) place) (begins : Begins (kind (geometry_of a area)) (sector_at (sectors_of a area) place) (sector_at (sectors_of b area) place)) where
+  module _ (b : Device) (banks : b.banks ≡ a.banks) (first : ChangesOnly (sectors_of a area) (sectors_of b area) place) (begins : Begins (format_of (geometry_of a area)) (sector_at (sectors_of a area) place) (sector_at (sectors_of b area) place)) where
     begun : AtRest k.reading (sectors_of b area) place
     begun = begun-form k law old (sectors_of b area) (sectors_of b area) place form large first begins
 
@@ -87,54 +87,54 @@ module _ {T : Type 0} (role : Role) (kind : Geometry → Kind) (kept : Geometry 
     pub put_kept : (later : T) → later ≡ kept (geometry_of a area) (sector_at (sectors_of b area) place) → later ≡ kept (geometry_of b area) (sector_at (sectors_of b area) place)
     put_kept later known = from_geometry (λ u. later ≡ kept u (sector_at (sectors_of b area) place)) a b area banks known
 
-    pub put_ready : (kind (geometry_of b area)).is_ready (sector_at (sectors_of b area) place) ≡ true
-    put_ready = from_geometry (λ u. (kind u).is_ready (sector_at (sectors_of b area) place) ≡ true) a b area banks begins.ready
+    pub put_ready : (format_of (geometry_of b area)).is_ready (sector_at (sectors_of b area) place) ≡ true
+    put_ready = from_geometry (λ u. (format_of u).is_ready (sector_at (sectors_of b area) place) ≡ true) a b area banks begins.ready
 
-    pub put_opened : place ≡ open_sector (kind (geometry_of b area)).reading (sectors_of b area)
-    put_opened = from_geometry (λ u. place ≡ open_sector (kind u).reading (sectors_of b area)) a b area banks (sym (reads k.reading (sectors_of b area) place (inl begun)).0)
+    pub put_opened : place ≡ open_sector (format_of (geometry_of b area)).reading (sectors_of b area)
+    put_opened = from_geometry (λ u. place ≡ open_sector (format_of u).reading (sectors_of b area)) a b area banks (sym (reads k.reading (sectors_of b area) place (inl begun)).0)
 
-    pub put_rested : is_closed_at (kind (geometry_of b area)).reading (sectors_of b area) (next (sectors_of b area) place) ≡ false
-    put_rested = from_geometry (λ u. is_closed_at (kind u).reading (sectors_of b area) (next (sectors_of b area) place) ≡ false) a b area banks (rest_closed k law (sectors_of b area) place begun)
+    pub put_rested : is_closed_at (format_of (geometry_of b area)).reading (sectors_of b area) (next (sectors_of b area) place) ≡ false
+    put_rested = from_geometry (λ u. is_closed_at (format_of u).reading (sectors_of b area) (next (sectors_of b area) place) ≡ false) a b area banks (rest_closed k law (sectors_of b area) place begun)
 
-    pub put_ordinary : (id : ℕ) → id < (kind (geometry_of a area)).ids → id < (kind (geometry_of b area)).ids
-    put_ordinary id small = from_geometry (λ u. id < (kind u).ids) a b area banks small
+    pub put_ordinary : (id : ℕ) → id < (format_of (geometry_of a area)).ids → id < (format_of (geometry_of b area)).ids
+    put_ordinary id small = from_geometry (λ u. id < (format_of u).ids) a b area banks small
 
-    pub put_fits : (len : ℕ) → has_room (kind (geometry_of a area)) (sectors_of a area) len ≡ true → IsTrue (fits (kind (geometry_of b area)) (sector_at (sectors_of b area) place) len)
+    pub put_fits : (len : ℕ) → has_room (format_of (geometry_of a area)) (sectors_of a area) len ≡ true → IsTrue (fits (format_of (geometry_of b area)) (sector_at (sectors_of b area) place) len)
     put_fits len room =
-        from_geometry (λ u. IsTrue (fits (kind u) (sector_at (sectors_of b area) place) len)) a b area banks
+        from_geometry (λ u. IsTrue (fits (format_of u) (sector_at (sectors_of b area) place) len)) a b area banks
         (begun-room k law old (sectors_of b area) (sectors_of b area) place form large first begins len ∙ ap (λ (p : ℕ). fits k (sector_at old p) len) on.current ∙ room)
 
     module _ (e : Device) (second : ChangesOnly (sectors_of b area) (sectors_of e area) place) (id : ℕ) (bytes : List ℕ)
-        (sound : is_sound (kind (geometry_of b area)).reading (sector_at (sectors_of b area) place) ≡ true → is_sound (kind (geometry_of b area)).reading (sector_at (sectors_of e area) place) ≡ true)
-        (spends : SpendsIn a b ((kind (geometry_of a area)).units.begin (sector_at (sectors_of a area) place))) where
+        (sound : is_sound (format_of (geometry_of b area)).reading (sector_at (sectors_of b area) place) ≡ true → is_sound (format_of (geometry_of b area)).reading (sector_at (sectors_of e area) place) ≡ true)
+        (spends : SpendsIn a b ((format_of (geometry_of a area)).units.begin (sector_at (sectors_of a area) place))) where
       still_sound : is_sound k.reading (sector_at (sectors_of b area) place) ≡ true → is_sound k.reading (sector_at (sectors_of e area) place) ≡ true
-      still_sound = to_geometry (λ u. is_sound (kind u).reading (sector_at (sectors_of b area) place) ≡ true → is_sound (kind u).reading (sector_at (sectors_of e area) place) ≡ true) a b area banks sound
+      still_sound = to_geometry (λ u. is_sound (format_of u).reading (sector_at (sectors_of b area) place) ≡ true → is_sound (format_of u).reading (sector_at (sectors_of e area) place) ≡ true) a b area banks sound
 
-      has_pair : Adds (kind (geometry_of b area)) (sector_at (sectors_of b area) place) (sector_at (sectors_of e area) place) id bytes → HasPut (kind (geometry_of a area)) (sectors_of a area) (sectors_of e area) place id bytes
+      has_pair : Adds (format_of (geometry_of b area)) (sector_at (sectors_of b area) place) (sector_at (sectors_of e area) place) id bytes → HasPut (format_of (geometry_of a area)) (sectors_of a area) (sectors_of e area) place id bytes
       has_pair adds =
           then-put k law old (sectors_of b area) (sectors_of e area) place form large first begins second id bytes still_sound
-          (to_geometry (λ u. Adds (kind u) (sector_at (sectors_of b area) place) (sector_at (sectors_of e area) place) id bytes) a b area banks adds)
+          (to_geometry (λ u. Adds (format_of u) (sector_at (sectors_of b area) place) (sector_at (sectors_of e area) place) id bytes) a b area banks adds)
 
-      has_list : Keeps (kind (geometry_of b area)) (sector_at (sectors_of b area) place) (sector_at (sectors_of e area) place) → HasNotPut (kind (geometry_of a area)) (sectors_of a area) (sectors_of e area) place
+      has_list : Keeps (format_of (geometry_of b area)) (sector_at (sectors_of b area) place) (sector_at (sectors_of e area) place) → HasNotPut (format_of (geometry_of a area)) (sectors_of a area) (sectors_of e area) place
       has_list keeps =
           then-kept k law old (sectors_of b area) (sectors_of e area) place form large first begins second id bytes still_sound
-          (to_geometry (λ u. Keeps (kind u) (sector_at (sectors_of b area) place) (sector_at (sectors_of e area) place)) a b area banks keeps)
+          (to_geometry (λ u. Keeps (format_of u) (sector_at (sectors_of b area) place) (sector_at (sectors_of e area) place)) a b area banks keeps)
 
       -- the pair is put
-      put_stands : (later : T) → e.banks ≡ b.banks → Adds (kind (geometry_of b area)) (sector_at (sectors_of b area) place) (sector_at (sectors_of e area) place) id bytes → later ≡ kept (geometry_of b area) (sector_at (sectors_of e area) place) → StandsAt role kind kept e area place later
+      put_stands : (later : T) → e.banks ≡ b.banks → Adds (format_of (geometry_of b area)) (sector_at (sectors_of b area) place) (sector_at (sectors_of e area) place) id bytes → later ≡ kept (geometry_of b area) (sector_at (sectors_of e area) place) → StandsAt role format_of kept e area place later
       put_stands later more adds known =
-          stands role kind kept a e area place later law (more ∙ banks) on.area (has_pair adds).form (to_geometry (λ u. later ≡ kept u (sector_at (sectors_of e area) place)) a b area banks known)
+          stands role format_of kept a e area place later law (more ∙ banks) on.area (has_pair adds).form (to_geometry (λ u. later ≡ kept u (sector_at (sectors_of e area) place)) a b area banks known)
 
-      put_puts : Adds (kind (geometry_of b area)) (sector_at (sectors_of b area) place) (sector_at (sectors_of e area) place) id bytes → SpendsIn b e ((kind (geometry_of b area)).units.put (sector_at (sectors_of b area) place) (length bytes))
-          → PutsPair (kind (geometry_of a area)) a e area id bytes
+      put_puts : Adds (format_of (geometry_of b area)) (sector_at (sectors_of b area) place) (sector_at (sectors_of e area) place) id bytes → SpendsIn b e ((format_of (geometry_of b area)).units.put (sector_at (sectors_of b area) place) (length bytes))
+          → PutsPair (format_of (geometry_of a area)) a e area id bytes
       put_puts adds more =
           let has = has_pair adds in
-          let own : Adds k (sector_at (sectors_of b area) place) (sector_at (sectors_of e area) place) id bytes = to_geometry (λ u. Adds (kind u) (sector_at (sectors_of b area) place) (sector_at (sectors_of e area) place) id bytes) a b area banks adds in
+          let own : Adds k (sector_at (sectors_of b area) place) (sector_at (sectors_of e area) place) id bytes = to_geometry (λ u. Adds (format_of u) (sector_at (sectors_of b area) place) (sector_at (sectors_of e area) place) id bytes) a b area banks adds in
           let taken = own.free in
           let free_mid = begun-free k law old (sectors_of b area) (sectors_of b area) place form large first begins in
           let free_old = free_in a form in
           let free_new = free_in e has.form in
-          let there : SpendsIn b e (k.units.put (sector_at (sectors_of b area) place) (length bytes)) = to_geometry (λ u. SpendsIn b e ((kind u).units.put (sector_at (sectors_of b area) place) (length bytes))) a b area banks more in
+          let there : SpendsIn b e (k.units.put (sector_at (sectors_of b area) place) (length bytes)) = to_geometry (λ u. SpendsIn b e ((format_of u).units.put (sector_at (sectors_of b area) place) (length bytes))) a b area banks more in
           record {
             list = has.list;
             undamaged = has.undamaged;
@@ -144,17 +144,17 @@ module _ {T : Type 0} (role : Role) (kind : Geometry → Kind) (kept : Geometry 
           }
 
       -- power was lost
-      put_stops : Keeps (kind (geometry_of b area)) (sector_at (sectors_of b area) place) (sector_at (sectors_of e area) place) ⊎ Adds (kind (geometry_of b area)) (sector_at (sectors_of b area) place) (sector_at (sectors_of e area) place) id bytes
-          → LeavesRoom (kind (geometry_of b area)) (sector_at (sectors_of b area) place) (sector_at (sectors_of e area) place) ((kind (geometry_of b area)).cost (length bytes))
-          → SpendsUpTo b e ((kind (geometry_of b area)).units.put (sector_at (sectors_of b area) place) (length bytes)) → StopsPutting (kind (geometry_of a area)) a e area id bytes
+      put_stops : Keeps (format_of (geometry_of b area)) (sector_at (sectors_of b area) place) (sector_at (sectors_of e area) place) ⊎ Adds (format_of (geometry_of b area)) (sector_at (sectors_of b area) place) (sector_at (sectors_of e area) place) id bytes
+          → LeavesRoom (format_of (geometry_of b area)) (sector_at (sectors_of b area) place) (sector_at (sectors_of e area) place) ((format_of (geometry_of b area)).cost (length bytes))
+          → SpendsUpTo b e ((format_of (geometry_of b area)).units.put (sector_at (sectors_of b area) place) (length bytes)) → StopsPutting (format_of (geometry_of a area)) a e area id bytes
       put_stops either room more =
           let left : LeavesRoom k (sector_at (sectors_of b area) place) (sector_at (sectors_of e area) place) (k.cost (length bytes)) =
-          to_geometry (λ u. LeavesRoom (kind u) (sector_at (sectors_of b area) place) (sector_at (sectors_of e area) place) ((kind u).cost (length bytes))) a b area banks room in
+          to_geometry (λ u. LeavesRoom (format_of u) (sector_at (sectors_of b area) place) (sector_at (sectors_of e area) place) ((format_of u).cost (length bytes))) a b area banks room in
           let free_mid = begun-free k law old (sectors_of b area) (sectors_of b area) place form large first begins in
           let free_old = free_in a form in
           let leaves : AtRest k.reading (sectors_of e area) place → k.free (open_at k a area) ≤ k.free (open_at k e area) + k.cost (length bytes) =
           λ rested. let free_new = free_in e rested in omega arith in
-          let there : SpendsUpTo b e (k.units.put (sector_at (sectors_of b area) place) (length bytes)) = to_geometry (λ u. SpendsUpTo b e ((kind u).units.put (sector_at (sectors_of b area) place) (length bytes))) a b area banks more in
+          let there : SpendsUpTo b e (k.units.put (sector_at (sectors_of b area) place) (length bytes)) = to_geometry (λ u. SpendsUpTo b e ((format_of u).units.put (sector_at (sectors_of b area) place) (length bytes))) a b area banks more in
           let le = law.entry (sector_at old place) (sector_at (sectors_of b area) place) (length bytes) in
           let covers = law.units.begins (sector_at old place) in
           let cut : SpendsUpTo a e (both (k.units.begin (sector_at old place)) (k.units.put (sector_at old place) (length bytes))) =
@@ -168,22 +168,22 @@ module _ {T : Type 0} (role : Role) (kind : Geometry → Kind) (kept : Geometry 
           ]
 
       -- so the call ends
-      pub put_ends_stands : {X E : Type 0} (r : Result X E) (later : T) → e.banks ≡ b.banks → OnOk r (Adds (kind (geometry_of b area)) (sector_at (sectors_of b area) place) (sector_at (sectors_of e area) place) id bytes) → OnOk r (later ≡ kept (geometry_of b area) (sector_at (sectors_of e area) place)) → OnOk r (StandsAt role kind kept e area place later)
+      pub put_ends_stands : {X E : Type 0} (r : Result X E) (later : T) → e.banks ≡ b.banks → OnOk r (Adds (format_of (geometry_of b area)) (sector_at (sectors_of b area) place) (sector_at (sectors_of e area) place) id bytes) → OnOk r (later ≡ kept (geometry_of b area) (sector_at (sectors_of e area) place)) → OnOk r (StandsAt role format_of kept e area place later)
       put_ends_stands (Ok x) later more adds known = put_stands later more adds known
       put_ends_stands (Err x) later more adds known = tt
 
-      pub put_ends_entry : {X E : Type 0} (r : Result X E) → OnOk r (Adds (kind (geometry_of b area)) (sector_at (sectors_of b area) place) (sector_at (sectors_of e area) place) id bytes) → OnOk r (AddsEntry (kind (geometry_of a area)) (sectors_of a area) (sectors_of e area) place id (length bytes))
+      pub put_ends_entry : {X E : Type 0} (r : Result X E) → OnOk r (Adds (format_of (geometry_of b area)) (sector_at (sectors_of b area) place) (sector_at (sectors_of e area) place) id bytes) → OnOk r (AddsEntry (format_of (geometry_of a area)) (sectors_of a area) (sectors_of e area) place id (length bytes))
       put_ends_entry (Ok x) adds =
           adds-entry k law old (sectors_of e area) place form (has_pair adds).form (only_then old (sectors_of b area) (sectors_of e area) place first second) (sector_at (sectors_of b area) place) id bytes begins
-          (to_geometry (λ u. Adds (kind u) (sector_at (sectors_of b area) place) (sector_at (sectors_of e area) place) id bytes) a b area banks adds)
+          (to_geometry (λ u. Adds (format_of u) (sector_at (sectors_of b area) place) (sector_at (sectors_of e area) place) id bytes) a b area banks adds)
       put_ends_entry (Err x) adds = tt
 
-      pub put_ends_puts : {X E : Type 0} (r : Result X E) → OnOk r (Adds (kind (geometry_of b area)) (sector_at (sectors_of b area) place) (sector_at (sectors_of e area) place) id bytes) → OnOk r (SpendsIn b e ((kind (geometry_of b area)).units.put (sector_at (sectors_of b area) place) (length bytes))) → OnOk r (PutsPair (kind (geometry_of a area)) a e area id bytes)
+      pub put_ends_puts : {X E : Type 0} (r : Result X E) → OnOk r (Adds (format_of (geometry_of b area)) (sector_at (sectors_of b area) place) (sector_at (sectors_of e area) place) id bytes) → OnOk r (SpendsIn b e ((format_of (geometry_of b area)).units.put (sector_at (sectors_of b area) place) (length bytes))) → OnOk r (PutsPair (format_of (geometry_of a area)) a e area id bytes)
       put_ends_puts (Ok x) adds more = put_puts adds more
       put_ends_puts (Err x) adds more = tt
 
-      pub put_ends_stops : {X E : Type 0} (r : Result X E) → OnErr r (Keeps (kind (geometry_of b area)) (sector_at (sectors_of b area) place) (sector_at (sectors_of e area) place) ⊎ Adds (kind (geometry_of b area)) (sector_at (sectors_of b area) place) (sector_at (sectors_of e area) place) id bytes)
-          → OnErr r (LeavesRoom (kind (geometry_of b area)) (sector_at (sectors_of b area) place) (sector_at (sectors_of e area) place) ((kind (geometry_of b area)).cost (length bytes)))
-          → OnErr r (SpendsUpTo b e ((kind (geometry_of b area)).units.put (sector_at (sectors_of b area) place) (length bytes))) → OnErr r (StopsPutting (kind (geometry_of a area)) a e area id bytes)
+      pub put_ends_stops : {X E : Type 0} (r : Result X E) → OnErr r (Keeps (format_of (geometry_of b area)) (sector_at (sectors_of b area) place) (sector_at (sectors_of e area) place) ⊎ Adds (format_of (geometry_of b area)) (sector_at (sectors_of b area) place) (sector_at (sectors_of e area) place) id bytes)
+          → OnErr r (LeavesRoom (format_of (geometry_of b area)) (sector_at (sectors_of b area) place) (sector_at (sectors_of e area) place) ((format_of (geometry_of b area)).cost (length bytes)))
+          → OnErr r (SpendsUpTo b e ((format_of (geometry_of b area)).units.put (sector_at (sectors_of b area) place) (length bytes))) → OnErr r (StopsPutting (format_of (geometry_of a area)) a e area id bytes)
       put_ends_stops (Ok x) either room more = tt
       put_ends_stops (Err x) either room more = put_stops either room more

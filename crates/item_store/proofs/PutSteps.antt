@@ -8,24 +8,24 @@ use Rattle.item_laws.specs.Reading.{Reading, is_sound}
 use Rattle.item_laws.specs.Steps as ring
 use Rattle.item_laws.proofs.Collects.{put_pair, put_nothing, blank-sound}
 use Rattle.item_laws.proofs.RingSteps.{reads}
-use Rattle.item_store.specs.Kind.{Kind, IsKind, fits}
+use Rattle.item_store.specs.SectorFormat.{SectorFormat, IsSectorFormat, fits}
 use Rattle.item_store.specs.Standing.{list_of}
 use Rattle.item_store.specs.Steps.{Keeps, Begins, Adds}
 use Rattle.item_store.proofs.Areas.{form_undamaged, only_then}
 
 -- at rest with one pair more
-pub record HasPut (k : Kind) (old new : List (List ℕ)) (place id : ℕ) (bytes : List ℕ) : Type 0 where
+pub record HasPut (k : SectorFormat) (old new : List (List ℕ)) (place id : ℕ) (bytes : List ℕ) : Type 0 where
   pub form : AtRest k.reading new place
   pub list : list_of k new ≡ list_of k old ++ (id, bytes) ∷ []
   pub undamaged : k.damage new ≡ None
 
 -- with the same list
-pub record HasNotPut (k : Kind) (old new : List (List ℕ)) (place : ℕ) : Type 0 where
+pub record HasNotPut (k : SectorFormat) (old new : List (List ℕ)) (place : ℕ) : Type 0 where
   pub form : AtRest k.reading new place
   pub list : list_of k new ≡ list_of k old
   pub undamaged : k.damage new ≡ None
 
-module _ (k : Kind) (law : IsKind k) where
+module _ (k : SectorFormat) (law : IsSectorFormat k) where
   abbrev R : Reading
   R = k.reading
 

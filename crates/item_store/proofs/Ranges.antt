@@ -10,7 +10,7 @@ use Rattle.flash_map.specs.Area.{sector_at}
 use Rattle.item_store.specs.declared.entry.Redo.{Redo}
 use Rattle.item_store.specs.declared.entry.Redo.TheVariants.{Nothing, ClearNext, CollectAgain}
 use Rattle.item_store.specs.Collecting.{redo_units}
-use Rattle.item_store.specs.Kind.{Range, LiesIn, CoversWhole, Kind, IsKind, is_clean_at, making_ready}
+use Rattle.item_store.specs.SectorFormat.{Range, LiesIn, CoversWhole, SectorFormat, IsSectorFormat, is_clean_at, making_ready}
 use Rattle.item_store.specs.Spending.{none, both, copies, collect_units, ready_units, again_units, has_victim, round_units}
 use Rattle.item_store.specs.Standing.{SpendsIn, SpendsUpTo}
 
@@ -74,7 +74,7 @@ one-lost : (t : Bool) (one other : Range) (most : ℕ) → other.lost ≤ most �
 one-lost true one other most le = max-first one.lost most
 one-lost false one other most le = let second = max-second one.lost most in omega arith
 
-module _ (k : Kind) (law : IsKind k) where
+module _ (k : SectorFormat) (law : IsSectorFormat k) where
   copied-covers : (pairs : List (ℕ × List ℕ)) → CoversWhole (copies k pairs)
   copied-covers pairs = copies-cover (λ len. (k.units.any_copy len).most) (λ len. (k.units.any_copy len).lost) law.units.any_copies pairs
 

@@ -12,10 +12,10 @@ use Rattle.item_laws.specs.Area.{round, counts_at, open_sector, area_pairs}
 use Rattle.item_laws.specs.Forms.{pairs_at}
 use Rattle.item_laws.proofs.LiveLemmas.{option_cases}
 use Rattle.item_store.specs.declared.entry.Entry.{Entry}
-use Rattle.item_store.specs.Kind.{Kind, IsKind}
+use Rattle.item_store.specs.SectorFormat.{SectorFormat, IsSectorFormat}
 use Rattle.item_store.specs.Standing.{list_of, items}
 
-module _ (k : Kind) (law : IsKind k) where
+module _ (k : SectorFormat) (law : IsSectorFormat k) where
   unnamed_slots : (b : List ℕ) (ns : List ℕ) → names k.ids (map {B = ℕ × List ℕ} (λ (e : Entry). (e.id, k.bytes b e.slot)) (filter_map (k.in_slot b) ns)) ≡ false
   unnamed_slots b [] = refl
   unnamed_slots b (n ∷ ns) =

@@ -16,15 +16,15 @@ use Rattle.item_laws.proofs.LiveCost.{live-le}
 use Rattle.item_laws.proofs.Places.{after-within}
 use Rattle.item_laws.proofs.RingSteps.{reads}
 use Rattle.item_laws.proofs.Rounding.{oldest-is, round-live, no_round, round_more}
-use Rattle.item_store.specs.Kind.{Kind, IsKind, fits}
-use Rattle.item_store.specs.Collecting.{TurnsAt}
+use Rattle.item_store.specs.SectorFormat.{SectorFormat, IsSectorFormat, fits}
+use Rattle.item_store.specs.Collecting.{DoesPassAt}
 use Rattle.item_store.specs.Room.{has_room, parts_of, collected, newest, leaves_room, Rounds}
 use Rattle.item_store.specs.Spending.{none, round_units}
 use Rattle.item_store.specs.Standing.{list_of, KeepsItems}
 use Rattle.item_store.proofs.Ranges.{round-lost}
 use Rattle.item_store.proofs.Areas.{form_undamaged, keeps_none, keeps-by, keeps_then}
 use Rattle.item_store.proofs.RoundSteps.{unused-room}
-use Rattle.item_store.proofs.VersionSteps.{turned-versions}
+use Rattle.item_store.proofs.VersionSteps.{pass_done-versions}
 
 end_same : (xs ys : List (List (ℕ × List ℕ))) (x y : List (ℕ × List ℕ)) → xs ++ x ∷ [] ≡ ys ++ y ∷ [] → x ≡ y
 end_same xs ys x y e =
@@ -38,28 +38,28 @@ newest-is xs x = fold_push (λ (older part : List (ℕ × List ℕ)). part) [] x
 some_none : {X : Type 0} (x : X) (xs : List X) → x ∷ xs ≡ [] → ⊥
 some_none x xs e = cc
 
-module _ (k : Kind) (law : IsKind k) (size len : ℕ) where
+module _ (k : SectorFormat) (law : IsSectorFormat k) (size len : ℕ) where
   abbrev R : Reading
   R = k.reading
 
   -- the sector that is open after a round
-  pub turned : (mid new : List (List ℕ)) → TurnsAt k size mid new (open_sector k.reading mid) → open_sector k.reading new ≡ next mid (open_sector k.reading mid)
-  turned mid new turns = (reads R new (next mid (open_sector R mid)) (inl turns.round.form)).0
+  pub pass_done : (mid new : List (List ℕ)) → DoesPassAt k size mid new (open_sector k.reading mid) → open_sector k.reading new ≡ next mid (open_sector k.reading mid)
+  pass_done mid new does_pass = (reads R new (next mid (open_sector R mid)) (inl does_pass.round.form)).0
 
   pub rounds-rest : (old : List (List ℕ)) (before : List (List (List ℕ))) (new : List (List ℕ)) → AtRest k.reading old (open_sector k.reading old) → Rounds k size len old before new → AtRest k.reading new (open_sector k.reading new)
   rounds-rest old [] new form same = subst (λ (s : List (List ℕ)). AtRest R s (open_sector R s)) (sym same) form
-  rounds-rest old (mid ∷ before) new form did = subst (λ (p : ℕ). AtRest R new p) (sym (turned mid new did.2)) did.2.round.form
+  rounds-rest old (mid ∷ before) new form did = subst (λ (p : ℕ). AtRest R new p) (sym (pass_done mid new did.2)) did.2.round.form
 
   -- each takes the oldest part away
   pub rounds-parts : (old : List (List ℕ)) (before : List (List (List ℕ))) (new : List (List ℕ)) → Rounds k size len old before new → parts_of k new ≡ collected (length before) (parts_of k old)
   rounds-parts old [] new same = ap (parts_of k) same
-  rounds-parts old (mid ∷ before) new did = ap (λ (p : ℕ). parts R new p) (turned mid new did.2) ∙ did.2.round.parts ∙ ap collect_oldest (rounds-parts old before mid did.0)
+  rounds-parts old (mid ∷ before) new did = ap (λ (p : ℕ). parts R new p) (pass_done mid new did.2) ∙ did.2.round.parts ∙ ap collect_oldest (rounds-parts old before mid did.0)
 
   -- what all live items cost stays
   pub rounds-live : (old : List (List ℕ)) (before : List (List (List ℕ))) (new : List (List ℕ)) → AtRest k.reading old (open_sector k.reading old) → Rounds k size len old before new → live_cost k.cost (list_of k new) ≡ live_cost k.cost (list_of k old)
   rounds-live old [] new form same = ap (λ (s : List (List ℕ)). live_cost k.cost (list_of k s)) same
   rounds-live old (mid ∷ before) new form did =
-      ap (λ (p : ℕ). live_cost k.cost (area_pairs R new p)) (turned mid new did.2)
+      ap (λ (p : ℕ). live_cost k.cost (area_pairs R new p)) (pass_done mid new did.2)
       ∙ round-live R law.reads k.cost mid (open_sector R mid) new (rounds-rest old before mid form did.0) did.2.round
       ∙ rounds-live old before mid form did.0
 
@@ -70,7 +70,7 @@ module _ (k : Kind) (law : IsKind k) (size len : ℕ) where
   rounds-items old (mid ∷ before) new form did =
       let there = rounds-rest old before mid form did.0 in
       keeps_then k law old mid new (rounds-items old before mid form did.0)
-      (keeps-by k law mid new (open_sector R mid) (next mid (open_sector R mid)) (inl there) (inl did.2.round.form) (turned-versions R mid new (open_sector R mid) law.reads there did.2.round))
+      (keeps-by k law mid new (open_sector R mid) (next mid (open_sector R mid)) (inl there) (inl did.2.round.form) (pass_done-versions R mid new (open_sector R mid) law.reads there did.2.round))
 
   -- where it had room at first, there was no round
   pub rounds-none : (old : List (List ℕ)) (before : List (List (List ℕ))) (new : List (List ℕ)) → has_room k old len ≡ true → Rounds k size len old before new → before ≡ []
@@ -82,12 +82,12 @@ module _ (k : Kind) (law : IsKind k) (size len : ℕ) where
   last_room : (old : List (List ℕ)) (mid : List (List ℕ)) (before : List (List (List ℕ))) (new : List (List ℕ)) → 0 < len → Rounds k size len old (mid ∷ before) new
       → has_room k new len ≡ leaves_room k size len (parts_of k old) (length (mid ∷ before))
   last_room old mid before new some did =
-      let turns = did.2 in
+      let does_pass = did.2 in
       let place = next mid (open_sector R mid) in
-      let at : open_sector R new ≡ next mid (open_sector R mid) = turned mid new did.2 in
+      let at : open_sector R new ≡ next mid (open_sector R mid) = pass_done mid new did.2 in
       let part : newest (parts_of k new) ≡ pairs_at R new (next mid (open_sector R mid)) =
       newest-is (map (pairs_at R new) (rest (length new) (open_sector R new))) (pairs_at R new (open_sector R new)) ∙ ap (pairs_at R new) at in
-      ap (λ (p : ℕ). fits k (sector_at new p) len) at ∙ turns.room len some
+      ap (λ (p : ℕ). fits k (sector_at new p) len) at ∙ does_pass.room len some
       ∙ ap (λ (ps : List (ℕ × List ℕ)). leb (copies_cost k.cost ps + k.cost len) (k.cap size)) (sym part)
       ∙ ap (λ (ps : List (List (ℕ × List ℕ))). leb (copies_cost k.cost (newest ps) + k.cost len) (k.cap size)) (rounds-parts old (mid ∷ before) new did)
 
@@ -111,20 +111,20 @@ module _ (k : Kind) (law : IsKind k) (size len : ℕ) where
       subst (λ (s : List (List ℕ)). FindsNoRoom k.cost (k.cost len) (k.cap size) (parts_of k old) (parts_of k s) 0) (sym same) (no_round k.cost (k.cost len) (k.cap size) (parts_of k old))
   rounds-full old (mid ∷ before) new some short few did unfit =
       let place = open_sector R mid in
-      let turns = did.2 in
-      let at : open_sector R new ≡ next mid (open_sector R mid) = turned mid new did.2 in
+      let does_pass = did.2 in
+      let at : open_sector R new ≡ next mid (open_sector R mid) = pass_done mid new did.2 in
       let there : fits k (sector_at new (next mid (open_sector R mid))) len ≡ false = ap (λ (p : ℕ). fits k (sector_at new p) len) (sym at) ∙ unfit in
       let bound : k.cap size < copies_cost k.cost (pairs_at R new (next mid (open_sector R mid))) + k.cost len =
-      leb-false (copies_cost k.cost (pairs_at R new (next mid (open_sector R mid))) + k.cost len) (k.cap size) (sym (turns.room len some) ∙ there) in
+      leb-false (copies_cost k.cost (pairs_at R new (next mid (open_sector R mid))) + k.cost len) (k.cap size) (sym (does_pass.room len some) ∙ there) in
       let one_less : length before < length (parts_of k old) = omega arith in
       let finds : FindsNoRoom k.cost (k.cost len) (k.cap size) (parts_of k old) (collect_oldest (parts_of k mid)) (length before + 1) =
       round_more k.cost (k.cost len) (k.cap size) (parts_of k old) (parts_of k mid) (length before) (rounds-full old before mid some short (omega arith) did.0 did.1) one_less
       (λ victim others are.
       let ends : map (pairs_at R new) (rest (length new) (next mid (open_sector R mid))) ++ pairs_at R new (next mid (open_sector R mid)) ∷ [] ≡ others ++ live_pairs victim (joined others) ∷ [] =
-      turns.round.parts ∙ ap collect_oldest are ∙ oldest-is victim others in
+      does_pass.round.parts ∙ ap collect_oldest are ∙ oldest-is victim others in
       let newest : pairs_at R new (next mid (open_sector R mid)) ≡ live_pairs victim (joined others) = end_same (map (pairs_at R new) (rest (length new) (next mid (open_sector R mid)))) others (pairs_at R new (next mid (open_sector R mid))) (live_pairs victim (joined others)) ends in
       subst (λ (ps : List (ℕ × List ℕ)). k.cap size < copies_cost k.cost ps + k.cost len) newest bound) in
-      let are : collect_oldest (parts_of k mid) ≡ parts_of k new = sym (ap (λ (p : ℕ). parts R new p) at ∙ turns.round.parts) in
+      let are : collect_oldest (parts_of k mid) ≡ parts_of k new = sym (ap (λ (p : ℕ). parts R new p) at ∙ does_pass.round.parts) in
       let count : length before + 1 ≡ length (mid ∷ before) = omega arith in
       subst (λ (n : ℕ). FindsNoRoom k.cost (k.cost len) (k.cap size) (parts_of k old) (parts_of k new) n) count
       (subst (λ (ps : List (List (ℕ × List ℕ))). FindsNoRoom k.cost (k.cost len) (k.cap size) (parts_of k old) ps (length before + 1)) are finds)

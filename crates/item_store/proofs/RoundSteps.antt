@@ -16,11 +16,11 @@ use Rattle.item_laws.proofs.Parts.{map_agree}
 use Rattle.item_laws.proofs.RingSteps.{reads}
 use Rattle.item_laws.proofs.Places.{after, after-within, after-apart, flat_map-agree}
 use Rattle.item_laws.proofs.Rounding.{round_blank, round_collected}
-use Rattle.item_store.specs.Kind.{Kind, IsKind, making_ready, entries, fits}
+use Rattle.item_store.specs.SectorFormat.{SectorFormat, IsSectorFormat, making_ready, entries, fits}
 use Rattle.item_store.specs.Steps.{Keeps, Closes, StopsClearing}
 use Rattle.item_store.specs.Spending.{none, both, copies, collect_units, ready_units, again_units, open_units, has_victim}
 use Rattle.item_store.specs.Standing.{KeepsItems}
-use Rattle.item_store.specs.Collecting.{HasOpened, CollectsAt, TurnsAt}
+use Rattle.item_store.specs.Collecting.{HasOpened, CollectsAt, DoesPassAt}
 use Rattle.item_store.proofs.VersionLemmas.{keeps_all}
 use Rattle.item_store.proofs.Areas.{keeps-by, keeps_list, only_length, only_else, copied-le}
 use Rattle.item_store.proofs.PutSteps.{HasNotPut, has_not_put}
@@ -38,7 +38,7 @@ leb-same a b c d there back =
           ]
     ]
 
-module _ (k : Kind) (law : IsKind k) where
+module _ (k : SectorFormat) (law : IsSectorFormat k) where
   abbrev R : Reading
   R = k.reading
 
@@ -222,15 +222,15 @@ module _ (k : Kind) (law : IsKind k) where
 
       round-opened : IsRound k.reading old place new
       round-opened =
-          let turned = subst (IsRound R old place) (sym only) (round_blank R law.reads old place (sector_at mid place) form closes.list sound (subst (λ (s : List (List ℕ)). AtRest R s (next old place)) only rested)) in
+          let pass_done = subst (IsRound R old place) (sym only) (round_blank R law.reads old place (sector_at mid place) form closes.list sound (subst (λ (s : List (List ℕ)). AtRest R s (next old place)) only rested)) in
           record {
             form = opened-put.form;
-            items = λ id. ap (λ ps. last ps id) list-opened ∙ turned.items id;
-            parts = parts-opened ∙ turned.parts;
+            items = λ id. ap (λ ps. last ps id) list-opened ∙ pass_done.items id;
+            parts = parts-opened ∙ pass_done.parts;
           }
 
-      pub turns-opened : (size : ℕ) → 512 ≤ size → length (sector_at old (next old place)) ≡ size → TurnsAt k size old new place
-      turns-opened size large width =
+      pub does_pass-opened : (size : ℕ) → 512 ≤ size → length (sector_at old (next old place)) ≡ size → DoesPassAt k size old new place
+      does_pass-opened size large width =
           let here = opened.long ∙ ap length opened-same ∙ width in
           let room = unused-room (sector_at new (next old place)) size large here opened.clean in
           let no_copies : copies_cost k.cost (pairs_at R new (next old place)) ≡ 0 = ap (copies_cost k.cost) (law.reads.pairs (sector_at new (next old place)) new_blank) in
@@ -241,8 +241,8 @@ module _ (k : Kind) (law : IsKind k) where
             others = λ j apart off. ap (entries k) (only_else mid new (next old place) j opened.only apart) ∙ closed-entries j;
           }
 
-    pub turns-collected : (size : ℕ) (new : List (List ℕ)) → 512 ≤ size → ((j : ℕ) → j < length old → length (sector_at mid j) ≡ size) → Collecting k.reading mid (next old place) → CollectsAt k mid new (next old place) → TurnsAt k size old new place
-    turns-collected size new large widths collecting all =
+    pub does_pass-collected : (size : ℕ) (new : List (List ℕ)) → 512 ≤ size → ((j : ℕ) → j < length old → length (sector_at mid j) ≡ size) → Collecting k.reading mid (next old place) → CollectsAt k mid new (next old place) → DoesPassAt k size old new place
+    does_pass-collected size new large widths collecting all =
         let here_width = widths (next old place) (after-within (length old) place within) in
         let victim_in = after-within (length old) (next old place) (after-within (length old) place within) in
         let victim_width = widths (next old (next old place)) victim_in in
@@ -253,9 +253,9 @@ module _ (k : Kind) (law : IsKind k) where
         let used : copies_cost k.cost (pairs_at R new (next old place)) ≡ copies_cost k.cost (to_copy R mid (next old place)) = ap (copies_cost k.cost) all.list in
         let has_room = all.room in
         let room = collected-room (sector_at new (next old place)) size (copies_cost k.cost (to_copy R mid (next old place))) all.gc_done (omega arith) (omega arith) in
-        let turned = round_collected R law.reads old place (sector_at mid place) form closes.list sound new (subst (λ (s : List (List ℕ)). Collects R s (next old place) new) only all.collects) in
+        let pass_done = round_collected R law.reads old place (sector_at mid place) form closes.list sound new (subst (λ (s : List (List ℕ)). Collects R s (next old place) new) only all.collects) in
         record {
-          round = turned;
+          round = pass_done;
           room = λ len some. room.room len some ∙ ap (λ (n : ℕ). leb (n + k.cost len) (k.cap size)) (sym used);
           delete = room.delete;
           others = λ j apart off. ap (entries k) (all.others j apart (λ (e : j ≡ next mid (next old place)). off (e ∙ same_next))) ∙ closed-entries j;

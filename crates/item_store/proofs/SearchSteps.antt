@@ -14,7 +14,7 @@ use Rattle.item_laws.proofs.Places.{range-append}
 use Rattle.item_laws.proofs.RoundAt.{round-at}
 use Rattle.item_store.specs.declared.entry.Placed.{Placed}
 use Rattle.item_store.specs.Cached.{latest_of}
-use Rattle.item_store.specs.Kind.{Kind, IsKind, slots}
+use Rattle.item_store.specs.SectorFormat.{SectorFormat, IsSectorFormat, slots}
 use Rattle.item_store.specs.Latest.{last_of_id}
 use Rattle.item_store.proofs.CacheSteps.{latest-none}
 use Rattle.item_store.proofs.LiveSteps.{elsewhere}
@@ -44,15 +44,15 @@ up-far count current place le =
 
 -- ---- no entry behind them has the id
 
-module _ (k : Kind) (law : IsKind k) (sectors : List (List ℕ)) (current place id : ℕ) (is : current ≡ open_sector k.reading sectors) (low : current < length sectors) (high : place < length sectors)
+module _ (k : SectorFormat) (law : IsSectorFormat k) (sectors : List (List ℕ)) (current place id : ℕ) (is : current ≡ open_sector k.reading sectors) (low : current < length sectors) (high : place < length sectors)
     (p : Placed) (latest : latest_of (id % 64) (all_placed (slots k) sectors) ≡ Some p) (at : p.sector ≡ place) where
-  abbrev front : List Placed
-  front = flat_map (counted_in (slots k) sectors current) (places_before (length sectors) current place ++ place ∷ [])
+  abbrev prefix : List Placed
+  prefix = flat_map (counted_in (slots k) sectors current) (places_before (length sectors) current place ++ place ∷ [])
 
   abbrev tail : List Placed
   tail = flat_map (counted_in (slots k) sectors current) (places_after (length sectors) current place)
 
-  all-split : all_placed (slots k) sectors ≡ front ++ tail
+  all-split : all_placed (slots k) sectors ≡ prefix ++ tail
   all-split =
       ap (λ (j : ℕ). flat_map (counted_in (slots k) sectors j) (round (length sectors) j)) (sym is)
       ∙ ap (flat_map (counted_in (slots k) sectors current)) ((round-at (length sectors) current place low high).split ∙ sym (append_assoc (places_before (length sectors) current place) (place ∷ []) (places_after (length sectors) current place)))
@@ -64,7 +64,7 @@ module _ (k : Kind) (law : IsKind k) (sectors : List (List ℕ)) (current place 
         | inl none ↦ none
         | inr (q, some) ↦
             let found : latest_of (id % 64) (all_placed (slots k) sectors) ≡ Some q =
-            ap (latest_of (id % 64)) all-split ∙ last-append (λ (r : Placed). eqb (r.id % 64) (id % 64)) front tail ∙ ap (λ (o : Option Placed). option_or o (latest_of (id % 64) front)) some in
+            ap (latest_of (id % 64)) all-split ∙ last-append (λ (r : Placed). eqb (r.id % 64) (id % 64)) prefix tail ∙ ap (λ (o : Option Placed). option_or o (latest_of (id % 64) prefix)) some in
             let same : q ≡ p = same_some q p (sym found ∙ latest) in
             let apart : q.sector ≡ place → ⊥ =
             subst (λ (o : Option Placed). IfSome o (λ r. r.sector ≡ place → ⊥)) some
@@ -77,4 +77,4 @@ module _ (k : Kind) (law : IsKind k) (sectors : List (List ℕ)) (current place 
 
   pub search-enough : last_of (slots k) id (flat_map (counted_in (slots k) sectors current) (places_before (length sectors) current place ++ place ∷ [])) ≡ last_placed (slots k) sectors id
   search-enough =
-      sym (ap (last_of_id id) all-split ∙ last-append (λ (r : Placed). eqb r.id id) front tail ∙ ap (λ (o : Option Placed). option_or o (last_of_id id front)) (latest-none id tail none-behind))
+      sym (ap (last_of_id id) all-split ∙ last-append (λ (r : Placed). eqb r.id id) prefix tail ∙ ap (λ (o : Option Placed). option_or o (last_of_id id prefix)) (latest-none id tail none-behind))

@@ -1,4 +1,4 @@
--- What a set of bits tells of the ids of some entries, one entry after another.
+-- What a set of bits says of the ids of some entries, one entry after another.
 use Rattle.std.proofs.Common.{◌≡◌, ◌≢◌, ℕ, ◌+◌, ◌-◌, ◌*◌, ◌/◌, ◌%◌, ◌^◌, ◌<◌, ◌≤◌, Bool, true, false, ◌||◌, cond, eqb, List, [], ◌∷◌, ◌++◌, length, map, Option, Some, None, refl, sym, ap, subst, ◌∙◌, inl, inr, append_assoc, arith}
 use Rattle.std.specs.Prelude.{bit_or, replicate, slice_set, slice_index}
 use Rattle.std.specs.Int.{bit_at, w8}
@@ -19,7 +19,7 @@ use Rattle.item_laws.proofs.Places.{range-append, range_one}
 use Rattle.item_store.specs.declared.entry.Entry.{Entry}
 use Rattle.item_store.specs.declared.entry.Placed.{Placed}
 use Rattle.item_store.specs.declared.seen.Seen.{Seen}
-use Rattle.item_store.specs.Kind.{Kind, placed_at, slots}
+use Rattle.item_store.specs.SectorFormat.{SectorFormat, placed_at, slots}
 use Rattle.item_store.specs.Seen.{key_of, is_other, is_long, has_bit, HasSeen, behind}
 use Rattle.item_store.proofs.OlderSteps.{placed_to, to_more}
 
@@ -84,8 +84,8 @@ flag_push : (f : Placed → Bool) (flag more : Bool) (before : List Placed) (p :
 flag_push f flag more before p is so_far =
     is ∙ ap (λ (t : Bool). t || f p) so_far ∙ ap (λ (t : Bool). list_any f before || t) (sym (or-false (f p))) ∙ sym (list_any-append f before (p ∷ []))
 
-flag_front : (f : Placed → Bool) (flag more : Bool) (later : List Placed) (p : Placed) → more ≡ (flag || f p) → flag ≡ list_any f later → more ≡ list_any f (p ∷ later)
-flag_front f flag more later p is so_far = is ∙ ap (λ (t : Bool). t || f p) so_far ∙ or-comm (list_any f later) (f p)
+flag_prefix : (f : Placed → Bool) (flag more : Bool) (later : List Placed) (p : Placed) → more ≡ (flag || f p) → flag ≡ list_any f later → more ≡ list_any f (p ∷ later)
+flag_prefix f flag more later p is so_far = is ∙ ap (λ (t : Bool). t || f p) so_far ∙ or-comm (list_any f later) (f p)
 
 pub seen_push : (limit : ℕ) (old new : Seen) (before : List Placed) (p : Placed) → p.id < limit → Noted old.bits new.bits p.id → new.mixed ≡ (old.mixed || is_other p) → new.long ≡ (old.long || is_long p)
     → HasSeen limit old before → HasSeen limit new (before ++ p ∷ [])
@@ -96,12 +96,12 @@ seen_push limit old new before p small noted mixed long seen = record {
   known = All-append (λ (q : Placed). q.id < limit) before (p ∷ []) seen.known (All-cons (λ (q : Placed). q.id < limit) p [] small (All-nil (λ (q : Placed). q.id < limit)));
 }
 
-seen_front : (limit : ℕ) (old new : Seen) (later : List Placed) (p : Placed) → p.id < limit → Noted old.bits new.bits p.id → new.mixed ≡ (old.mixed || is_other p) → new.long ≡ (old.long || is_long p)
+seen_prefix : (limit : ℕ) (old new : Seen) (later : List Placed) (p : Placed) → p.id < limit → Noted old.bits new.bits p.id → new.mixed ≡ (old.mixed || is_other p) → new.long ≡ (old.long || is_long p)
     → HasSeen limit old later → HasSeen limit new (p ∷ later)
-seen_front limit old new later p small noted mixed long seen = record {
-  bit = λ key below. flag_front (λ q. eqb (key_of q.id) key) (has_bit old.bits key) (has_bit new.bits key) later p (noted key below) (seen.bit key below);
-  others = flag_front is_other old.mixed new.mixed later p mixed seen.others;
-  longs = flag_front is_long old.long new.long later p long seen.longs;
+seen_prefix limit old new later p small noted mixed long seen = record {
+  bit = λ key below. flag_prefix (λ q. eqb (key_of q.id) key) (has_bit old.bits key) (has_bit new.bits key) later p (noted key below) (seen.bit key below);
+  others = flag_prefix is_other old.mixed new.mixed later p mixed seen.others;
+  longs = flag_prefix is_long old.long new.long later p long seen.longs;
   known = All-cons (λ (q : Placed). q.id < limit) p later small seen.known;
 }
 
@@ -112,17 +112,17 @@ seen_same P before o is seen = subst (λ (o : Option Placed). P (before ++ optio
 pub seen_some : (P : List Placed → Type 0) (before : List Placed) (p : Placed) (o : Option Placed) → Some p ≡ o → P (before ++ p ∷ []) → P (before ++ option_to_list o)
 seen_some P before p o is seen = subst (λ (o : Option Placed). P (before ++ option_to_list o)) is seen
 
--- in front of others
+-- before others
 pub seen_before : (limit : ℕ) (old new : Seen) (later : List Placed) (p : Placed) (o : Option Placed) → Some p ≡ o → p.id < limit → Noted old.bits new.bits p.id → new.mixed ≡ (old.mixed || is_other p) → new.long ≡ (old.long || is_long p)
     → HasSeen limit old later → HasSeen limit new (option_to_list o ++ later)
-seen_before limit old new later p o there small noted mixed long seen = subst (λ (o : Option Placed). HasSeen limit new (option_to_list o ++ later)) there (seen_front limit old new later p small noted mixed long seen)
+seen_before limit old new later p o there small noted mixed long seen = subst (λ (o : Option Placed). HasSeen limit new (option_to_list o ++ later)) there (seen_prefix limit old new later p small noted mixed long seen)
 
 pub seen_still : (limit : ℕ) (seen : Seen) (later : List Placed) (o : Option Placed) → None ≡ o → HasSeen limit seen later → HasSeen limit seen (option_to_list o ++ later)
 seen_still limit seen later o is noted = subst (λ (o : Option Placed). HasSeen limit seen (option_to_list o ++ later)) is noted
 
 -- ---- slot by slot, and sector by sector
 
-module _ (k : Kind) where
+module _ (k : SectorFormat) where
   pub slot_list : (b : List ℕ) (place slot : ℕ) → map (placed_at place) (filter_map (k.in_slot b) (slot ∷ [])) ≡ option_to_list (option_map (placed_at place) (k.in_slot b slot))
   slot_list b place slot = by_entry (k.in_slot b slot) refl
     where

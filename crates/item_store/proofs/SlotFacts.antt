@@ -15,7 +15,7 @@ use Rattle.item_laws.proofs.AreaReads.{length-sectors}
 use Rattle.item_laws.proofs.Places.{after-within, after-apart}
 use Rattle.item_laws.specs.Live.{live_in, cost_of}
 use Rattle.item_store.specs.declared.entry.Placed.{Placed}
-use Rattle.item_store.specs.Kind.{Range, Kind, IsKind, slots}
+use Rattle.item_store.specs.SectorFormat.{Range, SectorFormat, IsSectorFormat, slots}
 use Rattle.item_store.specs.Seen.{holds_live}
 use Rattle.item_store.specs.Steps.{KeepsMarks}
 use Rattle.item_store.specs.Spending.{copies}
@@ -30,10 +30,10 @@ current_within a area place within = omega (arith, length-sectors a area)
 pub next_within : (a : Device) (area : Area) (place : ℕ) → place < length (sectors_of a area) → next (sectors_of a area) place < area.sectors
 next_within a area place within = let next_in = after-within (length (sectors_of a area)) place within in omega (arith, length-sectors a area)
 
-module _ (kind : Geometry → Kind) (role : Role) (a d : Device) (area : Area) (place victim first slot : ℕ) (law : IsKind (kind (geometry_of a area))) (lawful : IsLawful a.banks a.bytes) (is : IsStoreArea role a.banks area) (form : Collecting (kind (geometry_of a area)).reading (sectors_of a area) place) (at : victim ≡ next (sectors_of a area) place)
-    (first_is : first ≡ (kind (geometry_of a area)).first) (from : first ≤ slot) (so_far : IsCopying (kind (geometry_of a area)) a d area place (slot - first)) where
-  abbrev k : Kind
-  k = kind (geometry_of a area)
+module _ (format_of : Geometry → SectorFormat) (role : Role) (a d : Device) (area : Area) (place victim first slot : ℕ) (law : IsSectorFormat (format_of (geometry_of a area))) (lawful : IsLawful a.banks a.bytes) (is : IsStoreArea role a.banks area) (form : Collecting (format_of (geometry_of a area)).reading (sectors_of a area) place) (at : victim ≡ next (sectors_of a area) place)
+    (first_is : first ≡ (format_of (geometry_of a area)).first) (from : first ≤ slot) (so_far : IsCopying (format_of (geometry_of a area)) a d area place (slot - first)) where
+  abbrev k : SectorFormat
+  k = format_of (geometry_of a area)
 
   abbrev old : List (List ℕ)
   old = sectors_of a area
@@ -62,71 +62,71 @@ module _ (kind : Geometry → Kind) (role : Role) (a d : Device) (area : Area) (
   pub apart : victim ≡ place → ⊥
   apart e = after-apart (length old) place form.ring.within form.ring.several (sym at ∙ e)
 
-  pub opens : place ≡ open_sector (kind (geometry_of d area)).reading (sectors_of d area)
-  opens = subst (λ (u : Geometry). place ≡ open_sector (kind u).reading (sectors_of d area)) (sym geometry) (open_there k law a d area place n form large same_long so_far)
+  pub opens : place ≡ open_sector (format_of (geometry_of d area)).reading (sectors_of d area)
+  opens = subst (λ (u : Geometry). place ≡ open_sector (format_of u).reading (sectors_of d area)) (sym geometry) (open_there k law a d area place n form large same_long so_far)
 
-  pub closed : is_closed_at (kind (geometry_of d area)).reading (sectors_of d area) (next (sectors_of d area) place) ≡ true
-  closed = subst (λ (u : Geometry). is_closed_at (kind u).reading (sectors_of d area) (next (sectors_of d area) place) ≡ true) (sym geometry) (closed_there k law a d area place n form large same_long so_far)
+  pub closed : is_closed_at (format_of (geometry_of d area)).reading (sectors_of d area) (next (sectors_of d area) place) ≡ true
+  closed = subst (λ (u : Geometry). is_closed_at (format_of u).reading (sectors_of d area) (next (sectors_of d area) place) ≡ true) (sym geometry) (closed_there k law a d area place n form large same_long so_far)
 
-  pub ready : (kind (geometry_of d area)).is_ready (sector_at (sectors_of d area) place) ≡ true
-  ready = subst (λ (u : Geometry). (kind u).is_ready (sector_at (sectors_of d area) place) ≡ true) (sym geometry) so_far.has.ready
+  pub ready : (format_of (geometry_of d area)).is_ready (sector_at (sectors_of d area) place) ≡ true
+  ready = subst (λ (u : Geometry). (format_of u).is_ready (sector_at (sectors_of d area) place) ≡ true) (sym geometry) so_far.has.ready
 
-  pub not_done : (kind (geometry_of d area)).reading.has_gc_done (sector_at (sectors_of d area) place) ≡ false
-  not_done = subst (λ (u : Geometry). (kind u).reading.has_gc_done (sector_at (sectors_of d area) place) ≡ false) (sym geometry) so_far.has.gc_done
+  pub not_done : (format_of (geometry_of d area)).reading.has_gc_done (sector_at (sectors_of d area) place) ≡ false
+  not_done = subst (λ (u : Geometry). (format_of u).reading.has_gc_done (sector_at (sectors_of d area) place) ≡ false) (sym geometry) so_far.has.gc_done
 
-  pub source : is_sound (kind (geometry_of d area)).reading (sector_at (sectors_of d area) victim) ≡ true
+  pub source : is_sound (format_of (geometry_of d area)).reading (sector_at (sectors_of d area) victim) ≡ true
   source =
-      subst (λ (v : ℕ). is_sound (kind (geometry_of d area)).reading (sector_at (sectors_of d area) v) ≡ true) (sym at)
-      (subst (λ (u : Geometry). is_sound (kind u).reading (sector_at (sectors_of d area) (next old place)) ≡ true) (sym geometry) (ring_there k law a d area place n form large same_long so_far))
+      subst (λ (v : ℕ). is_sound (format_of (geometry_of d area)).reading (sector_at (sectors_of d area) v) ≡ true) (sym at)
+      (subst (λ (u : Geometry). is_sound (format_of u).reading (sector_at (sectors_of d area) (next old place)) ≡ true) (sym geometry) (ring_there k law a d area place n form large same_long so_far))
 
-  pub within : (kind (geometry_of d area)).within (sector_at (sectors_of d area) victim) ≡ true
+  pub within : (format_of (geometry_of d area)).within (sector_at (sectors_of d area) victim) ≡ true
   within =
       let there = victim_there k law a d area place n form large same_long so_far in
       let own = law.sound (sector_at old (next old place)) large (ap (λ (b : List ℕ). is_sound k.reading b) (sym there) ∙ ring_there k law a d area place n form large same_long so_far) in
-      subst (λ (v : ℕ). (kind (geometry_of d area)).within (sector_at (sectors_of d area) v) ≡ true) (sym at)
-      (subst (λ (u : Geometry). (kind u).within (sector_at (sectors_of d area) (next old place)) ≡ true) (sym geometry) (ap k.within there ∙ own))
+      subst (λ (v : ℕ). (format_of (geometry_of d area)).within (sector_at (sectors_of d area) v) ≡ true) (sym at)
+      (subst (λ (u : Geometry). (format_of u).within (sector_at (sectors_of d area) (next old place)) ≡ true) (sym geometry) (ap k.within there ∙ own))
 
-  pub listed_there : slot < first + k.count (sector_at (sectors_of a area) (next (sectors_of a area) place)) → ((kind (geometry_of d area)).first ≤ slot) × (slot < (kind (geometry_of d area)).first + (kind (geometry_of d area)).count (sector_at (sectors_of d area) victim))
+  pub listed_there : slot < first + k.count (sector_at (sectors_of a area) (next (sectors_of a area) place)) → ((format_of (geometry_of d area)).first ≤ slot) × (slot < (format_of (geometry_of d area)).first + (format_of (geometry_of d area)).count (sector_at (sectors_of d area) victim))
   listed_there more =
       let there = victim_there k law a d area place n form large same_long so_far in
       let same : k.count (sector_at (sectors_of d area) (next old place)) ≡ k.count (sector_at old (next old place)) = ap k.count there in
       let low : k.first ≤ slot = omega arith in
       let high : slot < k.first + k.count (sector_at (sectors_of d area) (next old place)) = omega arith in
-      subst (λ (v : ℕ). ((kind (geometry_of d area)).first ≤ slot) × (slot < (kind (geometry_of d area)).first + (kind (geometry_of d area)).count (sector_at (sectors_of d area) v))) (sym at)
-      (subst (λ (u : Geometry). ((kind u).first ≤ slot) × (slot < (kind u).first + (kind u).count (sector_at (sectors_of d area) (next old place)))) (sym geometry) (low, high))
+      subst (λ (v : ℕ). ((format_of (geometry_of d area)).first ≤ slot) × (slot < (format_of (geometry_of d area)).first + (format_of (geometry_of d area)).count (sector_at (sectors_of d area) v))) (sym at)
+      (subst (λ (u : Geometry). ((format_of u).first ≤ slot) × (slot < (format_of u).first + (format_of u).count (sector_at (sectors_of d area) (next old place)))) (sym geometry) (low, high))
 
   pub room : slot < first + k.count (sector_at (sectors_of a area) (next (sectors_of a area) place))
-      → cost_of (slots (kind (geometry_of d area))) (live_in (slots (kind (geometry_of d area))) (sectors_of d area) victim slot) + 3 * (kind (geometry_of d area)).slot ≤ (kind (geometry_of d area)).free (sector_at (sectors_of d area) place)
+      → cost_of (slots (format_of (geometry_of d area))) (live_in (slots (format_of (geometry_of d area))) (sectors_of d area) victim slot) + 3 * (format_of (geometry_of d area)).slot ≤ (format_of (geometry_of d area)).free (sector_at (sectors_of d area) place)
   room more =
       let there = room_there k law a d area place n form large same_long so_far (listed more) in
-      subst (λ (u : Geometry). cost_of (slots (kind u)) (live_in (slots (kind u)) (sectors_of d area) victim slot) + 3 * (kind u).slot ≤ (kind u).free (sector_at (sectors_of d area) place)) (sym geometry)
+      subst (λ (u : Geometry). cost_of (slots (format_of u)) (live_in (slots (format_of u)) (sectors_of d area) victim slot) + 3 * (format_of u).slot ≤ (format_of u).free (sector_at (sectors_of d area) place)) (sym geometry)
       (subst (λ (v : ℕ). cost_of (slots k) (live_in (slots k) (sectors_of d area) v slot) + 3 * k.slot ≤ k.free (sector_at (sectors_of d area) place)) (sym at)
       (subst (λ (s : ℕ). cost_of (slots k) (live_in (slots k) (sectors_of d area) (next old place) s) + 3 * k.slot ≤ k.free (sector_at (sectors_of d area) place)) back there))
 
-  one_at : (e : Device) → CopiesOne (kind (geometry_of d area)) (sectors_of d area) (sectors_of e area) place (live_in (slots (kind (geometry_of d area))) (sectors_of d area) victim slot) → CopiesOne k (sectors_of d area) (sectors_of e area) place (live_in (slots k) (sectors_of d area) (next old place) (n + k.first))
+  one_at : (e : Device) → CopiesOne (format_of (geometry_of d area)) (sectors_of d area) (sectors_of e area) place (live_in (slots (format_of (geometry_of d area))) (sectors_of d area) victim slot) → CopiesOne k (sectors_of d area) (sectors_of e area) place (live_in (slots k) (sectors_of d area) (next old place) (n + k.first))
   one_at e one =
       subst (λ (s : ℕ). CopiesOne k (sectors_of d area) (sectors_of e area) place (live_in (slots k) (sectors_of d area) (next old place) s)) (sym back)
       (subst (λ (v : ℕ). CopiesOne k (sectors_of d area) (sectors_of e area) place (live_in (slots k) (sectors_of d area) v slot)) at
-      (subst (λ (u : Geometry). CopiesOne (kind u) (sectors_of d area) (sectors_of e area) place (live_in (slots (kind u)) (sectors_of d area) victim slot)) geometry one))
+      (subst (λ (u : Geometry). CopiesOne (format_of u) (sectors_of d area) (sectors_of e area) place (live_in (slots (format_of u)) (sectors_of d area) victim slot)) geometry one))
 
-  units_at : copy_units (kind (geometry_of d area)) (live_in (slots (kind (geometry_of d area))) (sectors_of d area) victim slot) ≡ copy_units k (live_in (slots k) (sectors_of d area) (next old place) (n + k.first))
+  units_at : copy_units (format_of (geometry_of d area)) (live_in (slots (format_of (geometry_of d area))) (sectors_of d area) victim slot) ≡ copy_units k (live_in (slots k) (sectors_of d area) (next old place) (n + k.first))
   units_at =
-      ap (λ (u : Geometry). copy_units (kind u) (live_in (slots (kind u)) (sectors_of d area) victim slot)) geometry
+      ap (λ (u : Geometry). copy_units (format_of u) (live_in (slots (format_of u)) (sectors_of d area) victim slot)) geometry
       ∙ ap (λ (v : ℕ). copy_units k (live_in (slots k) (sectors_of d area) v slot)) at
       ∙ ap (λ (s : ℕ). copy_units k (live_in (slots k) (sectors_of d area) (next old place) s)) (sym back)
 
-  pub one_more : (e : Device) → slot < first + k.count (sector_at (sectors_of a area) (next (sectors_of a area) place)) → Touches (area ∷ []) d e false → CopiesOne (kind (geometry_of d area)) (sectors_of d area) (sectors_of e area) place (live_in (slots (kind (geometry_of d area))) (sectors_of d area) victim slot)
-      → SpendsIn d e (copy_units (kind (geometry_of d area)) (live_in (slots (kind (geometry_of d area))) (sectors_of d area) victim slot)) → IsCopying (kind (geometry_of a area)) a e area place (slot + 1 - first)
+  pub one_more : (e : Device) → slot < first + k.count (sector_at (sectors_of a area) (next (sectors_of a area) place)) → Touches (area ∷ []) d e false → CopiesOne (format_of (geometry_of d area)) (sectors_of d area) (sectors_of e area) place (live_in (slots (format_of (geometry_of d area))) (sectors_of d area) victim slot)
+      → SpendsIn d e (copy_units (format_of (geometry_of d area)) (live_in (slots (format_of (geometry_of d area))) (sectors_of d area) victim slot)) → IsCopying (format_of (geometry_of a area)) a e area place (slot + 1 - first)
   one_more e more touches one spent =
       let m : n + 1 ≡ slot + 1 - first = omega arith in
       subst (λ (m : ℕ). IsCopying k a e area place m) m
       (copying_more k law a d area place n form large same_long so_far e (listed more) touches (one_at e one) (subst (λ (r : Range). SpendsIn d e r) units_at spent))
 
-  pub one_lost : (e : Device) → ChangesOnly (sectors_of d area) (sectors_of e area) place → KeepsMarks (kind (geometry_of d area)) (sector_at (sectors_of d area) place) (sector_at (sectors_of e area) place) → StopsCopying (kind (geometry_of a area)) (sectors_of a area) (sectors_of e area) place
-  one_lost e only keeps = copying_lost k law a d area place n form large same_long so_far e only (subst (λ (u : Geometry). KeepsMarks (kind u) (sector_at (sectors_of d area) place) (sector_at (sectors_of e area) place)) geometry keeps)
+  pub one_lost : (e : Device) → ChangesOnly (sectors_of d area) (sectors_of e area) place → KeepsMarks (format_of (geometry_of d area)) (sector_at (sectors_of d area) place) (sector_at (sectors_of e area) place) → StopsCopying (format_of (geometry_of a area)) (sectors_of a area) (sectors_of e area) place
+  one_lost e only keeps = copying_lost k law a d area place n form large same_long so_far e only (subst (λ (u : Geometry). KeepsMarks (format_of u) (sector_at (sectors_of d area) place) (sector_at (sectors_of e area) place)) geometry keeps)
 
-  pub one_most : (e : Device) → slot < first + k.count (sector_at (sectors_of a area) (next (sectors_of a area) place)) → SpendsUpTo d e (copy_units (kind (geometry_of d area)) (live_in (slots (kind (geometry_of d area))) (sectors_of d area) victim slot))
-      → SpendsUpTo a e (copies (kind (geometry_of a area)) (to_copy (kind (geometry_of a area)).reading (sectors_of a area) place))
+  pub one_most : (e : Device) → slot < first + k.count (sector_at (sectors_of a area) (next (sectors_of a area) place)) → SpendsUpTo d e (copy_units (format_of (geometry_of d area)) (live_in (slots (format_of (geometry_of d area))) (sectors_of d area) victim slot))
+      → SpendsUpTo a e (copies (format_of (geometry_of a area)) (to_copy (format_of (geometry_of a area)).reading (sectors_of a area) place))
   one_most e more spends = copying_most k law a d area place n form large same_long so_far e (listed more) (subst (λ (r : Range). SpendsUpTo d e r) units_at spends)
 
   pub kept_there : {S : Type 0} (kept : Geometry → List ℕ → S) (s : S) → s ≡ kept (geometry_of a area) (sector_at (sectors_of d area) place) → s ≡ kept (geometry_of d area) (sector_at (sectors_of d area) place)
@@ -136,10 +136,10 @@ module _ (kind : Geometry → Kind) (role : Role) (a d : Device) (area : Area) (
   kept_after kept s e same = same ∙ ap (λ (u : Geometry). kept u (sector_at (sectors_of e area) place)) geometry
 
   -- what was live before the copies is so still
-  pub live_flag : (t : Bool) → t ≡ holds_live (kind (geometry_of a area)) (sectors_of a area) victim slot → t ≡ holds_live (kind (geometry_of d area)) (sectors_of d area) victim slot
+  pub live_flag : (t : Bool) → t ≡ holds_live (format_of (geometry_of a area)) (sectors_of a area) victim slot → t ≡ holds_live (format_of (geometry_of d area)) (sectors_of d area) victim slot
   live_flag t before =
       before
       ∙ ap (λ (v : ℕ). holds_live k old v slot) at
       ∙ ap (λ (o : Option Placed). is_some o) (sym (live_there k law a d area place n form large same_long so_far slot))
       ∙ ap (λ (v : ℕ). holds_live k (sectors_of d area) v slot) (sym at)
-      ∙ ap (λ (u : Geometry). holds_live (kind u) (sectors_of d area) victim slot) (sym geometry)
+      ∙ ap (λ (u : Geometry). holds_live (format_of u) (sectors_of d area) victim slot) (sym geometry)

@@ -12,8 +12,8 @@ use Rattle.item_laws.proofs.LiveLemmas.{some_none}
 use Rattle.item_laws.proofs.Newest.{last-append, last-all}
 use Rattle.item_store.specs.declared.entry.Placed.{Placed}
 use Rattle.item_store.specs.declared.latest.LastSlots.{LastSlots}
-use Rattle.item_store.specs.Latest.{last_of_id, held, IsTold, Rises, Splits, IsNextIn, with_bytes, TellsBelow, HadBytes, Tells, DropsGreatest}
-use Rattle.item_store.proofs.LastTables.{last-none, pairs-append, tells-put, tells-dropped, tells-bounded}
+use Rattle.item_store.specs.Latest.{last_of_id, held, IsKnown, Rises, Splits, IsNextIn, with_bytes, KnowsBelow, HadBytes, Knows, DropsGreatest}
+use Rattle.item_store.proofs.LastTables.{last-none, pairs-append, knows-put, knows-dropped, knows-bounded}
 
 -- ---- where an id is
 
@@ -115,7 +115,7 @@ module _ (xs : List Placed) (after : Option ℕ) (first : ℕ) (rises : Rises xs
   pub next-nowhere : length xs ≤ first → IsNextIn after xs None
   next-nowhere past = λ id own. last-none id xs (λ k d lt is. before k d (omega arith) (omega arith) (subst (IsBehind after) (sym is) own))
 
--- ---- what a table has is among the entries of which it tells
+-- ---- what a table has is among the entries which it knows
 
 -- its entry is the last one of its id in it
 own-last : (xs : List Placed) → Rises xs → (i : ℕ) (d : Placed) → i < length xs → last_of_id (get_or xs i d).id xs ≡ Some (get_or xs i d)
@@ -136,11 +136,11 @@ held-entry (Some q) p is =
           (same, subst (λ (o : Option Placed). IfSome o (λ r. r.len ≡ 0 → ⊥)) same some)
     ]
 
-own-among : (limit : ℕ) (last : LastSlots) (placed : List Placed) → TellsBelow limit last placed → All (λ p. Contains placed p × (p.len ≡ 0 → ⊥)) last.entries.items
-own-among limit last placed tells i d within =
+own-among : (limit : ℕ) (last : LastSlots) (placed : List Placed) → KnowsBelow limit last placed → All (λ p. Contains placed p × (p.len ≡ 0 → ⊥)) last.entries.items
+own-among limit last placed knows i d within =
     let p : Placed = get_or last.entries.items i d in
     let own : (last_of_id p.id placed ≡ Some p) × (p.len ≡ 0 → ⊥) =
-    held-entry (last_of_id p.id placed) p (sym (tells.told p.id (tells.within i d within)) ∙ own-last last.entries.items tells.rises i d within) in (
+    held-entry (last_of_id p.id placed) p (sym (knows.covered p.id (knows.within i d within)) ∙ own-last last.entries.items knows.rises i d within) in (
       subst (λ (o : Option Placed). IfSome o (Contains placed)) own.0
           (last-all (λ (q : Placed). eqb q.id p.id) (Contains placed) placed None tt (All-contains_itself placed)),
       own.1,
@@ -150,11 +150,11 @@ abbrev Less : Placed → Placed → Type 0
 Less p q = p.id < q.id
 
 -- a table that is full, and an entry with bytes of the id that is its bound
-now-full : (limit : ℕ) (last : LastSlots) (placed : List Placed) (q : Placed) → TellsBelow limit last placed → length last.entries.items ≡ 800
-    → last.bound ≡ Some q.id → (q.len ≡ 0 → ⊥) → Contains placed q → Tells limit last placed
+now-full : (limit : ℕ) (last : LastSlots) (placed : List Placed) (q : Placed) → KnowsBelow limit last placed → length last.entries.items ≡ 800
+    → last.bound ≡ Some q.id → (q.len ≡ 0 → ⊥) → Contains placed q → Knows limit last placed
 now-full limit last placed q below whole is some here =
     let xs : List Placed = last.entries.items in
-    let less : All (λ p. p.id < q.id) xs = subst (λ (b : Option ℕ). All (λ p. IsTold b p.id) xs) is below.within in
+    let less : All (λ p. p.id < q.id) xs = subst (λ (b : Option ℕ). All (λ p. IsKnown b p.id) xs) is below.within in
     let own = own-among limit last placed below in
     let had : HadBytes 801 q.id placed = record {
       entries = xs ++ q ∷ [];
@@ -191,57 +191,57 @@ held-few p = few (eqb p.len 0)
     few true = omega arith
     few false = omega arith
 
-module _ (limit : ℕ) (old new : LastSlots) (before : List Placed) (p : Placed) (at : ℕ) (small : p.id < limit) (told : IsTold old.bound p.id) (tells : TellsBelow limit old before) where
+module _ (limit : ℕ) (old new : LastSlots) (before : List Placed) (p : Placed) (at : ℕ) (small : p.id < limit) (covered : IsKnown old.bound p.id) (knows : KnowsBelow limit old before) where
   abbrev entries : List Placed
   entries = old.entries.items
 
   module _ (low : AllWithin (λ q. q.id < p.id) old.entries.items 0 at) (high : AllWithin (λ q. p.id < q.id) old.entries.items at (length old.entries.items)) (inside : at ≤ length old.entries.items) where
     -- between lesser and greater ones
-    pub put-between : (p.len ≡ 0 → ⊥) → new.entries.items ≡ take at old.entries.items ++ p ∷ drop at old.entries.items → new.bound ≡ old.bound → length old.entries.items < 800 → TellsBelow limit new (before ++ p ∷ [])
+    pub put-between : (p.len ≡ 0 → ⊥) → new.entries.items ≡ take at old.entries.items ++ p ∷ drop at old.entries.items → new.bound ≡ old.bound → length old.entries.items < 800 → KnowsBelow limit new (before ++ p ∷ [])
     put-between some is same room =
-        let front = length-take-le at entries inside in
+        let prefix = length-take-le at entries inside in
         let back = length-drop at entries in
         let whole = length-append (take at entries) (p ∷ drop at entries) in
         let long : length new.entries.items ≡ length (take at entries ++ p ∷ drop at entries) = ap length is in
-        tells-put limit old new before p (take at entries) [] (drop at entries) small told tells (sym (take-append-drop at entries))
+        knows-put limit old new before p (take at entries) [] (drop at entries) small covered knows (sym (take-append-drop at entries))
         (is ∙ ap (λ (h : List Placed). take at entries ++ (h ++ drop at entries)) (sym (held-some p some))) same (omega arith)
         (all-take (λ (q : Placed). q.id < p.id) entries at inside low) (All-nil (λ (q : Placed). q.id ≡ p.id)) (all-drop (λ (q : Placed). p.id < q.id) entries at high)
 
     -- a delete of an id that the table does not have
-    pub put-nothing : p.len ≡ 0 → new.entries.items ≡ old.entries.items → new.bound ≡ old.bound → TellsBelow limit new (before ++ p ∷ [])
+    pub put-nothing : p.len ≡ 0 → new.entries.items ≡ old.entries.items → new.bound ≡ old.bound → KnowsBelow limit new (before ++ p ∷ [])
     put-nothing none is same =
-        let most = tells.few in
+        let most = knows.few in
         let long : length new.entries.items ≡ length entries = ap length is in
-        tells-put limit old new before p (take at entries) [] (drop at entries) small told tells (sym (take-append-drop at entries))
+        knows-put limit old new before p (take at entries) [] (drop at entries) small covered knows (sym (take-append-drop at entries))
         (is ∙ sym (take-append-drop at entries) ∙ ap (λ (h : List Placed). take at entries ++ (h ++ drop at entries)) (sym (held-none p none))) same (omega arith)
         (all-take (λ (q : Placed). q.id < p.id) entries at inside low) (All-nil (λ (q : Placed). q.id ≡ p.id)) (all-drop (λ (q : Placed). p.id < q.id) entries at high)
 
     -- behind all entries of a table, which is full
-    pub put-behind : (p.len ≡ 0 → ⊥) → length old.entries.items ≡ 800 → at ≡ length old.entries.items → new.entries.items ≡ old.entries.items → new.bound ≡ Some p.id → Tells limit new (before ++ p ∷ [])
+    pub put-behind : (p.len ≡ 0 → ⊥) → length old.entries.items ≡ 800 → at ≡ length old.entries.items → new.entries.items ≡ old.entries.items → new.bound ≡ Some p.id → Knows limit new (before ++ p ∷ [])
     put-behind some whole end is same =
-        now-full limit new (before ++ p ∷ []) p (tells-bounded limit old new before p small told tells is same (λ k d lt. low k d (omega arith) (omega arith)))
+        now-full limit new (before ++ p ∷ []) p (knows-bounded limit old new before p small covered knows is same (λ k d lt. low k d (omega arith) (omega arith)))
         (ap length is ∙ whole) same some (Contains-push before p)
 
 -- into a full table, out of which the greatest id goes before
-pub put-full : (limit : ℕ) (old mid new : LastSlots) (before : List Placed) (p : Placed) (at : ℕ) → p.id < limit → TellsBelow limit old before → DropsGreatest old mid
+pub put-full : (limit : ℕ) (old mid new : LastSlots) (before : List Placed) (p : Placed) (at : ℕ) → p.id < limit → KnowsBelow limit old before → DropsGreatest old mid
     → AllWithin (λ q. q.id < p.id) old.entries.items 0 at → AllWithin (λ q. p.id < q.id) old.entries.items at (length old.entries.items) → at < length old.entries.items
-    → length old.entries.items ≡ 800 → (p.len ≡ 0 → ⊥) → new.entries.items ≡ take at mid.entries.items ++ p ∷ drop at mid.entries.items → new.bound ≡ mid.bound → Tells limit new (before ++ p ∷ [])
-put-full limit old mid new before p at small tells drops low high inside whole some is same =
+    → length old.entries.items ≡ 800 → (p.len ≡ 0 → ⊥) → new.entries.items ≡ take at mid.entries.items ++ p ∷ drop at mid.entries.items → new.bound ≡ mid.bound → Knows limit new (before ++ p ∷ [])
+put-full limit old mid new before p at small knows drops low high inside whole some is same =
     let g : Placed = drops.greatest in
-    let most = tells.few in
+    let most = knows.few in
     let long : length old.entries.items ≡ length mid.entries.items + 1 = ap length drops.entries ∙ length-append mid.entries.items (drops.greatest ∷ []) in
     let own : (get_or old.entries.items (length mid.entries.items) p) ≡ drops.greatest =
     ap (λ (l : List Placed). get_or l (length mid.entries.items) p) drops.entries ∙ get_or_at mid.entries.items drops.greatest [] p (length mid.entries.items) refl in
     let less : p.id < drops.greatest.id = subst (λ (q : Placed). p.id < q.id) own (high (length mid.entries.items) p (omega arith) (omega arith)) in
-    let told : IsTold mid.bound p.id = subst (λ (b : Option ℕ). IsTold b p.id) (sym drops.bound) less in
+    let covered : IsKnown mid.bound p.id = subst (λ (b : Option ℕ). IsKnown b p.id) (sym drops.bound) less in
     let among : Contains before drops.greatest × (drops.greatest.len ≡ 0 → ⊥) =
-    subst (λ (q : Placed). Contains before q × (q.len ≡ 0 → ⊥)) own (own-among limit old before tells (length mid.entries.items) p (omega arith)) in
-    let front = length-take-le at mid.entries.items (omega arith) in
+    subst (λ (q : Placed). Contains before q × (q.len ≡ 0 → ⊥)) own (own-among limit old before knows (length mid.entries.items) p (omega arith)) in
+    let prefix = length-take-le at mid.entries.items (omega arith) in
     let back = length-drop at mid.entries.items in
     let both = length-append (take at mid.entries.items) (p ∷ drop at mid.entries.items) in
     let there_is : length new.entries.items ≡ length (take at mid.entries.items ++ p ∷ drop at mid.entries.items) = ap length is in
     now-full limit new (before ++ p ∷ []) drops.greatest
-    (put-between limit mid new before p at small told (tells-dropped limit old mid before drops tells)
+    (put-between limit mid new before p at small covered (knows-dropped limit old mid before drops knows)
     (λ k d from lt. subst (λ (q : Placed). q.id < p.id) (there k d (omega arith)) (low k d from lt))
     (λ k d from lt. subst (λ (q : Placed). p.id < q.id) (there k d lt) (high k d from (omega arith)))
     (omega arith) some is same (omega arith))

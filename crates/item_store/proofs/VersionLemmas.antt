@@ -9,7 +9,7 @@ use Rattle.std.proofs.lemmas.List.Concat.{flat_map-append}
 use Rattle.item_laws.specs.Items.{last, value_of, SameItems}
 use Rattle.item_laws.specs.LivePairs.{names, live_pairs}
 use Rattle.item_laws.specs.PairRounds.{joined, collect_oldest}
-use Rattle.item_laws.proofs.LivePairs.{last_from, last-is, step, names-append, live-absent, live-hidden, collected}
+use Rattle.item_laws.proofs.LivePairs.{last_from, last-is, step, names-append, live-absent, live-ignored, collected}
 use Rattle.item_laws.proofs.Pairs.{SameItems-push}
 use Rattle.item_store.specs.Versions.{versions, KeepsVersions}
 
@@ -98,9 +98,9 @@ value_some pairs id some none = none_some (last pairs id) (newest-value pairs id
 
 -- ---- lists that keep the newest versions
 
-front_newest : (vs gone : List (List ℕ)) → (vs ≡ [] → newest_of None (vs ++ gone) ≡ None) → newest_of None vs ≡ newest_of None (vs ++ gone)
-front_newest [] gone none = sym (none refl)
-front_newest (v ∷ vs) gone none = refl
+prefix_newest : (vs gone : List (List ℕ)) → (vs ≡ [] → newest_of None (vs ++ gone) ≡ None) → newest_of None vs ≡ newest_of None (vs ++ gone)
+prefix_newest [] gone none = sym (none refl)
+prefix_newest (v ∷ vs) gone none = refl
 
 no_value : (o : Option (List ℕ)) → (IsSome o → ⊥) → o ≡ None
 no_value None h = refl
@@ -111,7 +111,7 @@ pub versions-items : (old new : List (ℕ × List ℕ)) → KeepsVersions old ne
 versions-items old new keeps id =
     let was = newest-value old id ∙ ap (newest_of None) (keeps.newest id) in
     newest-value new id
-    ∙ front_newest (versions new id) (keeps.gone id) (λ empty. sym was ∙ no_value (last old id) (λ some. keeps.some id some empty))
+    ∙ prefix_newest (versions new id) (keeps.gone id) (λ empty. sym was ∙ no_value (last old id) (λ some. keeps.some id some empty))
     ∙ sym was
 
 -- and where these are the same, each front of the versions has one where there is a value
@@ -138,11 +138,11 @@ keeps-push old new pair keeps =
 -- ---- a collection
 
 -- of an id that no later part has, the live pairs keep the newest version, or none
-live_front : (id : ℕ) (victim others : List (ℕ × List ℕ)) → names id others ≡ false → (gone : List (List ℕ)) × (versions victim id ≡ versions (live_pairs victim others) id ++ gone)
+live_prefix : (id : ℕ) (victim others : List (ℕ × List ℕ)) → names id others ≡ false → (gone : List (List ℕ)) × (versions victim id ≡ versions (live_pairs victim others) id ++ gone)
 unfolding live_pairs
-live_front id [] others h = ([], refl)
-live_front id (pair ∷ rest) others h =
-    let later = live_front id rest others h in
+live_prefix id [] others h = ([], refl)
+live_prefix id (pair ∷ rest) others h =
+    let later = live_prefix id rest others h in
     elim (cases_Bool (names pair.0 (rest ++ others) || eqb (length pair.1) 0)) [
       | inl skip ↦ (
         later.0 ++ own id pair,
@@ -174,29 +174,29 @@ live_front id (pair ∷ rest) others h =
     ]
 
 -- the list without the victim and with its live pairs at the end
-collected_front : (victim others : List (ℕ × List ℕ)) (id : ℕ) → (gone : List (List ℕ)) × (versions (victim ++ others) id ≡ versions (others ++ live_pairs victim others) id ++ gone)
-collected_front victim others id =
+collected_prefix : (victim others : List (ℕ × List ℕ)) (id : ℕ) → (gone : List (List ℕ)) × (versions (victim ++ others) id ≡ versions (others ++ live_pairs victim others) id ++ gone)
+collected_prefix victim others id =
     elim (cases_Bool (names id others)) [
       | inl named ↦ (
         versions victim id,
         versions-append victim others id
             ∙ ap (λ vs. vs ++ versions victim id)
-            (sym (versions-append others (live_pairs victim others) id ∙ ap (λ vs. vs ++ versions others id) (versions-absent id (live_pairs victim others) (live-hidden id victim others named)))),
+            (sym (versions-append others (live_pairs victim others) id ∙ ap (λ vs. vs ++ versions others id) (versions-absent id (live_pairs victim others) (live-ignored id victim others named)))),
       )
       | inr unnamed ↦
-          let front = live_front id victim others unnamed in
+          let prefix = live_prefix id victim others unnamed in
           let none = versions-absent id others unnamed in (
-            front.0,
+            prefix.0,
             versions-append victim others id
-                ∙ ap (λ vs. vs ++ versions victim id) none ∙ front.1
-                ∙ ap (λ vs. vs ++ front.0)
+                ∙ ap (λ vs. vs ++ versions victim id) none ∙ prefix.1
+                ∙ ap (λ vs. vs ++ prefix.0)
                 (sym (versions-append others (live_pairs victim others) id ∙ ap (λ vs. versions (live_pairs victim others) id ++ vs) none ∙ append-nil (versions (live_pairs victim others) id))),
           )
     ]
 
 pub collected-versions : (victim others : List (ℕ × List ℕ)) → KeepsVersions (victim ++ others) (others ++ live_pairs victim others)
 collected-versions victim others =
-    from_items (victim ++ others) (others ++ live_pairs victim others) (λ id. (collected_front victim others id).0) (λ id. (collected_front victim others id).1) (collected victim others)
+    from_items (victim ++ others) (others ++ live_pairs victim others) (λ id. (collected_prefix victim others id).0) (λ id. (collected_prefix victim others id).1) (collected victim others)
 
 -- ---- a round
 

@@ -59,8 +59,8 @@ module _ (reading : Reading) (old new : List (List ℕ)) (place : ℕ) where
         (collected-versions (pairs_at reading old (next old place)) later)
 
     -- a whole round of close and collect
-    pub turned-versions : AtRest reading old place → IsRound reading old place new → KeepsVersions (area_pairs reading old place) (area_pairs reading new (next old place))
-    turned-versions form round =
+    pub pass_done-versions : AtRest reading old place → IsRound reading old place new → KeepsVersions (area_pairs reading old place) (area_pairs reading new (next old place))
+    pass_done-versions form round =
         keeps_as (area_pairs reading old place) (joined (parts reading old place)) (area_pairs reading new (next old place)) (joined (parts reading new (next old place)))
         (parts-list reading laws old place form) (parts-list reading laws new (next old place) round.form)
         (keeps_as (joined (parts reading old place)) (joined (parts reading old place)) (joined (parts reading new (next old place))) _ refl (ap joined round.parts) (round-versions (parts reading old place)))

@@ -3,14 +3,14 @@ use Rattle.std.proofs.Common.{◌≡◌, ◌⊎◌, ℕ, List, [], ◌∷◌, �
 use Rattle.flash_sim.specs.Device.{Device}
 use Rattle.flash_map.specs.declared.area.Area.{Area}
 use Rattle.flash_map.specs.Area.{sectors_of}
-use Rattle.item_store.specs.Kind.{Kind}
+use Rattle.item_store.specs.SectorFormat.{SectorFormat}
 use Rattle.item_store.specs.Room.{MakesRoom}
 use Rattle.item_store.specs.Standing.{list_of}
 use Rattle.item_store.specs.Versions.{KeepsVersions, AddsVersion}
 use Rattle.item_store.specs.Writing.{Appends, StopsAppending}
 use Rattle.item_store.proofs.VersionLemmas.{newest-pushed, keeps_all, keeps_more, keeps-push}
 
-module _ (k : Kind) (old new : Device) (area : Area) (id : ℕ) (bytes : List ℕ) where
+module _ (k : SectorFormat) (old new : Device) (area : Area) (id : ℕ) (bytes : List ℕ) where
   behind : (mid : Device) → MakesRoom k old mid area (length bytes) → list_of k (sectors_of new area) ≡ list_of k (sectors_of mid area) ++ (id, bytes) ∷ [] → AddsVersion (list_of k (sectors_of old area)) (list_of k (sectors_of new area)) id bytes
   behind mid makes list =
       subst (λ pairs. AddsVersion (list_of k (sectors_of old area)) pairs id bytes) (sym list)

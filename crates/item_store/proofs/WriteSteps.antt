@@ -18,10 +18,10 @@ use Rattle.item_laws.proofs.ItemLemmas.{items_of-push, get-items_of, same_map}
 use Rattle.item_laws.proofs.Pairs.{last-push}
 use Rattle.item_laws.specs.Area.{open_sector}
 use Rattle.item_laws.specs.Forms.{AtRest}
-use Rattle.item_store.specs.Kind.{Kind, IsKind}
+use Rattle.item_store.specs.SectorFormat.{SectorFormat, IsSectorFormat}
 use Rattle.item_store.specs.Room.{open_bytes, has_room, IsShort, Rounds, MakesRoom, FindsFull}
 use Rattle.item_store.specs.Standing.{list_of, items}
-use Rattle.item_store.specs.Writing.{SpendsEntry, StopsEntry, Appends, StopsAppending, AppendEnds, most_units, Holds, IsAbsent, Writes, FindsNoSpace, StopsWriting, Deletes, StopsDeleting}
+use Rattle.item_store.specs.Writing.{SpendsEntry, StopsEntry, Appends, StopsAppending, AppendEnds, rounds_units, Holds, IsAbsent, Writes, FindsNoSpace, StopsWriting, Deletes, StopsDeleting}
 use Rattle.item_store.proofs.RoomSteps.{rounds-live, rounds-none}
 use Rattle.item_store.proofs.VersionWrites.{appends-versions, stops-versions}
 
@@ -49,7 +49,7 @@ held_last pairs id bytes q some held =
 pair_is : (m : Items) (id : ℕ) (bytes : List ℕ) → 0 < length bytes → with_pair m (id, bytes) ≡ map.insert m id bytes
 pair_is m id bytes some = cond-false (eqb (length bytes) 0) (map.remove m id) (map.insert m id bytes) (ne_eqb (length bytes) 0 (λ (z : length bytes ≡ 0). omega arith))
 
-module _ (k : Kind) (law : IsKind k) (a : Device) (area : Area) (form : AtRest k.reading (sectors_of a area) (open_sector k.reading (sectors_of a area))) where
+module _ (k : SectorFormat) (law : IsSectorFormat k) (a : Device) (area : Area) (form : AtRest k.reading (sectors_of a area) (open_sector k.reading (sectors_of a area))) where
   abbrev size : ℕ
   size = sector_size a area
 
@@ -70,18 +70,18 @@ module _ (k : Kind) (law : IsKind k) (a : Device) (area : Area) (form : AtRest k
 
   -- At most so many rounds, and an entry.
 
-  most_rounds : (d : Device) (len made rounds : ℕ) → made ≤ rounds → SpendsBetween a d 0 (made * k.units.round (sector_size a area)) → SpendsBetween a d 0 (most_units k (sector_size a area) rounds len)
+  most_rounds : (d : Device) (len made rounds : ℕ) → made ≤ rounds → SpendsBetween a d 0 (made * k.units.round (sector_size a area)) → SpendsBetween a d 0 (rounds_units k (sector_size a area) rounds len)
   most_rounds d len made rounds few spent =
       let le : k.units.round size * made ≤ k.units.round size * rounds = mul-le-mul_left (k.units.round size) few in
-      between_within spent 0 (most_units k size rounds len) (omega arith) (omega arith)
+      between_within spent 0 (rounds_units k size rounds len) (omega arith) (omega arith)
 
-  most_then : (d e : Device) (len made rounds : ℕ) → made ≤ rounds → SpendsBetween a d 0 (made * k.units.round (sector_size a area)) → SpendsBetween d e 0 (k.units.entry len) → SpendsBetween a e 0 (most_units k (sector_size a area) rounds len)
+  most_then : (d e : Device) (len made rounds : ℕ) → made ≤ rounds → SpendsBetween a d 0 (made * k.units.round (sector_size a area)) → SpendsBetween d e 0 (k.units.entry len) → SpendsBetween a e 0 (rounds_units k (sector_size a area) rounds len)
   most_then d e len made rounds few one two =
       let le : k.units.round size * made ≤ k.units.round size * rounds = mul-le-mul_left (k.units.round size) few in
-      between_within (between_then one two) 0 (most_units k size rounds len) (omega arith) (omega arith)
+      between_within (between_then one two) 0 (rounds_units k size rounds len) (omega arith) (omega arith)
 
-  most_none : (rounds len : ℕ) → SpendsBetween a a 0 (most_units k (sector_size a area) rounds len)
-  most_none rounds len = between_within (between_none a) 0 (most_units k size rounds len) (omega arith) (omega arith)
+  most_none : (rounds len : ℕ) → SpendsBetween a a 0 (rounds_units k (sector_size a area) rounds len)
+  most_none rounds len = between_within (between_none a) 0 (rounds_units k size rounds len) (omega arith) (omega arith)
 
   -- What an entry behind rounds makes.
 
@@ -94,7 +94,7 @@ module _ (k : Kind) (law : IsKind k) (a : Device) (area : Area) (form : AtRest k
     appended-fitting fitting =
         subst (λ (x : Device). SpendsEntry k x e (open_bytes k (sectors_of x area)) (length bytes)) (same_device appends.mid (length bytes) appends.makes fitting) appends.puts.entry
 
-    appended-most : (rounds : ℕ) → length appends.makes.before ≤ rounds → SpendsBetween a e 0 (most_units k (sector_size a area) rounds (length bytes))
+    appended-most : (rounds : ℕ) → length appends.makes.before ≤ rounds → SpendsBetween a e 0 (rounds_units k (sector_size a area) rounds (length bytes))
     appended-most rounds few =
         let opened : List ℕ = open_bytes k (sectors_of appends.mid area) in
         let le = law.entry opened opened (length bytes) in
@@ -128,7 +128,7 @@ module _ (k : Kind) (law : IsKind k) (a : Device) (area : Area) (form : AtRest k
           | inr entry ↦ subst (λ (x : Device). StopsEntry k x e (open_bytes k (sectors_of x area)) (length bytes)) (same_device entry.mid (length bytes) entry.makes fitting) entry.stops.entry
         ]
 
-    stopped-most : (rounds : ℕ) → ((n : ℕ) → n < area.sectors → (length bytes ≡ 0 → n ≤ 1) → n ≤ rounds) → SpendsBetween a e 0 (most_units k (sector_size a area) rounds (length bytes))
+    stopped-most : (rounds : ℕ) → ((n : ℕ) → n < area.sectors → (length bytes ≡ 0 → n ≤ 1) → n ≤ rounds) → SpendsBetween a e 0 (rounds_units k (sector_size a area) rounds (length bytes))
     stopped-most rounds most =
         elim stops [
           | inl round ↦ most_rounds e (length bytes) (length round.before + 1) rounds (most (length round.before + 1) round.few (λ none. (let zero_rounds = ap length (round.once none) in omega arith))) round.at_most
@@ -232,11 +232,11 @@ module _ (k : Kind) (law : IsKind k) (a : Device) (area : Area) (form : AtRest k
   deleted e id true present appends = delete_done e id present appends
   deleted e id false present finds = absurd (delete_full e finds)
 
-pub ends_true : (k : Kind) (a e : Device) (area : Area) (id : ℕ) (bytes : List ℕ) (room : Bool) → room ≡ true → AppendEnds {T = PowerLost} k a e area id bytes (Ok room) → Appends k a e area id bytes
+pub ends_true : (k : SectorFormat) (a e : Device) (area : Area) (id : ℕ) (bytes : List ℕ) (room : Bool) → room ≡ true → AppendEnds {T = PowerLost} k a e area id bytes (Ok room) → Appends k a e area id bytes
 ends_true k a e area id bytes true is appends = appends
 ends_true k a e area id bytes false is finds = absurd (false≢true is)
 
-pub ends_false : (k : Kind) (a e : Device) (area : Area) (id : ℕ) (bytes : List ℕ) (room : Bool) → room ≡ false → AppendEnds {T = PowerLost} k a e area id bytes (Ok room) → FindsFull k a e area (length bytes)
+pub ends_false : (k : SectorFormat) (a e : Device) (area : Area) (id : ℕ) (bytes : List ℕ) (room : Bool) → room ≡ false → AppendEnds {T = PowerLost} k a e area id bytes (Ok room) → FindsFull k a e area (length bytes)
 ends_false k a e area id bytes true is appends = absurd (false≢true (sym is))
 ends_false k a e area id bytes false is finds = finds
 
@@ -252,20 +252,20 @@ gets_some f (Some x) m is some none = absurd (cc)
 
 -- Too long.
 
-module _ (kind : Geometry → Kind) (a : Device) (area : Area) (g : Geometry) (len : ℕ) (long : Bool) (is : g ≡ geometry_of a area) (test : long ≡ ltb ((kind g).cap g.sector) ((kind g).cost len)) where
-  there : long ≡ ltb ((kind (geometry_of a area)).cap (sector_size a area)) ((kind (geometry_of a area)).cost len)
-  there = test ∙ ap (λ (x : Geometry). ltb ((kind x).cap x.sector) ((kind x).cost len)) is
+module _ (format_of : Geometry → SectorFormat) (a : Device) (area : Area) (g : Geometry) (len : ℕ) (long : Bool) (is : g ≡ geometry_of a area) (test : long ≡ ltb ((format_of g).cap g.sector) ((format_of g).cost len)) where
+  there : long ≡ ltb ((format_of (geometry_of a area)).cap (sector_size a area)) ((format_of (geometry_of a area)).cost len)
+  there = test ∙ ap (λ (x : Geometry). ltb ((format_of x).cap x.sector) ((format_of x).cost len)) is
 
-  pub short-by : long ≡ false → IsShort (kind (geometry_of a area)) a area len
-  short-by not_long = ltb-false ((kind (geometry_of a area)).cap (sector_size a area)) ((kind (geometry_of a area)).cost len) (sym there ∙ not_long)
+  pub short-by : long ≡ false → IsShort (format_of (geometry_of a area)) a area len
+  short-by not_long = ltb-false ((format_of (geometry_of a area)).cap (sector_size a area)) ((format_of (geometry_of a area)).cost len) (sym there ∙ not_long)
 
-  pub long-by : long ≡ true → IsShort (kind (geometry_of a area)) a area len → ⊥
+  pub long-by : long ≡ true → IsShort (format_of (geometry_of a area)) a area len → ⊥
   long-by too_long short =
-      let lt = ltb-true ((kind (geometry_of a area)).cap (sector_size a area)) ((kind (geometry_of a area)).cost len) (sym there ∙ too_long) in
+      let lt = ltb-true ((format_of (geometry_of a area)).cap (sector_size a area)) ((format_of (geometry_of a area)).cost len) (sym there ∙ too_long) in
       absurd (omega arith)
 
 -- what is not too long has a length of 16 bits
-pub narrow-by : (k : Kind) (law : IsKind k) (size len : ℕ) → size ≤ 32768 → k.cost len ≤ k.cap size → len < 2 ^ 16
+pub narrow-by : (k : SectorFormat) (law : IsSectorFormat k) (size len : ℕ) → size ≤ 32768 → k.cost len ≤ k.cap size → len < 2 ^ 16
 narrow-by k law size len small short =
     let least = law.least len in
     let most = law.most size in
@@ -274,5 +274,5 @@ narrow-by k law size len small short =
 pub unit-by : (a : Device) (area : Area) (g : Geometry) → g ≡ geometry_of a area → IsUnit (unit_of a area) → IsUnit g.unit
 unit-by a area g is unit = subst (λ (x : Geometry). IsUnit x.unit) (sym is) unit
 
-pub need-by : (kind : Geometry → Kind) (a : Device) (area : Area) (g : Geometry) (len need : ℕ) → g ≡ geometry_of a area → need ≡ (kind g).cost len → need ≡ (kind (geometry_of a area)).cost len
-need-by kind a area g len need is needs = needs ∙ ap (λ (x : Geometry). (kind x).cost len) is
+pub need-by : (format_of : Geometry → SectorFormat) (a : Device) (area : Area) (g : Geometry) (len need : ℕ) → g ≡ geometry_of a area → need ≡ (format_of g).cost len → need ≡ (format_of (geometry_of a area)).cost len
+need-by format_of a area g len need is needs = needs ∙ ap (λ (x : Geometry). (format_of x).cost len) is

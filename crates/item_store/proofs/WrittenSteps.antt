@@ -6,7 +6,7 @@ use Rattle.item_laws.specs.Area.{next, is_blank_at}
 use Rattle.item_laws.specs.Forms.{Collecting, Collected}
 use Rattle.item_laws.proofs.Places.{after-within, after-apart}
 use Rattle.item_laws.proofs.Rings.{next-closed}
-use Rattle.item_store.specs.Kind.{Kind, IsKind}
+use Rattle.item_store.specs.SectorFormat.{SectorFormat, IsSectorFormat}
 use Rattle.item_store.specs.Steps.{Keeps, KeepsMarks, Begins, Adds, Closes}
 use Rattle.item_store.specs.Collecting.{HasCopied, StopsCopying}
 use Rattle.item_store.specs.Written.{IsWritten}
@@ -25,7 +25,7 @@ some_pair : (ps : List (ℕ × List ℕ)) (p : ℕ × List ℕ) → [] ≡ ps ++
 some_pair [] p e = cc
 some_pair (q ∷ qs) p e = cc
 
-module _ (k : Kind) (law : IsKind k) where
+module _ (k : SectorFormat) (law : IsSectorFormat k) where
   pub closed-used : (b : List ℕ) → k.reading.is_closed b ≡ true → k.reading.is_blank b ≡ false
   closed-used b closed = not_true (k.reading.is_blank b) (λ blank. apart (sym closed ∙ law.reads.closed b blank))
 

@@ -2,7 +2,7 @@
 use Rattle.std.specs.Prelude.{ℕ, Bool, true, ◌&&◌, List, Option, Some, None, if◌then◌else◌}
 use Rattle.std.specs.Ordering.{nat_cmp, is_lt}
 use Rattle.std.specs.Cmp.Lexicographic.{slice_cmp}
-use Rattle.item_laws.specs.Bytes.{is_past}
+use Rattle.item_laws.specs.Bytes.{is_behind}
 
 -- less than these bytes in byte order, where there are any
 abbrev pub is_below : List ℕ → Option (List ℕ) → Bool
@@ -13,4 +13,5 @@ is_below bytes (Some least) = is_lt (slice_cmp nat_cmp bytes least)
 -- far.
 abbrev pub lesser_of : Option (List ℕ) → Option (List ℕ) → Option (List ℕ) → Option (List ℕ)
 lesser_of after None least = least
-lesser_of after (Some bytes) least = if is_past after bytes && is_below bytes least then Some bytes else least
+lesser_of after (Some bytes) least =
+    if is_behind after bytes && is_below bytes least then Some bytes else least

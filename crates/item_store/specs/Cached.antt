@@ -10,8 +10,8 @@ use Rattle.item_laws.specs.Area.{next}
 use Rattle.item_laws.specs.Forms.{AtRest}
 use Rattle.item_laws.specs.Live.{all_placed}
 use Rattle.item_store.specs.declared.entry.Placed.{Placed}
-use Rattle.item_store.specs.Collecting.{TurnsAt}
-use Rattle.item_store.specs.Kind.{Kind, placed_at, slots}
+use Rattle.item_store.specs.Collecting.{DoesPassAt}
+use Rattle.item_store.specs.SectorFormat.{SectorFormat, placed_at, slots}
 use Rattle.item_store.specs.Listed.{entries_on}
 use Rattle.item_store.specs.Steps.{new_entry}
 
@@ -30,7 +30,7 @@ pub record IsCacheOf (cache : List (Option (ℕ × ℕ))) (placed : List Placed)
   pub latest : (id : ℕ) → place_of cache id ≡ option_map stands_at (latest_of (id % 64) placed)
 
 -- one of these entries more, in the last slot of a sector
-pub record AddsEntry (k : Kind) (old new : List (List ℕ)) (place id len : ℕ) : Type 0 where
+pub record AddsEntry (k : SectorFormat) (old new : List (List ℕ)) (place id len : ℕ) : Type 0 where
   pub slot : ℕ
   pub last : slot + 1 ≡ k.first + k.count (sector_at new place)
   pub list : all_placed (slots k) new
@@ -39,24 +39,25 @@ pub record AddsEntry (k : Kind) (old new : List (List ℕ)) (place id len : ℕ)
 -- ---- behind a round
 
 -- A round from this sector on made of an area at rest what it is now.
-pub record IsTurned (k : Kind) (size : ℕ) (old new : List (List ℕ)) (place : ℕ) : Type 0 where
+pub record IsPassDone (k : SectorFormat) (size : ℕ) (old new : List (List ℕ)) (place : ℕ) : Type 0 where
   pub rested : AtRest k.reading old place
   pub long : length new ≡ length old
-  pub turns : TurnsAt k size old new place
+  pub does_pass : DoesPassAt k size old new place
 
 -- By whatever round this sector became the open one, of a cache of the list before it came one of the list
 -- behind it.
-abbrev pub FollowsRound : Kind → List (List ℕ) → ℕ → List (Option (ℕ × ℕ)) → List (Option (ℕ × ℕ)) → Type 0
-FollowsRound k new opened before behind =
-    (size : ℕ) (old : List (List ℕ)) (place : ℕ) → IsTurned k size old new place → opened ≡ next old place
+abbrev pub FollowsRound : SectorFormat → List (List ℕ) → ℕ → List (Option (ℕ × ℕ)) → List (Option (ℕ × ℕ))
+    → Type 0
+FollowsRound k new newest before behind =
+    (size : ℕ) (old : List (List ℕ)) (place : ℕ) → IsPassDone k size old new place → newest ≡ next old place
     → IsCacheOf before (all_placed (slots k) old) → IsCacheOf behind (all_placed (slots k) new)
 
 -- ---- an area on a device
 
 -- the latest entry of an id's cache slot
-abbrev pub latest_on : (Geometry → Kind) → Device → Area → ℕ → Option Placed
-latest_on kind d area id = latest_of (id % 64) (entries_on kind d area)
+abbrev pub latest_on : (Geometry → SectorFormat) → Device → Area → ℕ → Option Placed
+latest_on format_of d area id = latest_of (id % 64) (entries_on format_of d area)
 
 -- the cache is that of the entries of the list
-abbrev pub IsCacheOn : (Geometry → Kind) → Device → Area → List (Option (ℕ × ℕ)) → Type 0
-IsCacheOn kind d area cache = IsCacheOf cache (entries_on kind d area)
+abbrev pub IsCacheOn : (Geometry → SectorFormat) → Device → Area → List (Option (ℕ × ℕ)) → Type 0
+IsCacheOn format_of d area cache = IsCacheOf cache (entries_on format_of d area)

@@ -10,27 +10,27 @@ use Rattle.item_laws.specs.Live as live
 use Rattle.item_store.specs.declared.entry.Placed.{Placed}
 use Rattle.item_store.specs.declared.entry.Redo.{Redo}
 use Rattle.item_store.specs.declared.entry.Redo.TheVariants.{Nothing, ClearNext, CollectAgain}
-use Rattle.item_store.specs.Kind.{Range, Kind, entries, slots, fits}
+use Rattle.item_store.specs.SectorFormat.{Range, SectorFormat, entries, slots, fits}
 use Rattle.item_store.specs.Spending.{none, again_units}
 use Rattle.item_store.specs.Standing.{list_of}
 use Rattle.item_store.specs.Steps.{Adds}
 use Rattle.std.specs.Prelude.{if◌then◌else◌}
 
 -- The open sector has no entry and all its room, and is ready for an entry. No other sector changed.
-pub record HasBegun (k : Kind) (old new : List (List ℕ)) (place : ℕ) : Type 0 where
+pub record HasBegun (k : SectorFormat) (old new : List (List ℕ)) (place : ℕ) : Type 0 where
   pub only : ChangesOnly old new place
   pub clean : k.is_clean (sector_at new place) ≡ true
   pub ready : k.is_ready (sector_at new place) ≡ true
   pub long : length (sector_at new place) ≡ length (sector_at old place)
 
 -- The open sector has no entry and all its room. No other sector changed.
-pub record HasOpened (k : Kind) (old new : List (List ℕ)) (place : ℕ) : Type 0 where
+pub record HasOpened (k : SectorFormat) (old new : List (List ℕ)) (place : ℕ) : Type 0 where
   pub only : ChangesOnly old new place
   pub clean : k.is_clean (sector_at new place) ≡ true
   pub long : length (sector_at new place) ≡ length (sector_at old place)
 
 -- Into the open sector, which had no entry, these pairs were copied. No other sector changed.
-pub record HasCopied (k : Kind) (old new : List (List ℕ)) (place : ℕ) (pairs : List (ℕ × List ℕ)) :
+pub record HasCopied (k : SectorFormat) (old new : List (List ℕ)) (place : ℕ) (pairs : List (ℕ × List ℕ)) :
     Type 0 where
   pub only : ChangesOnly old new place
   pub ready : k.is_ready (sector_at new place) ≡ true
@@ -42,26 +42,26 @@ pub record HasCopied (k : Kind) (old new : List (List ℕ)) (place : ℕ) (pairs
   pub room : k.free (sector_at new place) + copies_cost k.cost pairs
       ≡ k.cap (length (sector_at old place)) + 3 * k.slot
 
--- copying was cut: the open sector still counts for nothing
-pub record StopsCopying (k : Kind) (old new : List (List ℕ)) (place : ℕ) : Type 0 where
+-- copying was cut: the open sector is still ignored
+pub record StopsCopying (k : SectorFormat) (old new : List (List ℕ)) (place : ℕ) : Type 0 where
   pub only : ChangesOnly old new place
   pub closed : k.reading.is_closed (sector_at new place) ≡ false
   pub gc_done : k.reading.has_gc_done (sector_at new place) ≡ false
 
 -- one entry was copied, if there is one
-abbrev pub CopiesOne : Kind → List (List ℕ) → List (List ℕ) → ℕ → Option Placed → Type 0
+abbrev pub CopiesOne : SectorFormat → List (List ℕ) → List (List ℕ) → ℕ → Option Placed → Type 0
 CopiesOne k old new place None = new ≡ old
 CopiesOne k old new place (Some p) =
     ChangesOnly old new place
     × Adds k (sector_at old place) (sector_at new place) p.id (live.bytes_of (slots k) old p)
 
 -- what the copy of an entry spends, if there is one
-abbrev pub copy_units : Kind → Option Placed → Range
+abbrev pub copy_units : SectorFormat → Option Placed → Range
 copy_units k None = none
 copy_units k (Some p) = k.units.any_copy p.len
 
 -- a whole collection, and the room that it leaves in the open sector
-pub record CollectsAt (k : Kind) (old new : List (List ℕ)) (place : ℕ) : Type 0 where
+pub record CollectsAt (k : SectorFormat) (old new : List (List ℕ)) (place : ℕ) : Type 0 where
   pub collects : Collects k.reading old place new
   pub list : k.reading.pairs (sector_at new place) ≡ to_copy k.reading old place
   pub gc_done : k.reading.has_gc_done (sector_at new place) ≡ true
@@ -72,12 +72,12 @@ pub record CollectsAt (k : Kind) (old new : List (List ℕ)) (place : ℕ) : Typ
   pub others : (j : ℕ) → (j ≡ place → ⊥) → (j ≡ next old place → ⊥) → sector_at new j ≡ sector_at old j
 
 -- whether these pairs and a value of this length cost no more than a sector of this size has
-abbrev pub fits_beside : Kind → ℕ → List (ℕ × List ℕ) → ℕ → Bool
+abbrev pub fits_beside : SectorFormat → ℕ → List (ℕ × List ℕ) → ℕ → Bool
 fits_beside k size pairs len = nat_le (copies_cost k.cost pairs + k.cost len) (k.cap size)
 
 -- A whole round. Afterwards a value fits the open sector exactly where it does beside the copies, and a
 -- delete fits.
-pub record TurnsAt (k : Kind) (size : ℕ) (old new : List (List ℕ)) (place : ℕ) : Type 0 where
+pub record DoesPassAt (k : SectorFormat) (size : ℕ) (old new : List (List ℕ)) (place : ℕ) : Type 0 where
   pub round : IsRound k.reading old place new
   pub room : (len : ℕ) → 0 < len → fits k (sector_at new (next old place)) len
       ≡ fits_beside k size (pairs_at k.reading new (next old place)) len
@@ -89,43 +89,43 @@ pub record TurnsAt (k : Kind) (size : ℕ) (old new : List (List ℕ)) (place : 
 -- ---- the list
 
 -- that of an area whose victim is gone: its live pairs stand last
-abbrev pub collected_list : Kind → List (List ℕ) → ℕ → List (ℕ × List ℕ)
+abbrev pub collected_list : SectorFormat → List (List ℕ) → ℕ → List (ℕ × List ℕ)
 collected_list k sectors place =
     flat_map (pairs_at k.reading sectors) (rest (length sectors) place) ++ to_copy k.reading sectors place
 
 -- a collection may have been cut: the list is as before, or what it leaves
-abbrev pub KeepsOrCollects : Kind → List (List ℕ) → List (List ℕ) → ℕ → Type 0
+abbrev pub KeepsOrCollects : SectorFormat → List (List ℕ) → List (List ℕ) → ℕ → Type 0
 KeepsOrCollects k old new place =
     (list_of k new ≡ list_of k old) ⊎ (list_of k new ≡ collected_list k old place)
 
 -- the same of a round from an area at rest, by the parts of its list
-abbrev pub KeepsOrTurns : Kind → List (List ℕ) → List (List ℕ) → ℕ → Type 0
-KeepsOrTurns k old new place =
+abbrev pub KeepsOrDoesPass : SectorFormat → List (List ℕ) → List (List ℕ) → ℕ → Type 0
+KeepsOrDoesPass k old new place =
     (list_of k new ≡ list_of k old)
     ⊎ (list_of k new ≡ joined (collect_oldest (parts k.reading old place)))
 
 -- ---- mounting
 
 -- What a mount has to do with this sector open. The next sector is closed only while a collection lasts.
-abbrev pub redo_of : Kind → List (List ℕ) → ℕ → Redo
+abbrev pub redo_of : SectorFormat → List (List ℕ) → ℕ → Redo
 redo_of k sectors place =
     if is_closed_at k.reading sectors (next sectors place) then
     (if k.reading.has_gc_done (sector_at sectors place) then ClearNext else CollectAgain) else Nothing
 
 -- the list that it leaves
-abbrev pub redo_list : Kind → List (List ℕ) → ℕ → Redo → List (ℕ × List ℕ)
+abbrev pub redo_list : SectorFormat → List (List ℕ) → ℕ → Redo → List (ℕ × List ℕ)
 redo_list k sectors place Nothing = list_of k sectors
 redo_list k sectors place ClearNext = list_of k sectors
 redo_list k sectors place CollectAgain = collected_list k sectors place
 
 -- a mount that was cut
-abbrev pub KeepsOrRedoes : Kind → List (List ℕ) → List (List ℕ) → ℕ → Type 0
+abbrev pub KeepsOrRedoes : SectorFormat → List (List ℕ) → List (List ℕ) → ℕ → Type 0
 KeepsOrRedoes k old new place =
     (list_of k new ≡ list_of k old)
     ⊎ (list_of k new ≡ redo_list k old place (redo_of k old place))
 
 -- what that spends
-abbrev pub redo_units : Kind → List (List ℕ) → ℕ → Redo → Range
+abbrev pub redo_units : SectorFormat → List (List ℕ) → ℕ → Redo → Range
 redo_units k sectors place Nothing = none
 redo_units k sectors place ClearNext = k.units.clear (sector_at sectors (next sectors place))
 redo_units k sectors place CollectAgain = again_units k sectors place

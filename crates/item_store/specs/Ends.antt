@@ -7,95 +7,97 @@ use Rattle.flash_map.specs.Area.{sector_size, sectors_of}
 use Rattle.item_laws.specs.Area.{next}
 use Rattle.item_laws.specs.Forms.{AtRest, Collecting}
 use Rattle.item_store.specs.declared.entry.Placed.{Placed}
-use Rattle.item_store.specs.Collecting.{CollectsAt, CopiesOne, HasOpened, KeepsOrRedoes, KeepsOrTurns, TurnsAt, copy_units, redo_list, redo_of, redo_units}
-use Rattle.item_store.specs.Kind.{Kind}
-use Rattle.item_store.specs.Listed.{kind_on, HasSlotOn}
+use Rattle.item_store.specs.Collecting.{CollectsAt, CopiesOne, HasOpened, KeepsOrRedoes, KeepsOrDoesPass, DoesPassAt, copy_units, redo_list, redo_of, redo_units}
+use Rattle.item_store.specs.SectorFormat.{SectorFormat}
+use Rattle.item_store.specs.Listed.{format_on, HasSlotOn}
 use Rattle.item_store.specs.OnSector.{ChangesOnlyOn, IsKeptAfter, IsSoundOn, KeepsMarksOn, sector_on}
 use Rattle.item_store.specs.Spending.{open_units, round_units}
 use Rattle.item_store.specs.Standing.{SpendsIn, SpendsUpTo, list_of}
 
 -- A slot of the victim, which is sound and not the open sector.
-pub record IsVictimSlot (kind : Geometry → Kind) (d : Device) (on : Area) (current victim slot : ℕ) :
+pub record IsVictimSlot (format_of : Geometry → SectorFormat) (d : Device) (on : Area)
+    (current victim slot : ℕ) :
     Type 0 where
   pub inside : victim < on.sectors
   pub other : victim ≡ current → ⊥
-  pub listed : HasSlotOn kind d on victim slot
-  pub source : IsSoundOn kind d on victim
-  pub within : (kind_on kind d on).within (sector_on d on victim) ≡ true
+  pub listed : HasSlotOn format_of d on victim slot
+  pub source : IsSoundOn format_of d on victim
+  pub within : (format_on format_of d on).within (sector_on d on victim) ≡ true
 
 -- How the copy of an entry ends, or of none. A power loss keeps the marks of the open sector.
-pub record CopyEnds {T X E : Type 0} (kind : Geometry → Kind) (keep : Geometry → List ℕ → T)
+pub record CopyEnds {T X E : Type 0} (format_of : Geometry → SectorFormat) (keep : Geometry → List ℕ → T)
     (old new : Device) (on : Area) (place : ℕ) (entry : Option Placed) (held : T) (result : Result X E) :
     Type 0 where
   pub copies : OnOk result
-      (CopiesOne (kind_on kind old on) (sectors_of old on) (sectors_of new on) place entry)
+      (CopiesOne (format_on format_of old on) (sectors_of old on) (sectors_of new on) place entry)
   pub kept : OnOk result (IsKeptAfter keep old new on place held)
   pub only : OnErr result (ChangesOnlyOn old new on place)
-  pub lost : OnErr result (KeepsMarksOn kind old new on place)
-  pub spends : OnOk result (SpendsIn old new (copy_units (kind_on kind old on) entry))
-  pub spends_lost : OnErr result (SpendsUpTo old new (copy_units (kind_on kind old on) entry))
+  pub lost : OnErr result (KeepsMarksOn format_of old new on place)
+  pub spends : OnOk result (SpendsIn old new (copy_units (format_on format_of old on) entry))
+  pub spends_lost : OnErr result (SpendsUpTo old new (copy_units (format_on format_of old on) entry))
 
 -- How that ends which a mount does again. On `Ok` the area is at rest. An area at rest is left alone.
-pub record RedoEnds {T X E : Type 0} (kind : Geometry → Kind) (keep : Geometry → List ℕ → T)
+pub record RedoEnds {T X E : Type 0} (format_of : Geometry → SectorFormat) (keep : Geometry → List ℕ → T)
     (old new : Device) (on : Area) (place : ℕ) (held : T) (result : Result X E) : Type 0 where
-  pub rested : OnOk result (AtRest (kind_on kind old on).reading (sectors_of new on) place)
+  pub rested : OnOk result (AtRest (format_on format_of old on).reading (sectors_of new on) place)
   pub list :
-      let k = kind_on kind old on in
+      let k = format_on format_of old on in
       OnOk result
       (list_of k (sectors_of new on)
       ≡ redo_list k (sectors_of old on) place (redo_of k (sectors_of old on) place))
   pub list_lost : OnErr result
-      (KeepsOrRedoes (kind_on kind old on) (sectors_of old on) (sectors_of new on) place)
-  pub busy : OnErr result (AtRest (kind_on kind old on).reading (sectors_of old on) place → ⊥)
+      (KeepsOrRedoes (format_on format_of old on) (sectors_of old on) (sectors_of new on) place)
+  pub busy : OnErr result (AtRest (format_on format_of old on).reading (sectors_of old on) place → ⊥)
   pub collects :
-      let k = kind_on kind old on in
+      let k = format_on format_of old on in
       OnOk result
       (Collecting k.reading (sectors_of old on) place
       → CollectsAt k (sectors_of old on) (sectors_of new on) place)
   pub kept : OnOk result (IsKeptAfter keep old new on place held)
   pub spends :
-      let k = kind_on kind old on in
+      let k = format_on format_of old on in
       OnOk result
       (SpendsIn old new
       (redo_units k (sectors_of old on) place (redo_of k (sectors_of old on) place)))
   pub spends_lost :
-      let k = kind_on kind old on in
+      let k = format_on format_of old on in
       OnErr result
       (SpendsUpTo old new
       (redo_units k (sectors_of old on) place (redo_of k (sectors_of old on) place)))
 
 -- How the next sector opens: made ready for entries, or with the collection of the sector behind it.
-pub record OpenEnds {T X E : Type 0} (kind : Geometry → Kind) (keep : Geometry → List ℕ → T)
+pub record OpenEnds {T X E : Type 0} (format_of : Geometry → SectorFormat) (keep : Geometry → List ℕ → T)
     (old new : Device) (on : Area) (place : ℕ) (held : T) (result : Result X E) : Type 0 where
   pub opens :
-      let k = kind_on kind old on in
+      let k = format_on format_of old on in
       OnOk result
       (AtRest k.reading (sectors_of old on) place
       → HasOpened k (sectors_of old on) (sectors_of new on) place)
   pub collects :
-      let k = kind_on kind old on in
+      let k = format_on format_of old on in
       OnOk result
       (Collecting k.reading (sectors_of old on) place
       → CollectsAt k (sectors_of old on) (sectors_of new on) place)
   pub list_lost : OnErr result
-      (KeepsOrRedoes (kind_on kind old on) (sectors_of old on) (sectors_of new on) place)
+      (KeepsOrRedoes (format_on format_of old on) (sectors_of old on) (sectors_of new on) place)
   pub kept : OnOk result (IsKeptAfter keep old new on place held)
   pub spends : OnOk result
-      (SpendsIn old new (open_units (kind_on kind old on) (sectors_of old on) place))
+      (SpendsIn old new (open_units (format_on format_of old on) (sectors_of old on) place))
   pub spends_lost : OnErr result
-      (SpendsUpTo old new (open_units (kind_on kind old on) (sectors_of old on) place))
+      (SpendsUpTo old new (open_units (format_on format_of old on) (sectors_of old on) place))
 
 -- How a round ends. On `Ok` the next sector is open and the area at rest.
-pub record RoundEndsOn {T X E : Type 0} (kind : Geometry → Kind) (keep : Geometry → List ℕ → T)
+pub record RoundEndsOn {T X E : Type 0} (format_of : Geometry → SectorFormat) (keep : Geometry → List ℕ → T)
     (old new : Device) (on : Area) (place : ℕ) (held : T) (result : Result X E) : Type 0 where
   pub rested : OnOk result
-      (AtRest (kind_on kind old on).reading (sectors_of new on) (next (sectors_of old on) place))
+      (AtRest (format_on format_of old on).reading (sectors_of new on) (next (sectors_of old on) place))
   pub list_lost : OnErr result
-      (KeepsOrTurns (kind_on kind old on) (sectors_of old on) (sectors_of new on) place)
+      (KeepsOrDoesPass (format_on format_of old on) (sectors_of old on) (sectors_of new on) place)
   pub kept : OnOk result (IsKeptAfter keep old new on (next (sectors_of old on) place) held)
-  pub turns : OnOk result
-      (TurnsAt (kind_on kind old on) (sector_size old on) (sectors_of old on) (sectors_of new on) place)
+  pub does_pass : OnOk result
+      (DoesPassAt (format_on format_of old on) (sector_size old on) (sectors_of old on) (sectors_of new on)
+      place)
   pub spends : OnOk result
-      (SpendsIn old new (round_units (kind_on kind old on) (sectors_of old on) place))
+      (SpendsIn old new (round_units (format_on format_of old on) (sectors_of old on) place))
   pub spends_lost : OnErr result
-      (SpendsUpTo old new (round_units (kind_on kind old on) (sectors_of old on) place))
+      (SpendsUpTo old new (round_units (format_on format_of old on) (sectors_of old on) place))

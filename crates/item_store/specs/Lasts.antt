@@ -1,4 +1,4 @@
--- The last entries of the ids in a range, told one after the other from the newest back.
+-- The last entries of the ids in a range, given one after the other from the newest back.
 use Rattle.std.specs.Prelude.{◌≡◌, ◌⊎◌, ℕ, ◌+◌, ◌-◌, ◌*◌, ◌^◌, ◌<◌, ◌≤◌, Bool, true, false, ◌&&◌, List, [], length, map, ◌++◌, Option, Some, None, ◌==◌, nat_le, nat_lt, if◌then◌else◌}
 use Rattle.std.specs.List.{filter_map, list_any, range_with_len}
 use Rattle.flash_map.specs.Area.{sector_at}
@@ -7,7 +7,7 @@ use Rattle.item_laws.specs.Live.{last_placed}
 use Rattle.item_store.specs.declared.entry.Entry.{Entry}
 use Rattle.item_store.specs.declared.entry.Placed.{Placed}
 use Rattle.item_store.specs.declared.lasts.Lasts.{Lasts}
-use Rattle.item_store.specs.Kind.{Kind, placed_at, slots}
+use Rattle.item_store.specs.SectorFormat.{SectorFormat, placed_at, slots}
 use Rattle.item_store.specs.Latest.{last_of_id}
 use Rattle.item_store.specs.Seen.{has_bit, behind}
 
@@ -22,7 +22,7 @@ IsOther least most (Some e) = in_range least most e.id ≡ false
 
 -- no entry of a sector's list in the slots from the one with this number on has an id of the range, up to
 -- another one
-abbrev pub AreOthers : Kind → List ℕ → ℕ → ℕ → ℕ → ℕ → Type 0
+abbrev pub AreOthers : SectorFormat → List ℕ → ℕ → ℕ → ℕ → ℕ → Type 0
 AreOthers k b from to least most =
     (slot : ℕ) → k.first + from ≤ slot → slot < k.first + to → IsOther least most (k.in_slot b slot)
 
@@ -31,7 +31,7 @@ abbrev pub has_id : ℕ → List Placed → Bool
 has_id id placed = list_any (λ p. p.id == id) placed
 
 -- the entries of a sector that counts, but those in its first so many slots
-abbrev pub counted_from : Kind → List (List ℕ) → ℕ → ℕ → ℕ → List Placed
+abbrev pub counted_from : SectorFormat → List (List ℕ) → ℕ → ℕ → ℕ → List Placed
 counted_from k sectors current place left =
     let b = sector_at sectors place in
     if counts_at k.reading sectors current place
@@ -39,39 +39,39 @@ counted_from k sectors current place left =
     else []
 
 -- the entries behind the first so many slots of a sector, in the round to the open one
-abbrev pub told_at : Kind → List (List ℕ) → ℕ → ℕ → ℕ → List Placed
-told_at k sectors current place left =
+abbrev pub given_at : SectorFormat → List (List ℕ) → ℕ → ℕ → ℕ → List Placed
+given_at k sectors current place left =
     counted_from k sectors current place left ++ behind k sectors current place
 
 -- A walk stands at a place of the list. The ids of the entries behind it are noted, as far as they are in its
 -- range.
-pub record IsAt (k : Kind) (sectors : List (List ℕ)) (current : ℕ) (walk : Lasts) : Type 0 where
+pub record IsAt (k : SectorFormat) (sectors : List (List ℕ)) (current : ℕ) (walk : Lasts) : Type 0 where
   pub inside : walk.place < length sectors
   pub left : walk.left ≤ k.count (sector_at sectors walk.place)
   pub few : walk.left ≤ 2 ^ 15
   pub counts : 0 < walk.left → counts_at k.reading sectors current walk.place ≡ true
   pub range : walk.most < walk.least + 0x1_0020
   pub noted : (id : ℕ) → in_range walk.least walk.most id ≡ true
-      → has_bit walk.seen (id - walk.least) ≡ has_id id (told_at k sectors current walk.place walk.left)
+      → has_bit walk.seen (id - walk.least) ≡ has_id id (given_at k sectors current walk.place walk.left)
 
--- an entry of the range that a walk told: the last one of its id
-pub record WasTold (k : Kind) (sectors : List (List ℕ)) (current : ℕ) (walk : Lasts) (p : Placed) :
+-- an entry of the range that a walk gave: the last one of its id
+pub record WasGiven (k : SectorFormat) (sectors : List (List ℕ)) (current : ℕ) (walk : Lasts) (p : Placed) :
     Type 0 where
   pub own : in_range walk.least walk.most p.id ≡ true
-  pub last : last_of_id p.id (told_at k sectors current walk.place walk.left) ≡ Some p
+  pub last : last_of_id p.id (given_at k sectors current walk.place walk.left) ≡ Some p
 
 -- an entry of the range that is the last one of its id in the whole list
-pub record IsLastIn (k : Kind) (sectors : List (List ℕ)) (walk : Lasts) (p : Placed) : Type 0 where
+pub record IsLastIn (k : SectorFormat) (sectors : List (List ℕ)) (walk : Lasts) (p : Placed) : Type 0 where
   pub own : in_range walk.least walk.most p.id ≡ true
   pub last : last_placed (slots k) sectors p.id ≡ Some p
 
--- The next one is told, or there is none that was not.
-abbrev pub TellsNext : Kind → List (List ℕ) → ℕ → Lasts → Lasts → Option Placed → Type 0
-TellsNext k sectors current old new None =
-    (p : Placed) → IsLastIn k sectors old p → WasTold k sectors current old p
-TellsNext k sectors current old new (Some next) =
+-- The next one is given, or there is none left.
+abbrev pub GivesNext : SectorFormat → List (List ℕ) → ℕ → Lasts → Lasts → Option Placed → Type 0
+GivesNext k sectors current old new None =
+    (p : Placed) → IsLastIn k sectors old p → WasGiven k sectors current old p
+GivesNext k sectors current old new (Some next) =
     IsLastIn k sectors old next
-    × ((p : Placed) → WasTold k sectors current new p → (p ≡ next) ⊎ WasTold k sectors current old p)
+    × ((p : Placed) → WasGiven k sectors current new p → (p ≡ next) ⊎ WasGiven k sectors current old p)
 
 -- the same range
 abbrev pub SameRange : Lasts → Lasts → Type 0

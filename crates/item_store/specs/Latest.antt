@@ -9,8 +9,8 @@ use Rattle.item_laws.specs.NextIds.{IsBehind}
 use Rattle.item_store.specs.declared.entry.Placed.{Placed}
 use Rattle.item_store.specs.declared.latest.LastSlots.{LastSlots}
 use Rattle.item_store.specs.declared.seen.Seen.{Seen}
-use Rattle.item_store.specs.Kind.{Kind}
-use Rattle.item_store.specs.Listed.{kind_on, entries_on}
+use Rattle.item_store.specs.SectorFormat.{SectorFormat}
+use Rattle.item_store.specs.Listed.{format_on, entries_on}
 use Rattle.item_store.specs.Seen.{HasSeen}
 
 -- the last of these entries that has the id, a delete too
@@ -26,21 +26,21 @@ abbrev pub held : Placed → List Placed
 held p = if p.len == 0 then [] else p ∷ []
 
 -- an id below the bound; where there is none, each id
-abbrev pub IsTold : Option ℕ → ℕ → Type 0
-IsTold None id = Unit {0}
-IsTold (Some bound) id = id < bound
+abbrev pub IsKnown : Option ℕ → ℕ → Type 0
+IsKnown None id = Unit {0}
+IsKnown (Some bound) id = id < bound
 
 -- each entry has a lesser id than those behind it
 abbrev pub Rises : List Placed → Type 0
 Rises entries = AllPairs (λ p q. p.id < q.id) entries
 
--- A table tells of the ids below its bound: of each it has the last one of these entries, where that has
+-- A table knows the ids below its bound: of each it has the last one of these entries, where that has
 -- bytes. It has no other entries, and they stand in the order of their ids. These entries' ids are below a
 -- limit.
-pub record TellsBelow (limit : ℕ) (last : LastSlots) (placed : List Placed) : Type 0 where
-  pub told : (id : ℕ) → IsTold last.bound id
+pub record KnowsBelow (limit : ℕ) (last : LastSlots) (placed : List Placed) : Type 0 where
+  pub covered : (id : ℕ) → IsKnown last.bound id
       → last_of_id id last.entries.items ≡ with_bytes (last_of_id id placed)
-  pub within : All (λ p. IsTold last.bound p.id) last.entries.items
+  pub within : All (λ p. IsKnown last.bound p.id) last.entries.items
   pub rises : Rises last.entries.items
   pub few : length last.entries.items ≤ 800
   pub known : All (λ p. p.id < limit) placed
@@ -55,18 +55,18 @@ pub record HadBytes (ids greatest : ℕ) (placed : List Placed) : Type 0 where
   pub among : All (Contains placed) entries
 
 -- So does a table of 800 places. It has a bound only where more ids than it has places had bytes, none of
--- them above that bound; otherwise it tells of each id.
-pub record Tells (limit : ℕ) (last : LastSlots) (placed : List Placed) : Type 0 where
-  pub below : TellsBelow limit last placed
+-- them above that bound; otherwise it knows each id.
+pub record Knows (limit : ℕ) (last : LastSlots) (placed : List Placed) : Type 0 where
+  pub below : KnowsBelow limit last placed
   pub full : (bound : ℕ) → last.bound ≡ Some bound → HadBytes 801 bound placed
 
--- the table tells of the entries of an area
-abbrev pub TellsOn : (Geometry → Kind) → Device → Area → LastSlots → Type 0
-TellsOn kind d area last = Tells (kind_on kind d area).ids last (entries_on kind d area)
+-- the table knows the entries of an area
+abbrev pub KnowsOn : (Geometry → SectorFormat) → Device → Area → LastSlots → Type 0
+KnowsOn format_of d area last = Knows (format_on format_of d area).ids last (entries_on format_of d area)
 
--- a table tells of these entries, and the ids of all of them were seen
+-- a table knows these entries, and the ids of all of them were seen
 pub record Covers (limit : ℕ) (last : LastSlots) (seen : Seen) (placed : List Placed) : Type 0 where
-  pub told : Tells limit last placed
+  pub covered : Knows limit last placed
   pub ids : HasSeen limit seen placed
 
 -- ---- reading a table

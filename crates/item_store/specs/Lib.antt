@@ -3,7 +3,7 @@ pub mod Cached
 pub mod Closing
 pub mod Collecting
 pub mod Ends
-pub mod Kind
+pub mod SectorFormat
 pub mod Lasts
 pub mod Latest
 pub mod Listed

@@ -9,48 +9,49 @@ use Rattle.item_laws.specs.Items.{Items}
 use Rattle.item_laws.specs.Area.{counts_at}
 use Rattle.item_laws.specs.Live as live
 use Rattle.item_store.specs.declared.entry.Placed.{Placed}
-use Rattle.item_store.specs.Kind.{Kind, placed_at, slots}
+use Rattle.item_store.specs.SectorFormat.{SectorFormat, placed_at, slots}
 use Rattle.item_store.specs.Standing.{list_of, items}
 
 -- the entry is that of its slot, in the list of its sector
-pub record IsListed (k : Kind) (sectors : List (List ℕ)) (p : Placed) : Type 0 where
+pub record IsListed (k : SectorFormat) (sectors : List (List ℕ)) (p : Placed) : Type 0 where
   pub within : p.sector < length sectors
   pub from : k.first ≤ p.slot
   pub listed : p.slot < k.first + k.count (sector_at sectors p.sector)
   pub read : option_map (placed_at p.sector) (k.in_slot (sector_at sectors p.sector) p.slot) ≡ Some p
 
 -- and its sector counts, with this one open
-pub record IsPlaced (k : Kind) (sectors : List (List ℕ)) (current : ℕ) (p : Placed) : Type 0 where
+pub record IsPlaced (k : SectorFormat) (sectors : List (List ℕ)) (current : ℕ) (p : Placed) : Type 0 where
   pub listed : IsListed k sectors p
   pub counts : counts_at k.reading sectors current p.sector ≡ true
 
 -- ---- an area on a device
 
-abbrev pub kind_on : (Geometry → Kind) → Device → Area → Kind
-kind_on kind d area = kind (geometry_of d area)
+abbrev pub format_on : (Geometry → SectorFormat) → Device → Area → SectorFormat
+format_on format_of d area = format_of (geometry_of d area)
 
-abbrev pub list_on : (Geometry → Kind) → Device → Area → List (ℕ × List ℕ)
-list_on kind d area = list_of (kind_on kind d area) (sectors_of d area)
+abbrev pub list_on : (Geometry → SectorFormat) → Device → Area → List (ℕ × List ℕ)
+list_on format_of d area = list_of (format_on format_of d area) (sectors_of d area)
 
-abbrev pub items_on : (Geometry → Kind) → Device → Area → Items
-items_on kind d area = items (kind_on kind d area) (sectors_of d area)
+abbrev pub items_on : (Geometry → SectorFormat) → Device → Area → Items
+items_on format_of d area = items (format_on format_of d area) (sectors_of d area)
 
 -- the entries of the list, with their places
-abbrev pub entries_on : (Geometry → Kind) → Device → Area → List Placed
-entries_on kind d area = live.all_placed (slots (kind_on kind d area)) (sectors_of d area)
+abbrev pub entries_on : (Geometry → SectorFormat) → Device → Area → List Placed
+entries_on format_of d area = live.all_placed (slots (format_on format_of d area)) (sectors_of d area)
 
-abbrev pub IsListedOn : (Geometry → Kind) → Device → Area → Placed → Type 0
-IsListedOn kind d area p = IsListed (kind_on kind d area) (sectors_of d area) p
+abbrev pub IsListedOn : (Geometry → SectorFormat) → Device → Area → Placed → Type 0
+IsListedOn format_of d area p = IsListed (format_on format_of d area) (sectors_of d area) p
 
-abbrev pub IsPlacedOn : (Geometry → Kind) → Device → Area → ℕ → Placed → Type 0
-IsPlacedOn kind d area current p = IsPlaced (kind_on kind d area) (sectors_of d area) current p
+abbrev pub IsPlacedOn : (Geometry → SectorFormat) → Device → Area → ℕ → Placed → Type 0
+IsPlacedOn format_of d area current p = IsPlaced (format_on format_of d area) (sectors_of d area) current p
 
 -- the slot is one of the list of a sector
-abbrev pub HasSlotOn : (Geometry → Kind) → Device → Area → ℕ → ℕ → Type 0
-HasSlotOn kind d area place slot =
-    let k = kind_on kind d area in
+abbrev pub HasSlotOn : (Geometry → SectorFormat) → Device → Area → ℕ → ℕ → Type 0
+HasSlotOn format_of d area place slot =
+    let k = format_on format_of d area in
     (k.first ≤ slot) × (slot < k.first + k.count (sector_at (sectors_of d area) place))
 
 -- the bytes of the sector's entries lie in it
-abbrev pub IsWithinOn : (Geometry → Kind) → Device → Area → ℕ → Type 0
-IsWithinOn kind d area place = (kind_on kind d area).within (sector_at (sectors_of d area) place) ≡ true
+abbrev pub IsWithinOn : (Geometry → SectorFormat) → Device → Area → ℕ → Type 0
+IsWithinOn format_of d area place = (format_on format_of d area).within (sector_at (sectors_of d area) place)
+    ≡ true

@@ -4,7 +4,7 @@ use Rattle.std.specs.List.{last_or}
 use Rattle.item_laws.specs.Area.{open_sector}
 use Rattle.item_laws.specs.Walk.{placed_up_to}
 use Rattle.item_store.specs.declared.entry.Placed.{Placed}
-use Rattle.item_store.specs.Kind.{Kind, slots}
+use Rattle.item_store.specs.SectorFormat.{SectorFormat, slots}
 
 -- The next older entry of a list: the one before the entry at this place, or the newest where no place is
 -- named.
@@ -15,6 +15,6 @@ IsNextOlder all (Some place) next =
     → next ≡ last_or None older
 
 -- the newest entry before a place, in the round to the open sector, whether an entry stands there or not
-abbrev pub newest_before : Kind → List (List ℕ) → ℕ × ℕ → Option Placed
+abbrev pub newest_before : SectorFormat → List (List ℕ) → ℕ × ℕ → Option Placed
 newest_before k sectors place =
     last_or None (placed_up_to (slots k) sectors (open_sector k.reading sectors) place.0 (place.1 - k.first))

@@ -9,8 +9,8 @@ use Rattle.item_laws.specs.Area.{next, is_closed_at, open_sector}
 use Rattle.item_laws.specs.Reading.{is_sound}
 use Rattle.item_laws.specs.Live as live
 use Rattle.item_store.specs.declared.entry.Placed.{Placed}
-use Rattle.item_store.specs.Kind.{Kind, fits, placed_at, slots}
-use Rattle.item_store.specs.Listed.{kind_on, HasSlotOn}
+use Rattle.item_store.specs.SectorFormat.{SectorFormat, fits, placed_at, slots}
+use Rattle.item_store.specs.Listed.{format_on, HasSlotOn}
 use Rattle.flash_map.specs.declared.area.Role.{Role}
 use Rattle.item_store.specs.Standing.{IsStoreArea, SpendsIn, SpendsUpTo}
 use Rattle.item_store.specs.Steps.{Keeps, KeepsMarks, LeavesRoom, Begins, Adds, Marks, Closes, Clears, StopsClearing}
@@ -20,12 +20,12 @@ abbrev pub sector_on : Device → Area → ℕ → List ℕ
 sector_on d area place = sector_at (sectors_of d area) place
 
 -- how many bytes are free in it, between its values and its slots
-abbrev pub free_on : (Geometry → Kind) → Device → Area → ℕ → ℕ
-free_on kind d area place = (kind_on kind d area).free (sector_on d area place)
+abbrev pub free_on : (Geometry → SectorFormat) → Device → Area → ℕ → ℕ
+free_on format_of d area place = (format_on format_of d area).free (sector_on d area place)
 
 -- the bytes of an entry
-abbrev pub bytes_on : (Geometry → Kind) → Device → Area → Placed → List ℕ
-bytes_on kind d area p = live.bytes_of (slots (kind_on kind d area)) (sectors_of d area) p
+abbrev pub bytes_on : (Geometry → SectorFormat) → Device → Area → Placed → List ℕ
+bytes_on format_of d area p = live.bytes_of (slots (format_on format_of d area)) (sectors_of d area) p
 
 -- ---- what it is
 
@@ -36,40 +36,44 @@ IsKeptOn kept d area place held = held ≡ kept (geometry_of d area) (sector_on 
 abbrev pub IsKeptAfter : {T : Type 0} → (Geometry → List ℕ → T) → Device → Device → Area → ℕ → T → Type 0
 IsKeptAfter kept old new area place held = held ≡ kept (geometry_of old area) (sector_on new area place)
 
-abbrev pub IsReadyOn : (Geometry → Kind) → Device → Area → ℕ → Type 0
-IsReadyOn kind d area place = (kind_on kind d area).is_ready (sector_on d area place) ≡ true
+abbrev pub IsReadyOn : (Geometry → SectorFormat) → Device → Area → ℕ → Type 0
+IsReadyOn format_of d area place = (format_on format_of d area).is_ready (sector_on d area place) ≡ true
 
-abbrev pub IsSoundOn : (Geometry → Kind) → Device → Area → ℕ → Type 0
-IsSoundOn kind d area place = is_sound (kind_on kind d area).reading (sector_on d area place) ≡ true
+abbrev pub IsSoundOn : (Geometry → SectorFormat) → Device → Area → ℕ → Type 0
+IsSoundOn format_of d area place = is_sound (format_on format_of d area).reading (sector_on d area place)
+    ≡ true
 
-abbrev pub IsOpenOn : (Geometry → Kind) → Device → Area → ℕ → Type 0
-IsOpenOn kind d area place = place ≡ open_sector (kind_on kind d area).reading (sectors_of d area)
+abbrev pub IsOpenOn : (Geometry → SectorFormat) → Device → Area → ℕ → Type 0
+IsOpenOn format_of d area place = place ≡ open_sector (format_on format_of d area).reading (sectors_of d area)
 
 -- whether the sector behind it is closed
-abbrev pub NextIsClosedOn : (Geometry → Kind) → Device → Area → ℕ → Type 0
-NextIsClosedOn kind d area place =
-    is_closed_at (kind_on kind d area).reading (sectors_of d area) (next (sectors_of d area) place) ≡ true
+abbrev pub NextIsClosedOn : (Geometry → SectorFormat) → Device → Area → ℕ → Type 0
+NextIsClosedOn format_of d area place =
+    is_closed_at (format_on format_of d area).reading (sectors_of d area) (next (sectors_of d area) place)
+    ≡ true
 
-abbrev pub NextIsNotClosedOn : (Geometry → Kind) → Device → Area → ℕ → Type 0
-NextIsNotClosedOn kind d area place =
-    is_closed_at (kind_on kind d area).reading (sectors_of d area) (next (sectors_of d area) place) ≡ false
+abbrev pub NextIsNotClosedOn : (Geometry → SectorFormat) → Device → Area → ℕ → Type 0
+NextIsNotClosedOn format_of d area place =
+    is_closed_at (format_on format_of d area).reading (sectors_of d area) (next (sectors_of d area) place)
+    ≡ false
 
-abbrev pub HasNoGcDoneOn : (Geometry → Kind) → Device → Area → ℕ → Type 0
-HasNoGcDoneOn kind d area place = (kind_on kind d area).reading.has_gc_done (sector_on d area place) ≡ false
+abbrev pub HasNoGcDoneOn : (Geometry → SectorFormat) → Device → Area → ℕ → Type 0
+HasNoGcDoneOn format_of d area place =
+    (format_on format_of d area).reading.has_gc_done (sector_on d area place) ≡ false
 
 -- a value of this length fits it
-abbrev pub FitsOn : (Geometry → Kind) → Device → Area → ℕ → ℕ → Type 0
-FitsOn kind d area place len = IsTrue (fits (kind_on kind d area) (sector_on d area place) len)
+abbrev pub FitsOn : (Geometry → SectorFormat) → Device → Area → ℕ → ℕ → Type 0
+FitsOn format_of d area place len = IsTrue (fits (format_on format_of d area) (sector_on d area place) len)
 
 -- a copy of this length and three slots more fit it
-abbrev pub HasCopyRoomOn : (Geometry → Kind) → Device → Area → ℕ → ℕ → Type 0
-HasCopyRoomOn kind d area place len =
-    let k = kind_on kind d area in k.cost len + 3 * k.slot ≤ free_on kind d area place
+abbrev pub HasCopyRoomOn : (Geometry → SectorFormat) → Device → Area → ℕ → ℕ → Type 0
+HasCopyRoomOn format_of d area place len =
+    let k = format_on format_of d area in k.cost len + 3 * k.slot ≤ free_on format_of d area place
 
 -- the entry stands in its slot
-abbrev pub StandsThereOn : (Geometry → Kind) → Device → Area → Placed → Type 0
-StandsThereOn kind d area p =
-    option_map (placed_at p.sector) ((kind_on kind d area).in_slot (sector_on d area p.sector) p.slot)
+abbrev pub StandsThereOn : (Geometry → SectorFormat) → Device → Area → Placed → Type 0
+StandsThereOn format_of d area p =
+    option_map (placed_at p.sector) ((format_on format_of d area).in_slot (sector_on d area p.sector) p.slot)
     ≡ Some p
 
 -- ---- what a step makes of it
@@ -77,125 +81,134 @@ StandsThereOn kind d area p =
 abbrev pub ChangesOnlyOn : Device → Device → Area → ℕ → Type 0
 ChangesOnlyOn old new area place = ChangesOnly (sectors_of old area) (sectors_of new area) place
 
--- a step in a sector, by the kind of the area before it
-abbrev pub StepOn : (Kind → List ℕ → List ℕ → Type 0) → (Geometry → Kind) → Device → Device → Area → ℕ
+-- a step in a sector, by the format of the area before it
+abbrev pub StepOn : (SectorFormat → List ℕ → List ℕ → Type 0) → (Geometry → SectorFormat) → Device → Device
+    → Area → ℕ
     → Type 0
-StepOn step kind old new area place =
-    step (kind_on kind old area) (sector_on old area place) (sector_on new area place)
+StepOn step format_of old new area place =
+    step (format_on format_of old area) (sector_on old area place) (sector_on new area place)
 
-abbrev pub KeepsOn : (Geometry → Kind) → Device → Device → Area → ℕ → Type 0
+abbrev pub KeepsOn : (Geometry → SectorFormat) → Device → Device → Area → ℕ → Type 0
 KeepsOn = StepOn Keeps
 
-abbrev pub KeepsMarksOn : (Geometry → Kind) → Device → Device → Area → ℕ → Type 0
+abbrev pub KeepsMarksOn : (Geometry → SectorFormat) → Device → Device → Area → ℕ → Type 0
 KeepsMarksOn = StepOn KeepsMarks
 
-abbrev pub MarksOn : (Geometry → Kind) → Device → Device → Area → ℕ → Type 0
+abbrev pub MarksOn : (Geometry → SectorFormat) → Device → Device → Area → ℕ → Type 0
 MarksOn = StepOn Marks
 
-abbrev pub BeginsOn : (Geometry → Kind) → Device → Device → Area → ℕ → Type 0
+abbrev pub BeginsOn : (Geometry → SectorFormat) → Device → Device → Area → ℕ → Type 0
 BeginsOn = StepOn Begins
 
-abbrev pub ClosesOn : (Geometry → Kind) → Device → Device → Area → ℕ → Type 0
+abbrev pub ClosesOn : (Geometry → SectorFormat) → Device → Device → Area → ℕ → Type 0
 ClosesOn = StepOn Closes
 
-abbrev pub ClearsOn : (Geometry → Kind) → Device → Device → Area → ℕ → Type 0
+abbrev pub ClearsOn : (Geometry → SectorFormat) → Device → Device → Area → ℕ → Type 0
 ClearsOn = StepOn Clears
 
-abbrev pub StopsClearingOn : (Geometry → Kind) → Device → Device → Area → ℕ → Type 0
+abbrev pub StopsClearingOn : (Geometry → SectorFormat) → Device → Device → Area → ℕ → Type 0
 StopsClearingOn = StepOn StopsClearing
 
-abbrev pub AddsOn : (Geometry → Kind) → Device → Device → Area → ℕ → ℕ → List ℕ → Type 0
-AddsOn kind old new area place id bytes =
-    Adds (kind_on kind old area) (sector_on old area place) (sector_on new area place) id bytes
+abbrev pub AddsOn : (Geometry → SectorFormat) → Device → Device → Area → ℕ → ℕ → List ℕ → Type 0
+AddsOn format_of old new area place id bytes =
+    Adds (format_on format_of old area) (sector_on old area place) (sector_on new area place) id bytes
 
 -- no more is gone of what was free than a value of this length and its entry cost
-abbrev pub LeavesRoomOn : (Geometry → Kind) → Device → Device → Area → ℕ → ℕ → Type 0
-LeavesRoomOn kind old new area place len =
-    let k = kind_on kind old area in
+abbrev pub LeavesRoomOn : (Geometry → SectorFormat) → Device → Device → Area → ℕ → ℕ → Type 0
+LeavesRoomOn format_of old new area place len =
+    let k = format_on format_of old area in
     LeavesRoom k (sector_on old area place) (sector_on new area place) (k.cost len)
 
 -- a sound sector stays so
-abbrev pub KeepsSoundOn : (Geometry → Kind) → Device → Device → Area → ℕ → Type 0
-KeepsSoundOn kind old new area place =
-    let k = kind_on kind old area in
+abbrev pub KeepsSoundOn : (Geometry → SectorFormat) → Device → Device → Area → ℕ → Type 0
+KeepsSoundOn format_of old new area place =
+    let k = format_on format_of old area in
     is_sound k.reading (sector_on old area place) ≡ true
     → is_sound k.reading (sector_on new area place) ≡ true
 
 -- ---- what a call in the open sector asks for, and how it ends
 
 -- The open sector of a store's area, which takes entries, with what is kept of it.
-pub record IsOpenSector {T : Type 0} (role : Role) (kind : Geometry → Kind) (keep : Geometry → List ℕ → T)
+pub record IsOpenSector {T : Type 0} (role : Role) (format_of : Geometry → SectorFormat)
+    (keep : Geometry → List ℕ → T)
     (d : Device) (on : Area) (place : ℕ) (held : T) : Type 0 where
   pub area : IsStoreArea role d.banks on
   pub inside : place < on.sectors
   pub kept : IsKeptOn keep d on place held
-  pub ready : IsReadyOn kind d on place
-  pub opened : IsOpenOn kind d on place
+  pub ready : IsReadyOn format_of d on place
+  pub opened : IsOpenOn format_of d on place
 
 -- The sector behind it is the victim of a collection, which is not done.
-pub record IsCollecting (kind : Geometry → Kind) (d : Device) (on : Area) (place : ℕ) : Type 0 where
-  pub collecting : NextIsClosedOn kind d on place
-  pub not_done : HasNoGcDoneOn kind d on place
+pub record IsCollecting (format_of : Geometry → SectorFormat) (d : Device) (on : Area) (place : ℕ)
+    : Type 0 where
+  pub collecting : NextIsClosedOn format_of d on place
+  pub not_done : HasNoGcDoneOn format_of d on place
 
 -- The entry has bytes, and stands in another sector, which is sound.
-pub record IsSource (kind : Geometry → Kind) (d : Device) (on : Area) (place : ℕ) (from : Placed) :
+pub record IsSource (format_of : Geometry → SectorFormat) (d : Device) (on : Area) (place : ℕ)
+    (from : Placed) :
     Type 0 where
   pub has_source : from.sector < on.sectors
   pub other : from.sector ≡ place → ⊥
-  pub source : IsSoundOn kind d on from.sector
-  pub listed : HasSlotOn kind d on from.sector from.slot
-  pub there : StandsThereOn kind d on from
+  pub source : IsSoundOn format_of d on from.sector
+  pub listed : HasSlotOn format_of d on from.sector from.slot
+  pub there : StandsThereOn format_of d on from
   pub some : 0 < from.len
 
 -- How a put ends. On `Ok` the sector has one pair more; where power was lost, its list is as before or has
 -- the pair.
-pub record PutEnds {T X E : Type 0} (kind : Geometry → Kind) (keep : Geometry → List ℕ → T) (old new : Device)
+pub record PutEnds {T X E : Type 0} (format_of : Geometry → SectorFormat) (keep : Geometry → List ℕ → T)
+    (old new : Device)
     (on : Area) (place id : ℕ) (bytes : List ℕ) (held : T) (result : Result X E) : Type 0 where
   pub only : ChangesOnlyOn old new on place
-  pub adds : OnOk result (AddsOn kind old new on place id bytes)
+  pub adds : OnOk result (AddsOn format_of old new on place id bytes)
   pub kept : OnOk result (IsKeptAfter keep old new on place held)
-  pub lost : OnErr result (KeepsOn kind old new on place ⊎ AddsOn kind old new on place id bytes)
-  pub room_lost : OnErr result (LeavesRoomOn kind old new on place (length bytes))
-  pub sound : KeepsSoundOn kind old new on place
+  pub lost : OnErr result (KeepsOn format_of old new on place ⊎ AddsOn format_of old new on place id bytes)
+  pub room_lost : OnErr result (LeavesRoomOn format_of old new on place (length bytes))
+  pub sound : KeepsSoundOn format_of old new on place
   pub spends : OnOk result
-      (SpendsIn old new ((kind_on kind old on).units.put (sector_on old on place) (length bytes)))
+      (SpendsIn old new ((format_on format_of old on).units.put (sector_on old on place) (length bytes)))
   pub spends_lost : OnErr result
-      (SpendsUpTo old new ((kind_on kind old on).units.put (sector_on old on place) (length bytes)))
+      (SpendsUpTo old new ((format_on format_of old on).units.put (sector_on old on place) (length bytes)))
 
 -- gc-done stands in the sector
-pub record IsMarked {T : Type 0} (kind : Geometry → Kind) (keep : Geometry → List ℕ → T)
+pub record IsMarked {T : Type 0} (format_of : Geometry → SectorFormat) (keep : Geometry → List ℕ → T)
     (old new : Device) (on : Area) (place : ℕ) (held : T) : Type 0 where
-  pub marks : MarksOn kind old new on place
+  pub marks : MarksOn format_of old new on place
   pub kept : IsKeptAfter keep old new on place held
-  pub spends : SpendsIn old new ((kind_on kind old on).units.done (sector_on old on place))
+  pub spends : SpendsIn old new ((format_on format_of old on).units.done (sector_on old on place))
 
 -- power was lost in that
-pub record StopsMarking (kind : Geometry → Kind) (old new : Device) (on : Area) (place : ℕ) : Type 0 where
-  pub lost : KeepsMarksOn kind old new on place
-  pub spends_lost : SpendsUpTo old new ((kind_on kind old on).units.done (sector_on old on place))
+pub record StopsMarking (format_of : Geometry → SectorFormat) (old new : Device) (on : Area) (place : ℕ)
+    : Type 0 where
+  pub lost : KeepsMarksOn format_of old new on place
+  pub spends_lost : SpendsUpTo old new ((format_on format_of old on).units.done (sector_on old on place))
 
 -- How a sector is made ready for entries. Where power was lost, its list is as before.
-pub record BeginEnds {T X E : Type 0} (kind : Geometry → Kind) (keep : Geometry → List ℕ → T)
+pub record BeginEnds {T X E : Type 0} (format_of : Geometry → SectorFormat) (keep : Geometry → List ℕ → T)
     (old new : Device) (on : Area) (place : ℕ) (held : T) (result : Result X E) : Type 0 where
   pub only : ChangesOnlyOn old new on place
-  pub begins : OnOk result (BeginsOn kind old new on place)
+  pub begins : OnOk result (BeginsOn format_of old new on place)
   pub kept : OnOk result (IsKeptAfter keep old new on place held)
-  pub lost : OnErr result (KeepsOn kind old new on place)
+  pub lost : OnErr result (KeepsOn format_of old new on place)
   pub room_lost : OnErr result
-      (LeavesRoom (kind_on kind old on) (sector_on old on place) (sector_on new on place) 0)
-  pub spends : OnOk result (SpendsIn old new ((kind_on kind old on).units.begin (sector_on old on place)))
+      (LeavesRoom (format_on format_of old on) (sector_on old on place) (sector_on new on place) 0)
+  pub spends : OnOk result
+      (SpendsIn old new ((format_on format_of old on).units.begin (sector_on old on place)))
   pub spends_lost : OnErr result
-      (SpendsUpTo old new ((kind_on kind old on).units.begin (sector_on old on place)))
+      (SpendsUpTo old new ((format_on format_of old on).units.begin (sector_on old on place)))
 
 -- How a close ends. Where power was lost, the sector's list is as before, or the sector is closed.
-pub record CloseEnds {X E : Type 0} (kind : Geometry → Kind) (old new : Device) (on : Area) (place : ℕ)
+pub record CloseEnds {X E : Type 0} (format_of : Geometry → SectorFormat) (old new : Device) (on : Area)
+    (place : ℕ)
     (result : Result X E) : Type 0 where
   pub only : ChangesOnlyOn old new on place
-  pub closes : OnOk result (ClosesOn kind old new on place)
-  pub lost : OnErr result (KeepsOn kind old new on place ⊎ ClosesOn kind old new on place)
+  pub closes : OnOk result (ClosesOn format_of old new on place)
+  pub lost : OnErr result (KeepsOn format_of old new on place ⊎ ClosesOn format_of old new on place)
   pub blank_lost : OnErr result
-      ((kind_on kind old on).reading.is_blank (sector_on old on place) ≡ true
-      → (sector_on new on place ≡ sector_on old on place) ⊎ ClosesOn kind old new on place)
-  pub spends : OnOk result (SpendsIn old new ((kind_on kind old on).units.close (sector_on old on place)))
+      ((format_on format_of old on).reading.is_blank (sector_on old on place) ≡ true
+      → (sector_on new on place ≡ sector_on old on place) ⊎ ClosesOn format_of old new on place)
+  pub spends : OnOk result
+      (SpendsIn old new ((format_on format_of old on).units.close (sector_on old on place)))
   pub spends_lost : OnErr result
-      (SpendsUpTo old new ((kind_on kind old on).units.close (sector_on old on place)))
+      (SpendsUpTo old new ((format_on format_of old on).units.close (sector_on old on place)))

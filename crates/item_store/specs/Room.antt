@@ -7,25 +7,25 @@ use Rattle.flash_map.specs.Spending.{SpendsBetween}
 use Rattle.item_laws.specs.PairRounds.{joined, collect_oldest, live_cost}
 use Rattle.item_laws.specs.Area.{open_sector}
 use Rattle.item_laws.specs.Rounds.{parts, IsCrammed}
-use Rattle.item_store.specs.Kind.{Range, Kind, fits}
-use Rattle.item_store.specs.Collecting.{fits_beside, TurnsAt}
+use Rattle.item_store.specs.SectorFormat.{Range, SectorFormat, fits}
+use Rattle.item_store.specs.Collecting.{fits_beside, DoesPassAt}
 use Rattle.item_store.specs.Spending.{none, both, round_units}
 use Rattle.item_store.specs.Standing.{list_at, KeepsItems, SpendsIn}
 
 -- the bytes of the open sector
-abbrev pub open_bytes : Kind → List (List ℕ) → List ℕ
+abbrev pub open_bytes : SectorFormat → List (List ℕ) → List ℕ
 open_bytes k sectors = sector_at sectors (open_sector k.reading sectors)
 
 -- whether a value of this length fits the open sector; a length of 0 is a delete
-abbrev pub has_room : Kind → List (List ℕ) → ℕ → Bool
+abbrev pub has_room : SectorFormat → List (List ℕ) → ℕ → Bool
 has_room k sectors len = fits k (open_bytes k sectors) len
 
 -- a value of this length and its entry cost no more than a sector has for them
-abbrev pub IsShort : Kind → Device → Area → ℕ → Type 0
+abbrev pub IsShort : SectorFormat → Device → Area → ℕ → Type 0
 IsShort k d area len = k.cost len ≤ k.cap (sector_size d area)
 
 -- the parts of the list: those of all sectors but the blank one, the oldest first
-abbrev pub parts_of : Kind → List (List ℕ) → List (List (ℕ × List ℕ))
+abbrev pub parts_of : SectorFormat → List (List ℕ) → List (List (ℕ × List ℕ))
 parts_of k sectors = parts k.reading sectors (open_sector k.reading sectors)
 
 -- what so many collections make of the parts
@@ -38,49 +38,49 @@ abbrev pub newest : List (List (ℕ × List ℕ)) → List (ℕ × List ℕ)
 newest ps = fold (λ older part. part) [] ps
 
 -- whether a value of this length has room beside what so many collections leave in the newest part
-abbrev pub leaves_room : Kind → ℕ → ℕ → List (List (ℕ × List ℕ)) → ℕ → Bool
+abbrev pub leaves_room : SectorFormat → ℕ → ℕ → List (List (ℕ × List ℕ)) → ℕ → Bool
 leaves_room k size len ps n = fits_beside k size (newest (collected n ps)) len
 
--- Rounds, told by the sectors before each, the last round's first. A value of this length had room before
+-- Rounds, given by the sectors before each, the last round's first. A value of this length had room before
 -- none.
-abbrev pub Rounds : Kind → ℕ → ℕ → List (List ℕ) → List (List (List ℕ)) → List (List ℕ) → Type 0
+abbrev pub Rounds : SectorFormat → ℕ → ℕ → List (List ℕ) → List (List (List ℕ)) → List (List ℕ) → Type 0
 Rounds k size len old [] new = new ≡ old
 Rounds k size len old (mid ∷ before) new =
     Rounds k size len old before mid
     × (has_room k mid len ≡ false)
-    × TurnsAt k size mid new (open_sector k.reading mid)
+    × DoesPassAt k size mid new (open_sector k.reading mid)
 
 -- what the next one spends
-abbrev pub round_at : Kind → List (List ℕ) → Range
+abbrev pub round_at : SectorFormat → List (List ℕ) → Range
 round_at k sectors = round_units k sectors (open_sector k.reading sectors)
 
 -- what they spend
-abbrev pub rounds_units : Kind → List (List (List ℕ)) → Range
+abbrev pub rounds_units : SectorFormat → List (List (List ℕ)) → Range
 rounds_units k [] = none
 rounds_units k (mid ∷ before) = both (rounds_units k before) (round_at k mid)
 
 -- ---- the same of an area on a device
 
-abbrev pub has_room_at : Kind → Device → Area → ℕ → Bool
+abbrev pub has_room_at : SectorFormat → Device → Area → ℕ → Bool
 has_room_at k d area len = has_room k (sectors_of d area) len
 
-abbrev pub parts_at : Kind → Device → Area → List (List (ℕ × List ℕ))
+abbrev pub parts_at : SectorFormat → Device → Area → List (List (ℕ × List ℕ))
 parts_at k d area = parts_of k (sectors_of d area)
 
-abbrev pub leaves_room_at : Kind → Device → Area → ℕ → ℕ → Bool
+abbrev pub leaves_room_at : SectorFormat → Device → Area → ℕ → ℕ → Bool
 leaves_room_at k d area len n = leaves_room k (sector_size d area) len (parts_at k d area) n
 
 -- rounds that led from the area to these sectors
-abbrev pub RoundsFrom : Kind → Device → Area → ℕ → List (List (List ℕ)) → List (List ℕ) → Type 0
+abbrev pub RoundsFrom : SectorFormat → Device → Area → ℕ → List (List (List ℕ)) → List (List ℕ) → Type 0
 RoundsFrom k d area len before new = Rounds k (sector_size d area) len (sectors_of d area) before new
 
 -- so many rounds, at most
-abbrev pub most_rounds : Kind → Device → Area → ℕ → ℕ
+abbrev pub most_rounds : SectorFormat → Device → Area → ℕ → ℕ
 most_rounds k d area rounds = rounds * k.units.round (sector_size d area)
 
 -- Rounds were made until a value of this length had room, or one for each sector but the blank one; where it
 -- had room at first, none was made. The items stay. For a delete one round is enough.
-pub record MakesRoom (k : Kind) (old new : Device) (area : Area) (len : ℕ) : Type 0 where
+pub record MakesRoom (k : SectorFormat) (old new : Device) (area : Area) (len : ℕ) : Type 0 where
   pub before : List (List (List ℕ))
   pub rounds : RoundsFrom k old area len before (sectors_of new area)
   pub parts : parts_at k new area ≡ collected (length before) (parts_at k old area)
@@ -97,28 +97,28 @@ pub record MakesRoom (k : Kind) (old new : Device) (area : Area) (len : ℕ) : T
   pub at_most : SpendsBetween old new 0 (most_rounds k old area (length before))
 
 -- what a sector of the area has
-abbrev pub cap_at : Kind → Device → Area → ℕ
+abbrev pub cap_at : SectorFormat → Device → Area → ℕ
 cap_at k d area = k.cap (sector_size d area)
 
 -- Each pair of the area is live, and each sector but the blank one has no room for so many bytes beside its
 -- pairs.
-abbrev pub IsCrammedFor : Kind → Device → Area → ℕ → Type 0
+abbrev pub IsCrammedFor : SectorFormat → Device → Area → ℕ → Type 0
 IsCrammedFor k d area need =
     IsCrammed k.reading k.cost need (cap_at k d area) (sectors_of d area)
     (open_sector k.reading (sectors_of d area))
 
 -- After a round for each sector but the blank one there is no room: the live items leave none, neither in all
 -- sectors together nor in any of them.
-pub record IsFull (k : Kind) (old new : Device) (area : Area) (len : ℕ) : Type 0 where
+pub record IsFull (k : SectorFormat) (old new : Device) (area : Area) (len : ℕ) : Type 0 where
   pub full : (area.sectors - 1) * (cap_at k old area - k.cost len) < live_cost k.cost (list_at k old area)
   pub crammed : IsCrammedFor k new area (k.cost len)
 
-abbrev pub FindsFull : Kind → Device → Device → Area → ℕ → Type 0
+abbrev pub FindsFull : SectorFormat → Device → Device → Area → ℕ → Type 0
 FindsFull k old new area len =
     MakesRoom k old new area len × (has_room_at k new area len ≡ false) × IsFull k old new area len
 
 -- Power was lost in a round, after so many whole ones. The items stay.
-pub record StopsMakingRoom (k : Kind) (old new : Device) (area : Area) (len : ℕ) : Type 0 where
+pub record StopsMakingRoom (k : SectorFormat) (old new : Device) (area : Area) (len : ℕ) : Type 0 where
   pub before : List (List (List ℕ))
   -- the sectors before the round that was cut
   pub mid : List (List ℕ)

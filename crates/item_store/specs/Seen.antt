@@ -1,4 +1,4 @@
--- Which ids some entries have, as far as a set of bits tells: a bit for each key of ids.
+-- Which ids some entries have, as far as a set of bits shows: a bit for each key of ids.
 use Rattle.std.specs.Prelude.{◌≡◌, ◌⊎◌, false, ℕ, ◌+◌, ◌*◌, ◌/◌, ◌%◌, ◌^◌, ◌<◌, if◌then◌else◌, nat_lt, Bool, not, List, length, slice_index, is_some, ◌==◌, ◌∷◌, ◌++◌}
 use Rattle.std.specs.Int.{bit_at}
 use Rattle.std.specs.List.{All, flat_map, list_any}
@@ -6,7 +6,7 @@ use Rattle.item_laws.specs.Live.{all_placed, counted_in, live_in}
 use Rattle.item_laws.specs.RoundParts.{places_after}
 use Rattle.item_store.specs.declared.entry.Placed.{Placed}
 use Rattle.item_store.specs.declared.seen.Seen.{Seen}
-use Rattle.item_store.specs.Kind.{Kind, slots}
+use Rattle.item_store.specs.SectorFormat.{SectorFormat, slots}
 
 -- The key of an id, a number of 16 bits: of an id without bit 31 its low 16 bits, of one with it bit 30, bits
 -- 4 to 15 and bits 0 to 2. So each id of 16 bits has a key of its own, and so have the first eight names and
@@ -46,16 +46,17 @@ abbrev pub IsExact : Seen → ℕ → Type 0
 IsExact seen id = (seen.mixed ≡ false × id ≡ usual_id (key_of id)) ⊎ (seen.long ≡ false × id < 2 ^ 16)
 
 -- the entries of the sectors behind this one, in the round to the open one
-abbrev pub behind : Kind → List (List ℕ) → ℕ → ℕ → List Placed
+abbrev pub behind : SectorFormat → List (List ℕ) → ℕ → ℕ → List Placed
 behind k sectors current place =
     flat_map (counted_in (slots k) sectors current) (places_after (length sectors) current place)
 
 -- a live entry stands in the slot of a sector
-abbrev pub holds_live : Kind → List (List ℕ) → ℕ → ℕ → Bool
+abbrev pub holds_live : SectorFormat → List (List ℕ) → ℕ → ℕ → Bool
 holds_live k sectors place slot = is_some (live_in (slots k) sectors place slot)
 
 -- These entries are all those that stand behind the one in a slot, each in another slot.
-pub record AreBehind (k : Kind) (sectors : List (List ℕ)) (p : Placed) (later : List Placed) : Type 0 where
-  pub front : List Placed
-  pub split : all_placed (slots k) sectors ≡ front ++ p ∷ later
+pub record AreBehind (k : SectorFormat) (sectors : List (List ℕ)) (p : Placed) (later : List Placed)
+    : Type 0 where
+  pub prefix : List Placed
+  pub split : all_placed (slots k) sectors ≡ prefix ++ p ∷ later
   pub apart : All (λ q. q.sector ≡ p.sector → q.slot ≡ p.slot → ⊥) later

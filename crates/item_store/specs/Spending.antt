@@ -4,7 +4,7 @@ use Rattle.flash_map.specs.Area.{sector_at}
 use Rattle.item_laws.specs.Area.{next, is_closed_at}
 use Rattle.item_laws.specs.Forms.{to_copy}
 use Rattle.item_laws.specs.PairRounds.{copies_cost}
-use Rattle.item_store.specs.Kind.{Range, Kind, making_ready}
+use Rattle.item_store.specs.SectorFormat.{Range, SectorFormat, making_ready}
 
 abbrev pub none : Range
 none = record { least = 0; most = 0; lost = 0 }
@@ -18,7 +18,7 @@ both one other = record {
 }
 
 -- the copies of these pairs
-abbrev pub copies : Kind → List (ℕ × List ℕ) → Range
+abbrev pub copies : SectorFormat → List (ℕ × List ℕ) → Range
 copies k pairs = record {
   least = copies_cost (λ len. (k.units.any_copy len).least) pairs;
   most = copies_cost (λ len. (k.units.any_copy len).most) pairs;
@@ -26,33 +26,33 @@ copies k pairs = record {
 }
 
 -- copying, gc-done and the emptying of the victim, with this sector open
-abbrev pub collect_units : Kind → List (List ℕ) → ℕ → Range
+abbrev pub collect_units : SectorFormat → List (List ℕ) → ℕ → Range
 collect_units k sectors place =
     both (copies k (to_copy k.reading sectors place)) (both k.units.any_done k.units.any_clear)
 
 -- the open sector is made ready
-abbrev pub ready_units : Kind → List (List ℕ) → ℕ → Range
+abbrev pub ready_units : SectorFormat → List (List ℕ) → ℕ → Range
 ready_units k sectors place = making_ready k (sector_at sectors place)
 
 -- the open sector is made ready before
-abbrev pub again_units : Kind → List (List ℕ) → ℕ → Range
+abbrev pub again_units : SectorFormat → List (List ℕ) → ℕ → Range
 again_units k sectors place = both (ready_units k sectors place) (collect_units k sectors place)
 
 -- A sector that just became the open one: where the next sector is closed, that is collected into it.
-abbrev pub open_units : Kind → List (List ℕ) → ℕ → Range
+abbrev pub open_units : SectorFormat → List (List ℕ) → ℕ → Range
 open_units k sectors place =
     if is_closed_at k.reading sectors (next sectors place) then again_units k sectors place
     else (if k.opens_ready then ready_units k sectors place else none)
 
 -- Whether a round from this open sector has a victim: the sector after the next one, where it is closed once
 -- this one is.
-abbrev pub has_victim : Kind → List (List ℕ) → ℕ → Bool
+abbrev pub has_victim : SectorFormat → List (List ℕ) → ℕ → Bool
 has_victim k sectors place =
     let victim = next sectors (next sectors place) in
     (victim == place) || is_closed_at k.reading sectors victim
 
 -- A round of close and collect from this open sector. Where there is no victim, there is nothing to collect.
-abbrev pub round_units : Kind → List (List ℕ) → ℕ → Range
+abbrev pub round_units : SectorFormat → List (List ℕ) → ℕ → Range
 round_units k sectors place =
     let opened = next sectors place in
     both (k.units.close (sector_at sectors place))

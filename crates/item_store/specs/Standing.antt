@@ -1,4 +1,4 @@
--- When a store stands on the bytes of its area. A kind is that of the area's geometry.
+-- When a store stands on the bytes of its area. A format is that of the area's geometry.
 use Rattle.std.specs.Prelude.{◌≡◌, ℕ, List, None}
 use Rattle.flash_sim.specs.Device.{Device}
 use Rattle.flash_sim.specs.declared.flash.Bank.{Bank}
@@ -11,7 +11,7 @@ use Rattle.item_laws.specs.Items.{Items, items_of}
 use Rattle.item_laws.specs.Area.{open_sector}
 use Rattle.item_laws.specs.Forms.{AtRest}
 use Rattle.item_laws.specs.Live as live
-use Rattle.item_store.specs.Kind.{Range, Kind, slots}
+use Rattle.item_store.specs.SectorFormat.{Range, SectorFormat, slots}
 use Rattle.item_store.specs.Versions.{KeepsVersions}
 
 -- an area of this role, lawful on these banks
@@ -20,29 +20,29 @@ pub record IsStoreArea (role : Role) (banks : List Bank) (area : Area) : Type 0 
   pub role_is : area.role ≡ role
 
 -- ids with their bytes, from the oldest to the newest
-abbrev pub list_of : Kind → List (List ℕ) → List (ℕ × List ℕ)
+abbrev pub list_of : SectorFormat → List (List ℕ) → List (ℕ × List ℕ)
 list_of k sectors = live.list_of (slots k) sectors
 
-abbrev pub items : Kind → List (List ℕ) → Items
+abbrev pub items : SectorFormat → List (List ℕ) → Items
 items k sectors = items_of (list_of k sectors)
 
 -- ---- the same of an area on a device
 
-abbrev pub list_at : Kind → Device → Area → List (ℕ × List ℕ)
+abbrev pub list_at : SectorFormat → Device → Area → List (ℕ × List ℕ)
 list_at k d area = list_of k (sectors_of d area)
 
-abbrev pub items_at : Kind → Device → Area → Items
+abbrev pub items_at : SectorFormat → Device → Area → Items
 items_at k d area = items k (sectors_of d area)
 
-abbrev pub IsUndamagedAt : Kind → Device → Area → Type 0
+abbrev pub IsUndamagedAt : SectorFormat → Device → Area → Type 0
 IsUndamagedAt k d area = k.damage (sectors_of d area) ≡ None
 
 -- a mount has nothing to do
-abbrev pub RestsAt : Kind → Device → Area → Type 0
+abbrev pub RestsAt : SectorFormat → Device → Area → Type 0
 RestsAt k d area = AtRest k.reading (sectors_of d area) (open_sector k.reading (sectors_of d area))
 
 -- the sectors read as the same items, of each of which the newest versions stay, and are not damaged
-pub record KeepsItems (k : Kind) (old new : List (List ℕ)) : Type 0 where
+pub record KeepsItems (k : SectorFormat) (old new : List (List ℕ)) : Type 0 where
   pub items : items k new ≡ items k old
   pub versions : KeepsVersions (list_of k old) (list_of k new)
   pub undamaged : k.damage new ≡ None

@@ -11,58 +11,62 @@ use Rattle.item_laws.specs.Area.{next, is_closed_at, open_sector}
 use Rattle.item_laws.specs.Forms.{AtRest}
 use Rattle.item_store.specs.declared.store.Store.{Store}
 use Rattle.item_store.specs.Cached.{IsCacheOn}
-use Rattle.item_store.specs.Kind.{Kind}
+use Rattle.item_store.specs.SectorFormat.{SectorFormat}
 use Rattle.item_store.specs.Collecting.{redo_of, redo_list, redo_units, KeepsOrRedoes}
 use Rattle.item_store.specs.Standing.{IsStoreArea, list_at, KeepsItems, SpendsIn, SpendsUpTo}
 
 -- The store is up: the area is not damaged and at rest, and the store knows its open sector and where the
 -- latest entries stand.
-pub record StandsOn {T : Type 0} (role : Role) (kind : Geometry → Kind) (kept : Geometry → List ℕ → T)
+pub record StandsOn {T : Type 0} (role : Role) (format_of : Geometry → SectorFormat)
+    (kept : Geometry → List ℕ → T)
     (d : Device) (store : Store T) : Type 0 where
   pub area : IsStoreArea role d.banks store.area
   pub up : store.up ≡ true
   pub current : store.current
-      ≡ open_sector (kind (geometry_of d store.area)).reading (sectors_of d store.area)
+      ≡ open_sector (format_of (geometry_of d store.area)).reading (sectors_of d store.area)
   pub opened : store.opened
       ≡ kept (geometry_of d store.area) (sector_at (sectors_of d store.area) store.current)
-  pub rested : is_closed_at (kind (geometry_of d store.area)).reading (sectors_of d store.area)
+  pub rested : is_closed_at (format_of (geometry_of d store.area)).reading (sectors_of d store.area)
       (next (sectors_of d store.area) store.current) ≡ false
-  pub undamaged : (kind (geometry_of d store.area)).damage (sectors_of d store.area) ≡ None
-  pub cached : IsCacheOn kind d store.area store.cache
+  pub undamaged : (format_of (geometry_of d store.area)).damage (sectors_of d store.area) ≡ None
+  pub cached : IsCacheOn format_of d store.area store.cache
 
--- So it does on this area with this sector open, but for the cache, which is told of by itself.
-pub record StandsAt {T : Type 0} (role : Role) (kind : Geometry → Kind) (kept : Geometry → List ℕ → T)
+-- So it does on this area with this sector open, but for the cache, which stands apart.
+pub record StandsAt {T : Type 0} (role : Role) (format_of : Geometry → SectorFormat)
+    (kept : Geometry → List ℕ → T)
     (d : Device) (on : Area) (place : ℕ) (known : T) : Type 0 where
   pub area : IsStoreArea role d.banks on
-  pub current : place ≡ open_sector (kind (geometry_of d on)).reading (sectors_of d on)
+  pub current : place ≡ open_sector (format_of (geometry_of d on)).reading (sectors_of d on)
   pub opened : known ≡ kept (geometry_of d on) (sector_at (sectors_of d on) place)
-  pub rested : is_closed_at (kind (geometry_of d on)).reading (sectors_of d on) (next (sectors_of d on) place)
+  pub rested : is_closed_at (format_of (geometry_of d on)).reading (sectors_of d on)
+      (next (sectors_of d on) place)
       ≡ false
-  pub undamaged : (kind (geometry_of d on)).damage (sectors_of d on) ≡ None
+  pub undamaged : (format_of (geometry_of d on)).damage (sectors_of d on) ≡ None
 
 -- The area is damaged, and then nothing changed; or it is not, and its items stay, whether power is lost or
 -- not. What is spent is what there is to redo: at rest nothing is done. The list is the one that this leaves;
 -- where power was lost, that or the one before. Where memory is wanting nothing changed.
-abbrev pub MountEnds : {T : Type 0} → Role → (Geometry → Kind) → (Geometry → List ℕ → T) → Device → Device
+abbrev pub MountEnds : {T : Type 0} → Role → (Geometry → SectorFormat) → (Geometry → List ℕ → T) → Device
+    → Device
     → Area → Result (Store T) MountFault → Type 0
-MountEnds role kind kept old new area (Ok store) =
-    let k = kind (geometry_of old area) in
+MountEnds role format_of kept old new area (Ok store) =
+    let k = format_of (geometry_of old area) in
     let place = open_sector k.reading (sectors_of old area) in
     (k.damage (sectors_of old area) ≡ None)
-    × StandsOn role kind kept new store
+    × StandsOn role format_of kept new store
     × (store.area ≡ area)
     × KeepsItems k (sectors_of old area) (sectors_of new area)
     × SpendsIn old new (redo_units k (sectors_of old area) place (redo_of k (sectors_of old area) place))
     × (AtRest k.reading (sectors_of old area) place → new ≡ old)
     × (list_at k new area ≡ redo_list k (sectors_of old area) place (redo_of k (sectors_of old area) place))
-MountEnds role kind kept old new area (Err (HasDamage damaged)) =
-    ((kind (geometry_of old area)).damage (sectors_of old area) ≡ Some damaged) × (new ≡ old)
-MountEnds role kind kept old new area (Err MountLost) =
-    let k = kind (geometry_of old area) in
+MountEnds role format_of kept old new area (Err (HasDamage damaged)) =
+    ((format_of (geometry_of old area)).damage (sectors_of old area) ≡ Some damaged) × (new ≡ old)
+MountEnds role format_of kept old new area (Err MountLost) =
+    let k = format_of (geometry_of old area) in
     let place = open_sector k.reading (sectors_of old area) in
     (k.damage (sectors_of old area) ≡ None)
     × KeepsItems k (sectors_of old area) (sectors_of new area)
     × SpendsUpTo old new (redo_units k (sectors_of old area) place (redo_of k (sectors_of old area) place))
     × ¬ AtRest k.reading (sectors_of old area) place
     × KeepsOrRedoes k (sectors_of old area) (sectors_of new area) place
-MountEnds role kind kept old new area (Err NoMemory) = new ≡ old
+MountEnds role format_of kept old new area (Err NoMemory) = new ≡ old

@@ -1,12 +1,12 @@
 // Looking for bytes among the items.
 ghost use Rattle.std.specs.Prelude.{◌≡◌, ◌+◌, ◌<◌, ◌&&◌, true, false, Some, option_map};
-ghost use Rattle.item_laws.specs.Bytes.{is_past, IsIdOf, IsNextOf};
+ghost use Rattle.item_laws.specs.Bytes.{is_behind, IsIdOf, IsNextOf};
 ghost use Rattle.item_laws.specs.Items.{value_of};
 ghost use Rattle.item_laws.specs.Live.{bytes_of};
 ghost use Rattle.flash_map.specs.Area.{sectors_of};
 ghost use Rattle.item_store.specs.Asking.{is_below, lesser_of};
-ghost use Rattle.item_store.specs.Kind.{slots};
-ghost use Rattle.item_store.specs.Listed.{kind_on, items_on, IsPlacedOn};
+ghost use Rattle.item_store.specs.SectorFormat.{slots};
+ghost use Rattle.item_store.specs.Listed.{format_on, items_on, IsPlacedOn};
 ghost use Rattle.item_store.specs.Stands.{StandsOn};
 
 use crate::entry::Placed;
@@ -19,7 +19,7 @@ use std::sync::ledger::Ledger;
 // Whether bytes are greater than some others and less than others still, where there are such.
 fn is_between(bytes: &[u8], after: Option<&[u8]>, least: Option<&[u8]>) -> bool
     ensures { result
-        ≡ (is_past (option_map (λ other. other.now) after.entry) bytes.now
+        ≡ (is_behind (option_map (λ other. other.now) after.entry) bytes.now
         && is_below bytes.now (option_map (λ other. other.now) least.entry)) }
 {
     after.is_none_or(|after| after.cmp(bytes).is_lt())
@@ -35,18 +35,18 @@ impl<T: SlotSectors> Store<T> {
         bytes: &[u8],
         steps: &mut Steps<L>,
     ) -> bool
-        requires stands { StandsOn T.role T.kind T.kept (F.device flash.now) self.now }
-        requires placed { IsPlacedOn T.kind (F.device flash.now) self.now.area self.now.current
+        requires stands { StandsOn T.role T.format_of T.kept (F.device flash.now) self.now }
+        requires placed { IsPlacedOn T.format_of (F.device flash.now) self.now.area self.now.current
             placed.now }
         ensures yes_it { let d = F.device flash.now in
             result ≡ true
             → value_of
-            (bytes_of (slots (kind_on T.kind d self.now.area)) (sectors_of d self.now.area)
+            (bytes_of (slots (format_on T.format_of d self.now.area)) (sectors_of d self.now.area)
             placed.now) ≡ Some bytes.now }
         ensures not_it { let d = F.device flash.now in
             result ≡ false
             → value_of
-            (bytes_of (slots (kind_on T.kind d self.now.area)) (sectors_of d self.now.area)
+            (bytes_of (slots (format_on T.format_of d self.now.area)) (sectors_of d self.now.area)
             placed.now) ≡ Some bytes.now → ⊥ }
     {
         if placed.len as usize != bytes.len() {
@@ -69,9 +69,10 @@ impl<T: SlotSectors> Store<T> {
         bytes: &[u8],
         steps: &mut Steps<L>,
     ) -> Option<u32>
-        requires stands { StandsOn T.role T.kind T.kept (F.device flash.now) self.now }
+        requires stands { StandsOn T.role T.format_of T.kept (F.device flash.now) self.now }
         requires range { most < least + 0x1_0020 }
-        ensures { IsIdOf least most (items_on T.kind (F.device flash.now) self.now.area) bytes.now
+        ensures { IsIdOf least most (items_on T.format_of (F.device flash.now) self.now.area)
+            bytes.now
             result }
     {
         let mut lasts = Lasts::start(
@@ -101,14 +102,14 @@ impl<T: SlotSectors> Store<T> {
         least: Option<&'a [u8]>,
         steps: &mut Steps<L>,
     ) -> Option<&'a [u8]>
-        requires stands { StandsOn T.role T.kind T.kept (F.device flash.now) self.now }
-        requires placed { IsPlacedOn T.kind (F.device flash.now) self.now.area self.now.current
+        requires stands { StandsOn T.role T.format_of T.kept (F.device flash.now) self.now }
+        requires placed { IsPlacedOn T.format_of (F.device flash.now) self.now.area self.now.current
             placed.now }
         ensures { let d = F.device flash.now in
             option_map (λ bytes. bytes.now) result
             ≡ lesser_of (option_map (λ other. other.now) after.entry)
             (value_of
-            (bytes_of (slots (kind_on T.kind d self.now.area)) (sectors_of d self.now.area)
+            (bytes_of (slots (format_on T.format_of d self.now.area)) (sectors_of d self.now.area)
             placed.now)) (option_map (λ bytes. bytes.now) least.entry) }
     {
         match self.bytes_at(flash, placed, steps) {
@@ -133,9 +134,9 @@ impl<T: SlotSectors> Store<T> {
         after: Option<&[u8]>,
         steps: &mut Steps<L>,
     ) -> Option<&'a [u8]>
-        requires stands { StandsOn T.role T.kind T.kept (F.device flash.now) self.now }
+        requires stands { StandsOn T.role T.format_of T.kept (F.device flash.now) self.now }
         requires range { most < least + 0x1_0020 }
-        ensures { IsNextOf least most (items_on T.kind (F.device flash.now) self.now.area)
+        ensures { IsNextOf least most (items_on T.format_of (F.device flash.now) self.now.area)
             (option_map (λ other. other.now) after.entry) (option_map (λ bytes. bytes.now) result) }
     {
         let mut lasts = Lasts::start(

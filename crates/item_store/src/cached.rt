@@ -3,7 +3,7 @@ ghost use Rattle.std.specs.Prelude.{◌≡◌, ◌<◌, length};
 ghost use Rattle.flash_map.specs.Area.{sectors_of};
 ghost use Rattle.item_store.specs.OnSector.{IsKeptOn, IsOpenOn};
 ghost use Rattle.item_store.specs.Cached.{IsCacheOf, IsCacheOn, FollowsRound};
-ghost use Rattle.item_store.specs.Listed.{kind_on};
+ghost use Rattle.item_store.specs.Listed.{format_on};
 ghost use Rattle.item_store.specs.Standing.{IsStoreArea};
 
 use crate::entry::Placed;
@@ -36,10 +36,10 @@ pub fn fill<T: SlotSectors, F: Flash, L: Ledger>(
 )
     requires area { IsStoreArea T.role (F.device flash.now).banks area.now }
     requires kept { IsKeptOn T.kept (F.device flash.now) area.now current opened.now }
-    requires current { IsOpenOn T.kind (F.device flash.now) area.now current }
+    requires current { IsOpenOn T.format_of (F.device flash.now) area.now current }
     requires slots { length cache.old ≡ 64 }
 
-    ensures { IsCacheOn T.kind (F.device flash.now) area.now cache.new }
+    ensures { IsCacheOn T.format_of (F.device flash.now) area.now cache.new }
 {
     cache.clear();
     let older = current + 1;
@@ -63,18 +63,18 @@ pub fn fill<T: SlotSectors, F: Flash, L: Ledger>(
 pub fn follow_round<T: SlotSectors, F: Flash, L: Ledger>(
     flash: &F,
     area: &Area,
-    opened: u32,
+    newest: u32,
     cache: &mut Cache,
     steps: &mut Steps<L>,
 )
     requires area { IsStoreArea T.role (F.device flash.now).banks area.now }
-    requires inside { opened < area.now.sectors }
+    requires inside { newest < area.now.sectors }
 
     ensures { let d = F.device flash.now in
-        FollowsRound (kind_on T.kind d area.now) (sectors_of d area.now) opened cache.old
+        FollowsRound (format_on T.format_of d area.now) (sectors_of d area.now) newest cache.old
         cache.new }
 {
-    let victim = area.next(opened);
+    let victim = area.next(newest);
     cache.forget_sector(victim);
-    note_sector::<T, Cache, F, L>(flash, area, opened, cache, steps);
+    note_sector::<T, Cache, F, L>(flash, area, newest, cache, steps);
 }

@@ -8,8 +8,8 @@ ghost use Rattle.item_laws.specs.Live.{live_in, cost_of};
 ghost use Rattle.item_store.specs.OnSector.{sector_on, IsCollecting, IsKeptAfter, IsKeptOn, IsOpenOn, IsOpenSector};
 ghost use Rattle.item_store.specs.Ends.{CopyEnds, IsVictimSlot, OpenEnds, RedoEnds, RoundEndsOn};
 ghost use Rattle.item_store.specs.Stands.{StandsAt};
-ghost use Rattle.item_store.specs.Kind.{is_clean_at, slots};
-ghost use Rattle.item_store.specs.Listed.{kind_on};
+ghost use Rattle.item_store.specs.SectorFormat.{is_clean_at, slots};
+ghost use Rattle.item_store.specs.Listed.{format_on};
 ghost use Rattle.item_store.specs.Seen.{holds_live};
 ghost use Rattle.item_store.specs.Collecting.{HasBegun, HasCopied, StopsCopying, CollectsAt, KeepsOrCollects, redo_of};
 ghost use Rattle.item_store.specs.Spending.{copies, collect_units, ready_units, again_units};
@@ -18,7 +18,7 @@ ghost use Rattle.item_store.specs.Steps.{Keeps, StopsClearing};
 ghost use Rattle.item_store.specs.Written.{IsWritten};
 
 use crate::entry::{Placed, Redo};
-use crate::liveness::{LiveSlots, live_in, live_slots};
+use crate::live::{LiveEntries, live_entries, live_in};
 use crate::sectors::SlotSectors;
 use flash_map::{Area, geometry};
 use flash_sim::{Flash, PowerLost, Steps};
@@ -35,21 +35,21 @@ fn copy_slot<T: SlotSectors, F: Flash, L: Ledger>(
     live: bool,
     steps: &mut Steps<L>,
 ) -> Result<(), PowerLost>
-    requires here { IsOpenSector T.role T.kind T.kept (F.device flash.old) area.now current
+    requires here { IsOpenSector T.role T.format_of T.kept (F.device flash.old) area.now current
         opened.old }
-    requires collects { IsCollecting T.kind (F.device flash.old) area.now current }
-    requires victim { IsVictimSlot T.kind (F.device flash.old) area.now current victim slot }
-    requires room { let d = F.device flash.old in let k = kind_on T.kind d area.now in
+    requires collects { IsCollecting T.format_of (F.device flash.old) area.now current }
+    requires victim { IsVictimSlot T.format_of (F.device flash.old) area.now current victim slot }
+    requires room { let d = F.device flash.old in let k = format_on T.format_of d area.now in
         cost_of (slots k) (live_in (slots k) (sectors_of d area.now) victim slot) + 3 * k.slot
         ≤ k.free (sector_on d area.now current) }
     requires live { let d = F.device flash.old in
-        live ≡ holds_live (kind_on T.kind d area.now) (sectors_of d area.now) victim slot }
+        live ≡ holds_live (format_on T.format_of d area.now) (sectors_of d area.now) victim slot }
     ensures touches { let d = F.device flash.old in let e = F.device flash.new in
         Touches (area.now ∷ []) d e (is_err result) }
     ensures ends { let d = F.device flash.old in let e = F.device flash.new in
         let entry =
-        live_in (slots (kind_on T.kind d area.now)) (sectors_of d area.now) victim slot in
-        CopyEnds T.kind T.kept d e area.now current entry opened.new result }
+        live_in (slots (format_on T.format_of d area.now)) (sectors_of d area.now) victim slot in
+        CopyEnds T.format_of T.kept d e area.now current entry opened.new result }
 {
     match live_in::<T, F, L>(flash, area, victim, slot, live, steps) {
         Some(placed) => opened.copy(flash, area, current, &placed, steps),
@@ -70,15 +70,15 @@ fn copy_live<T: SlotSectors, F: Flash, L: Ledger>(
     requires area { IsStoreArea T.role (F.device flash.old).banks area.now }
     requires kept { IsKeptOn T.kept (F.device flash.old) area.now current opened.old }
     requires collecting { let d = F.device flash.old in
-        Collecting (kind_on T.kind d area.now).reading (sectors_of d area.now) current }
+        Collecting (format_on T.format_of d area.now).reading (sectors_of d area.now) current }
     requires begun { let d = F.device flash.old in
-        HasCopied (kind_on T.kind d area.now) (sectors_of d area.now) (sectors_of d area.now)
+        HasCopied (format_on T.format_of d area.now) (sectors_of d area.now) (sectors_of d area.now)
         current [] }
     requires victim { victim ≡ next (sectors_of (F.device flash.old) area.now) current }
     ensures touches { let d = F.device flash.old in let e = F.device flash.new in
         Touches (area.now ∷ []) d e (is_err result) }
     ensures copies { let d = F.device flash.old in let e = F.device flash.new in
-        let k = kind_on T.kind d area.now in
+        let k = format_on T.format_of d area.now in
         OnOk result
         (HasCopied k (sectors_of d area.now) (sectors_of e area.now) current
         (to_copy k.reading (sectors_of d area.now) current)) }
@@ -86,18 +86,19 @@ fn copy_live<T: SlotSectors, F: Flash, L: Ledger>(
         OnOk result (IsKeptAfter T.kept d e area.now current opened.new) }
     ensures lost { let d = F.device flash.old in let e = F.device flash.new in
         OnErr result
-        (StopsCopying (kind_on T.kind d area.now) (sectors_of d area.now) (sectors_of e area.now)
+        (StopsCopying (format_on T.format_of d area.now) (sectors_of d area.now)
+        (sectors_of e area.now)
         current) }
     ensures spends { let d = F.device flash.old in let e = F.device flash.new in
-        let k = kind_on T.kind d area.now in
+        let k = format_on T.format_of d area.now in
         OnOk result (SpendsIn d e (copies k (to_copy k.reading (sectors_of d area.now) current))) }
     ensures spends_lost { let d = F.device flash.old in let e = F.device flash.new in
-        let k = kind_on T.kind d area.now in
+        let k = format_on T.format_of d area.now in
         OnErr result
         (SpendsUpTo d e (copies k (to_copy k.reading (sectors_of d area.now) current))) }
 {
-    let mut live = LiveSlots::new();
-    live_slots(flash, area, opened, current, victim, &mut live, steps);
+    let mut live = LiveEntries::new();
+    live_entries(flash, area, opened, current, victim, &mut live, steps);
     let slots = T::slots(flash, area, victim, steps);
     let first = T::first_slot();
     for slot in first..first + slots {
@@ -118,33 +119,37 @@ fn collect<T: SlotSectors, F: Flash, L: Ledger>(
     requires area { IsStoreArea T.role (F.device flash.old).banks area.now }
     requires kept { IsKeptOn T.kept (F.device flash.old) area.now current opened.old }
     requires collecting { let d = F.device flash.old in
-        Collecting (kind_on T.kind d area.now).reading (sectors_of d area.now) current }
+        Collecting (format_on T.format_of d area.now).reading (sectors_of d area.now) current }
     requires begun { let d = F.device flash.old in
-        HasCopied (kind_on T.kind d area.now) (sectors_of d area.now) (sectors_of d area.now)
+        HasCopied (format_on T.format_of d area.now) (sectors_of d area.now) (sectors_of d area.now)
         current [] }
     ensures touches { let d = F.device flash.old in let e = F.device flash.new in
         Touches (area.now ∷ []) d e (is_err result) }
     ensures collects { let d = F.device flash.old in let e = F.device flash.new in
         OnOk result
-        (CollectsAt (kind_on T.kind d area.now) (sectors_of d area.now) (sectors_of e area.now)
+        (CollectsAt (format_on T.format_of d area.now) (sectors_of d area.now)
+        (sectors_of e area.now)
         current) }
     ensures items { let d = F.device flash.old in let e = F.device flash.new in
-        KeepsItems (kind_on T.kind d area.now) (sectors_of d area.now) (sectors_of e area.now) }
+        KeepsItems (format_on T.format_of d area.now) (sectors_of d area.now)
+        (sectors_of e area.now) }
     ensures list_lost { let d = F.device flash.old in let e = F.device flash.new in
         OnErr result
-        (KeepsOrCollects (kind_on T.kind d area.now) (sectors_of d area.now) (sectors_of e area.now)
+        (KeepsOrCollects (format_on T.format_of d area.now) (sectors_of d area.now)
+        (sectors_of e area.now)
         current) }
     ensures written { let d = F.device flash.old in let e = F.device flash.new in
-        IsWritten (kind_on T.kind d area.now) (sectors_of e area.now) }
+        IsWritten (format_on T.format_of d area.now) (sectors_of e area.now) }
     ensures kept { let d = F.device flash.old in let e = F.device flash.new in
         OnOk result (IsKeptAfter T.kept d e area.now current opened.new) }
     ensures spends { let d = F.device flash.old in let e = F.device flash.new in
         OnOk result
-        (SpendsIn d e (collect_units (kind_on T.kind d area.now) (sectors_of d area.now) current)) }
+        (SpendsIn d e (collect_units (format_on T.format_of d area.now) (sectors_of d area.now)
+        current)) }
     ensures spends_lost { let d = F.device flash.old in let e = F.device flash.new in
         OnErr result
         (SpendsUpTo d e
-        (collect_units (kind_on T.kind d area.now) (sectors_of d area.now) current)) }
+        (collect_units (format_on T.format_of d area.now) (sectors_of d area.now) current)) }
 {
     let victim = area.next(current);
     copy_live(flash, area, opened, current, victim, steps)?;
@@ -163,28 +168,28 @@ fn prepare<T: SlotSectors, F: Flash, L: Ledger>(
     requires area { IsStoreArea T.role (F.device flash.old).banks area.now }
     requires kept { IsKeptOn T.kept (F.device flash.old) area.now current opened.old }
     requires inside { current < area.now.sectors }
-    requires not_closed { let d = F.device flash.old in let k = kind_on T.kind d area.now in
+    requires not_closed { let d = F.device flash.old in let k = format_on T.format_of d area.now in
         is_closed_at k.reading (sectors_of d area.now) current ≡ false }
     ensures touches { let d = F.device flash.old in let e = F.device flash.new in
         Touches (area.now ∷ []) d e (is_err result) }
     ensures begun { let d = F.device flash.old in let e = F.device flash.new in
-        let k = kind_on T.kind d area.now in let new = sectors_of e area.now in
+        let k = format_on T.format_of d area.now in let new = sectors_of e area.now in
         OnOk result (HasBegun k (sectors_of d area.now) new current) }
     ensures kept { let d = F.device flash.old in
         let new = sectors_of (F.device flash.new) area.now in
         OnOk result (opened.new ≡ T.kept (geometry_of d area.now) (sector_at new current)) }
     ensures only { let new = sectors_of (F.device flash.new) area.now in
         ChangesOnly (sectors_of (F.device flash.old) area.now) new current }
-    ensures lost { let d = F.device flash.old in let k = kind_on T.kind d area.now in
+    ensures lost { let d = F.device flash.old in let k = format_on T.format_of d area.now in
         let b = sector_at (sectors_of d area.now) current in
         let e = sector_at (sectors_of (F.device flash.new) area.now) current in
         OnErr result (Keeps k b e ⊎ StopsClearing k b e) }
     ensures spends { let d = F.device flash.old in let e = F.device flash.new in
-        let k = kind_on T.kind d area.now in
+        let k = format_on T.format_of d area.now in
         let range = ready_units k (sectors_of d area.now) current in
         OnOk result (SpendsIn d e range) }
     ensures spends_lost { let d = F.device flash.old in let e = F.device flash.new in
-        let k = kind_on T.kind d area.now in
+        let k = format_on T.format_of d area.now in
         let range = ready_units k (sectors_of d area.now) current in
         OnErr result (SpendsUpTo d e range) }
 {
@@ -207,29 +212,34 @@ fn collect_again<T: SlotSectors, F: Flash, L: Ledger>(
     requires area { IsStoreArea T.role (F.device flash.old).banks area.now }
     requires kept { IsKeptOn T.kept (F.device flash.old) area.now current opened.old }
     requires collecting { let d = F.device flash.old in
-        Collecting (kind_on T.kind d area.now).reading (sectors_of d area.now) current }
+        Collecting (format_on T.format_of d area.now).reading (sectors_of d area.now) current }
     ensures touches { let d = F.device flash.old in let e = F.device flash.new in
         Touches (area.now ∷ []) d e (is_err result) }
     ensures collects { let d = F.device flash.old in let e = F.device flash.new in
         OnOk result
-        (CollectsAt (kind_on T.kind d area.now) (sectors_of d area.now) (sectors_of e area.now)
+        (CollectsAt (format_on T.format_of d area.now) (sectors_of d area.now)
+        (sectors_of e area.now)
         current) }
     ensures items { let d = F.device flash.old in let e = F.device flash.new in
-        KeepsItems (kind_on T.kind d area.now) (sectors_of d area.now) (sectors_of e area.now) }
+        KeepsItems (format_on T.format_of d area.now) (sectors_of d area.now)
+        (sectors_of e area.now) }
     ensures list_lost { let d = F.device flash.old in let e = F.device flash.new in
         OnErr result
-        (KeepsOrCollects (kind_on T.kind d area.now) (sectors_of d area.now) (sectors_of e area.now)
+        (KeepsOrCollects (format_on T.format_of d area.now) (sectors_of d area.now)
+        (sectors_of e area.now)
         current) }
     ensures written { let d = F.device flash.old in let e = F.device flash.new in
-        IsWritten (kind_on T.kind d area.now) (sectors_of e area.now) }
+        IsWritten (format_on T.format_of d area.now) (sectors_of e area.now) }
     ensures kept { let d = F.device flash.old in let e = F.device flash.new in
         OnOk result (IsKeptAfter T.kept d e area.now current opened.new) }
     ensures spends { let d = F.device flash.old in let e = F.device flash.new in
         OnOk result
-        (SpendsIn d e (again_units (kind_on T.kind d area.now) (sectors_of d area.now) current)) }
+        (SpendsIn d e (again_units (format_on T.format_of d area.now) (sectors_of d area.now)
+        current)) }
     ensures spends_lost { let d = F.device flash.old in let e = F.device flash.new in
         OnErr result
-        (SpendsUpTo d e (again_units (kind_on T.kind d area.now) (sectors_of d area.now) current)) }
+        (SpendsUpTo d e (again_units (format_on T.format_of d area.now) (sectors_of d area.now)
+        current)) }
 {
     prepare(flash, area, opened, current, steps)?;
     collect(flash, area, opened, current, steps)
@@ -247,7 +257,7 @@ fn what_to_redo<T: SlotSectors, F: Flash, L: Ledger>(
     requires kept { IsKeptOn T.kept (F.device flash.now) area.now current opened.now }
     requires within { current < area.now.sectors }
     ensures { let d = F.device flash.now in
-        result ≡ redo_of (kind_on T.kind d area.now) (sectors_of d area.now) current }
+        result ≡ redo_of (format_on T.format_of d area.now) (sectors_of d area.now) current }
 {
     if T::is_closed(flash, area, area.next(current), steps) {
         if opened.has_gc_done() {
@@ -270,20 +280,22 @@ pub fn redo<T: SlotSectors, F: Flash, L: Ledger>(
 ) -> Result<(), PowerLost>
     requires area { IsStoreArea T.role (F.device flash.old).banks area.now }
     requires undamaged { let d = F.device flash.old in
-        (kind_on T.kind d area.now).damage (sectors_of d area.now) ≡ None }
-    requires current { IsOpenOn T.kind (F.device flash.old) area.now current }
+        (format_on T.format_of d area.now).damage (sectors_of d area.now) ≡ None }
+    requires current { IsOpenOn T.format_of (F.device flash.old) area.now current }
     requires kept { IsKeptOn T.kept (F.device flash.old) area.now current opened.old }
     ensures touches { let d = F.device flash.old in let e = F.device flash.new in
         Touches (area.now ∷ []) d e (is_err result) }
     ensures items { let d = F.device flash.old in let e = F.device flash.new in
-        KeepsItems (kind_on T.kind d area.now) (sectors_of d area.now) (sectors_of e area.now) }
+        KeepsItems (format_on T.format_of d area.now) (sectors_of d area.now)
+        (sectors_of e area.now) }
     ensures written { let d = F.device flash.old in let e = F.device flash.new in
-        (F.device flash.new ≡ d) ⊎ IsWritten (kind_on T.kind d area.now) (sectors_of e area.now) }
+        (F.device flash.new ≡ d)
+        ⊎ IsWritten (format_on T.format_of d area.now) (sectors_of e area.now) }
     ensures same { let d = F.device flash.old in
-        AtRest (kind_on T.kind d area.now).reading (sectors_of d area.now) current
+        AtRest (format_on T.format_of d area.now).reading (sectors_of d area.now) current
         → F.device flash.new ≡ d }
     ensures ends { let d = F.device flash.old in let e = F.device flash.new in
-        RedoEnds T.kind T.kept d e area.now current opened.new result }
+        RedoEnds T.format_of T.kept d e area.now current opened.new result }
 {
     match what_to_redo(flash, area, opened, current, steps) {
         Redo::Nothing => Ok(()),
@@ -304,21 +316,21 @@ fn open_next<T: SlotSectors, F: Flash, L: Ledger>(
 ) -> Result<(), PowerLost>
     requires area { IsStoreArea T.role (F.device flash.old).banks area.now }
     requires kept { IsKeptOn T.kept (F.device flash.old) area.now current opened.old }
-    requires form { let d = F.device flash.old in let k = kind_on T.kind d area.now in
+    requires form { let d = F.device flash.old in let k = format_on T.format_of d area.now in
         let old = sectors_of d area.now in
         AtRest k.reading old current ⊎ Collecting k.reading old current }
-    requires blank { let d = F.device flash.old in let k = kind_on T.kind d area.now in
+    requires blank { let d = F.device flash.old in let k = format_on T.format_of d area.now in
         is_blank_at k.reading (sectors_of d area.now) current ≡ true }
     ensures touches { let d = F.device flash.old in let e = F.device flash.new in
         Touches (area.now ∷ []) d e (is_err result) }
     ensures items { let d = F.device flash.old in let e = F.device flash.new in
-        let k = kind_on T.kind d area.now in
+        let k = format_on T.format_of d area.now in
         KeepsItems k (sectors_of d area.now) (sectors_of e area.now) }
     ensures written { let d = F.device flash.old in let e = F.device flash.new in
-        let k = kind_on T.kind d area.now in let new = sectors_of e area.now in
+        let k = format_on T.format_of d area.now in let new = sectors_of e area.now in
         IsWritten k (sectors_of d area.now) → IsWritten k new }
     ensures ends { let d = F.device flash.old in let e = F.device flash.new in
-        OpenEnds T.kind T.kept d e area.now current opened.new result }
+        OpenEnds T.format_of T.kept d e area.now current opened.new result }
 {
     if T::is_closed(flash, area, area.next(current), steps) {
         return collect_again(flash, area, opened, current, steps);
@@ -338,24 +350,25 @@ pub fn round<T: SlotSectors, F: Flash, L: Ledger>(
     current: u32,
     steps: &mut Steps<L>,
 ) -> Result<u32, PowerLost>
-    requires stands { StandsAt T.role T.kind T.kept (F.device flash.old) area.now current
+    requires stands { StandsAt T.role T.format_of T.kept (F.device flash.old) area.now current
         opened.old }
     requires used { let d = F.device flash.old in
-        is_clean_at (kind_on T.kind d area.now) (sectors_of d area.now) current ≡ false }
+        is_clean_at (format_on T.format_of d area.now) (sectors_of d area.now) current ≡ false }
     ensures touches { let d = F.device flash.old in let e = F.device flash.new in
         Touches (area.now ∷ []) d e (is_err result) }
     ensures opened { let d = F.device flash.old in
         IfOk result (λ place. place ≡ next (sectors_of d area.now) current) }
     ensures items { let d = F.device flash.old in let e = F.device flash.new in
-        KeepsItems (kind_on T.kind d area.now) (sectors_of d area.now) (sectors_of e area.now) }
+        KeepsItems (format_on T.format_of d area.now) (sectors_of d area.now)
+        (sectors_of e area.now) }
     ensures written { let d = F.device flash.old in let e = F.device flash.new in
-        let k = kind_on T.kind d area.now in let new = sectors_of e area.now in
+        let k = format_on T.format_of d area.now in let new = sectors_of e area.now in
         IsWritten k (sectors_of d area.now) → IsWritten k new }
     ensures changed { let d = F.device flash.old in let e = F.device flash.new in
-        let k = kind_on T.kind d area.now in let new = sectors_of e area.now in
+        let k = format_on T.format_of d area.now in let new = sectors_of e area.now in
         (new ≡ sectors_of d area.now) ⊎ IsWritten k new }
     ensures ends { let d = F.device flash.old in let e = F.device flash.new in
-        RoundEndsOn T.kind T.kept d e area.now current opened.new result }
+        RoundEndsOn T.format_of T.kept d e area.now current opened.new result }
 {
     opened.close(flash, area, current, steps)?;
     let place = area.next(current);

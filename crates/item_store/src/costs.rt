@@ -4,13 +4,13 @@ ghost use Rattle.flash_map.specs.Area.{sectors_of};
 ghost use Rattle.item_laws.specs.PairRounds.{copies_cost, live_cost};
 ghost use Rattle.item_laws.specs.Live.{counted_in, live_in, live_to, cost_of};
 ghost use Rattle.item_store.specs.OnSector.{sector_on};
-ghost use Rattle.item_store.specs.Kind.{slots};
-ghost use Rattle.item_store.specs.Listed.{kind_on, list_on, HasSlotOn, IsWithinOn};
+ghost use Rattle.item_store.specs.SectorFormat.{slots};
+ghost use Rattle.item_store.specs.Listed.{format_on, list_on, HasSlotOn, IsWithinOn};
 ghost use Rattle.item_store.specs.Seen.{has_bit, HasSeen, behind, holds_live};
 ghost use Rattle.item_store.specs.Standing.{IsStoreArea};
 ghost use Rattle.item_store.specs.Stands.{StandsOn};
 
-use crate::liveness::{LiveSlots, live_by, live_in};
+use crate::live::{LiveEntries, live_by, live_in};
 use crate::sectors::SlotSectors;
 use crate::seen::Seen;
 use crate::store::Store;
@@ -29,10 +29,10 @@ fn slot_cost<T: SlotSectors, F: Flash, L: Ledger>(
 ) -> u64
     requires area { IsStoreArea T.role (F.device flash.now).banks area.now }
     requires inside { place < area.now.sectors }
-    requires listed { HasSlotOn T.kind (F.device flash.now) area.now place slot }
+    requires listed { HasSlotOn T.format_of (F.device flash.now) area.now place slot }
     requires live { let d = F.device flash.now in
-        live ≡ holds_live (kind_on T.kind d area.now) (sectors_of d area.now) place slot }
-    ensures cost { let d = F.device flash.now in let k = kind_on T.kind d area.now in
+        live ≡ holds_live (format_on T.format_of d area.now) (sectors_of d area.now) place slot }
+    ensures cost { let d = F.device flash.now in let k = format_on T.format_of d area.now in
         result ≡ cost_of (slots k) (live_in (slots k) (sectors_of d area.now) place slot) }
     ensures small { result ≤ 2 ^ 18 }
 {
@@ -48,17 +48,17 @@ fn sector_cost<T: SlotSectors, F: Flash, L: Ledger>(
     flash: &F,
     area: &Area,
     place: u32,
-    live: &LiveSlots,
+    live: &LiveEntries,
     steps: &mut Steps<L>,
 ) -> u64
     requires area { IsStoreArea T.role (F.device flash.now).banks area.now }
     requires inside { place < area.now.sectors }
-    requires within { IsWithinOn T.kind (F.device flash.now) area.now place }
-    requires live { let d = F.device flash.now in let k = kind_on T.kind d area.now in
+    requires within { IsWithinOn T.format_of (F.device flash.now) area.now place }
+    requires live { let d = F.device flash.now in let k = format_on T.format_of d area.now in
         (index : ℕ) → index < k.count (sector_on d area.now place)
         → has_bit live.now.bits index
         ≡ holds_live k (sectors_of d area.now) place (k.first + index) }
-    ensures cost { let d = F.device flash.now in let k = kind_on T.kind d area.now in
+    ensures cost { let d = F.device flash.now in let k = format_on T.format_of d area.now in
         result
         ≡ copies_cost k.cost
         (live_to (slots k) (sectors_of d area.now) place (k.count (sector_on d area.now place))) }
@@ -85,22 +85,25 @@ impl<T: SlotSectors> Store<T> {
         seen: &mut Seen,
         steps: &mut Steps<L>,
     ) -> u64
-        requires stands { StandsOn T.role T.kind T.kept (F.device flash.now) self.now }
+        requires stands { StandsOn T.role T.format_of T.kept (F.device flash.now) self.now }
         requires inside { place < self.now.area.sectors }
-        requires seen { let d = F.device flash.now in let k = kind_on T.kind d self.now.area in
+        requires seen { let d = F.device flash.now in
+            let k = format_on T.format_of d self.now.area in
             HasSeen k.ids seen.old (behind k (sectors_of d self.now.area) self.now.current place) }
-        ensures cost { let d = F.device flash.now in let k = kind_on T.kind d self.now.area in
+        ensures cost { let d = F.device flash.now in
+            let k = format_on T.format_of d self.now.area in
             result
             ≡ copies_cost k.cost
             (live_to (slots k) (sectors_of d self.now.area) place
             (k.count (sector_on d self.now.area place))) }
         ensures small { result ≤ 2 ^ 33 }
-        ensures seen { let d = F.device flash.now in let k = kind_on T.kind d self.now.area in
+        ensures seen { let d = F.device flash.now in
+            let k = format_on T.format_of d self.now.area in
             HasSeen k.ids seen.new
             (counted_in (slots k) (sectors_of d self.now.area) self.now.current place
             ++ behind k (sectors_of d self.now.area) self.now.current place) }
     {
-        let mut live = LiveSlots::new();
+        let mut live = LiveEntries::new();
         live_by(
             flash,
             &self.area,
@@ -118,10 +121,11 @@ impl<T: SlotSectors> Store<T> {
     /// once, from its newest sector to its oldest.
     #[inline(never)]
     pub fn live_cost<F: Flash, L: Ledger>(&self, flash: &F, steps: &mut Steps<L>) -> u64
-        requires { StandsOn T.role T.kind T.kept (F.device flash.now) self.now }
+        requires { StandsOn T.role T.format_of T.kept (F.device flash.now) self.now }
         ensures { let d = F.device flash.now in
             result
-            ≡ live_cost (kind_on T.kind d self.now.area).cost (list_on T.kind d self.now.area) }
+            ≡ live_cost (format_on T.format_of d self.now.area).cost
+            (list_on T.format_of d self.now.area) }
     {
         let oldest = self.area.next(self.current);
         let mut seen = Seen::new();

@@ -4,8 +4,8 @@ ghost use Rattle.flash_map.specs.Area.{sectors_of, sector_at};
 ghost use Rattle.item_laws.specs.Area.{counts_at, next, previous};
 ghost use Rattle.item_store.specs.OnSector.{sector_on, IsKeptOn, IsOpenOn};
 ghost use Rattle.item_store.specs.declared.entry.Placed.{Placed as PlacedEntry};
-ghost use Rattle.item_store.specs.Lasts.{in_range, slots_left, AreOthers, IsAt, SameRange, TellsNext, WasTold, IsLastIn};
-ghost use Rattle.item_store.specs.Listed.{kind_on, IsPlacedOn};
+ghost use Rattle.item_store.specs.Lasts.{in_range, slots_left, AreOthers, IsAt, SameRange, GivesNext, WasGiven, IsLastIn};
+ghost use Rattle.item_store.specs.Listed.{format_on, IsPlacedOn};
 ghost use Rattle.item_store.specs.Seen.{has_bit};
 ghost use Rattle.item_store.specs.Standing.{IsStoreArea};
 
@@ -20,7 +20,7 @@ use std::sync::ledger::Ledger;
 // A bit for each of 0x1_0020 ids, as many as a range may have.
 const BYTES: usize = 0x2004;
 
-/// A walk over the last entries of the ids in a range, from the newest back. Each id is told once.
+/// A walk over the last entries of the ids in a range, from the newest back. Each id is given once.
 #[derive(Drop)]
 pub struct Lasts {
     pub(crate) least: u32,
@@ -48,13 +48,13 @@ fn reach_counting<T: SlotSectors, F: Flash, L: Ledger>(
     requires current { current < area.now.sectors }
     requires inside { place < area.now.sectors }
     ensures few { let d = F.device flash.now in
-        result ≤ (kind_on T.kind d area.now).count (sector_on d area.now place) }
+        result ≤ (format_on T.format_of d area.now).count (sector_on d area.now place) }
     ensures small { result ≤ 2 ^ 15 }
     ensures counts { let d = F.device flash.now in
         0 < result
-        → counts_at (kind_on T.kind d area.now).reading (sectors_of d area.now) current place
+        → counts_at (format_on T.format_of d area.now).reading (sectors_of d area.now) current place
         ≡ true }
-    ensures others { let d = F.device flash.now in let k = kind_on T.kind d area.now in
+    ensures others { let d = F.device flash.now in let k = format_on T.format_of d area.now in
         let b = sector_at (sectors_of d area.now) place in
         counts_at k.reading (sectors_of d area.now) current place ≡ true
         → AreOthers k b result (k.count b) least most }
@@ -79,13 +79,14 @@ impl Lasts {
     ) -> Lasts
         requires area { IsStoreArea T.role (F.device flash.now).banks area.now }
         requires kept { IsKeptOn T.kept (F.device flash.now) area.now current opened.now }
-        requires current { IsOpenOn T.kind (F.device flash.now) area.now current }
+        requires current { IsOpenOn T.format_of (F.device flash.now) area.now current }
         requires range { most < least + 0x1_0020 }
         ensures at { let d = F.device flash.now in
-            IsAt (kind_on T.kind d area.now) (sectors_of d area.now) current result }
+            IsAt (format_on T.format_of d area.now) (sectors_of d area.now) current result }
         ensures none { let d = F.device flash.now in
             (p : PlacedEntry)
-            → ¬ WasTold (kind_on T.kind d area.now) (sectors_of d area.now) current result p }
+            → ¬ WasGiven (format_on T.format_of d area.now) (sectors_of d area.now) current
+            result p }
         ensures least { result.least ≡ least }
         ensures most { result.most ≡ most }
     {
@@ -132,21 +133,21 @@ impl Lasts {
         steps: &mut Steps<L>,
     ) -> Option<Placed>
         requires area { IsStoreArea T.role (F.device flash.now).banks area.now }
-        requires current { IsOpenOn T.kind (F.device flash.now) area.now current }
+        requires current { IsOpenOn T.format_of (F.device flash.now) area.now current }
         requires at { let d = F.device flash.now in
-            IsAt (kind_on T.kind d area.now) (sectors_of d area.now) current self.old }
+            IsAt (format_on T.format_of d area.now) (sectors_of d area.now) current self.old }
         requires some_left { 0 < self.old.left }
         ensures at { let d = F.device flash.now in
-            IsAt (kind_on T.kind d area.now) (sectors_of d area.now) current self.new }
+            IsAt (format_on T.format_of d area.now) (sectors_of d area.now) current self.new }
         ensures range { SameRange self.old self.new }
         ensures place { self.new.place ≡ self.old.place }
         ensures fewer { self.new.left < self.old.left }
-        ensures next { let d = F.device flash.now in let k = kind_on T.kind d area.now in
+        ensures next { let d = F.device flash.now in let k = format_on T.format_of d area.now in
             let sectors = sectors_of d area.now in IfSome result (IsLastIn k sectors self.old) }
-        ensures told { let d = F.device flash.now in let k = kind_on T.kind d area.now in
+        ensures covered { let d = F.device flash.now in let k = format_on T.format_of d area.now in
             let sectors = sectors_of d area.now in
-            (p : PlacedEntry) → WasTold k sectors current self.new p
-            → (Some p ≡ result) ⊎ WasTold k sectors current self.old p }
+            (p : PlacedEntry) → WasGiven k sectors current self.new p
+            → (Some p ≡ result) ⊎ WasGiven k sectors current self.old p }
     {
         let rest = self.left - 1;
         let slot = T::first_slot() + rest;
@@ -172,21 +173,21 @@ impl Lasts {
         steps: &mut Steps<L>,
     ) -> Option<Placed>
         requires area { IsStoreArea T.role (F.device flash.now).banks area.now }
-        requires current { IsOpenOn T.kind (F.device flash.now) area.now current }
+        requires current { IsOpenOn T.format_of (F.device flash.now) area.now current }
         requires at { let d = F.device flash.now in
-            IsAt (kind_on T.kind d area.now) (sectors_of d area.now) current self.old }
+            IsAt (format_on T.format_of d area.now) (sectors_of d area.now) current self.old }
         ensures at { let d = F.device flash.now in
-            IsAt (kind_on T.kind d area.now) (sectors_of d area.now) current self.new }
+            IsAt (format_on T.format_of d area.now) (sectors_of d area.now) current self.new }
         ensures range { SameRange self.old self.new }
         ensures place { self.new.place ≡ self.old.place }
         ensures ends { result ≡ None → self.new.left ≡ 0 }
         ensures fewer { IfSome result (λ _. self.new.left < self.old.left) }
-        ensures next { let d = F.device flash.now in let k = kind_on T.kind d area.now in
+        ensures next { let d = F.device flash.now in let k = format_on T.format_of d area.now in
             let sectors = sectors_of d area.now in IfSome result (IsLastIn k sectors self.old) }
-        ensures told { let d = F.device flash.now in let k = kind_on T.kind d area.now in
+        ensures covered { let d = F.device flash.now in let k = format_on T.format_of d area.now in
             let sectors = sectors_of d area.now in
-            (p : PlacedEntry) → WasTold k sectors current self.new p
-            → (Some p ≡ result) ⊎ WasTold k sectors current self.old p }
+            (p : PlacedEntry) → WasGiven k sectors current self.new p
+            → (Some p ≡ result) ⊎ WasGiven k sectors current self.old p }
     {
         while self.left > 0 {
             let found = self.look_at_slot::<T, F, L>(flash, area, current, steps);
@@ -208,21 +209,21 @@ impl Lasts {
     )
         requires area { IsStoreArea T.role (F.device flash.now).banks area.now }
         requires kept { IsKeptOn T.kept (F.device flash.now) area.now current opened.now }
-        requires current { IsOpenOn T.kind (F.device flash.now) area.now current }
+        requires current { IsOpenOn T.format_of (F.device flash.now) area.now current }
         requires at { let d = F.device flash.now in
-            IsAt (kind_on T.kind d area.now) (sectors_of d area.now) current self.old }
+            IsAt (format_on T.format_of d area.now) (sectors_of d area.now) current self.old }
         requires none_left { self.old.left ≡ 0 }
         requires further { self.old.place ≡ next (sectors_of (F.device flash.now) area.now) current
             → ⊥ }
         ensures at { let d = F.device flash.now in
-            IsAt (kind_on T.kind d area.now) (sectors_of d area.now) current self.new }
+            IsAt (format_on T.format_of d area.now) (sectors_of d area.now) current self.new }
         ensures range { SameRange self.old self.new }
         ensures place { self.new.place
             ≡ previous (sectors_of (F.device flash.now) area.now) self.old.place }
-        ensures told { let d = F.device flash.now in let k = kind_on T.kind d area.now in
+        ensures covered { let d = F.device flash.now in let k = format_on T.format_of d area.now in
             let sectors = sectors_of d area.now in
-            (p : PlacedEntry) → WasTold k sectors current self.new p
-            → WasTold k sectors current self.old p }
+            (p : PlacedEntry) → WasGiven k sectors current self.new p
+            → WasGiven k sectors current self.old p }
     {
         self.place = area.previous(self.place);
         self.left = reach_counting(
@@ -230,7 +231,7 @@ impl Lasts {
         );
     }
 
-    /// The last entry of the next id that was not told so far.
+    /// The last entry of the next id that was not given so far.
     pub fn next<T: SlotSectors, F: Flash, L: Ledger>(
         &mut self,
         flash: &F,
@@ -241,15 +242,17 @@ impl Lasts {
     ) -> Option<Placed>
         requires area { IsStoreArea T.role (F.device flash.now).banks area.now }
         requires kept { IsKeptOn T.kept (F.device flash.now) area.now current opened.now }
-        requires current { IsOpenOn T.kind (F.device flash.now) area.now current }
+        requires current { IsOpenOn T.format_of (F.device flash.now) area.now current }
         requires at { let d = F.device flash.now in
-            IsAt (kind_on T.kind d area.now) (sectors_of d area.now) current self.old }
+            IsAt (format_on T.format_of d area.now) (sectors_of d area.now) current self.old }
         ensures at { let d = F.device flash.now in
-            IsAt (kind_on T.kind d area.now) (sectors_of d area.now) current self.new }
+            IsAt (format_on T.format_of d area.now) (sectors_of d area.now) current self.new }
         ensures range { SameRange self.old self.new }
-        ensures placed { IfSome result (IsPlacedOn T.kind (F.device flash.now) area.now current) }
+        ensures placed { IfSome result
+            (IsPlacedOn T.format_of (F.device flash.now) area.now current) }
         ensures next { let d = F.device flash.now in
-            TellsNext (kind_on T.kind d area.now) (sectors_of d area.now) current self.old self.new
+            GivesNext (format_on T.format_of d area.now) (sectors_of d area.now) current self.old
+            self.new
             result }
         ensures fewer { IfSome result
             (λ _. slots_left area.now.sectors current self.new

@@ -12,9 +12,9 @@ ghost use Rattle.item_laws.specs.Live.{counted_in};
 ghost use Rattle.item_laws.specs.NextIds.{IsBehind};
 ghost use Rattle.item_store.specs.OnSector.{sector_on, IsKeptOn, IsOpenOn};
 ghost use Rattle.item_store.specs.declared.entry.Placed.{Placed as PlacedEntry};
-ghost use Rattle.item_store.specs.Kind.{placed_at, slots};
-ghost use Rattle.item_store.specs.Latest.{last_of_id, Covers, IsTold, Rises, Splits, IsNextIn, DropsGreatest, Tells, TellsOn};
-ghost use Rattle.item_store.specs.Listed.{kind_on, HasSlotOn};
+ghost use Rattle.item_store.specs.SectorFormat.{placed_at, slots};
+ghost use Rattle.item_store.specs.Latest.{last_of_id, Covers, IsKnown, Rises, Splits, IsNextIn, DropsGreatest, Knows, KnowsOn};
+ghost use Rattle.item_store.specs.Listed.{format_on, HasSlotOn};
 ghost use Rattle.item_store.specs.Seen.{HasSeen, AreBehind, behind};
 ghost use Rattle.item_store.specs.Standing.{IsStoreArea};
 
@@ -36,7 +36,7 @@ const ENTRIES: usize = 800;
 pub struct LastSlots {
     // in the order of their ids
     pub(crate) entries: ArrayVec<Placed, ENTRIES>,
-    // Of this id and greater ones nothing is told. Where there is no bound, each id is told of.
+    // Of this id and greater ones nothing is known. Where there is no bound, each id is known.
     pub(crate) bound: Option<u32>,
 }
 
@@ -56,7 +56,7 @@ fn search(entries: &[Placed], id: u32) -> Result<usize, usize>
 impl LastSlots {
     /// Among no entries.
     pub fn new() -> LastSlots
-        ensures { (limit : ℕ) → Tells limit result [] }
+        ensures { (limit : ℕ) → Knows limit result [] }
     {
         LastSlots {
             entries: ArrayVec::new(),
@@ -66,16 +66,16 @@ impl LastSlots {
 
     // Among no entries, again.
     fn clear(&mut self)
-        ensures { (limit : ℕ) → Tells limit self.new [] }
+        ensures { (limit : ℕ) → Knows limit self.new [] }
     {
         self.entries.clear();
         self.bound = None;
     }
 
-    /// Whether the table tells of an id.
-    pub fn tells_of(&self, id: u32) -> bool
-        ensures yes_it { result ≡ true → IsTold self.now.bound id }
-        ensures not_it { result ≡ false → IsTold self.now.bound id → ⊥ }
+    /// Whether the table knows an id.
+    pub fn knows_of(&self, id: u32) -> bool
+        ensures yes_it { result ≡ true → IsKnown self.now.bound id }
+        ensures not_it { result ≡ false → IsKnown self.now.bound id → ⊥ }
     {
         match self.bound {
             Some(bound) => id < bound,
@@ -83,8 +83,8 @@ impl LastSlots {
         }
     }
 
-    /// Whether the table tells of each id.
-    pub fn tells_of_all(&self) -> bool
+    /// Whether the table knows each id.
+    pub fn knows_all(&self) -> bool
         ensures yes_it { result ≡ true → self.now.bound ≡ None }
         ensures not_it { result ≡ false → self.now.bound ≡ None → ⊥ }
     {
@@ -148,8 +148,8 @@ impl LastSlots {
             → ¬ (placed.now.len ≡ 0)
             → AllWithin (λ p. p.id < placed.now.id) self.old.entries.items 0 at
             → AllWithin (λ p. placed.now.id < p.id) self.old.entries.items at
-            (length self.old.entries.items) → IsTold self.old.bound placed.now.id
-            → Tells limit self.old before → Tells limit self.new (before ++ placed.now ∷ []) }
+            (length self.old.entries.items) → IsKnown self.old.bound placed.now.id
+            → Knows limit self.old before → Knows limit self.new (before ++ placed.now ∷ []) }
     {
         if !self.entries.is_full() {
             self.entries.insert(at, *placed);
@@ -163,11 +163,11 @@ impl LastSlots {
         self.entries.insert(at, *placed);
     }
 
-    // Takes an entry as the last one of its id, of which the table tells and has none.
+    // Takes an entry as the last one of its id, which the table knows and has none.
     fn put(&mut self, placed: &Placed)
         ensures { (limit : ℕ) (before : List PlacedEntry) → placed.now.id < limit
-            → last_of_id placed.now.id before ≡ None → IsTold self.old.bound placed.now.id
-            → Tells limit self.old before → Tells limit self.new (before ++ placed.now ∷ []) }
+            → last_of_id placed.now.id before ≡ None → IsKnown self.old.bound placed.now.id
+            → Knows limit self.old before → Knows limit self.new (before ++ placed.now ∷ []) }
     {
         match search(self.entries.as_slice(), placed.id) {
             Ok(_) => {}
@@ -182,42 +182,42 @@ impl LastSlots {
     // Takes an entry that stands behind others, none of which has its id.
     fn note(&mut self, placed: &Placed)
         ensures { (limit : ℕ) (before : List PlacedEntry) → placed.now.id < limit
-            → last_of_id placed.now.id before ≡ None → Tells limit self.old before
-            → Tells limit self.new (before ++ placed.now ∷ []) }
+            → last_of_id placed.now.id before ≡ None → Knows limit self.old before
+            → Knows limit self.new (before ++ placed.now ∷ []) }
     {
-        if self.tells_of(placed.id) {
+        if self.knows_of(placed.id) {
             self.put(placed);
         }
     }
 
-    // Takes an entry that stands in front of others, where none of them has its id.
+    // Takes an entry that stands before others, where none of them has its id.
     fn take_older(&mut self, placed: &Placed, has_later: bool)
         ensures { (limit : ℕ) (later : List PlacedEntry) → placed.now.id < limit
             → has_later ≡ is_some (last_of_id placed.now.id later)
-            → Tells limit self.old later → Tells limit self.new (placed.now ∷ later) }
+            → Knows limit self.old later → Knows limit self.new (placed.now ∷ later) }
     {
         if !has_later {
             self.note(placed);
         }
     }
 
-    // Whether the table has an entry of the id. Then those that it tells of have one.
+    // Whether the table has an entry of the id. Then those that it knows have one.
     fn has(&self, id: u32) -> bool
-        ensures { (limit : ℕ) (later : List PlacedEntry) → Tells limit self.now later
+        ensures { (limit : ℕ) (later : List PlacedEntry) → Knows limit self.now later
             → result ≡ true → is_some (last_of_id id later) ≡ true }
     {
-        if !self.tells_of(id) {
+        if !self.knows_of(id) {
             return false;
         }
         self.entry_of(id).is_some()
     }
 }
 
-// Whether an entry of this very id was told, as far as that is sure.
-fn was_told<T: SlotSectors>(last: &LastSlots, seen: &Seen, id: u32) -> bool
+// Whether an entry of this very id is known, as far as that is sure.
+fn was_known<T: SlotSectors>(last: &LastSlots, seen: &Seen, id: u32) -> bool
     ensures { (geometry : geometry_type) (later : List PlacedEntry)
-        → ((T.kind geometry).ids ≤ 2 ^ 16 → id < 2 ^ 16)
-        → Covers (T.kind geometry).ids last.now seen.now later → result ≡ true
+        → ((T.format_of geometry).ids ≤ 2 ^ 16 → id < 2 ^ 16)
+        → Covers (T.format_of geometry).ids last.now seen.now later → result ≡ true
         → is_some (last_of_id id later) ≡ true }
 {
     if !seen.has(id) {
@@ -252,8 +252,8 @@ fn has_later<T: SlotSectors, F: Flash, L: Ledger>(
 ) -> bool
     requires area { IsStoreArea T.role (F.device flash.now).banks area.now }
     requires kept { IsKeptOn T.kept (F.device flash.now) area.now current opened.now }
-    requires current { IsOpenOn T.kind (F.device flash.now) area.now current }
-    ensures { let d = F.device flash.now in let k = kind_on T.kind d area.now in
+    requires current { IsOpenOn T.format_of (F.device flash.now) area.now current }
+    ensures { let d = F.device flash.now in let k = format_on T.format_of d area.now in
         (later : List PlacedEntry) → AreBehind k (sectors_of d area.now) placed.now later
         → HasSeen k.ids seen.now later → result ≡ is_some (last_of_id placed.now.id later) }
 {
@@ -266,8 +266,8 @@ fn has_later<T: SlotSectors, F: Flash, L: Ledger>(
     }
 }
 
-// Tells of an entry that was read, in front of those that were told. Its id is noted.
-fn tell_entry<T: SlotSectors, F: Flash, L: Ledger>(
+// Indexes an entry that was read, before those that it has. Its id is noted.
+fn index_entry<T: SlotSectors, F: Flash, L: Ledger>(
     flash: &F,
     area: &Area,
     opened: &T,
@@ -279,9 +279,10 @@ fn tell_entry<T: SlotSectors, F: Flash, L: Ledger>(
 )
     requires area { IsStoreArea T.role (F.device flash.now).banks area.now }
     requires kept { IsKeptOn T.kept (F.device flash.now) area.now current opened.now }
-    requires current { IsOpenOn T.kind (F.device flash.now) area.now current }
-    requires known { let d = F.device flash.now in placed.now.id < (kind_on T.kind d area.now).ids }
-    ensures { let d = F.device flash.now in let k = kind_on T.kind d area.now in
+    requires current { IsOpenOn T.format_of (F.device flash.now) area.now current }
+    requires known { let d = F.device flash.now in
+        placed.now.id < (format_on T.format_of d area.now).ids }
+    ensures { let d = F.device flash.now in let k = format_on T.format_of d area.now in
         (later : List PlacedEntry) → AreBehind k (sectors_of d area.now) placed.now later
         → Covers k.ids last.old seen.old later
         → Covers k.ids last.new seen.new (placed.now ∷ later) }
@@ -291,9 +292,9 @@ fn tell_entry<T: SlotSectors, F: Flash, L: Ledger>(
     seen.add(placed.id);
 }
 
-// Tells of the entry in a slot, if there is one, in front of those that were told. The id is read
-// first: where one of this id was told, the slot is passed over, and its CRC is not looked at.
-fn tell_slot<T: SlotSectors, F: Flash, L: Ledger>(
+// Indexes the entry in a slot, if there is one, before those that it has. The id is read
+// first: where one of this id is known, the slot is passed over, and its CRC is not looked at.
+fn index_slot<T: SlotSectors, F: Flash, L: Ledger>(
     flash: &F,
     area: &Area,
     opened: &T,
@@ -306,10 +307,10 @@ fn tell_slot<T: SlotSectors, F: Flash, L: Ledger>(
 )
     requires area { IsStoreArea T.role (F.device flash.now).banks area.now }
     requires kept { IsKeptOn T.kept (F.device flash.now) area.now current opened.now }
-    requires current { IsOpenOn T.kind (F.device flash.now) area.now current }
+    requires current { IsOpenOn T.format_of (F.device flash.now) area.now current }
     requires inside { place < area.now.sectors }
-    requires listed { HasSlotOn T.kind (F.device flash.now) area.now place slot }
-    ensures { let d = F.device flash.now in let k = kind_on T.kind d area.now in
+    requires listed { HasSlotOn T.format_of (F.device flash.now) area.now place slot }
+    ensures { let d = F.device flash.now in let k = format_on T.format_of d area.now in
         (later : List PlacedEntry)
         → ((p : PlacedEntry)
         → option_map (placed_at place) (k.in_slot (sector_on d area.now place) slot) ≡ Some p
@@ -319,17 +320,17 @@ fn tell_slot<T: SlotSectors, F: Flash, L: Ledger>(
         ++ later) }
 {
     let id = T::id_in(flash, area, place, slot, steps);
-    if was_told::<T>(last, seen, id) {
+    if was_known::<T>(last, seen, id) {
         return;
     }
     match T::entry_in(flash, area, place, slot, steps) {
-        Some(placed) => tell_entry(flash, area, opened, current, &placed, last, seen, steps),
+        Some(placed) => index_entry(flash, area, opened, current, &placed, last, seen, steps),
         None => {}
     }
 }
 
-// Tells of the entries of a sector that counts, in front of those behind it.
-fn tell_sector<T: SlotSectors, F: Flash, L: Ledger>(
+// Indexes the entries of a sector that counts, before those behind it.
+fn index_sector<T: SlotSectors, F: Flash, L: Ledger>(
     flash: &F,
     area: &Area,
     opened: &T,
@@ -341,13 +342,14 @@ fn tell_sector<T: SlotSectors, F: Flash, L: Ledger>(
 )
     requires area { IsStoreArea T.role (F.device flash.now).banks area.now }
     requires kept { IsKeptOn T.kept (F.device flash.now) area.now current opened.now }
-    requires current { IsOpenOn T.kind (F.device flash.now) area.now current }
+    requires current { IsOpenOn T.format_of (F.device flash.now) area.now current }
     requires inside { place < area.now.sectors }
     requires counts { let d = F.device flash.now in
-        counts_at (kind_on T.kind d area.now).reading (sectors_of d area.now) current place ≡ true }
-    requires covers { let d = F.device flash.now in let k = kind_on T.kind d area.now in
+        counts_at (format_on T.format_of d area.now).reading (sectors_of d area.now) current place
+        ≡ true }
+    requires covers { let d = F.device flash.now in let k = format_on T.format_of d area.now in
         Covers k.ids last.old seen.old (behind k (sectors_of d area.now) current place) }
-    ensures { let d = F.device flash.now in let k = kind_on T.kind d area.now in
+    ensures { let d = F.device flash.now in let k = format_on T.format_of d area.now in
         Covers k.ids last.new seen.new
         (counted_in (slots k) (sectors_of d area.now) current place
         ++ behind k (sectors_of d area.now) current place) }
@@ -356,13 +358,13 @@ fn tell_sector<T: SlotSectors, F: Flash, L: Ledger>(
     let mut left = T::slots(flash, area, place, steps);
     while left > 0 {
         let slot = first + (left - 1);
-        tell_slot(flash, area, opened, current, place, slot, last, seen, steps);
+        index_slot(flash, area, opened, current, place, slot, last, seen, steps);
         left -= 1;
     }
 }
 
 // The same, where the sector counts.
-fn tell_counting<T: SlotSectors, F: Flash, L: Ledger>(
+fn index_counting<T: SlotSectors, F: Flash, L: Ledger>(
     flash: &F,
     area: &Area,
     opened: &T,
@@ -374,23 +376,23 @@ fn tell_counting<T: SlotSectors, F: Flash, L: Ledger>(
 )
     requires area { IsStoreArea T.role (F.device flash.now).banks area.now }
     requires kept { IsKeptOn T.kept (F.device flash.now) area.now current opened.now }
-    requires current { IsOpenOn T.kind (F.device flash.now) area.now current }
+    requires current { IsOpenOn T.format_of (F.device flash.now) area.now current }
     requires inside { place < area.now.sectors }
-    requires covers { let d = F.device flash.now in let k = kind_on T.kind d area.now in
+    requires covers { let d = F.device flash.now in let k = format_on T.format_of d area.now in
         Covers k.ids last.old seen.old (behind k (sectors_of d area.now) current place) }
-    ensures { let d = F.device flash.now in let k = kind_on T.kind d area.now in
+    ensures { let d = F.device flash.now in let k = format_on T.format_of d area.now in
         Covers k.ids last.new seen.new
         (counted_in (slots k) (sectors_of d area.now) current place
         ++ behind k (sectors_of d area.now) current place) }
 {
     if counts(flash, area, opened, current, place, steps) {
-        tell_sector(flash, area, opened, current, place, last, seen, steps);
+        index_sector(flash, area, opened, current, place, last, seen, steps);
     }
 }
 
-// Tells a table of none of all entries of the list, from the newest sector to the oldest.
+// Indexes all entries of the list, from the newest sector to the oldest.
 #[inline(never)]
-fn tell_all<T: SlotSectors, F: Flash, L: Ledger>(
+fn index_all<T: SlotSectors, F: Flash, L: Ledger>(
     flash: &F,
     area: &Area,
     opened: &T,
@@ -400,23 +402,23 @@ fn tell_all<T: SlotSectors, F: Flash, L: Ledger>(
 )
     requires area { IsStoreArea T.role (F.device flash.now).banks area.now }
     requires kept { IsKeptOn T.kept (F.device flash.now) area.now current opened.now }
-    requires current { IsOpenOn T.kind (F.device flash.now) area.now current }
-    requires none { Tells (kind_on T.kind (F.device flash.now) area.now).ids last.old [] }
-    ensures { TellsOn T.kind (F.device flash.now) area.now last.new }
+    requires current { IsOpenOn T.format_of (F.device flash.now) area.now current }
+    requires none { Knows (format_on T.format_of (F.device flash.now) area.now).ids last.old [] }
+    ensures { KnowsOn T.format_of (F.device flash.now) area.now last.new }
 {
     let oldest = area.next(current);
     let mut seen = Seen::new();
     let mut place = current;
     while place != oldest {
-        tell_counting(flash, area, opened, current, place, last, &mut seen, steps);
+        index_counting(flash, area, opened, current, place, last, &mut seen, steps);
         place = area.previous(place);
     }
-    tell_counting(flash, area, opened, current, oldest, last, &mut seen, steps);
+    index_counting(flash, area, opened, current, oldest, last, &mut seen, steps);
 }
 
 /// Makes a table of the last entry of each id in the list, as far as it has room for them. What it
-/// told before is gone. Each sector that counts is looked at once.
-pub fn tell_last_slots<T: SlotSectors, F: Flash, L: Ledger>(
+/// knew before is gone. Each sector that counts is looked at once.
+pub fn fill_last_slots<T: SlotSectors, F: Flash, L: Ledger>(
     flash: &F,
     area: &Area,
     opened: &T,
@@ -426,9 +428,9 @@ pub fn tell_last_slots<T: SlotSectors, F: Flash, L: Ledger>(
 )
     requires area { IsStoreArea T.role (F.device flash.now).banks area.now }
     requires kept { IsKeptOn T.kept (F.device flash.now) area.now current opened.now }
-    requires current { IsOpenOn T.kind (F.device flash.now) area.now current }
-    ensures { TellsOn T.kind (F.device flash.now) area.now last.new }
+    requires current { IsOpenOn T.format_of (F.device flash.now) area.now current }
+    ensures { KnowsOn T.format_of (F.device flash.now) area.now last.new }
 {
     last.clear();
-    tell_all(flash, area, opened, current, last, steps);
+    index_all(flash, area, opened, current, last, steps);
 }

@@ -9,11 +9,13 @@ mod cached;
 mod collecting;
 mod costs;
 mod entry;
+#[tactic(auto, using(flash_map::proofs::Touches::then))]
+mod gc_pass;
 mod indexed;
 mod lasts;
 mod latest;
 pub mod laws;
-mod liveness;
+mod live;
 mod lookup;
 mod noting;
 mod reading;
@@ -23,8 +25,6 @@ mod searching;
 mod sectors;
 mod seen;
 mod store;
-#[tactic(auto, using(flash_map::proofs::Touches::then))]
-mod turning;
 mod walking;
 #[tactic(auto, using(flash_map::proofs::Touches::then))]
 mod writing;

@@ -5,8 +5,8 @@ ghost use Rattle.flash_map.specs.Area.{sectors_of};
 ghost use Rattle.item_laws.specs.Area.{counts_at};
 ghost use Rattle.item_laws.specs.Live.{last_of, last_placed, counted_in};
 ghost use Rattle.item_store.specs.OnSector.{IsKeptOn, IsOpenOn};
-ghost use Rattle.item_store.specs.Listed.{kind_on};
-ghost use Rattle.item_store.specs.Kind.{slots};
+ghost use Rattle.item_store.specs.Listed.{format_on};
+ghost use Rattle.item_store.specs.SectorFormat.{slots};
 ghost use Rattle.item_store.specs.Standing.{IsStoreArea};
 
 use crate::entry::Placed;
@@ -29,12 +29,13 @@ pub fn counts<T: SlotSectors, F: Flash, L: Ledger>(
     requires current { current < area.now.sectors }
     ensures { let d = F.device flash.now in
         result
-        ≡ counts_at (kind_on T.kind d area.now).reading (sectors_of d area.now) current place }
+        ≡ counts_at (format_on T.format_of d area.now).reading (sectors_of d area.now) current
+        place }
 {
     let after = area.next(current);
     if T::is_closed(flash, area, after, steps) {
-        let hidden = if opened.has_gc_done() { after } else { current };
-        place != hidden
+        let ignored = if opened.has_gc_done() { after } else { current };
+        place != ignored
     } else {
         true
     }
@@ -54,7 +55,7 @@ fn find_at<T: SlotSectors, F: Flash, L: Ledger>(
     requires kept { IsKeptOn T.kept (F.device flash.now) area.now current opened.now }
     requires current { current < area.now.sectors }
     requires inside { place < area.now.sectors }
-    ensures { let d = F.device flash.now in let k = kind_on T.kind d area.now in
+    ensures { let d = F.device flash.now in let k = format_on T.format_of d area.now in
         result ≡ last_of (slots k) id (counted_in (slots k) (sectors_of d area.now) current place) }
 {
     if counts(flash, area, opened, current, place, steps) {
@@ -81,7 +82,7 @@ pub fn find_among<T: SlotSectors, F: Flash, L: Ledger>(
     requires current { current < area.now.sectors }
     requires order { first ≤ end }
     requires inside { end ≤ area.now.sectors }
-    ensures { let d = F.device flash.now in let k = kind_on T.kind d area.now in
+    ensures { let d = F.device flash.now in let k = format_on T.format_of d area.now in
         result
         ≡ last_of (slots k) id
         (flat_map (counted_in (slots k) (sectors_of d area.now) current)
@@ -109,9 +110,9 @@ pub fn find<T: SlotSectors, F: Flash, L: Ledger>(
 ) -> Option<Placed>
     requires area { IsStoreArea T.role (F.device flash.now).banks area.now }
     requires kept { IsKeptOn T.kept (F.device flash.now) area.now current opened.now }
-    requires current { IsOpenOn T.kind (F.device flash.now) area.now current }
+    requires current { IsOpenOn T.format_of (F.device flash.now) area.now current }
     ensures { let d = F.device flash.now in
-        result ≡ last_placed (slots (kind_on T.kind d area.now)) (sectors_of d area.now) id }
+        result ≡ last_placed (slots (format_on T.format_of d area.now)) (sectors_of d area.now) id }
 {
     let newest = find_among(flash, area, opened, current, 0, current + 1, id, steps);
     if newest.is_some() {

@@ -6,8 +6,8 @@ ghost use Rattle.flash_map.specs.Area.{sectors_of};
 ghost use Rattle.item_laws.specs.Live.{counted_in};
 ghost use Rattle.item_store.specs.OnSector.{sector_on, IsKeptOn};
 ghost use Rattle.item_store.specs.declared.entry.Placed.{Placed as PlacedEntry};
-ghost use Rattle.item_store.specs.Kind.{placed_at, slots};
-ghost use Rattle.item_store.specs.Listed.{kind_on, HasSlotOn};
+ghost use Rattle.item_store.specs.SectorFormat.{placed_at, slots};
+ghost use Rattle.item_store.specs.Listed.{format_on, HasSlotOn};
 ghost use Rattle.item_store.specs.Standing.{IsStoreArea};
 
 use crate::entry::Placed;
@@ -38,8 +38,8 @@ fn note_slot<T: SlotSectors, N: Notes, F: Flash, L: Ledger>(
 )
     requires area { IsStoreArea T.role (F.device flash.now).banks area.now }
     requires inside { place < area.now.sectors }
-    requires listed { HasSlotOn T.kind (F.device flash.now) area.now place slot }
-    ensures { let d = F.device flash.now in let k = kind_on T.kind d area.now in
+    requires listed { HasSlotOn T.format_of (F.device flash.now) area.now place slot }
+    ensures { let d = F.device flash.now in let k = format_on T.format_of d area.now in
         (before : List PlacedEntry) → N.noted k.ids notes.old before
         → N.noted k.ids notes.new
         (before
@@ -62,7 +62,7 @@ pub fn note_sector<T: SlotSectors, N: Notes, F: Flash, L: Ledger>(
 )
     requires area { IsStoreArea T.role (F.device flash.now).banks area.now }
     requires inside { place < area.now.sectors }
-    ensures { let d = F.device flash.now in let k = kind_on T.kind d area.now in
+    ensures { let d = F.device flash.now in let k = format_on T.format_of d area.now in
         (before : List PlacedEntry) → N.noted k.ids notes.old before
         → N.noted k.ids notes.new
         (before ++ map (placed_at place) ((slots k).entries (sector_on d area.now place))) }
@@ -88,7 +88,7 @@ fn note_counting<T: SlotSectors, N: Notes, F: Flash, L: Ledger>(
     requires kept { IsKeptOn T.kept (F.device flash.now) area.now current opened.now }
     requires current { current < area.now.sectors }
     requires inside { place < area.now.sectors }
-    ensures { let d = F.device flash.now in let k = kind_on T.kind d area.now in
+    ensures { let d = F.device flash.now in let k = format_on T.format_of d area.now in
         (before : List PlacedEntry) → N.noted k.ids notes.old before
         → N.noted k.ids notes.new
         (before ++ counted_in (slots k) (sectors_of d area.now) current place) }
@@ -114,7 +114,7 @@ pub fn note_among<T: SlotSectors, N: Notes, F: Flash, L: Ledger>(
     requires current { current < area.now.sectors }
     requires order { first ≤ end }
     requires inside { end ≤ area.now.sectors }
-    ensures { let d = F.device flash.now in let k = kind_on T.kind d area.now in
+    ensures { let d = F.device flash.now in let k = format_on T.format_of d area.now in
         (before : List PlacedEntry) → N.noted k.ids notes.old before
         → N.noted k.ids notes.new
         (before

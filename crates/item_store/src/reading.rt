@@ -9,8 +9,8 @@ ghost use Rattle.item_laws.specs.Live.{bytes_of};
 ghost use Rattle.item_laws.specs.NextIds.{is_between, Follows, IsAtMost, IsLeastOf, IsNextId};
 ghost use Rattle.item_store.specs.OnSector.{sector_on};
 ghost use Rattle.item_store.specs.Cached.{latest_on};
-ghost use Rattle.item_store.specs.Kind.{slots};
-ghost use Rattle.item_store.specs.Listed.{kind_on, items_on, entries_on, IsPlacedOn};
+ghost use Rattle.item_store.specs.SectorFormat.{slots};
+ghost use Rattle.item_store.specs.Listed.{format_on, items_on, entries_on, IsPlacedOn};
 ghost use Rattle.item_store.specs.Older.{IsNextOlder, newest_before};
 ghost use Rattle.item_store.specs.Stands.{StandsOn};
 
@@ -39,12 +39,12 @@ impl<T: SlotSectors> Store<T> {
         id: u32,
         steps: &mut Steps<L>,
     ) -> Option<&'a [u8]>
-        requires { StandsOn T.role T.kind T.kept (F.device flash.now) self.now }
+        requires { StandsOn T.role T.format_of T.kept (F.device flash.now) self.now }
         ensures value { option_map (λ bytes. bytes.now) result
-            ≡ map.get (items_on T.kind (F.device flash.now) self.now.area) id }
-        ensures none { latest_on T.kind (F.device flash.now) self.now.area id ≡ None
+            ≡ map.get (items_on T.format_of (F.device flash.now) self.now.area) id }
+        ensures none { latest_on T.format_of (F.device flash.now) self.now.area id ≡ None
             → steps.new ≡ steps.old }
-        ensures few { IfSome (latest_on T.kind (F.device flash.now) self.now.area id)
+        ensures few { IfSome (latest_on T.format_of (F.device flash.now) self.now.area id)
             (λ p. p.id ≡ id → steps.new ≤ steps.old + 2) }
     {
         let latest = self.latest(flash, id, steps)?;
@@ -57,11 +57,11 @@ impl<T: SlotSectors> Store<T> {
     /// Whether an item may be there: `true` exactly where an entry of the list has an id of the
     /// same cache slot. Else the id has none. It looks at the cache alone.
     pub fn may_hold(&self, id: u32) -> bool
-        ensures exactly { (d : Device) → StandsOn T.role T.kind T.kept d self.now
-            → result ≡ is_some (latest_on T.kind d self.now.area id) }
+        ensures exactly { (d : Device) → StandsOn T.role T.format_of T.kept d self.now
+            → result ≡ is_some (latest_on T.format_of d self.now.area id) }
         ensures none { (d : Device) → IsLawful d.banks d.bytes
-            → StandsOn T.role T.kind T.kept d self.now → result ≡ false
-            → map.get (items_on T.kind d self.now.area) id ≡ None }
+            → StandsOn T.role T.format_of T.kept d self.now → result ≡ false
+            → map.get (items_on T.format_of d self.now.area) id ≡ None }
     {
         self.cache.start_of(id).is_some()
     }
@@ -73,8 +73,8 @@ impl<T: SlotSectors> Store<T> {
         id: u32,
         steps: &mut Steps<L>,
     ) -> Option<Placed>
-        requires { StandsOn T.role T.kind T.kept (F.device flash.now) self.now }
-        ensures entry { result ≡ latest_on T.kind (F.device flash.now) self.now.area id }
+        requires { StandsOn T.role T.format_of T.kept (F.device flash.now) self.now }
+        ensures entry { result ≡ latest_on T.format_of (F.device flash.now) self.now.area id }
         ensures none { result ≡ None → steps.new ≡ steps.old }
         ensures step { steps.new ≤ steps.old + 1 }
     {
@@ -91,10 +91,11 @@ impl<T: SlotSectors> Store<T> {
         id: u32,
         steps: &mut Steps<L>,
     ) -> Option<&'a [u8]>
-        requires stands { StandsOn T.role T.kind T.kept (F.device flash.now) self.now }
-        requires latest { Some latest.now ≡ latest_on T.kind (F.device flash.now) self.now.area id }
+        requires stands { StandsOn T.role T.format_of T.kept (F.device flash.now) self.now }
+        requires latest { Some latest.now
+            ≡ latest_on T.format_of (F.device flash.now) self.now.area id }
         ensures { option_map (λ bytes. bytes.now) result
-            ≡ map.get (items_on T.kind (F.device flash.now) self.now.area) id }
+            ≡ map.get (items_on T.format_of (F.device flash.now) self.now.area) id }
     {
         let placed = find_up_to(
             flash,
@@ -115,13 +116,13 @@ impl<T: SlotSectors> Store<T> {
         placed: &Placed,
         steps: &mut Steps<L>,
     ) -> Option<&'a [u8]>
-        requires stands { StandsOn T.role T.kind T.kept (F.device flash.now) self.now }
-        requires placed { IsPlacedOn T.kind (F.device flash.now) self.now.area self.now.current
+        requires stands { StandsOn T.role T.format_of T.kept (F.device flash.now) self.now }
+        requires placed { IsPlacedOn T.format_of (F.device flash.now) self.now.area self.now.current
             placed.now }
         ensures value { let d = F.device flash.now in
             option_map (λ bytes. bytes.now) result
             ≡ value_of
-            (bytes_of (slots (kind_on T.kind d self.now.area)) (sectors_of d self.now.area)
+            (bytes_of (slots (format_on T.format_of d self.now.area)) (sectors_of d self.now.area)
             placed.now) }
         ensures step { steps.new ≤ steps.old + 1 }
     {
@@ -140,18 +141,19 @@ impl<T: SlotSectors> Store<T> {
         least: Option<u32>,
         steps: &mut Steps<L>,
     ) -> Option<u32>
-        requires stands { StandsOn T.role T.kind T.kept (F.device flash.now) self.now }
+        requires stands { StandsOn T.role T.format_of T.kept (F.device flash.now) self.now }
         requires some { IfSome least
-            (Follows (items_on T.kind (F.device flash.now) self.now.area) after) }
+            (Follows (items_on T.format_of (F.device flash.now) self.now.area) after) }
         requires small { let d = F.device flash.now in
-            IfSome least (λ l. l < (kind_on T.kind d self.now.area).ids) }
-        requires own { let d = F.device flash.now in id < (kind_on T.kind d self.now.area).ids }
+            IfSome least (λ l. l < (format_on T.format_of d self.now.area).ids) }
+        requires own { let d = F.device flash.now in
+            id < (format_on T.format_of d self.now.area).ids }
         ensures some { IfSome result
-            (Follows (items_on T.kind (F.device flash.now) self.now.area) after) }
+            (Follows (items_on T.format_of (F.device flash.now) self.now.area) after) }
         ensures small { let d = F.device flash.now in
-            IfSome result (λ l. l < (kind_on T.kind d self.now.area).ids) }
+            IfSome result (λ l. l < (format_on T.format_of d self.now.area).ids) }
         ensures kept { IfSome least (IsAtMost result) }
-        ensures id { Follows (items_on T.kind (F.device flash.now) self.now.area) after id
+        ensures id { Follows (items_on T.format_of (F.device flash.now) self.now.area) after id
             → IsAtMost result id }
     {
         if !is_between(id, after, least) {
@@ -173,20 +175,20 @@ impl<T: SlotSectors> Store<T> {
         least: Option<u32>,
         steps: &mut Steps<L>,
     ) -> Option<u32>
-        requires stands { StandsOn T.role T.kind T.kept (F.device flash.now) self.now }
+        requires stands { StandsOn T.role T.format_of T.kept (F.device flash.now) self.now }
         requires some { IfSome least
-            (Follows (items_on T.kind (F.device flash.now) self.now.area) after) }
+            (Follows (items_on T.format_of (F.device flash.now) self.now.area) after) }
         requires small { let d = F.device flash.now in
-            IfSome least (λ l. l < (kind_on T.kind d self.now.area).ids) }
+            IfSome least (λ l. l < (format_on T.format_of d self.now.area).ids) }
         requires own { let d = F.device flash.now in
-            IfSome placed (λ p. p.id < (kind_on T.kind d self.now.area).ids) }
+            IfSome placed (λ p. p.id < (format_on T.format_of d self.now.area).ids) }
         ensures some { IfSome result
-            (Follows (items_on T.kind (F.device flash.now) self.now.area) after) }
+            (Follows (items_on T.format_of (F.device flash.now) self.now.area) after) }
         ensures small { let d = F.device flash.now in
-            IfSome result (λ l. l < (kind_on T.kind d self.now.area).ids) }
+            IfSome result (λ l. l < (format_on T.format_of d self.now.area).ids) }
         ensures kept { IfSome least (IsAtMost result) }
         ensures id { IfSome placed
-            (λ p. Follows (items_on T.kind (F.device flash.now) self.now.area) after p.id
+            (λ p. Follows (items_on T.format_of (F.device flash.now) self.now.area) after p.id
             → IsAtMost result p.id) }
     {
         match placed {
@@ -205,20 +207,21 @@ impl<T: SlotSectors> Store<T> {
         least: Option<u32>,
         steps: &mut Steps<L>,
     ) -> Option<u32>
-        requires stands { StandsOn T.role T.kind T.kept (F.device flash.now) self.now }
+        requires stands { StandsOn T.role T.format_of T.kept (F.device flash.now) self.now }
         requires inside { place < self.now.area.sectors }
         requires some { IfSome least
-            (Follows (items_on T.kind (F.device flash.now) self.now.area) after) }
+            (Follows (items_on T.format_of (F.device flash.now) self.now.area) after) }
         requires small { let d = F.device flash.now in
-            IfSome least (λ l. l < (kind_on T.kind d self.now.area).ids) }
+            IfSome least (λ l. l < (format_on T.format_of d self.now.area).ids) }
         ensures some { IfSome result
-            (Follows (items_on T.kind (F.device flash.now) self.now.area) after) }
+            (Follows (items_on T.format_of (F.device flash.now) self.now.area) after) }
         ensures small { let d = F.device flash.now in
-            IfSome result (λ l. l < (kind_on T.kind d self.now.area).ids) }
+            IfSome result (λ l. l < (format_on T.format_of d self.now.area).ids) }
         ensures kept { IfSome least (IsAtMost result) }
         ensures least { let d = F.device flash.now in
-            IsLeastOf (items_on T.kind d self.now.area) after
-            ((kind_on T.kind d self.now.area).reading.pairs (sector_on d self.now.area place))
+            IsLeastOf (items_on T.format_of d self.now.area) after
+            ((format_on T.format_of d self.now.area).reading.pairs
+            (sector_on d self.now.area place))
             result }
     {
         let mut next = least;
@@ -238,10 +241,11 @@ impl<T: SlotSectors> Store<T> {
         after: Option<u32>,
         steps: &mut Steps<L>,
     ) -> Option<u32>
-        requires { StandsOn T.role T.kind T.kept (F.device flash.now) self.now }
-        ensures next { IsNextId (items_on T.kind (F.device flash.now) self.now.area) after result }
+        requires { StandsOn T.role T.format_of T.kept (F.device flash.now) self.now }
+        ensures next { IsNextId (items_on T.format_of (F.device flash.now) self.now.area) after
+            result }
         ensures known { let d = F.device flash.now in
-            IfSome result (λ id. id < (kind_on T.kind d self.now.area).ids) }
+            IfSome result (λ id. id < (format_on T.format_of d self.now.area).ids) }
     {
         let mut least = None;
         for place in 0..self.area.sectors {
@@ -251,8 +255,8 @@ impl<T: SlotSectors> Store<T> {
     }
 
     /// The next older entry of the list: the one before the entry in this sector and slot, or the
-    /// newest one where no place is given. Deletes are among them. `None` comes exactly at the
-    /// front of the list. From a place without an entry it is the newest of the entries before that
+    /// newest one where no place is given. Deletes are among them. `None` comes exactly
+    /// at the oldest entry of the list. From a place without an entry it is the newest of the entries before that
     /// place, in the round to the open sector.
     pub fn walk<F: Flash, L: Ledger>(
         &self,
@@ -260,17 +264,19 @@ impl<T: SlotSectors> Store<T> {
         after: Option<(u32, u32)>,
         steps: &mut Steps<L>,
     ) -> Option<Placed>
-        requires stands { StandsOn T.role T.kind T.kept (F.device flash.now) self.now }
+        requires stands { StandsOn T.role T.format_of T.kept (F.device flash.now) self.now }
         requires inside { IfSome after (λ place. place.0 < self.now.area.sectors) }
 
-        ensures older { IsNextOlder (entries_on T.kind (F.device flash.now) self.now.area) after
+        ensures older { IsNextOlder
+            (entries_on T.format_of (F.device flash.now) self.now.area) after
             result }
         ensures before { let d = F.device flash.now in
             IfSome after
             (λ place. result
-            ≡ newest_before (kind_on T.kind d self.now.area) (sectors_of d self.now.area) place) }
+            ≡ newest_before (format_on T.format_of d self.now.area) (sectors_of d self.now.area)
+            place) }
         ensures placed { IfSome result
-            (IsPlacedOn T.kind (F.device flash.now) self.now.area self.now.current) }
+            (IsPlacedOn T.format_of (F.device flash.now) self.now.area self.now.current) }
     {
         walk(flash, &self.area, &self.opened, self.current, after, steps)
     }

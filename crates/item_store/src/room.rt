@@ -4,9 +4,9 @@ ghost use Rattle.flash_map.specs.Area.{sectors_of};
 ghost use Rattle.flash_map.specs.Touches.{Touches};
 ghost use Rattle.flash_map.specs.Units.{IsUnit};
 ghost use Rattle.item_store.specs.OnSector.{sector_on, IsKeptOn};
-ghost use Rattle.item_store.specs.Listed.{kind_on};
+ghost use Rattle.item_store.specs.Listed.{format_on};
 ghost use Rattle.item_store.specs.Cached.{IsCacheOn};
-ghost use Rattle.item_store.specs.Kind.{fits};
+ghost use Rattle.item_store.specs.SectorFormat.{fits};
 ghost use Rattle.item_store.specs.Room.{has_room, IsShort, MakesRoom, IsFull, StopsMakingRoom};
 ghost use Rattle.item_store.specs.Standing.{IsStoreArea};
 ghost use Rattle.item_store.specs.Stands.{StandsAt};
@@ -26,7 +26,8 @@ pub fn is_too_long<T: SlotSectors>(geometry: &Geometry, len: usize) -> bool
     requires unit { IsUnit geometry.now.unit }
     requires size { geometry.now.sector ≤ 32768 }
     ensures { result
-        ≡ nat_lt ((T.kind geometry.now).cap geometry.now.sector) ((T.kind geometry.now).cost len) }
+        ≡ nat_lt ((T.format_of geometry.now).cap geometry.now.sector)
+        ((T.format_of geometry.now).cost len) }
 {
     len > 0xFFFF || u64::from(T::capacity(geometry)) < T::cost(geometry, len as u32)
 }
@@ -45,7 +46,7 @@ pub fn fits<T: SlotSectors, F: Flash, L: Ledger>(
     requires kept { IsKeptOn T.kept (F.device flash.now) area.now place opened.now }
     requires narrow { len < 2 ^ 16 }
     ensures { let d = F.device flash.now in
-        result ≡ fits (kind_on T.kind d area.now) (sector_on d area.now place) len }
+        result ≡ fits (format_on T.format_of d area.now) (sector_on d area.now place) len }
 {
     let geometry = geometry(flash, area);
     let slot = u64::from(T::slot_size(&geometry));
@@ -71,31 +72,32 @@ pub fn make_room<T: SlotSectors, F: Flash, L: Ledger>(
     len: u32,
     steps: &mut Steps<L>,
 ) -> Result<bool, PowerLost>
-    requires stands { StandsAt T.role T.kind T.kept (F.device flash.old) area.now current.old
+    requires stands { StandsAt T.role T.format_of T.kept (F.device flash.old) area.now current.old
         opened.old }
-    requires cached { IsCacheOn T.kind (F.device flash.old) area.now cache.old }
+    requires cached { IsCacheOn T.format_of (F.device flash.old) area.now cache.old }
     requires narrow { len < 2 ^ 16 }
     requires short { let d = F.device flash.old in
-        0 < len → IsShort (kind_on T.kind d area.now) d area.now len }
+        0 < len → IsShort (format_on T.format_of d area.now) d area.now len }
 
     ensures touches { let d = F.device flash.old in let e = F.device flash.new in
         Touches (area.now ∷ []) d e (is_err result) }
     ensures written { let d = F.device flash.old in let e = F.device flash.new in
-        let k = kind_on T.kind d area.now in
+        let k = format_on T.format_of d area.now in
         IsWritten k (sectors_of d area.now) → IsWritten k (sectors_of e area.now) }
 
     ensures stands { OnOk result
-        (StandsAt T.role T.kind T.kept (F.device flash.new) area.now current.new opened.new) }
-    ensures cached { OnOk result (IsCacheOn T.kind (F.device flash.new) area.now cache.new) }
+        (StandsAt T.role T.format_of T.kept (F.device flash.new) area.now current.new opened.new) }
+    ensures cached { OnOk result (IsCacheOn T.format_of (F.device flash.new) area.now cache.new) }
     ensures makes { let d = F.device flash.old in let e = F.device flash.new in
-        OnOk result (MakesRoom (kind_on T.kind d area.now) d e area.now len) }
-    ensures room { let k = kind_on T.kind (F.device flash.old) area.now in
+        OnOk result (MakesRoom (format_on T.format_of d area.now) d e area.now len) }
+    ensures room { let k = format_on T.format_of (F.device flash.old) area.now in
         IfOk result (λ room. room ≡ has_room k (sectors_of (F.device flash.new) area.now) len) }
     ensures full { let d = F.device flash.old in let e = F.device flash.new in
-        IfOk result (λ room. room ≡ false → IsFull (kind_on T.kind d area.now) d e area.now len) }
+        IfOk result (λ room. room ≡ false
+        → IsFull (format_on T.format_of d area.now) d e area.now len) }
 
     ensures stops { let d = F.device flash.old in let e = F.device flash.new in
-        OnErr result (StopsMakingRoom (kind_on T.kind d area.now) d e area.now len) }
+        OnErr result (StopsMakingRoom (format_on T.format_of d area.now) d e area.now len) }
 {
     for _round in 1..area.sectors {
         if fits(flash, area, opened, *current, len, steps) {

@@ -5,8 +5,8 @@ ghost use Rattle.flash_map.specs.Area.{sectors_of};
 ghost use Rattle.item_laws.specs.Live.{last_of, counted_in};
 ghost use Rattle.item_laws.specs.RoundParts.{places_before};
 ghost use Rattle.item_store.specs.OnSector.{IsKeptOn};
-ghost use Rattle.item_store.specs.Listed.{kind_on};
-ghost use Rattle.item_store.specs.Kind.{slots};
+ghost use Rattle.item_store.specs.Listed.{format_on};
+ghost use Rattle.item_store.specs.SectorFormat.{slots};
 ghost use Rattle.item_store.specs.Standing.{IsStoreArea};
 
 use crate::entry::Placed;
@@ -31,7 +31,7 @@ pub fn find_up_to<T: SlotSectors, F: Flash, L: Ledger>(
     requires kept { IsKeptOn T.kept (F.device flash.now) area.now current opened.now }
     requires current { current < area.now.sectors }
     requires inside { place < area.now.sectors }
-    ensures { let d = F.device flash.now in let k = kind_on T.kind d area.now in
+    ensures { let d = F.device flash.now in let k = format_on T.format_of d area.now in
         result
         ≡ last_of (slots k) id
         (flat_map (counted_in (slots k) (sectors_of d area.now) current)

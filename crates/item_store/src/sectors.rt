@@ -8,9 +8,9 @@ ghost use Rattle.flash_map.specs.Touches.{Touches};
 ghost use Rattle.flash_map.specs.Units.{IsUnit};
 ghost use Rattle.item_laws.specs.Area.{is_closed_at};
 ghost use Rattle.item_laws.specs.Live.{last_in, bytes_of};
-ghost use Rattle.item_store.specs.Kind.{Kind, IsKind, placed_at, slots, fits};
+ghost use Rattle.item_store.specs.SectorFormat.{SectorFormat, IsSectorFormat, placed_at, slots, fits};
 ghost use Rattle.item_store.specs.Lasts.{AreOthers};
-ghost use Rattle.item_store.specs.Listed.{IsListedOn, IsWithinOn, kind_on};
+ghost use Rattle.item_store.specs.Listed.{IsListedOn, IsWithinOn, format_on};
 ghost use Rattle.item_store.specs.OnSector.{BeginEnds, CloseEnds, IsMarked, StopsMarking, IsOpenSector, IsCollecting, IsSource, PutEnds, sector_on, free_on, bytes_on, IsKeptOn, IsKeptAfter, IsSoundOn, IsOpenOn, NextIsNotClosedOn, FitsOn, HasCopyRoomOn, ChangesOnlyOn, KeepsMarksOn, AddsOn, ClearsOn, StopsClearingOn};
 ghost use Rattle.item_store.specs.Standing.{IsStoreArea, SpendsIn, SpendsUpTo};
 
@@ -26,7 +26,7 @@ pub trait SlotSectors: Copy {
     ghost role: { role_type };
 
     /// How sectors read and what steps in them spend, in an area of this geometry.
-    ghost kind: { geometry_type → Kind };
+    ghost format_of: { geometry_type → SectorFormat };
 
     /// What is kept of a sector with these bytes.
     ghost kept: { geometry_type → List ℕ → Self };
@@ -35,35 +35,37 @@ pub trait SlotSectors: Copy {
 
     /// The number of the first slot of an entry.
     fn first_slot() -> u32
-        ensures value { (geometry : geometry_type) → result ≡ (kind geometry).first }
+        ensures value { (geometry : geometry_type) → result ≡ (format_of geometry).first }
         ensures small { result < 2 ^ 8 };
 
     /// Whether the ids of items have 16 bits.
     fn has_short_ids() -> bool
-        ensures short { (geometry : geometry_type) → IsTrue result → (kind geometry).ids ≤ 2 ^ 16 }
-        ensures wide { (geometry : geometry_type) → (kind geometry).ids ≤ 2 ^ 16 → IsTrue result };
+        ensures short { (geometry : geometry_type) → IsTrue result
+            → (format_of geometry).ids ≤ 2 ^ 16 }
+        ensures wide { (geometry : geometry_type) → (format_of geometry).ids ≤ 2 ^ 16
+            → IsTrue result };
 
     /// What bytes of this length and their entry take up, in bytes.
     fn cost(geometry: &Geometry, len: u32) -> u64
         requires unit { IsUnit geometry.now.unit }
         requires short { len < 2 ^ 16 }
-        ensures value { result ≡ (kind geometry.now).cost len }
+        ensures value { result ≡ (format_of geometry.now).cost len }
         ensures small { result < 2 ^ 18 };
 
     /// What a sector has for values and entries, in bytes.
     fn capacity(geometry: &Geometry) -> u32
         requires unit { IsUnit geometry.now.unit }
-        ensures { result ≡ (kind geometry.now).cap geometry.now.sector };
+        ensures { result ≡ (format_of geometry.now).cap geometry.now.sector };
 
     /// The bytes of a slot.
     fn slot_size(geometry: &Geometry) -> u32
         requires unit { IsUnit geometry.now.unit }
-        ensures value { result ≡ (kind geometry.now).slot }
+        ensures value { result ≡ (format_of geometry.now).slot }
         ensures small { result < 2 ^ 8 };
 
     /// Whether a sector is made clean and ready as soon as it is the open one.
     fn opens_ready(geometry: &Geometry) -> bool
-        ensures { result ≡ (kind geometry.now).opens_ready };
+        ensures { result ≡ (format_of geometry.now).opens_ready };
 
     // ---- reading
 
@@ -77,7 +79,7 @@ pub trait SlotSectors: Copy {
         requires area { IsStoreArea role (F.device flash.now).banks area.now }
         requires inside { place < area.now.sectors }
         ensures { let d = F.device flash.now in
-            result ≡ (kind_on kind d area.now).is_clean (sector_on d area.now place) };
+            result ≡ (format_on format_of d area.now).is_clean (sector_on d area.now place) };
 
     /// Whether a sector is closed.
     fn is_closed<F: Flash, L: Ledger>(
@@ -89,7 +91,8 @@ pub trait SlotSectors: Copy {
         requires area { IsStoreArea role (F.device flash.now).banks area.now }
         requires inside { place < area.now.sectors }
         ensures { let d = F.device flash.now in
-            result ≡ is_closed_at (kind_on kind d area.now).reading (sectors_of d area.now) place };
+            result ≡ is_closed_at (format_on format_of d area.now).reading (sectors_of d area.now)
+            place };
 
     /// What is kept of a sector, read from it.
     fn keep<F: Flash, L: Ledger>(flash: &F, area: &Area, place: u32, steps: &mut Steps<L>) -> Self
@@ -100,7 +103,7 @@ pub trait SlotSectors: Copy {
     /// Whether gc-done stands in the sector.
     fn has_gc_done(&self) -> bool
         ensures { (geometry : geometry_type) (b : List ℕ) → self.now ≡ kept geometry b
-            → result ≡ (kind geometry).reading.has_gc_done b };
+            → result ≡ (format_of geometry).reading.has_gc_done b };
 
     /// The bytes between what stands of values in the sector, cut ones too, and its slots.
     fn free<F: Flash, L: Ledger>(
@@ -114,7 +117,7 @@ pub trait SlotSectors: Copy {
         requires inside { place < area.now.sectors }
         requires kept { IsKeptOn kept (F.device flash.now) area.now place self.now }
         ensures { let d = F.device flash.now in
-            result ≡ (kind_on kind d area.now).free (sector_on d area.now place) };
+            result ≡ (format_on format_of d area.now).free (sector_on d area.now place) };
 
     /// How many slots the list of the sector has of which this is kept.
     fn own_slots<F: Flash, L: Ledger>(
@@ -128,7 +131,7 @@ pub trait SlotSectors: Copy {
         requires inside { place < area.now.sectors }
         requires kept { IsKeptOn kept (F.device flash.now) area.now place self.now }
         ensures value { let d = F.device flash.now in
-            result ≡ (kind_on kind d area.now).count (sector_on d area.now place) }
+            result ≡ (format_on format_of d area.now).count (sector_on d area.now place) }
         ensures few { result ≤ 2 ^ 15 };
 
     /// How many slots the list of a sector has.
@@ -136,7 +139,7 @@ pub trait SlotSectors: Copy {
         requires area { IsStoreArea role (F.device flash.now).banks area.now }
         requires inside { place < area.now.sectors }
         ensures value { let d = F.device flash.now in
-            result ≡ (kind_on kind d area.now).count (sector_on d area.now place) }
+            result ≡ (format_on format_of d area.now).count (sector_on d area.now place) }
         ensures few { result ≤ 2 ^ 15 };
 
     /// The entry in a slot of a sector's list. It is one step at most.
@@ -149,12 +152,12 @@ pub trait SlotSectors: Copy {
     ) -> Option<Placed>
         requires area { IsStoreArea role (F.device flash.now).banks area.now }
         requires inside { place < area.now.sectors }
-        requires listed { let d = F.device flash.now in let k = kind_on kind d area.now in
+        requires listed { let d = F.device flash.now in let k = format_on format_of d area.now in
             (k.first ≤ slot) × (slot < k.first + k.count (sector_on d area.now place)) }
-        ensures entry { let d = F.device flash.now in let k = kind_on kind d area.now in
+        ensures entry { let d = F.device flash.now in let k = format_on format_of d area.now in
             result ≡ option_map (placed_at place) (k.in_slot (sector_on d area.now place) slot) }
         ensures small { let d = F.device flash.now in
-            IfSome result (λ p. p.id < (kind_on kind d area.now).ids) }
+            IfSome result (λ p. p.id < (format_on format_of d area.now).ids) }
         ensures short { IfSome result (λ p. p.len < 2 ^ 16) }
         ensures step { steps.new ≤ steps.old + 1 };
 
@@ -169,12 +172,12 @@ pub trait SlotSectors: Copy {
     ) -> u32
         requires area { IsStoreArea role (F.device flash.now).banks area.now }
         requires inside { place < area.now.sectors }
-        requires listed { let d = F.device flash.now in let k = kind_on kind d area.now in
+        requires listed { let d = F.device flash.now in let k = format_on format_of d area.now in
             (k.first ≤ slot) × (slot < k.first + k.count (sector_on d area.now place)) }
-        ensures id { let d = F.device flash.now in let k = kind_on kind d area.now in
+        ensures id { let d = F.device flash.now in let k = format_on format_of d area.now in
             IfSome (k.in_slot (sector_on d area.now place) slot) (λ e. e.id ≡ result) }
         ensures small { let d = F.device flash.now in
-            (kind_on kind d area.now).ids ≤ 2 ^ 16 → result < 2 ^ 16 }
+            (format_on format_of d area.now).ids ≤ 2 ^ 16 → result < 2 ^ 16 }
         ensures step { steps.new ≤ steps.old + 1 };
 
     /// The bytes of an entry of a sector's list. It is one step at most.
@@ -185,11 +188,11 @@ pub trait SlotSectors: Copy {
         steps: &mut Steps<L>,
     ) -> &'a [u8]
         requires area { IsStoreArea role (F.device flash.now).banks area.now }
-        requires listed { IsListedOn kind (F.device flash.now) area.now placed.now }
-        requires within { IsWithinOn kind (F.device flash.now) area.now placed.now.sector }
+        requires listed { IsListedOn format_of (F.device flash.now) area.now placed.now }
+        requires within { IsWithinOn format_of (F.device flash.now) area.now placed.now.sector }
         ensures bytes { let d = F.device flash.now in
             result.now
-            ≡ bytes_of (slots (kind_on kind d area.now)) (sectors_of d area.now) placed.now }
+            ≡ bytes_of (slots (format_on format_of d area.now)) (sectors_of d area.now) placed.now }
         ensures step { steps.new ≤ steps.old + 1 };
 
     /// The last entry of an id in a sector.
@@ -202,7 +205,7 @@ pub trait SlotSectors: Copy {
     ) -> Option<Placed>
         requires area { IsStoreArea role (F.device flash.now).banks area.now }
         requires inside { place < area.now.sectors }
-        ensures { let d = F.device flash.now in let k = kind_on kind d area.now in
+        ensures { let d = F.device flash.now in let k = format_on format_of d area.now in
             result
             ≡ option_map (placed_at place)
             (last_in (slots k) place id ((slots k).entries (sector_on d area.now place))) };
@@ -220,9 +223,9 @@ pub trait SlotSectors: Copy {
         requires area { IsStoreArea role (F.device flash.now).banks area.now }
         requires inside { place < area.now.sectors }
         ensures few { let d = F.device flash.now in
-            result ≤ (kind_on kind d area.now).count (sector_on d area.now place) }
+            result ≤ (format_on format_of d area.now).count (sector_on d area.now place) }
         ensures small { result ≤ 2 ^ 15 }
-        ensures others { let d = F.device flash.now in let k = kind_on kind d area.now in
+        ensures others { let d = F.device flash.now in let k = format_on format_of d area.now in
             let b = sector_at (sectors_of d area.now) place in
             AreOthers k b result (k.count b) least most };
 
@@ -239,10 +242,11 @@ pub trait SlotSectors: Copy {
         requires area { IsStoreArea role (F.device flash.now).banks area.now }
         requires inside { place < area.now.sectors }
         requires listed { let d = F.device flash.now in
-            slots ≤ (kind_on kind d area.now).count (sector_on d area.now place) }
+            slots ≤ (format_on format_of d area.now).count (sector_on d area.now place) }
         ensures few { result ≤ slots }
         ensures others { let d = F.device flash.now in
-            AreOthers (kind_on kind d area.now) (sector_on d area.now place) result slots least
+            AreOthers (format_on format_of d area.now) (sector_on d area.now place) result
+            slots least
             most };
 
     // ---- steps in the open sector
@@ -261,13 +265,14 @@ pub trait SlotSectors: Copy {
         requires area { IsStoreArea role (F.device flash.old).banks area.now }
         requires inside { place < area.now.sectors }
         requires kept { IsKeptOn kept (F.device flash.old) area.now place self.old }
-        requires sound { IsSoundOn kind (F.device flash.old) area.now place }
+        requires sound { IsSoundOn format_of (F.device flash.old) area.now place }
         requires opened { let d = F.device flash.old in
-            is_closed_at (kind_on kind d area.now).reading (sectors_of d area.now) place ≡ false }
+            is_closed_at (format_on format_of d area.now).reading (sectors_of d area.now) place
+            ≡ false }
         ensures touches { Touches (area.now ∷ []) (F.device flash.old) (F.device flash.new)
             (is_err result) }
         ensures ends { let d = F.device flash.old in let e = F.device flash.new in
-            BeginEnds kind kept d e area.now place self.new result };
+            BeginEnds format_of kept d e area.now place self.new result };
 
     /// Puts an item's bytes and their entry. No bytes are a delete.
     ///
@@ -282,14 +287,15 @@ pub trait SlotSectors: Copy {
         bytes: &[u8],
         steps: &mut Steps<L>,
     ) -> Result<(), PowerLost>
-        requires here { IsOpenSector role kind kept (F.device flash.old) area.now place self.old }
-        requires rested { NextIsNotClosedOn kind (F.device flash.old) area.now place }
-        requires ordinary { id < (kind_on kind (F.device flash.old) area.now).ids }
-        requires fits { FitsOn kind (F.device flash.old) area.now place (length bytes.now) }
+        requires here { IsOpenSector role format_of kept (F.device flash.old) area.now place
+            self.old }
+        requires rested { NextIsNotClosedOn format_of (F.device flash.old) area.now place }
+        requires ordinary { id < (format_on format_of (F.device flash.old) area.now).ids }
+        requires fits { FitsOn format_of (F.device flash.old) area.now place (length bytes.now) }
         ensures touches { Touches (area.now ∷ []) (F.device flash.old) (F.device flash.new)
             (is_err result) }
         ensures ends { let d = F.device flash.old in let e = F.device flash.new in
-            PutEnds kind kept d e area.now place id bytes.now self.new result };
+            PutEnds format_of kept d e area.now place id bytes.now self.new result };
 
     /// Copies an entry with bytes from another sector.
     ///
@@ -303,28 +309,32 @@ pub trait SlotSectors: Copy {
         from: &Placed,
         steps: &mut Steps<L>,
     ) -> Result<(), PowerLost>
-        requires here { IsOpenSector role kind kept (F.device flash.old) area.now place self.old }
-        requires collects { IsCollecting kind (F.device flash.old) area.now place }
-        requires source { IsSource kind (F.device flash.old) area.now place from.now }
-        requires room { HasCopyRoomOn kind (F.device flash.old) area.now place from.now.len }
+        requires here { IsOpenSector role format_of kept (F.device flash.old) area.now place
+            self.old }
+        requires collects { IsCollecting format_of (F.device flash.old) area.now place }
+        requires source { IsSource format_of (F.device flash.old) area.now place from.now }
+        requires room { HasCopyRoomOn format_of (F.device flash.old) area.now place from.now.len }
         ensures touches { Touches (area.now ∷ []) (F.device flash.old) (F.device flash.new)
             (is_err result) }
         ensures only { ChangesOnlyOn (F.device flash.old) (F.device flash.new) area.now place }
         ensures adds { let d = F.device flash.old in let e = F.device flash.new in
             OnOk result
-            (AddsOn kind d e area.now place from.now.id (bytes_on kind d area.now from.now)) }
+            (AddsOn format_of d e area.now place from.now.id
+            (bytes_on format_of d area.now from.now)) }
         ensures kept { OnOk result
             (IsKeptAfter kept (F.device flash.old) (F.device flash.new) area.now place self.new) }
         ensures lost { OnErr result
-            (KeepsMarksOn kind (F.device flash.old) (F.device flash.new) area.now place) }
+            (KeepsMarksOn format_of (F.device flash.old) (F.device flash.new) area.now place) }
         ensures spends { let d = F.device flash.old in let e = F.device flash.new in
             OnOk result
             (SpendsIn d e
-            ((kind_on kind d area.now).units.copy (sector_on d area.now place) from.now.len)) }
+            ((format_on format_of d area.now).units.copy (sector_on d area.now place)
+            from.now.len)) }
         ensures spends_lost { let d = F.device flash.old in let e = F.device flash.new in
             OnErr result
             (SpendsUpTo d e
-            ((kind_on kind d area.now).units.copy (sector_on d area.now place) from.now.len)) };
+            ((format_on format_of d area.now).units.copy (sector_on d area.now place)
+            from.now.len)) };
 
     /// Marks the sector as one that has all copies.
     ///
@@ -337,17 +347,18 @@ pub trait SlotSectors: Copy {
         place: u32,
         steps: &mut Steps<L>,
     ) -> Result<(), PowerLost>
-        requires here { IsOpenSector role kind kept (F.device flash.old) area.now place self.old }
-        requires collects { IsCollecting kind (F.device flash.old) area.now place }
+        requires here { IsOpenSector role format_of kept (F.device flash.old) area.now place
+            self.old }
+        requires collects { IsCollecting format_of (F.device flash.old) area.now place }
         requires room { let d = F.device flash.old in
-            2 * (kind_on kind d area.now).slot ≤ free_on kind d area.now place }
+            2 * (format_on format_of d area.now).slot ≤ free_on format_of d area.now place }
         ensures touches { Touches (area.now ∷ []) (F.device flash.old) (F.device flash.new)
             (is_err result) }
         ensures only { ChangesOnlyOn (F.device flash.old) (F.device flash.new) area.now place }
         ensures ok { let d = F.device flash.old in let e = F.device flash.new in
-            OnOk result (IsMarked kind kept d e area.now place self.new) }
+            OnOk result (IsMarked format_of kept d e area.now place self.new) }
         ensures err { let d = F.device flash.old in let e = F.device flash.new in
-            OnErr result (StopsMarking kind d e area.now place) };
+            OnErr result (StopsMarking format_of d e area.now place) };
 
     /// Closes the open sector, which is not clean.
     ///
@@ -364,17 +375,18 @@ pub trait SlotSectors: Copy {
         requires area { IsStoreArea role (F.device flash.old).banks area.now }
         requires inside { place < area.now.sectors }
         requires kept { IsKeptOn kept (F.device flash.old) area.now place self.now }
-        requires opened { IsOpenOn kind (F.device flash.old) area.now place }
-        requires rested { NextIsNotClosedOn kind (F.device flash.old) area.now place }
-        requires sound { IsSoundOn kind (F.device flash.old) area.now place }
+        requires opened { IsOpenOn format_of (F.device flash.old) area.now place }
+        requires rested { NextIsNotClosedOn format_of (F.device flash.old) area.now place }
+        requires sound { IsSoundOn format_of (F.device flash.old) area.now place }
         requires not_closed { let d = F.device flash.old in
-            is_closed_at (kind_on kind d area.now).reading (sectors_of d area.now) place ≡ false }
+            is_closed_at (format_on format_of d area.now).reading (sectors_of d area.now) place
+            ≡ false }
         requires used { let d = F.device flash.old in
-            (kind_on kind d area.now).is_clean (sector_on d area.now place) ≡ false }
+            (format_on format_of d area.now).is_clean (sector_on d area.now place) ≡ false }
         ensures touches { Touches (area.now ∷ []) (F.device flash.old) (F.device flash.new)
             (is_err result) }
         ensures ends { let d = F.device flash.old in let e = F.device flash.new in
-            CloseEnds kind d e area.now place result };
+            CloseEnds format_of d e area.now place result };
 
     // ---- a step in any sector
 
@@ -394,15 +406,17 @@ pub trait SlotSectors: Copy {
             (is_err result) }
         ensures only { ChangesOnlyOn (F.device flash.old) (F.device flash.new) area.now place }
         ensures clears { let d = F.device flash.old in let e = F.device flash.new in
-            OnOk result (ClearsOn kind d e area.now place) }
+            OnOk result (ClearsOn format_of d e area.now place) }
         ensures lost { let d = F.device flash.old in let e = F.device flash.new in
-            OnErr result (StopsClearingOn kind d e area.now place) }
+            OnErr result (StopsClearingOn format_of d e area.now place) }
         ensures spends { let d = F.device flash.old in let e = F.device flash.new in
             OnOk result
-            (SpendsIn d e ((kind_on kind d area.now).units.clear (sector_on d area.now place))) }
+            (SpendsIn d e ((format_on format_of d area.now).units.clear
+            (sector_on d area.now place))) }
         ensures spends_lost { let d = F.device flash.old in let e = F.device flash.new in
             OnErr result
-            (SpendsUpTo d e ((kind_on kind d area.now).units.clear (sector_on d area.now place))) };
+            (SpendsUpTo d e ((format_on format_of d area.now).units.clear
+            (sector_on d area.now place))) };
 
     // ---- reading an area
 
@@ -413,14 +427,16 @@ pub trait SlotSectors: Copy {
         steps: &mut Steps<L>,
     ) -> Result<u32, Damaged>
         requires area { IsStoreArea role (F.device flash.now).banks area.now }
-        ensures opened { IfOk result (λ place. IsOpenOn kind (F.device flash.now) area.now place) }
+        ensures opened { IfOk result
+            (λ place. IsOpenOn format_of (F.device flash.now) area.now place) }
         ensures within { IfOk result (λ place. place < area.now.sectors) }
         ensures undamaged { let d = F.device flash.now in
-            OnOk result ((kind_on kind d area.now).damage (sectors_of d area.now) ≡ None) }
+            OnOk result ((format_on format_of d area.now).damage (sectors_of d area.now) ≡ None) }
         ensures damaged { let d = F.device flash.now in
             IfErr result
-            (λ damaged. (kind_on kind d area.now).damage (sectors_of d area.now) ≡ Some damaged) };
+            (λ damaged. (format_on format_of d area.now).damage (sectors_of d area.now)
+            ≡ Some damaged) };
 
-    /// The kind is one.
-    ghost lawful: { (geometry : geometry_type) → IsUnit geometry.unit → IsKind (kind geometry) };
+    /// The format is one.
+    ghost lawful: { (geometry : geometry_type) → IsUnit geometry.unit → IsSectorFormat (format_of geometry) };
 }

@@ -2,7 +2,7 @@
 ghost use Rattle.std.specs.Prelude.{◌≡◌, ◌^◌, ◌<◌, ◌||◌, ◌==◌, ℕ, [], not, nat_lt, IsTrue};
 ghost use Rattle.flash_map.specs.Area.{sectors_of};
 ghost use Rattle.item_store.specs.OnSector.{IsKeptOn};
-ghost use Rattle.item_store.specs.Listed.{kind_on};
+ghost use Rattle.item_store.specs.Listed.{format_on};
 ghost use Rattle.item_store.specs.Seen.{key_of, usual_id, has_bit, HasSeen, IsExact, behind};
 ghost use Rattle.item_store.specs.Standing.{IsStoreArea};
 
@@ -116,7 +116,7 @@ pub fn note_behind<T: SlotSectors, F: Flash, L: Ledger>(
     requires kept { IsKeptOn T.kept (F.device flash.now) area.now current opened.now }
     requires current { current < area.now.sectors }
     requires inside { place < area.now.sectors }
-    ensures { let d = F.device flash.now in let k = kind_on T.kind d area.now in
+    ensures { let d = F.device flash.now in let k = format_on T.format_of d area.now in
         HasSeen k.ids seen.old []
         → HasSeen k.ids seen.new (behind k (sectors_of d area.now) current place) }
 {

@@ -6,8 +6,8 @@ ghost use Rattle.item_laws.specs.Live.{counted_in};
 ghost use Rattle.item_laws.specs.RoundParts.{places_before};
 ghost use Rattle.item_laws.specs.Walk.{entries_within, counted_within, placed_up_to};
 ghost use Rattle.item_store.specs.OnSector.{sector_on, IsKeptOn, IsOpenOn};
-ghost use Rattle.item_store.specs.Kind.{placed_at, slots};
-ghost use Rattle.item_store.specs.Listed.{kind_on, entries_on, IsListedOn, IsPlacedOn};
+ghost use Rattle.item_store.specs.SectorFormat.{placed_at, slots};
+ghost use Rattle.item_store.specs.Listed.{format_on, entries_on, IsListedOn, IsPlacedOn};
 ghost use Rattle.item_store.specs.Older.{IsNextOlder, newest_before as newest_before_place};
 ghost use Rattle.item_store.specs.Standing.{IsStoreArea};
 
@@ -32,8 +32,9 @@ fn newest_in<T: SlotSectors, F: Flash, L: Ledger>(
         result
         ≡ last_or None
         (map (placed_at place)
-        (entries_within (slots (kind_on T.kind d area.now)) (sector_on d area.now place) limit)) }
-    ensures listed { IfSome result (IsListedOn T.kind (F.device flash.now) area.now) }
+        (entries_within (slots (format_on T.format_of d area.now)) (sector_on d area.now place)
+        limit)) }
+    ensures listed { IfSome result (IsListedOn T.format_of (F.device flash.now) area.now) }
     ensures sector { IfSome result (λ p. p.sector ≡ place) }
 {
     let mut count = T::slots(flash, area, place, steps).min(limit);
@@ -66,9 +67,10 @@ fn newest_at<T: SlotSectors, F: Flash, L: Ledger>(
     ensures last { let d = F.device flash.now in
         result
         ≡ last_or None
-        (counted_within (slots (kind_on T.kind d area.now)) (sectors_of d area.now) current place
+        (counted_within (slots (format_on T.format_of d area.now)) (sectors_of d area.now)
+        current place
         limit) }
-    ensures placed { IfSome result (IsPlacedOn T.kind (F.device flash.now) area.now current) }
+    ensures placed { IfSome result (IsPlacedOn T.format_of (F.device flash.now) area.now current) }
 {
     if counts(flash, area, opened, current, place, steps) {
         newest_in::<T, F, L>(flash, area, place, limit, steps)
@@ -93,8 +95,9 @@ fn newest_of<T: SlotSectors, F: Flash, L: Ledger>(
     ensures last { let d = F.device flash.now in
         result
         ≡ last_or None
-        (counted_in (slots (kind_on T.kind d area.now)) (sectors_of d area.now) current place) }
-    ensures placed { IfSome result (IsPlacedOn T.kind (F.device flash.now) area.now current) }
+        (counted_in (slots (format_on T.format_of d area.now)) (sectors_of d area.now) current
+        place) }
+    ensures placed { IfSome result (IsPlacedOn T.format_of (F.device flash.now) area.now current) }
 {
     let all = T::slots(flash, area, place, steps);
     newest_at(flash, area, opened, current, place, all, steps)
@@ -118,9 +121,10 @@ fn newest_among<T: SlotSectors, F: Flash, L: Ledger>(
     ensures last { let d = F.device flash.now in
         result
         ≡ last_or None
-        (flat_map (counted_in (slots (kind_on T.kind d area.now)) (sectors_of d area.now) current)
+        (flat_map (counted_in (slots (format_on T.format_of d area.now)) (sectors_of d area.now)
+        current)
         (range_with_len first (end - first))) }
-    ensures placed { IfSome result (IsPlacedOn T.kind (F.device flash.now) area.now current) }
+    ensures placed { IfSome result (IsPlacedOn T.format_of (F.device flash.now) area.now current) }
 {
     let mut place = end;
     while place > first {
@@ -149,9 +153,10 @@ fn newest_before<T: SlotSectors, F: Flash, L: Ledger>(
     ensures last { let d = F.device flash.now in
         result
         ≡ last_or None
-        (flat_map (counted_in (slots (kind_on T.kind d area.now)) (sectors_of d area.now) current)
+        (flat_map (counted_in (slots (format_on T.format_of d area.now)) (sectors_of d area.now)
+        current)
         (places_before (length (sectors_of d area.now)) current place)) }
-    ensures placed { IfSome result (IsPlacedOn T.kind (F.device flash.now) area.now current) }
+    ensures placed { IfSome result (IsPlacedOn T.format_of (F.device flash.now) area.now current) }
 {
     if current < place {
         return newest_among(flash, area, opened, current, current + 1, place, steps);
@@ -188,9 +193,10 @@ fn newest_up_to<T: SlotSectors, F: Flash, L: Ledger>(
     ensures last { let d = F.device flash.now in
         result
         ≡ last_or None
-        (placed_up_to (slots (kind_on T.kind d area.now)) (sectors_of d area.now) current place
+        (placed_up_to (slots (format_on T.format_of d area.now)) (sectors_of d area.now)
+        current place
         limit) }
-    ensures placed { IfSome result (IsPlacedOn T.kind (F.device flash.now) area.now current) }
+    ensures placed { IfSome result (IsPlacedOn T.format_of (F.device flash.now) area.now current) }
 {
     let newest = newest_at(flash, area, opened, current, place, limit, steps);
     if newest.is_some() {
@@ -200,7 +206,7 @@ fn newest_up_to<T: SlotSectors, F: Flash, L: Ledger>(
 }
 
 /// The next older entry of the list: the one before the entry in this sector and slot, or the
-/// newest one where no place is given. `None` comes exactly at the front of the list. From a place
+/// newest one where no place is given. `None` comes exactly at the oldest entry of the list. From a place
 /// without an entry it is the newest of the entries before that place, in the round to the open
 /// sector.
 pub fn walk<T: SlotSectors, F: Flash, L: Ledger>(
@@ -213,15 +219,16 @@ pub fn walk<T: SlotSectors, F: Flash, L: Ledger>(
 ) -> Option<Placed>
     requires area { IsStoreArea T.role (F.device flash.now).banks area.now }
     requires kept { IsKeptOn T.kept (F.device flash.now) area.now current opened.now }
-    requires current { IsOpenOn T.kind (F.device flash.now) area.now current }
+    requires current { IsOpenOn T.format_of (F.device flash.now) area.now current }
     requires inside { IfSome after (λ place. place.0 < area.now.sectors) }
 
-    ensures older { IsNextOlder (entries_on T.kind (F.device flash.now) area.now) after result }
+    ensures older { IsNextOlder (entries_on T.format_of (F.device flash.now) area.now) after
+        result }
     ensures before { let d = F.device flash.now in
         IfSome after
         (λ place. result
-        ≡ newest_before_place (kind_on T.kind d area.now) (sectors_of d area.now) place) }
-    ensures placed { IfSome result (IsPlacedOn T.kind (F.device flash.now) area.now current) }
+        ≡ newest_before_place (format_on T.format_of d area.now) (sectors_of d area.now) place) }
+    ensures placed { IfSome result (IsPlacedOn T.format_of (F.device flash.now) area.now current) }
 {
     match after {
         Some((sector, slot)) => {

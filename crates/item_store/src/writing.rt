@@ -5,7 +5,7 @@ ghost use Rattle.flash_map.specs.Area.{sectors_of};
 ghost use Rattle.flash_map.specs.Faults.{write_lost};
 ghost use Rattle.flash_map.specs.Touches.{Touches};
 ghost use Rattle.item_store.specs.Cached.{AddsEntry, IsCacheOn};
-ghost use Rattle.item_store.specs.Listed.{kind_on};
+ghost use Rattle.item_store.specs.Listed.{format_on};
 ghost use Rattle.item_store.specs.Room.{has_room, IsShort};
 ghost use Rattle.item_store.specs.Stands.{StandsOn, StandsAt};
 ghost use Rattle.item_store.specs.Written.{IsWritten};
@@ -29,30 +29,31 @@ fn put<T: SlotSectors, F: Flash, L: Ledger>(
     bytes: &[u8],
     steps: &mut Steps<L>,
 ) -> Result<(), PowerLost>
-    requires stands { StandsAt T.role T.kind T.kept (F.device flash.old) area.now current
+    requires stands { StandsAt T.role T.format_of T.kept (F.device flash.old) area.now current
         opened.old }
-    requires ordinary { id < (kind_on T.kind (F.device flash.old) area.now).ids }
+    requires ordinary { id < (format_on T.format_of (F.device flash.old) area.now).ids }
     requires room { let d = F.device flash.old in
-        has_room (kind_on T.kind d area.now) (sectors_of d area.now) (length bytes.now) ≡ true }
+        has_room (format_on T.format_of d area.now) (sectors_of d area.now) (length bytes.now)
+        ≡ true }
 
     ensures touches { let d = F.device flash.old in let e = F.device flash.new in
         Touches (area.now ∷ []) d e (is_err result) }
     ensures written { let d = F.device flash.old in let e = F.device flash.new in
-        let k = kind_on T.kind d area.now in
+        let k = format_on T.format_of d area.now in
         IsWritten k (sectors_of d area.now) → IsWritten k (sectors_of e area.now) }
 
     ensures stands { OnOk result
-        (StandsAt T.role T.kind T.kept (F.device flash.new) area.now current opened.new) }
+        (StandsAt T.role T.format_of T.kept (F.device flash.new) area.now current opened.new) }
     ensures puts { let d = F.device flash.old in let e = F.device flash.new in
-        OnOk result (PutsPair (kind_on T.kind d area.now) d e area.now id bytes.now) }
+        OnOk result (PutsPair (format_on T.format_of d area.now) d e area.now id bytes.now) }
     ensures entry { let d = F.device flash.old in let e = F.device flash.new in
-        let k = kind_on T.kind d area.now in
+        let k = format_on T.format_of d area.now in
         OnOk result
         (AddsEntry k (sectors_of d area.now) (sectors_of e area.now) current id
         (length bytes.now)) }
 
     ensures stops { let d = F.device flash.old in let e = F.device flash.new in
-        OnErr result (StopsPutting (kind_on T.kind d area.now) d e area.now id bytes.now) }
+        OnErr result (StopsPutting (format_on T.format_of d area.now) d e area.now id bytes.now) }
 {
     opened.begin(flash, area, current, steps)?;
     opened.put(flash, area, current, id, bytes, steps)
@@ -69,27 +70,28 @@ fn put_noted<T: SlotSectors, F: Flash, L: Ledger>(
     bytes: &[u8],
     steps: &mut Steps<L>,
 ) -> Result<(), PowerLost>
-    requires stands { StandsAt T.role T.kind T.kept (F.device flash.old) area.now current
+    requires stands { StandsAt T.role T.format_of T.kept (F.device flash.old) area.now current
         opened.old }
-    requires cached { IsCacheOn T.kind (F.device flash.old) area.now cache.old }
-    requires ordinary { id < (kind_on T.kind (F.device flash.old) area.now).ids }
+    requires cached { IsCacheOn T.format_of (F.device flash.old) area.now cache.old }
+    requires ordinary { id < (format_on T.format_of (F.device flash.old) area.now).ids }
     requires room { let d = F.device flash.old in
-        has_room (kind_on T.kind d area.now) (sectors_of d area.now) (length bytes.now) ≡ true }
+        has_room (format_on T.format_of d area.now) (sectors_of d area.now) (length bytes.now)
+        ≡ true }
 
     ensures touches { let d = F.device flash.old in let e = F.device flash.new in
         Touches (area.now ∷ []) d e (is_err result) }
     ensures written { let d = F.device flash.old in let e = F.device flash.new in
-        let k = kind_on T.kind d area.now in
+        let k = format_on T.format_of d area.now in
         IsWritten k (sectors_of d area.now) → IsWritten k (sectors_of e area.now) }
 
     ensures stands { OnOk result
-        (StandsAt T.role T.kind T.kept (F.device flash.new) area.now current opened.new) }
-    ensures cached { OnOk result (IsCacheOn T.kind (F.device flash.new) area.now cache.new) }
+        (StandsAt T.role T.format_of T.kept (F.device flash.new) area.now current opened.new) }
+    ensures cached { OnOk result (IsCacheOn T.format_of (F.device flash.new) area.now cache.new) }
     ensures puts { let d = F.device flash.old in let e = F.device flash.new in
-        OnOk result (PutsPair (kind_on T.kind d area.now) d e area.now id bytes.now) }
+        OnOk result (PutsPair (format_on T.format_of d area.now) d e area.now id bytes.now) }
 
     ensures stops { let d = F.device flash.old in let e = F.device flash.new in
-        OnErr result (StopsPutting (kind_on T.kind d area.now) d e area.now id bytes.now) }
+        OnErr result (StopsPutting (format_on T.format_of d area.now) d e area.now id bytes.now) }
 {
     put(flash, area, opened, current, id, bytes, steps)?;
     let first = T::first_slot();
@@ -110,26 +112,27 @@ fn append<T: SlotSectors, F: Flash, L: Ledger>(
     bytes: &[u8],
     steps: &mut Steps<L>,
 ) -> Result<bool, PowerLost>
-    requires stands { StandsAt T.role T.kind T.kept (F.device flash.old) area.now current.old
+    requires stands { StandsAt T.role T.format_of T.kept (F.device flash.old) area.now current.old
         opened.old }
-    requires cached { IsCacheOn T.kind (F.device flash.old) area.now cache.old }
-    requires ordinary { id < (kind_on T.kind (F.device flash.old) area.now).ids }
+    requires cached { IsCacheOn T.format_of (F.device flash.old) area.now cache.old }
+    requires ordinary { id < (format_on T.format_of (F.device flash.old) area.now).ids }
     requires narrow { length bytes.now < 2 ^ 16 }
     requires short { let d = F.device flash.old in
-        0 < length bytes.now → IsShort (kind_on T.kind d area.now) d area.now (length bytes.now) }
+        0 < length bytes.now → IsShort (format_on T.format_of d area.now) d area.now
+        (length bytes.now) }
 
     ensures touches { let d = F.device flash.old in let e = F.device flash.new in
         Touches (area.now ∷ []) d e (is_err result) }
     ensures written { let d = F.device flash.old in let e = F.device flash.new in
-        let k = kind_on T.kind d area.now in
+        let k = format_on T.format_of d area.now in
         IsWritten k (sectors_of d area.now) → IsWritten k (sectors_of e area.now) }
     ensures stands { OnOk result
-        (StandsAt T.role T.kind T.kept (F.device flash.new) area.now current.new opened.new) }
-    ensures cached { OnOk result (IsCacheOn T.kind (F.device flash.new) area.now cache.new) }
+        (StandsAt T.role T.format_of T.kept (F.device flash.new) area.now current.new opened.new) }
+    ensures cached { OnOk result (IsCacheOn T.format_of (F.device flash.new) area.now cache.new) }
     ensures ends { let d = F.device flash.old in let e = F.device flash.new in
-        AppendEnds (kind_on T.kind d area.now) d e area.now id bytes.now result }
+        AppendEnds (format_on T.format_of d area.now) d e area.now id bytes.now result }
     ensures undamaged { let d = F.device flash.old in let e = F.device flash.new in
-        (kind_on T.kind d area.now).damage (sectors_of e area.now) ≡ None }
+        (format_on T.format_of d area.now).damage (sectors_of e area.now) ≡ None }
 {
     let len = bytes.len() as u32;
     let room = make_room(flash, area, opened, current, cache, len, steps)?;
@@ -151,8 +154,8 @@ impl<T: SlotSectors> Store<T> {
         bytes: &[u8],
         steps: &mut Steps<L>,
     ) -> bool
-        requires { StandsOn T.role T.kind T.kept (F.device flash.now) self.now }
-        ensures { let d = F.device flash.now in let k = kind_on T.kind d self.now.area in
+        requires { StandsOn T.role T.format_of T.kept (F.device flash.now) self.now }
+        ensures { let d = F.device flash.now in let k = format_on T.format_of d self.now.area in
             MatchBool result (Holds k d self.now.area id bytes.now)
             (¬ Holds k d self.now.area id bytes.now) }
     {
@@ -176,22 +179,23 @@ impl<T: SlotSectors> Store<T> {
         bytes: &[u8],
         steps: &mut Steps<L>,
     ) -> Result<(), WriteFault>
-        requires stands { StandsOn T.role T.kind T.kept (F.device flash.old) self.old }
-        requires ordinary { id < (kind_on T.kind (F.device flash.old) self.old.area).ids }
+        requires stands { StandsOn T.role T.format_of T.kept (F.device flash.old) self.old }
+        requires ordinary { id < (format_on T.format_of (F.device flash.old) self.old.area).ids }
         requires some { 0 < length bytes.now }
 
         ensures touches { let d = F.device flash.old in let e = F.device flash.new in
             Touches (self.old.area ∷ []) d e (write_lost result) }
         ensures area { self.new.area ≡ self.old.area }
         ensures written { let d = F.device flash.old in let e = F.device flash.new in
-            let k = kind_on T.kind d self.old.area in
+            let k = format_on T.format_of d self.old.area in
             IsWritten k (sectors_of d self.old.area) → IsWritten k (sectors_of e self.old.area) }
         ensures ends { let d = F.device flash.old in let e = F.device flash.new in
-            WriteEnds (kind_on T.kind d self.old.area) d e self.old.area id bytes.now result }
+            WriteEnds (format_on T.format_of d self.old.area) d e self.old.area id bytes.now
+            result }
         ensures undamaged { let d = F.device flash.old in let e = F.device flash.new in
-            (kind_on T.kind d self.old.area).damage (sectors_of e self.old.area) ≡ None }
+            (format_on T.format_of d self.old.area).damage (sectors_of e self.old.area) ≡ None }
         ensures stands { write_lost result ≡ false
-            → StandsOn T.role T.kind T.kept (F.device flash.new) self.new }
+            → StandsOn T.role T.format_of T.kept (F.device flash.new) self.new }
         ensures down { write_lost result ≡ true → self.new.up ≡ false }
     {
         let g = geometry(flash, &self.area);
@@ -236,21 +240,21 @@ impl<T: SlotSectors> Store<T> {
         id: u32,
         steps: &mut Steps<L>,
     ) -> Result<(), PowerLost>
-        requires stands { StandsOn T.role T.kind T.kept (F.device flash.old) self.old }
-        requires small { id ≤ (kind_on T.kind (F.device flash.old) self.old.area).ids }
+        requires stands { StandsOn T.role T.format_of T.kept (F.device flash.old) self.old }
+        requires small { id ≤ (format_on T.format_of (F.device flash.old) self.old.area).ids }
 
         ensures touches { let d = F.device flash.old in let e = F.device flash.new in
             Touches (self.old.area ∷ []) d e (is_err result) }
         ensures area { self.new.area ≡ self.old.area }
         ensures written { let d = F.device flash.old in let e = F.device flash.new in
-            let k = kind_on T.kind d self.old.area in
+            let k = format_on T.format_of d self.old.area in
             IsWritten k (sectors_of d self.old.area) → IsWritten k (sectors_of e self.old.area) }
         ensures ends { let d = F.device flash.old in let e = F.device flash.new in
-            DeleteEnds (kind_on T.kind d self.old.area) d e self.old.area id result }
+            DeleteEnds (format_on T.format_of d self.old.area) d e self.old.area id result }
         ensures undamaged { let d = F.device flash.old in let e = F.device flash.new in
-            (kind_on T.kind d self.old.area).damage (sectors_of e self.old.area) ≡ None }
+            (format_on T.format_of d self.old.area).damage (sectors_of e self.old.area) ≡ None }
         ensures stands { is_err result ≡ false
-            → StandsOn T.role T.kind T.kept (F.device flash.new) self.new }
+            → StandsOn T.role T.format_of T.kept (F.device flash.new) self.new }
         ensures down { is_err result ≡ true → self.new.up ≡ false }
     {
         if self.get(flash, id, steps).is_none() {

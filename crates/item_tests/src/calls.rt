@@ -1,7 +1,7 @@
 // Calls of a store over any sectors, and what they answer, spend and leave.
 ghost use Rattle.std.specs.Prelude.{◌≡◌, ◌<◌, ◌≤◌, length, IfOk, OnOk};
 ghost use Rattle.flash_map.specs.declared.area.Geometry.{Geometry};
-ghost use Rattle.item_store.specs.Listed.{kind_on};
+ghost use Rattle.item_store.specs.Listed.{format_on};
 ghost use Rattle.item_store.specs.Standing.{IsStoreArea};
 ghost use Rattle.item_store.specs.Stands.{StandsOn};
 
@@ -30,7 +30,7 @@ pub fn mounted<T: SlotSectors, B: Bench, L: Ledger, R: Abort>(
 ) -> Result<Store<T>, Fail>
     requires { IsStoreArea T.role (B.device bench.old).banks area }
     ensures stands { IfOk result
-        (λ store. StandsOn T.role T.kind T.kept (B.device bench.new) store) }
+        (λ store. StandsOn T.role T.format_of T.kept (B.device bench.new) store) }
     ensures area { IfOk result (λ store. store.area ≡ area) }
     ensures banks { OnOk result ((B.device bench.new).banks ≡ (B.device bench.old).banks) }
 {
@@ -48,9 +48,9 @@ fn carry_out<T: SlotSectors, B: Bench, L: Ledger>(
     value: &[u8],
     steps: &mut Steps<L>,
 ) -> Result<Option<(u64, u64)>, Fail>
-    requires stands { StandsOn T.role T.kind T.kept (B.device bench.old) store.old }
-    requires ordinary { id < (kind_on T.kind (B.device bench.old) store.old.area).ids }
-    ensures stands { OnOk result (StandsOn T.role T.kind T.kept (B.device bench.new) store.new) }
+    requires stands { StandsOn T.role T.format_of T.kept (B.device bench.old) store.old }
+    requires ordinary { id < (format_on T.format_of (B.device bench.old) store.old.area).ids }
+    ensures stands { OnOk result (StandsOn T.role T.format_of T.kept (B.device bench.new) store.new) }
     ensures area { OnOk result (store.new.area ≡ store.old.area) }
     ensures banks { OnOk result ((B.device bench.new).banks ≡ (B.device bench.old).banks) }
 {
@@ -74,9 +74,9 @@ fn agrees<T: SlotSectors, B: Bench, L: Ledger, R: Abort>(
     call: &Call,
     steps: &mut Steps<L>,
 ) -> Result<(), Fail>
-    requires stands { StandsOn T.role T.kind T.kept (B.device bench.old) store.old }
-    requires wide { (geometry : Geometry) → 0xFFFF ≤ (T.kind geometry).ids }
-    ensures stands { OnOk result (StandsOn T.role T.kind T.kept (B.device bench.new) store.new) }
+    requires stands { StandsOn T.role T.format_of T.kept (B.device bench.old) store.old }
+    requires wide { (geometry : Geometry) → 0xFFFF ≤ (T.format_of geometry).ids }
+    ensures stands { OnOk result (StandsOn T.role T.format_of T.kept (B.device bench.new) store.new) }
     ensures area { OnOk result (store.new.area ≡ store.old.area) }
     ensures banks { OnOk result ((B.device bench.new).banks ≡ (B.device bench.old).banks) }
 {
@@ -95,7 +95,7 @@ fn agrees<T: SlotSectors, B: Bench, L: Ledger, R: Abort>(
 }
 
 /// Carries out these calls.
-pub fn plays<T: SlotSectors, B: Bench, L: Ledger, R: Abort>(
+pub fn carries_out<T: SlotSectors, B: Bench, L: Ledger, R: Abort>(
     rt: &R,
     alloc: Global,
     bench: &mut B,
@@ -103,9 +103,9 @@ pub fn plays<T: SlotSectors, B: Bench, L: Ledger, R: Abort>(
     calls: &[Call],
     steps: &mut Steps<L>,
 ) -> Result<(), Fail>
-    requires stands { StandsOn T.role T.kind T.kept (B.device bench.old) store.old }
-    requires wide { (geometry : Geometry) → 0xFFFF ≤ (T.kind geometry).ids }
-    ensures stands { OnOk result (StandsOn T.role T.kind T.kept (B.device bench.new) store.new) }
+    requires stands { StandsOn T.role T.format_of T.kept (B.device bench.old) store.old }
+    requires wide { (geometry : Geometry) → 0xFFFF ≤ (T.format_of geometry).ids }
+    ensures stands { OnOk result (StandsOn T.role T.format_of T.kept (B.device bench.new) store.new) }
     ensures area { OnOk result (store.new.area ≡ store.old.area) }
     ensures banks { OnOk result ((B.device bench.new).banks ≡ (B.device bench.old).banks) }
 {
@@ -124,15 +124,15 @@ pub fn shows<T: SlotSectors, B: Bench, L: Ledger, R: Abort>(
     cost: u64,
     steps: &mut Steps<L>,
 )
-    requires { StandsOn T.role T.kind T.kept (B.device bench.now) store.now }
+    requires { StandsOn T.role T.format_of T.kept (B.device bench.now) store.now }
 {
     let mut last = LastSlots::new();
-    store.tell_last_slots(bench, &mut last, steps);
+    store.fill_last_slots(bench, &mut last, steps);
     let mut after = None;
     for id in ids {
-        let told = store.next_by(bench, &last, after, steps);
+        let reported = store.next_by(bench, &last, after, steps);
         after = store.next_id(bench, after, steps);
-        assert_eq!(rt; (told, after), (Some(*id), Some(*id)));
+        assert_eq!(rt; (reported, after), (Some(*id), Some(*id)));
     }
     let end = store.next_id(bench, after, steps);
     assert_eq!(rt; (end, store.live_cost(bench, steps)), (None, cost));
@@ -149,7 +149,7 @@ pub fn asks<T: SlotSectors, B: Bench, L: Ledger, R: Abort>(
     gone: &[u8],
     steps: &mut Steps<L>,
 )
-    requires { StandsOn T.role T.kind T.kept (B.device bench.now) store.now }
+    requires { StandsOn T.role T.format_of T.kept (B.device bench.now) store.now }
 {
     let here = store.id_of(bench, 0, 9, bytes, steps);
     let none = store.id_of(bench, 0, 9, gone, steps);
@@ -167,7 +167,7 @@ pub fn walks<T: SlotSectors, B: Bench, L: Ledger, R: Abort>(
     rows: &[(u32, u32, u32, u32)],
     steps: &mut Steps<L>,
 )
-    requires stands { StandsOn T.role T.kind T.kept (B.device bench.now) store.now }
+    requires stands { StandsOn T.role T.format_of T.kept (B.device bench.now) store.now }
     requires sectors { store.now.area.sectors ≡ sectors }
 {
     let mut after = None;
@@ -194,8 +194,8 @@ pub fn closes<T: SlotSectors, B: Bench, L: Ledger, R: Abort>(
     units: u64,
     steps: &mut Steps<L>,
 ) -> Result<(), Fail>
-    requires stands { StandsOn T.role T.kind T.kept (B.device bench.old) store.old }
-    ensures stands { OnOk result (StandsOn T.role T.kind T.kept (B.device bench.new) store.new) }
+    requires stands { StandsOn T.role T.format_of T.kept (B.device bench.old) store.old }
+    ensures stands { OnOk result (StandsOn T.role T.format_of T.kept (B.device bench.new) store.new) }
     ensures area { OnOk result (store.new.area ≡ store.old.area) }
     ensures banks { OnOk result ((B.device bench.new).banks ≡ (B.device bench.old).banks) }
 {
@@ -213,7 +213,7 @@ pub fn close_is_cut<T: SlotSectors, B: Bench, L: Ledger, R: Abort>(
     plan: u64,
     steps: &mut Steps<L>,
 )
-    requires stands { StandsOn T.role T.kind T.kept (B.device bench.old) store.old }
+    requires stands { StandsOn T.role T.format_of T.kept (B.device bench.old) store.old }
     ensures banks { (B.device bench.new).banks ≡ (B.device bench.old).banks }
 {
     bench.arm(plan);
@@ -232,9 +232,9 @@ pub fn write_is_cut<T: SlotSectors, B: Bench, L: Ledger, R: Abort>(
     plan: u64,
     steps: &mut Steps<L>,
 )
-    requires stands { StandsOn T.role T.kind T.kept (B.device bench.old) store.old }
+    requires stands { StandsOn T.role T.format_of T.kept (B.device bench.old) store.old }
     requires ordinary { id < 0xFFFF }
-    requires wide { (geometry : Geometry) → 0xFFFF ≤ (T.kind geometry).ids }
+    requires wide { (geometry : Geometry) → 0xFFFF ≤ (T.format_of geometry).ids }
     requires some { 0 < length value.now }
     ensures banks { (B.device bench.new).banks ≡ (B.device bench.old).banks }
 {
@@ -254,7 +254,7 @@ pub fn looks_up<T: SlotSectors, B: Views, L: Ledger, R: Abort>(
     most: u64,
     steps: &mut Steps<L>,
 )
-    requires { StandsOn T.role T.kind T.kept (B.device bench.now) store.now }
+    requires { StandsOn T.role T.format_of T.kept (B.device bench.now) store.now }
 {
     let start = bench.views();
     let got = store.get(bench, id, steps).unwrap_or(b"") == value;

@@ -1,4 +1,4 @@
-// What is told of versions of items, and of the room of an area.
+// What is said of versions of items, and of the room of an area.
 ghost use Rattle.item_store.specs.Stands.{StandsOn};
 
 use flash_sim::{Bench, Steps};
@@ -8,7 +8,7 @@ use std::process::Abort;
 use std::sync::ledger::Ledger;
 
 /// The id, the number of a version, and its first byte and length; both 0 for a delete.
-pub type Told = (u32, u32, Option<(u8, usize)>);
+pub type Reported = (u32, u32, Option<(u8, usize)>);
 
 // The first byte of a version, and its length.
 fn shape(older: Older<'_>) -> Option<(u8, usize)> {
@@ -19,16 +19,16 @@ fn shape(older: Older<'_>) -> Option<(u8, usize)> {
     }
 }
 
-/// These versions are told, and then this space.
-pub fn tells<T: SlotSectors, B: Bench, L: Ledger, R: Abort>(
+/// These versions are reported, and then this space.
+pub fn reports<T: SlotSectors, B: Bench, L: Ledger, R: Abort>(
     rt: &R,
     bench: &B,
     store: &Store<T>,
-    rows: &[Told],
+    rows: &[Reported],
     space: Space,
     steps: &mut Steps<L>,
 )
-    requires { StandsOn T.role T.kind T.kept (B.device bench.now) store.now }
+    requires { StandsOn T.role T.format_of T.kept (B.device bench.now) store.now }
 {
     for row in rows {
         let (id, n, version) = *row;

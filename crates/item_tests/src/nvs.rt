@@ -5,9 +5,9 @@ ghost use Rattle.flash_map.specs.declared.area.Role.TheVariants.{Nvs as nvs_role
 ghost use Rattle.item_store.specs.Standing.{IsStoreArea};
 
 use crate::calls::{
-    Call, asks, close_is_cut, closes, looks_up, mounted, plays, shows, walks, write_is_cut,
+    Call, asks, carries_out, close_is_cut, closes, looks_up, mounted, shows, walks, write_is_cut,
 };
-use crate::history::{Told, tells};
+use crate::history::{Reported, reports};
 use arrayvec::ArrayString;
 use counted_sim::{CountedSim, Views};
 use flash_map::{Area, Role, sector_view};
@@ -45,7 +45,7 @@ pub(crate) const ENDS: [u8; 32] = [
 ];
 
 // The newest version, and the copied one before it.
-const COLLECTED: [Told; 3] = [
+const COLLECTED: [Reported; 3] = [
     (1, 0, Some((0x55, 100))),
     (1, 1, Some((0x44, 100))),
     (1, 2, None),
@@ -57,14 +57,14 @@ const COLLECTED_SPACE: Space = Space {
     free: 372,
 };
 
-// One id three times, and what is told of it.
+// One id three times, and what is said of it.
 const THREE: [Call; 3] = [
     (1, (1, 1), 3, None, (1, 1)),
     (1, (2, 1), 3, None, (2, 1)),
     (1, (0, 0), 2, None, (0, 0)),
 ];
 
-const PAST: [Told; 5] = [
+const PAST: [Reported; 5] = [
     (1, 0, Some((0, 0))),
     (1, 1, Some((2, 1))),
     (1, 2, Some((1, 1))),
@@ -124,19 +124,19 @@ fn rounds<B: Bench, L: Ledger, R: Abort>(
     load_blank(alloc, bench, 1024)?;
     let area = both(bench);
     let mut store = mounted::<NvsOpen, B, L, R>(rt, alloc, bench, area, 0, steps)?;
-    plays(rt, alloc, bench, &mut store, &ROUNDS, steps)?;
+    carries_out(rt, alloc, bench, &mut store, &ROUNDS, steps)?;
     let area = both(bench);
     assert!(rt; sector_view(bench, &area, 1, steps).ends_with(&ENDS));
     shows(rt, bench, &store, &[1], 108, steps);
     asks(rt, bench, &store, 1, &[0x55; 100], &[0x44; 100], steps);
     let rows = [(1, 3, 1, 100), (1, 1, 1, 100)];
     walks(rt, bench, &store, 2, &rows, steps);
-    tells(rt, bench, &store, &COLLECTED, COLLECTED_SPACE, steps);
+    reports(rt, bench, &store, &COLLECTED, COLLECTED_SPACE, steps);
     Ok(())
 }
 
 // Two values and a delete of one id.
-fn tells_the_past<B: Bench, L: Ledger, R: Abort>(
+fn reports_the_past<B: Bench, L: Ledger, R: Abort>(
     rt: &R,
     alloc: Global,
     bench: &mut B,
@@ -145,8 +145,8 @@ fn tells_the_past<B: Bench, L: Ledger, R: Abort>(
     load_blank(alloc, bench, 1024)?;
     let area = both(bench);
     let mut store = mounted::<NvsOpen, B, L, R>(rt, alloc, bench, area, 0, steps)?;
-    plays(rt, alloc, bench, &mut store, &THREE, steps)?;
-    tells(rt, bench, &store, &PAST, PAST_SPACE, steps);
+    carries_out(rt, alloc, bench, &mut store, &THREE, steps)?;
+    reports(rt, bench, &store, &PAST, PAST_SPACE, steps);
     Ok(())
 }
 
@@ -160,7 +160,7 @@ fn collects<B: Bench, L: Ledger, R: Abort>(
     load_blank(alloc, bench, 1024)?;
     let area = both(bench);
     let mut store = mounted::<NvsOpen, B, L, R>(rt, alloc, bench, area, 0, steps)?;
-    plays(rt, alloc, bench, &mut store, &FULL, steps)?;
+    carries_out(rt, alloc, bench, &mut store, &FULL, steps)?;
     closes(rt, bench, &mut store, 71, steps)?;
     shows(rt, bench, &store, &[2], 264, steps);
     walks(rt, bench, &store, 2, &[(1, 1, 2, 256)], steps);
@@ -182,7 +182,7 @@ fn losses<B: Bench, L: Ledger, R: Abort>(
         load_blank(alloc, bench, 1024)?;
         let area = both(bench);
         let mut store = mounted::<NvsOpen, B, L, R>(rt, alloc, bench, area, 0, steps)?;
-        plays(rt, alloc, bench, &mut store, &ROUNDS[..4], steps)?;
+        carries_out(rt, alloc, bench, &mut store, &ROUNDS[..4], steps)?;
         write_is_cut(rt, bench, &mut store, 1, &[0x55; 100], plan, steps);
         let area = both(bench);
         let store = mounted::<NvsOpen, B, L, R>(rt, alloc, bench, area, units, steps)?;
@@ -202,10 +202,10 @@ fn look_ups<B: Views, L: Ledger, R: Abort>(
     load_blank(alloc, bench, 1024)?;
     let area = both(bench);
     let mut store = mounted::<NvsOpen, B, L, R>(rt, alloc, bench, area, 0, steps)?;
-    plays(rt, alloc, bench, &mut store, &SHARED[..1], steps)?;
+    carries_out(rt, alloc, bench, &mut store, &SHARED[..1], steps)?;
     looks_up(rt, bench, &store, 2, b"", 0, steps);
     looks_up(rt, bench, &store, 1, &[0x11; 100], 2, steps);
-    plays(rt, alloc, bench, &mut store, &SHARED[1..2], steps)?;
+    carries_out(rt, alloc, bench, &mut store, &SHARED[1..2], steps)?;
     looks_up(rt, bench, &store, 65, &[0x22; 100], 2, steps);
     looks_up(rt, bench, &store, 1, &[0x11; 100], u64::MAX, steps);
     Ok(())
@@ -221,8 +221,8 @@ fn look_up_of_deleted<B: Views, L: Ledger, R: Abort>(
     load_blank(alloc, bench, 1024)?;
     let area = both(bench);
     let mut store = mounted::<NvsOpen, B, L, R>(rt, alloc, bench, area, 0, steps)?;
-    plays(rt, alloc, bench, &mut store, &SHARED[..1], steps)?;
-    plays(rt, alloc, bench, &mut store, &SHARED[2..], steps)?;
+    carries_out(rt, alloc, bench, &mut store, &SHARED[..1], steps)?;
+    carries_out(rt, alloc, bench, &mut store, &SHARED[2..], steps)?;
     closes(rt, bench, &mut store, 5, steps)?;
     looks_up(rt, bench, &store, 1, b"", 0, steps);
     Ok(())
@@ -238,7 +238,7 @@ fn look_up_behind_a_round<B: Views, L: Ledger, R: Abort>(
     load_blank(alloc, bench, 1024)?;
     let area = both(bench);
     let mut store = mounted::<NvsOpen, B, L, R>(rt, alloc, bench, area, 0, steps)?;
-    plays(rt, alloc, bench, &mut store, &ROUNDS[..5], steps)?;
+    carries_out(rt, alloc, bench, &mut store, &ROUNDS[..5], steps)?;
     looks_up(rt, bench, &store, 1, &[0x55; 100], 2, steps);
     Ok(())
 }
@@ -256,7 +256,7 @@ fn exercise<B: Bench, L: Ledger, R: Abort>(
 {
     let mut steps = Steps::<L>::new(blank);
     rounds(rt, alloc, bench, &mut steps)?;
-    tells_the_past(rt, alloc, bench, &mut steps)?;
+    reports_the_past(rt, alloc, bench, &mut steps)?;
     collects(rt, alloc, bench, &mut steps)?;
     losses(rt, alloc, bench, &mut steps)
 }

@@ -92,7 +92,7 @@ fn agrees<B: Bench, L: Ledger, R: Abort>(
     Ok(())
 }
 
-fn plays<B: Bench, L: Ledger, R: Abort>(
+fn carries_out<B: Bench, L: Ledger, R: Abort>(
     rt: &R,
     alloc: Global,
     bench: &mut B,
@@ -122,17 +122,17 @@ fn one_item<B: Bench, L: Ledger, R: Abort>(
     let first = nvs.next_id(bench, None, steps);
     let second = nvs.next_id(bench, first, steps);
     let mut last = LastSlots::new();
-    nvs.tell_last_slots(bench, &mut last, steps);
-    let told = nvs.next_by(bench, &last, None, steps);
+    nvs.fill_last_slots(bench, &mut last, steps);
+    let reported = nvs.next_by(bench, &last, None, steps);
     assert_eq!(rt;
-        (first, second, told, nvs.live_cost(bench, steps)),
+        (first, second, reported, nvs.live_cost(bench, steps)),
         (Some(id), None, Some(id), cost)
     );
 }
 
 // Behind a collection the item is found by its bytes and has one older version, and the area this
 // room.
-fn told<B: Bench, L: Ledger, R: Abort>(rt: &R, bench: &B, nvs: &Nvs, steps: &mut Steps<L>)
+fn reported<B: Bench, L: Ledger, R: Abort>(rt: &R, bench: &B, nvs: &Nvs, steps: &mut Steps<L>)
     requires stands { StandsOn (B.device bench.now) nvs.now }
 {
     let here = nvs.id_of(bench, 0, 9, &[0x55; 100], steps);
@@ -159,9 +159,9 @@ fn rounds<B: Bench, L: Ledger, R: Abort>(
     bench: &mut B,
     steps: &mut Steps<L>,
 ) -> Result<(), Fail> {
-    let nvs = plays(rt, alloc, bench, &ROUNDS, steps)?;
+    let nvs = carries_out(rt, alloc, bench, &ROUNDS, steps)?;
     one_item(rt, bench, &nvs, 1, 108, steps);
-    told(rt, bench, &nvs, steps);
+    reported(rt, bench, &nvs, steps);
     let ends = sector_view(bench, nvs.area(), 1, steps).ends_with(&ENDS);
     assert!(rt; ends && nvs.is_up() && nvs.area().sectors == 2);
     Ok(())
@@ -174,7 +174,7 @@ fn collects<B: Bench, L: Ledger, R: Abort>(
     bench: &mut B,
     steps: &mut Steps<L>,
 ) -> Result<(), Fail> {
-    let mut nvs = plays(rt, alloc, bench, &FULL, steps)?;
+    let mut nvs = carries_out(rt, alloc, bench, &FULL, steps)?;
     nvs.close_and_collect(bench, steps)?;
     one_item(rt, bench, &nvs, 2, 264, steps);
     let mut nvs = on_blank(alloc, bench, 28, steps)?;

@@ -4,8 +4,10 @@ ghost use Rattle.std.specs.Prelude.{◌≡◌, ◌+◌, ◌<◌, ◌≤◌, ◌�
 ghost use Rattle.flash_map.specs.declared.area.Role.TheVariants.{Zms as zms_role};
 ghost use Rattle.item_store.specs.Standing.{IsStoreArea};
 
-use crate::calls::{Call, asks, close_is_cut, closes, mounted, plays, shows, walks, write_is_cut};
-use crate::history::{Told, tells};
+use crate::calls::{
+    Call, asks, carries_out, close_is_cut, closes, mounted, shows, walks, write_is_cut,
+};
+use crate::history::{Reported, reports};
 use arrayvec::ArrayString;
 use flash_map::{Area, Role, sector_view};
 use flash_sim::{Bank, Bench, FlatSim, Kind, Steps};
@@ -26,7 +28,7 @@ pub(crate) const EMPTY: [u8; 16] = [97, 1, 255, 255, 255, 255, 255, 255, 0, 0, 0
 pub(crate) const CLOSE: [u8; 16] = [172, 1, 0, 0, 255, 255, 255, 255, 176, 1, 0, 0, 1, 0, 0, 0];
 
 // Ids 7, 9 and 8 in a closed sector, the second with the value 1 to 9; 7, 3 and a delete of 8 in
-// the next; and a collection into the third that was cut, with an entry that counts for nothing.
+// the next; and a collection into the third that was cut, with an entry that is ignored.
 pub(crate) const CUT: [Put; 13] = [
     (496, EMPTY),
     (480, CLOSE),
@@ -43,8 +45,8 @@ pub(crate) const CUT: [Put; 13] = [
     (1488, [223, 1, 1, 0, 3, 0, 0, 0, 81, 0, 0, 0, 0, 0, 0, 0]),
 ];
 
-// What is told once that collection is done: its copy, a delete, and what is gone.
-const AFTER_CUT: [Told; 4] = [
+// What is reported once that collection is done: its copy, a delete, and what is gone.
+const AFTER_CUT: [Reported; 4] = [
     (9, 0, Some((1, 9))),
     (9, 1, None),
     (8, 0, Some((0, 0))),
@@ -217,7 +219,7 @@ fn rounds<B: Bench, L: Ledger, R: Abort>(
     load(rt, alloc, bench, Kind::Rewritable, &[])?;
     let area = all(bench, Kind::Rewritable);
     let mut store = mounted::<ZmsOpen, B, L, R>(rt, alloc, bench, area, 0, steps)?;
-    plays(rt, alloc, bench, &mut store, &ON_BLANK, steps)?;
+    carries_out(rt, alloc, bench, &mut store, &ON_BLANK, steps)?;
     shows(rt, bench, &store, &[2, 4, 5, 7, 8], 416, steps);
     let rows = [
         (2, 4, 7, 8),
@@ -245,7 +247,7 @@ fn after_a_cut<B: Bench, L: Ledger, R: Abort>(
         asks(rt, bench, &store, 3, &[65], &[49], steps);
         let rows = [(2, 2, 9, 9), (1, 4, 8, 0), (1, 3, 3, 1), (1, 2, 7, 1)];
         walks(rt, bench, &store, 3, &rows, steps);
-        tells(rt, bench, &store, &AFTER_CUT, AFTER_CUT_SPACE, steps);
+        reports(rt, bench, &store, &AFTER_CUT, AFTER_CUT_SPACE, steps);
     }
     Ok(())
 }
@@ -266,7 +268,7 @@ fn erases<B: Bench, L: Ledger, R: Abort>(
         load(rt, alloc, bench, Kind::Erasing, puts)?;
         let area = all(bench, Kind::Erasing);
         let mut store = mounted::<ZmsOpen, B, L, R>(rt, alloc, bench, area, 0, steps)?;
-        plays(rt, alloc, bench, &mut store, calls, steps)?;
+        carries_out(rt, alloc, bench, &mut store, calls, steps)?;
     }
     Ok(())
 }
@@ -282,7 +284,7 @@ fn lays<B: Bench, L: Ledger, R: Abort>(
     load(rt, alloc, bench, Kind::Rewritable, &[])?;
     let area = all(bench, Kind::Rewritable);
     let mut store = mounted::<ZmsOpen, B, L, R>(rt, alloc, bench, area, 0, steps)?;
-    plays(rt, alloc, bench, &mut store, &ONE, steps)?;
+    carries_out(rt, alloc, bench, &mut store, &ONE, steps)?;
     close_is_cut(rt, bench, &mut store, 3, steps);
     let area = all(bench, Kind::Rewritable);
     let mut store = mounted::<ZmsOpen, B, L, R>(rt, alloc, bench, area, 0, steps)?;
@@ -306,7 +308,7 @@ fn losses<B: Bench, L: Ledger, R: Abort>(
         load(rt, alloc, bench, Kind::Rewritable, &[])?;
         let area = all(bench, Kind::Rewritable);
         let mut store = mounted::<ZmsOpen, B, L, R>(rt, alloc, bench, area, 0, steps)?;
-        plays(rt, alloc, bench, &mut store, &ON_BLANK[..13], steps)?;
+        carries_out(rt, alloc, bench, &mut store, &ON_BLANK[..13], steps)?;
         write_is_cut(rt, bench, &mut store, 2, &[253; 187], plan, steps);
         let area = all(bench, Kind::Rewritable);
         let store = mounted::<ZmsOpen, B, L, R>(rt, alloc, bench, area, units, steps)?;

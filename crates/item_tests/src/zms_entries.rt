@@ -42,7 +42,7 @@ fn entry_bytes(rt: HostRuntime) {
 }
 
 // A sector of six units: the empty entry, an entry in slot 2, and the same under an erased unit,
-// where it counts for nothing.
+// where it is ignored.
 #[test]
 fn one_sector_read(rt: HostRuntime) {
     let mut sector = [0xFF; 96];

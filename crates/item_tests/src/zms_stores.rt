@@ -34,7 +34,7 @@ const STALE: [Put; 5] = [
 // Entries in slot 2 of two sectors.
 const TWO_OPEN: [Put; 4] = [(496, EMPTY), (464, SEVEN), (1008, EMPTY), (976, EIGHT)];
 
-// The entry in slot 4 is guarded and stays hidden.
+// The entry in slot 4 is guarded and stays ignored.
 const ON_STALE: [Call; 3] = [
     (7, (0, 0), 0, None, (0, 0)),
     (1, (7, 1), 2, None, (7, 1)),
@@ -106,7 +106,7 @@ fn agrees<B: Bench, L: Ledger, R: Abort>(
     Ok(())
 }
 
-fn plays<B: Bench, L: Ledger, R: Abort>(
+fn carries_out<B: Bench, L: Ledger, R: Abort>(
     rt: &R,
     alloc: Global,
     bench: &mut B,
@@ -131,7 +131,7 @@ fn lays<B: Bench, L: Ledger, R: Abort>(
     bench: &mut B,
     steps: &mut Steps<L>,
 ) -> Result<(), Fail> {
-    let mut zms = plays(rt, alloc, bench, &[], &ONE, steps)?;
+    let mut zms = carries_out(rt, alloc, bench, &[], &ONE, steps)?;
     zms.close_and_collect(bench, steps)?;
     let sector = sector_view(bench, zms.area(), 0, steps);
     let starts = sector.starts_with(&[5, 5, 5, 5, 5, 5, 5, 5, 5, 0xFF]);
@@ -162,12 +162,12 @@ fn ids<B: Bench, L: Ledger, R: Abort>(rt: &R, bench: &B, zms: &Zms, steps: &mut 
     requires stands { StandsOn (B.device bench.now) zms.now }
 {
     let mut last = LastSlots::new();
-    zms.tell_last_slots(bench, &mut last, steps);
+    zms.fill_last_slots(bench, &mut last, steps);
     let mut after = None;
     for id in [3, 7, 9] {
-        let told = zms.next_by(bench, &last, after, steps);
+        let reported = zms.next_by(bench, &last, after, steps);
         after = zms.next_id(bench, after, steps);
-        assert_eq!(rt; (told, after), (Some(id), Some(id)));
+        assert_eq!(rt; (reported, after), (Some(id), Some(id)));
     }
     let end = zms.next_id(bench, after, steps);
     assert_eq!(rt; (end, zms.live_cost(bench, steps)), (None, 64));
@@ -204,7 +204,7 @@ fn reads<B: Bench, L: Ledger, R: Abort>(
 }
 
 // One item of one byte on a blank area: its version, none behind it, and the room.
-fn tells<B: Bench, L: Ledger, R: Abort>(
+fn reports<B: Bench, L: Ledger, R: Abort>(
     rt: &R,
     alloc: Global,
     bench: &mut B,
@@ -291,12 +291,12 @@ fn exercise<B: Bench, L: Ledger, R: Abort>(
     requires some { 0 < L.parts }
 {
     let mut steps = Steps::<L>::new(blank);
-    plays(rt, alloc, bench, &[], &ON_BLANK, &mut steps)?;
-    plays(rt, alloc, bench, &STALE, &ON_STALE, &mut steps)?;
+    carries_out(rt, alloc, bench, &[], &ON_BLANK, &mut steps)?;
+    carries_out(rt, alloc, bench, &STALE, &ON_STALE, &mut steps)?;
     lays(rt, alloc, bench, &mut steps)?;
     reads(rt, alloc, bench, &mut steps)?;
     closes(rt, alloc, bench, &mut steps)?;
-    tells(rt, alloc, bench, &mut steps)?;
+    reports(rt, alloc, bench, &mut steps)?;
     is_damaged(rt, alloc, bench, &mut steps)
 }
 

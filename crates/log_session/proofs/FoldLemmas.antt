@@ -30,7 +30,7 @@ module _ (area : Area) where
   pub one_more : (lines : List Line) (i : ℕ) (line : Line) (answers : List Answer) (answer : Answer) (first mid new : Device) → i < length lines → line ≡ get_or lines i line → RanTo lines i answers first mid
       → LineDone area line answer mid new → RanTo lines (i + 1) (answers ++ answer ∷ []) first new
   one_more lines i line answers answer first mid new below is so_far done =
-      subst (λ (front : List Line). Follows (LineDone area) (Mount ∷ front) (answers ++ answer ∷ []) first new) (sym (lines_on lines i line below is))
+      subst (λ (prefix : List Line). Follows (LineDone area) (Mount ∷ prefix) (answers ++ answer ∷ []) first new) (sym (lines_on lines i line below is))
       (last (LineDone area) (Mount ∷ take i lines) line answers answer first mid new so_far done)
 
   -- what a run is as a whole
@@ -39,12 +39,12 @@ module _ (area : Area) where
 
   pub ran : (lines : List Line) (i : ℕ) (answers : List Answer) (first now : Device) → length lines ≤ i → RanTo lines i answers first now → Ran area (Mount ∷ lines) answers first now
   ran lines i answers first now all so_far =
-      whole (Mount ∷ lines) answers first now (subst (λ (front : List Line). Follows (LineDone area) (Mount ∷ front) answers first now) (take_all i lines all) so_far)
+      whole (Mount ∷ lines) answers first now (subst (λ (prefix : List Line). Follows (LineDone area) (Mount ∷ prefix) answers first now) (take_all i lines all) so_far)
 
   -- memory was wanting behind the first ones
   pub stops : (lines : List Line) (i : ℕ) (answers : List Answer) (first now : Device) → RanTo lines i answers first now → RunStops area (Mount ∷ lines) first now
   stops lines i answers first now so_far = record {
-    front = Mount ∷ take i lines;
+    prefix = Mount ∷ take i lines;
     rest = drop i lines;
     are = ap (λ (rest : List Line). Mount ∷ rest) (sym (take-append-drop i lines));
     some = omega arith;

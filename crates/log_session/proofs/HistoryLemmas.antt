@@ -9,9 +9,9 @@ use Rattle.log_session.specs.declared.line.Line.{Line}
 use Rattle.log_session.specs.declared.line.Line.TheVariants.{Put, Records as AllRecords, Cut, Uncut, Mount}
 use Rattle.log_session.specs.declared.answer.Answer.{Answer}
 use Rattle.log_session.specs.declared.answer.Answer.TheVariants.{Done, Appended, Log, Lost, Off}
-use Rattle.log_session.specs.History.{HoldsRest, Leaves, LogStep, Logged, PowerStep, Takes, TakesFront}
+use Rattle.log_session.specs.History.{HoldsRest, Leaves, LogStep, Logged, PowerStep, Takes, TakesPrefix}
 use Rattle.log_session.specs.Laws.{HoldsAcknowledged, LosesPower, RunsInRow}
-use Rattle.log_session.specs.Step.{Answers, Appends, Arms, Drops, Mounts, State, Step, Tells}
+use Rattle.log_session.specs.Step.{Answers, Appends, Arms, Drops, Mounts, State, Step, Reports}
 
 -- what became of a line's records, and that the log is the rest of all
 record GoesOn (geometry : Geometry) (line : Line) (answer : Answer) (log all : List (List ℕ)) (dropped : ℕ) (new : State) : Type 0 where
@@ -30,8 +30,8 @@ module _ (geometry : Geometry) (all : List (List ℕ)) (dropped : ℕ) (old : St
     taken = 0;
     takes = takes;
     rest = record {
-      front = holds.front;
-      are = append-nil all ∙ holds.are ∙ ap (λ (log : List (List ℕ)). holds.front ++ log) (sym same);
+      prefix = holds.prefix;
+      are = append-nil all ∙ holds.are ∙ ap (λ (log : List (List ℕ)). holds.prefix ++ log) (sym same);
       count = holds.count ∙ omega arith;
     };
   }
@@ -45,16 +45,16 @@ module _ (geometry : Geometry) (all : List (List ℕ)) (dropped : ℕ) (old : St
     taken = taken;
     takes = takes;
     rest = record {
-      front = holds.front ++ drops.front;
+      prefix = holds.prefix ++ drops.prefix;
       are =
-          ap (λ (a : List (List ℕ)). a ++ left) (holds.are ∙ ap (λ (log : List (List ℕ)). holds.front ++ log) drops.are ∙ sym (append_assoc holds.front drops.front rest))
-          ∙ append_assoc (holds.front ++ drops.front) rest left ∙ ap (λ (log : List (List ℕ)). holds.front ++ drops.front ++ log) (sym same);
-      count = length-append holds.front drops.front ∙ ap (λ (n : ℕ). n + length drops.front) holds.count ∙ ap (λ (n : ℕ). dropped + n) (sym drops.count);
+          ap (λ (a : List (List ℕ)). a ++ left) (holds.are ∙ ap (λ (log : List (List ℕ)). holds.prefix ++ log) drops.are ∙ sym (append_assoc holds.prefix drops.prefix rest))
+          ∙ append_assoc (holds.prefix ++ drops.prefix) rest left ∙ ap (λ (log : List (List ℕ)). holds.prefix ++ drops.prefix ++ log) (sym same);
+      count = length-append holds.prefix drops.prefix ∙ ap (λ (n : ℕ). n + length drops.prefix) holds.count ∙ ap (λ (n : ℕ). dropped + n) (sym drops.count);
     };
   }
 
-  none_taken : TakesFront geometry old.log 0
-  none_taken = (old.log, record { front = []; are = refl; count = refl; one_sector = omega arith })
+  none_taken : TakesPrefix geometry old.log 0
+  none_taken = (old.log, record { prefix = []; are = refl; count = refl; one_sector = omega arith })
 
   lost : (body : List ℕ) (units : ℕ) (chance : Bool) (new : State) (taken : ℕ) (rest : List (List ℕ)) → Drops geometry taken old.log rest → LeavesLog chance old.log rest body new.log
       → GoesOn geometry (Put body) (Lost units chance) old.log all dropped new
@@ -68,9 +68,9 @@ module _ (geometry : Geometry) (all : List (List ℕ)) (dropped : ℕ) (old : St
   appends last body (Lost units chance) new is = lost body units chance new is.dropped is.rest is.drops is.log
   appends last body answer new none = absurd none
 
-  tells : (answer : Answer) (new : State) → Tells answer old new → GoesOn geometry AllRecords answer old.log all dropped new
-  tells (Log bodies) new is = stays AllRecords (Log bodies) new refl refl (ap (λ (s : State). s.log) is.1)
-  tells answer new none = absurd none
+  reports : (answer : Answer) (new : State) → Reports answer old new → GoesOn geometry AllRecords answer old.log all dropped new
+  reports (Log bodies) new is = stays AllRecords (Log bodies) new refl refl (ap (λ (s : State). s.log) is.1)
+  reports answer new none = absurd none
 
   mounts : (answer : Answer) (new : State) → Mounts answer old new → GoesOn geometry Mount answer old.log all dropped new
   mounts (Done units) new is = stays Mount (Done units) new refl refl (ap (λ (s : State). s.log) is)
@@ -87,7 +87,7 @@ module _ (geometry : Geometry) (all : List (List ℕ)) (dropped : ℕ) (old : St
 
   by_line : (last : ℕ) (line : Line) (answer : Answer) (new : State) → Answers geometry last line answer old new → GoesOn geometry line answer old.log all dropped new
   by_line last (Put body) answer new is = appends last body answer new is
-  by_line last AllRecords answer new is = tells answer new is
+  by_line last AllRecords answer new is = reports answer new is
   by_line last Mount answer new is = mounts answer new is
   by_line last (Cut units) answer new is = arms_cut units answer new is
   by_line last Uncut answer new is = arms_uncut answer new is
@@ -131,7 +131,7 @@ continues geometry last (line ∷ lines) (answer ∷ answers) all dropped old ne
 
 pub holds_acknowledged : HoldsAcknowledged
 holds_acknowledged geometry last lines answers old new runs =
-    let whole = continues geometry last lines answers old.log 0 old new (record { front = []; are = refl; count = refl }) runs in
+    let whole = continues geometry last lines answers old.log 0 old new (record { prefix = []; are = refl; count = refl }) runs in
     record { all = whole.all; dropped = whole.dropped; runs = whole.runs }
 
 -- ---- power

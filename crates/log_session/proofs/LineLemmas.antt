@@ -20,7 +20,7 @@ use Rattle.log_session.specs.declared.answer.Answer.{Answer}
 use Rattle.log_session.specs.declared.answer.Answer.TheVariants.{Done, Log, Lost, Off}
 use Rattle.log_session.specs.Plan.{units_of, is_lost, replan}
 use Rattle.session_table.specs.Bench.{Keeps}
-use Rattle.log_session.specs.LineDone.{LineDone, MountsBy, PutsBy, TellsChance, powered_for, state_of, turned_on}
+use Rattle.log_session.specs.LineDone.{LineDone, MountsBy, PutsBy, ReportsChance, powered_for, state_of, turned_on}
 use Rattle.log_session.specs.Standing.{IsMounted}
 use Rattle.session_table.specs.Rules.{IsCounted}
 use Rattle.log_session.specs.Step.{Step}
@@ -56,9 +56,9 @@ records_no_mount is = cc
 
 quiet : (area : Area) (d : Device) (line : Line) (answer : Answer)
     → ((last : ℕ) → Step (geometry_of d area) last line answer (state_of area d) (state_of area d))
-    → powered_for line d ≡ d → replan line ≡ keeps → is_lost answer ≡ false → units_of answer ≡ 0 → PutsBy area line answer d d → (line ≡ Mount → ⊥) → TellsChance area line answer d
+    → powered_for line d ≡ d → replan line ≡ keeps → is_lost answer ≡ false → units_of answer ≡ 0 → PutsBy area line answer d d → (line ≡ Mount → ⊥) → ReportsChance area line answer d
     → LineDone area line answer d d
-quiet area d line answer step same stays lasts units puts no_mount told = record {
+quiet area d line answer step same stays lasts units puts no_mount reported = record {
   step = λ last within. step last;
   accounts = kept (area ∷ []) line answer d d (untouched (area ∷ []) d) stays lasts (none_spent (units_of answer) d.spent units);
   keeps = kept_beside area d d false (untouched (area ∷ []) d);
@@ -67,9 +67,9 @@ quiet area d line answer step same stays lasts units puts no_mount told = record
       (subst (λ (x : Device). Touches (area ∷ []) x d false) (sym same) (untouched (area ∷ []) d));
   puts = puts;
   mounts = λ is. absurd (no_mount is);
-  tells = λ is. refl;
+  reports = λ is. refl;
   plans = λ other. absurd (other stays);
-  chance = told;
+  chance = reported;
 }
 
 -- with power off
@@ -79,9 +79,9 @@ put_off area d body dark = quiet area d (Put body) Off (λ last. (refl, dark, re
 pub records_off : (area : Area) (d : Device) → d.is_on ≡ false → LineDone area Records Off d d
 records_off area d dark = quiet area d Records Off (λ last. (refl, dark, refl)) refl refl refl refl tt records_no_mount tt
 
--- all records are told
-pub told : (area : Area) (d : Device) (bodies : List (List ℕ)) → d.is_on ≡ true → bodies ≡ log_on d area → LineDone area Records (Log bodies) d d
-told area d bodies on are = quiet area d Records (Log bodies) (λ last. (λ needs. on, (are, refl))) refl refl refl refl tt records_no_mount tt
+-- all records are reported
+pub reported : (area : Area) (d : Device) (bodies : List (List ℕ)) → d.is_on ≡ true → bodies ≡ log_on d area → LineDone area Records (Log bodies) d d
+reported area d bodies on are = quiet area d Records (Log bodies) (λ last. (λ needs. on, (are, refl))) refl refl refl refl tt records_no_mount tt
 
 -- ---- plans
 
@@ -128,7 +128,7 @@ planned area old new units is =
       touches = λ stays. absurd (no_keeping units stays);
       puts = tt;
       mounts = λ is. absurd (cut_no_mount units is);
-      tells = λ is. absurd (cut_no_records units is);
+      reports = λ is. absurd (cut_no_records units is);
       plans = λ other. refl;
       chance = tt;
     }
@@ -149,7 +149,7 @@ unplanned area old new is =
       touches = λ stays. absurd (no_dropping stays);
       puts = tt;
       mounts = λ is. absurd (uncut_no_mount is);
-      tells = λ is. absurd (uncut_no_records is);
+      reports = λ is. absurd (uncut_no_records is);
       plans = λ other. refl;
       chance = tt;
     }
@@ -182,7 +182,7 @@ module _ (area : Area) (old mid new : Device) (on : mid ≡ turned_on old) (none
         touches = λ stays. touches;
         puts = tt;
         mounts = λ is. mounts;
-        tells = λ is. absurd (mount_no_records is);
+        reports = λ is. absurd (mount_no_records is);
         plans = λ other. absurd (other refl);
         chance = tt;
       }
@@ -197,7 +197,7 @@ module _ (area : Area) (old mid new : Device) (on : mid ≡ turned_on old) (none
         touches = λ stays. touches;
         puts = tt;
         mounts = λ is. mounts;
-        tells = λ is. absurd (mount_no_records is);
+        reports = λ is. absurd (mount_no_records is);
         plans = λ other. absurd (other refl);
         chance = tt;
       }

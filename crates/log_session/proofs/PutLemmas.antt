@@ -20,7 +20,7 @@ use Rattle.event_ring.specs.Appending.{Keeps, LogAppends, append_units, dropped_
 use Rattle.event_ring.specs.Standing.{IsOpen}
 use Rattle.event_ring.specs.Items.{Item, Whole, Torn, items_cost, items_in, items_on, item_cost, log_of, log_on}
 use Rattle.event_ring.proofs.ItemLemmas.{log-append}
-use Rattle.event_ring.proofs.LogSteps.{items-tell}
+use Rattle.event_ring.proofs.LogSteps.{items-report}
 use Rattle.log_session.specs.declared.line.Line.TheVariants.{Put}
 use Rattle.log_session.specs.declared.answer.Answer.TheVariants.{Appended, Lost}
 use Rattle.log_session.specs.LineDone.{AppendsOn, LineDone}
@@ -48,7 +48,7 @@ pub dropped_records : (d : Device) (ring : Ring) (body : List ℕ) (rest : List 
 dropped_records d ring body rest dropped kept counted =
     let whole = whole_cost (geometry_of d ring.area) (dropped_for d ring body) in
     record {
-      front = log_of (dropped_for d ring body);
+      prefix = log_of (dropped_for d ring body);
       are = ap log_of kept.items ∙ log-append (dropped_for d ring body) rest;
       count = counted;
       one_sector = omega (arith, whole, kept.one_sector);
@@ -65,10 +65,10 @@ units_by geometry body items false false = inr (inl (refl, refl))
 pub put_units : (d : Device) (ring : Ring) (body : List ℕ) → PutUnits (geometry_of d ring.area) body (length (log_of (dropped_for d ring body))) (append_units d ring body)
 put_units d ring body = units_by (geometry_of d ring.area) body (items_in d ring.area ring.oldest) (drops_for d ring body) (stays_for d ring body 0)
 
-most_units : (geometry : Geometry) (body : List ℕ) (dropped units : ℕ) → PutUnits geometry body dropped units → units ≤ most_to_put geometry body
-most_units geometry body dropped units (inl is) = omega (arith, is.0)
-most_units geometry body dropped units (inr (inl is)) = omega (arith, is.0)
-most_units geometry body dropped units (inr (inr is)) = omega (arith, is)
+command_units : (geometry : Geometry) (body : List ℕ) (dropped units : ℕ) → PutUnits geometry body dropped units → units ≤ most_to_put geometry body
+command_units geometry body dropped units (inl is) = omega (arith, is.0)
+command_units geometry body dropped units (inr (inl is)) = omega (arith, is.0)
+command_units geometry body dropped units (inr (inr is)) = omega (arith, is)
 
 -- ---- the line
 
@@ -95,7 +95,7 @@ module _ (ring after : Ring) (body : List ℕ) (old new : Device) (on : old.is_o
                 (subst (λ (n : ℕ). PutUnits geometry body (length (log_of (dropped_for old ring body))) n) real all);
             at_most = at_most units (append_units old ring body) (most_to_put geometry body)
                 (subst (λ (n : ℕ). n ≤ append_units old ring body) (sym are) (units_most old.spent new.spent (append_units old ring body) adds.units))
-                (most_units geometry body (length (log_of (dropped_for old ring body))) (append_units old ring body) all);
+                (command_units geometry body (length (log_of (dropped_for old ring body))) (append_units old ring body) all);
           },
         );
         accounts = kept (ring.area ∷ []) (Put body) (Appended units dropped) old new touches refl refl are;
@@ -103,7 +103,7 @@ module _ (ring after : Ring) (body : List ℕ) (old new : Device) (on : old.is_o
         touches = λ stays. touches;
         puts = on_ring (Ok dropped) ends;
         mounts = λ is. absurd (put_no_mount body is);
-        tells = λ is. absurd (put_no_records body is);
+        reports = λ is. absurd (put_no_records body is);
         plans = λ other. absurd (other refl);
         chance = tt;
       }
@@ -114,7 +114,7 @@ module _ (ring after : Ring) (body : List ℕ) (old new : Device) (on : old.is_o
       let loses = ends.1 in
       let geometry : Geometry = geometry_of old ring.area in
       let cut = loses.cut on in
-      let told = items-tell (chance_on new ring.area cut.loss) (unit_of new ring.area) (items_on old ring.area) loses.rest body (items_on new ring.area) cut.items in
+      let reported = items-report (chance_on new ring.area cut.loss) (unit_of new ring.area) (items_on old ring.area) loses.rest body (items_on new ring.area) cut.items in
       record {
         step = λ last within. (
           λ needs. on,
@@ -122,12 +122,12 @@ module _ (ring after : Ring) (body : List ℕ) (old new : Device) (on : old.is_o
             dropped = length (log_of (dropped_for old ring body));
             rest = log_of loses.rest;
             drops = dropped_records old ring body loses.rest (length (log_of (dropped_for old ring body))) loses.kept refl;
-            log = rw spells told;
+            log = rw spells reported;
             off = (touches.ends on).off;
             at_most = at_most units loses.units.0 (most_to_put geometry body)
                 (subst (λ (n : ℕ). n ≤ loses.units.0) (sym are) (units_most old.spent new.spent loses.units.0 loses.units.2))
                 (at_most loses.units.0 (append_units old ring body) (most_to_put geometry body) loses.units.1
-                (most_units geometry body (length (log_of (dropped_for old ring body))) (append_units old ring body) (put_units old ring body)));
+                (command_units geometry body (length (log_of (dropped_for old ring body))) (append_units old ring body) (put_units old ring body)));
           },
         );
         accounts = lost (ring.area ∷ []) (Put body) (Lost units chance) old new on touches refl refl are;
@@ -135,7 +135,7 @@ module _ (ring after : Ring) (body : List ℕ) (old new : Device) (on : old.is_o
         touches = λ stays. touches;
         puts = on_ring (Err PowerLost) ends;
         mounts = λ is. absurd (put_no_mount body is);
-        tells = λ is. absurd (put_no_records body is);
+        reports = λ is. absurd (put_no_records body is);
         plans = λ other. absurd (other refl);
         chance = record { loss = cut.loss; last = cut.last; is = spells };
       }

@@ -55,7 +55,7 @@ each area (Put body) (Lost units chance) old new done before = appended area old
 each area (Put body) Off old new done before = nothing area old new (off_put area old new body done) before
 each area (Put body) (Done units) old new done before = let step = done.step new.spent (omega arith) in absurd step.1
 each area (Put body) (Log bodies) old new done before = let step = done.step new.spent (omega arith) in absurd step.1
-each area Records answer old new done before = nothing area old new (done.tells refl) before
+each area Records answer old new done before = nothing area old new (done.reports refl) before
 each area Mount answer old new done before = mounted area old new answer done before
 each area (Cut units) answer old new done before = but_plan area old new (done.plans (no_keeping units)) before
 each area Uncut answer old new done before = but_plan area old new (done.plans no_dropping) before

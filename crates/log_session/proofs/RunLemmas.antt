@@ -17,7 +17,7 @@ use Rattle.log_session.specs.declared.line.Line.{Line}
 use Rattle.log_session.specs.declared.answer.Answer.{Answer}
 use Rattle.log_session.specs.Plan.{units_of, is_lost, losses_in, Planned, plan_through, PlansNoLoss}
 use Rattle.session_table.specs.Bench.{Keeps, StaysUnplanned}
-use Rattle.log_session.specs.LineDone.{LineDone, Runs, TellsChance, TellsLastChance, state_of}
+use Rattle.log_session.specs.LineDone.{LineDone, Runs, ReportsChance, ReportsLastChance, state_of}
 use Rattle.log_session.specs.Laws.{LinesMakeRuns}
 use Rattle.session_table.specs.Rules.{IsCounted}
 use Rattle.log_session.specs.Step.{Step}
@@ -89,11 +89,11 @@ module _ (area : Area) where
       let tail = unplanned_of lines answers runs.0 new runs.2 (All-tail PlansNoLoss line lines free) head.0 in
       (tail.0, tail.1 ∙ head.1)
 
-  chance_of : (lines : List Line) (answers : List Answer) (old new : Device) → Follows (LineDone area) lines answers old new → TellsLastChance area lines answers new
+  chance_of : (lines : List Line) (answers : List Answer) (old new : Device) → Follows (LineDone area) lines answers old new → ReportsLastChance area lines answers new
   chance_of [] [] old new same = tt
   chance_of [] (answer ∷ answers) old new none = absurd none
   chance_of (line ∷ lines) [] old new none = absurd none
-  chance_of (line ∷ []) (answer ∷ []) old new runs = subst (λ (d : Device). TellsChance area line answer d) (sym runs.2) runs.1.chance
+  chance_of (line ∷ []) (answer ∷ []) old new runs = subst (λ (d : Device). ReportsChance area line answer d) (sym runs.2) runs.1.chance
   chance_of (line ∷ []) (answer ∷ also ∷ answers) old new runs = absurd runs.2
   chance_of (line ∷ next ∷ lines) (answer ∷ []) old new runs = absurd runs.2
   chance_of (line ∷ next ∷ lines) (answer ∷ also ∷ answers) old new runs = chance_of (next ∷ lines) (also ∷ answers) runs.0 new runs.2

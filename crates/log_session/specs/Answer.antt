@@ -1,4 +1,4 @@
--- The lines of words that an answer is told in, and their text.
+-- The lines of words that an answer is printed in, and their text.
 use Rattle.std.specs.Prelude.{ℕ, true, false, List, [], ◌∷◌, ◌++◌, length, map, codes}
 use Rattle.std.specs.Fmt.{decimal}
 use Rattle.hex.specs.Hex.{encode_lower}

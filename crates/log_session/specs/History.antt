@@ -11,7 +11,7 @@ use Rattle.log_session.specs.Plan.{is_lost}
 use Rattle.log_session.specs.Step.{Drops, State, Step}
 
 -- What an append leaves behind the log: its record; where power was lost, its record or none, or by chance
--- one with a front of its body, but not all of it, and then FF. Other lines leave none.
+-- one with a prefix of its body, but not all of it, and then FF. Other lines leave none.
 abbrev pub Leaves : Line → Answer → List (List ℕ) → Type 0
 Leaves (Put body) (Appended units dropped) records = records ≡ body ∷ []
 Leaves (Put body) (Lost units false) records = (records ≡ []) ⊎ (records ≡ body ∷ [])
@@ -19,15 +19,15 @@ Leaves (Put body) (Lost units true) records = (n : ℕ) × (n < length body) × 
 Leaves line answer records = records ≡ []
 
 -- so many of the oldest records are dropped, and one sector has room for them
-abbrev pub TakesFront : Geometry → List (List ℕ) → ℕ → Type 0
-TakesFront geometry log taken = (rest : List (List ℕ)) × Drops geometry taken log rest
+abbrev pub TakesPrefix : Geometry → List (List ℕ) → ℕ → Type 0
+TakesPrefix geometry log taken = (rest : List (List ℕ)) × Drops geometry taken log rest
 
--- So many of the oldest records it drops: as many as it tells, or some front where power was lost, and other
--- lines none.
+-- So many of the oldest records it drops: as many as it reports, or some of the oldest where power
+-- was lost, and other lines none.
 abbrev pub Takes : Geometry → Line → Answer → List (List ℕ) → ℕ → Type 0
 Takes geometry (Put body) (Appended units dropped) log taken =
-    (taken ≡ dropped) × TakesFront geometry log taken
-Takes geometry (Put body) (Lost units chance) log taken = TakesFront geometry log taken
+    (taken ≡ dropped) × TakesPrefix geometry log taken
+Takes geometry (Put body) (Lost units chance) log taken = TakesPrefix geometry log taken
 Takes geometry line answer log taken = taken ≡ 0
 
 -- a state, all records that were in the log so far, the oldest first, and how many of them were dropped
@@ -38,9 +38,9 @@ pub record Logged : Type 0 where
 
 -- the log is all records but those that were dropped, which are the first ones
 pub record HoldsRest (now : Logged) : Type 0 where
-  pub front : List (List ℕ)
-  pub are : now.all ≡ front ++ now.state.log
-  pub count : length front ≡ now.dropped
+  pub prefix : List (List ℕ)
+  pub are : now.all ≡ prefix ++ now.state.log
+  pub count : length prefix ≡ now.dropped
 
 -- what a line adds to both
 pub record Records (geometry : Geometry) (line : Line) (answer : Answer) (old new : Logged) : Type 0 where

@@ -56,9 +56,9 @@ pub record ShowsChance (area : Area) (chance : Bool) (d : Device) : Type 0 where
   pub is : chance ≡ chance_on d area loss
 
 -- at the loss of an append alone
-abbrev pub TellsChance : Area → Line → Answer → Device → Type 0
-TellsChance area (Put body) (Lost units chance) d = ShowsChance area chance d
-TellsChance area line answer d = ⊤
+abbrev pub ReportsChance : Area → Line → Answer → Device → Type 0
+ReportsChance area (Put body) (Lost units chance) d = ShowsChance area chance d
+ReportsChance area line answer d = ⊤
 
 -- the log that stood open on the area appended the body, and ended so
 pub record AppendsOn (area : Area) (body : List ℕ) (end : Result ℕ LogFault) (old new : Device) : Type 0 where
@@ -68,8 +68,8 @@ pub record AppendsOn (area : Area) (body : List ℕ) (end : Result ℕ LogFault)
   pub same_area : before.area ≡ area
   pub ends : LogAppends old new before after body end
 
--- A record is put as the log appends it: a front is dropped only where the record does not fit and no sector
--- but one is free.
+-- A record is put as the log appends it: the oldest records are dropped only where the record does
+-- not fit and no sector but one is free.
 abbrev pub PutsBy : Area → Line → Answer → Device → Device → Type 0
 PutsBy area (Put body) (Appended units dropped) old new = AppendsOn area body (Ok dropped) old new
 PutsBy area (Put body) (Lost units chance) old new = AppendsOn area body (Err PowerLost) old new
@@ -89,7 +89,7 @@ SameButPlan old new = new ≡ record old { plan = new.plan }
 
 -- A line was carried out by the table. But for the plan, the bench was touched in the area alone: a loss of
 -- power lies in it, and without a unit no byte changed. A line on the plan changes nothing else, and one that
--- tells the records changes nothing.
+-- lists the records changes nothing.
 pub record LineDone (area : Area) (line : Line) (answer : Answer) (old new : Device) : Type 0 where
   pub step : (last : ℕ) → new.spent ≤ last
       → Step (geometry_of old area) last line answer (state_of area old) (state_of area new)
@@ -98,16 +98,16 @@ pub record LineDone (area : Area) (line : Line) (answer : Answer) (old new : Dev
   pub touches : replan line ≡ keeps_plan → Touches (area ∷ []) (powered_for line old) new (is_lost answer)
   pub puts : PutsBy area line answer old new
   pub mounts : line ≡ Mount → MountsBy area answer old new
-  pub tells : line ≡ Records → new ≡ old
+  pub reports : line ≡ Records → new ≡ old
   pub plans : (replan line ≡ keeps_plan → ⊥) → SameButPlan old new
-  pub chance : TellsChance area line answer new
+  pub chance : ReportsChance area line answer new
 
 -- at the loss of the last line
-abbrev pub TellsLastChance : Area → List Line → List Answer → Device → Type 0
-TellsLastChance area [] answers d = ⊤
-TellsLastChance area (line ∷ lines) [] d = ⊤
-TellsLastChance area (line ∷ []) (answer ∷ []) d = TellsChance area line answer d
-TellsLastChance area (line ∷ lines) (answer ∷ answers) d = TellsLastChance area lines answers d
+abbrev pub ReportsLastChance : Area → List Line → List Answer → Device → Type 0
+ReportsLastChance area [] answers d = ⊤
+ReportsLastChance area (line ∷ lines) [] d = ⊤
+ReportsLastChance area (line ∷ []) (answer ∷ []) d = ReportsChance area line answer d
+ReportsLastChance area (line ∷ lines) (answer ∷ answers) d = ReportsLastChance area lines answers d
 
 -- a whole run of lines
 pub record Runs (area : Area) (lines : List Line) (answers : List Answer) (old new : Device) : Type 0 where
@@ -119,4 +119,4 @@ pub record Runs (area : Area) (lines : List Line) (answers : List Answer) (old n
       → Planned old.plan lines answers × (new.plan ≡ plan_through old.plan lines answers)
   pub keeps : Keeps (area ∷ []) old new
   pub unplanned : All PlansNoLoss lines → StaysUnplanned old new
-  pub chance : TellsLastChance area lines answers new
+  pub chance : ReportsLastChance area lines answers new

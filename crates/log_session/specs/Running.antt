@@ -19,12 +19,12 @@ pub record Ran (area : Area) (lines : List Line) (answers : List Answer) (old ne
 
 -- the mount and the first lines were carried out, and then memory was wanting
 pub record RunStops (area : Area) (lines : List Line) (old new : Device) : Type 0 where
-  pub front : List Line
+  pub prefix : List Line
   pub rest : List Line
-  pub are : lines ≡ front ++ rest
-  pub some : 0 < length front
+  pub are : lines ≡ prefix ++ rest
+  pub some : 0 < length prefix
   pub answers : List Answer
-  pub ran : Ran area front answers old new
+  pub ran : Ran area prefix answers old new
 
 -- All were carried out, with these answers; or the opening mount found the damage that the area shows; or
 -- memory was wanting. An area that shows none is mounted.

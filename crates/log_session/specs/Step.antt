@@ -53,10 +53,10 @@ records_cost geometry bodies = sum_by (λ body. record_cost geometry.unit (lengt
 
 -- So many of the oldest records are dropped, which one sector has room for, and these are left.
 pub record Drops (geometry : Geometry) (dropped : ℕ) (log rest : List (List ℕ)) : Type 0 where
-  pub front : List (List ℕ)
-  pub are : log ≡ front ++ rest
-  pub count : dropped ≡ length front
-  pub one_sector : records_cost geometry front ≤ geometry.sector - padded geometry.unit 8
+  pub prefix : List (List ℕ)
+  pub are : log ≡ prefix ++ rest
+  pub count : dropped ≡ length prefix
+  pub one_sector : records_cost geometry prefix ≤ geometry.sector - padded geometry.unit 8
 
 -- so many records are dropped, and this one stands behind the others
 pub record AddsRecord (geometry : Geometry) (last : ℕ) (body : List ℕ) (units dropped : ℕ) (old new : State) :
@@ -86,9 +86,9 @@ Appends geometry last body answer old new = ⊥
 
 -- ---- the other lines
 
-abbrev pub Tells : Answer → State → State → Type 0
-Tells (Log bodies) old new = (bodies ≡ old.log) × (new ≡ old)
-Tells answer old new = ⊥
+abbrev pub Reports : Answer → State → State → Type 0
+Reports (Log bodies) old new = (bodies ≡ old.log) × (new ≡ old)
+Reports answer old new = ⊥
 
 -- the log stays, also where power is lost
 abbrev pub Mounts : Answer → State → State → Type 0
@@ -110,7 +110,7 @@ needs_power line = true
 
 abbrev pub Answers : Geometry → ℕ → Line → Answer → State → State → Type 0
 Answers geometry last (Put body) answer old new = Appends geometry last body answer old new
-Answers geometry last Records answer old new = Tells answer old new
+Answers geometry last Records answer old new = Reports answer old new
 Answers geometry last Mount answer old new = Mounts answer old new
 Answers geometry last (Cut units) answer old new = Arms answer old new
 Answers geometry last Uncut answer old new = Arms answer old new

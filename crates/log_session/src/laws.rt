@@ -4,7 +4,7 @@ ghost use Rattle.log_session.specs.Laws.{DropsWhereFull, HoldsAcknowledged, Line
 /// Wherever power is lost, the log is what is left of the first log and the records that appends
 /// left behind it, once the oldest of them were dropped: each acknowledged append left its record,
 /// each lost one left it or did not, or by chance a torn one; and just so many were dropped as the
-/// answers tell, and at a loss any number, but never more at once than one sector has room for.
+/// answers say, and at a loss any number, but never more at once than one sector has room for.
 pub fn acknowledged_records_stand()
     ensures { HoldsAcknowledged }
 {}

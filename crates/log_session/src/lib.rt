@@ -13,10 +13,10 @@ mod mounting;
 mod plan;
 mod planning;
 mod reading;
+mod reporting;
 mod running;
 mod script;
 mod session;
-mod telling;
 
 pub use answer::{Answer, answer_text};
 pub use answers::Answers;

@@ -12,7 +12,7 @@ use crate::appending::put_record;
 use crate::line::Line;
 use crate::mounting::mount;
 use crate::planning::{drop_plan, plan_loss};
-use crate::telling::tell_records;
+use crate::reporting::report_records;
 use event_ring::EventLog;
 use flash_map::{Area, Damaged};
 use flash_sim::{Bench, Flash, NoMemory, Steps};
@@ -142,7 +142,7 @@ fn run_line<B: Bench, L: Ledger>(
             _ => Ok(Answer::Off),
         },
         Line::Records => match log {
-            Some(log) if bench.is_on() => tell_records(alloc, bench, log, area, steps),
+            Some(log) if bench.is_on() => report_records(alloc, bench, log, area, steps),
             _ => Ok(Answer::Off),
         },
         Line::Mount => Ok(mount_again(bench, area, log, steps)),

@@ -15,7 +15,7 @@ use Rattle.flash_map.proofs.Touches.{then, untouched}
 use Rattle.backend_api.specs.Ends.{SetEnds, set_lost}
 use Rattle.backend_api.specs.Map.{Map, IsStored, next_name}
 use Rattle.flash_map.specs.On.{on, StandsOn}
-use Rattle.backend_api.specs.Room.{Room, most_units}
+use Rattle.backend_api.specs.Room.{Room, command_units}
 use Rattle.backend_api.specs.declared.backend.SetFault.{SetFault}
 use Rattle.backend_api.specs.declared.backend.SetFault.TheVariants.{NoSpace, TooManyNames, PowerLost}
 use Rattle.migrator.specs.Copying.{before, NoneTooMany, CopyEnds}
@@ -88,29 +88,29 @@ module _ {S : Type 0} (mounted : S → Area) (stands : S → Geometry → List (
 
   -- and what it and a set spend
   pub copying-spends : (a d e : Device) (from to now : S) (name : List ℕ) (next : Option (List ℕ)) → IsCopying a d from to now (Some name) → next ≡ next_name (on contents a (mounted from)) (Some name)
-      → SpendsAtMost d e (most_units (geometry_of d (mounted now))) → SpendsAtMost a e (put_units (on contents a (mounted from)) next (geometry_of a (mounted to)))
+      → SpendsAtMost d e (command_units (geometry_of d (mounted now))) → SpendsAtMost a e (put_units (on contents a (mounted from)) next (geometry_of a (mounted to)))
   copying-spends a d e from to now name next so_far is spent =
       let m = on contents a (mounted from) in
       let g : geometry_of d (mounted now) ≡ geometry_of a (mounted to) = ap (geometry_of d) so_far.area ∙ geometry-same a d (mounted to) so_far.touches.banks in
-      let one : SpendsAtMost d e (most_units (geometry_of a (mounted to))) = subst (λ (x : Geometry). SpendsAtMost d e (most_units x)) g spent in
-      most_weaker a e (put_units m (Some name) (geometry_of a (mounted to)) + most_units (geometry_of a (mounted to))) (put_units m next (geometry_of a (mounted to)))
+      let one : SpendsAtMost d e (command_units (geometry_of a (mounted to))) = subst (λ (x : Geometry). SpendsAtMost d e (command_units x)) g spent in
+      most_weaker a e (put_units m (Some name) (geometry_of a (mounted to)) + command_units (geometry_of a (mounted to))) (put_units m next (geometry_of a (mounted to)))
       (put-next m (Some name) next (geometry_of a (mounted to)) (left-smaller m (Some name) name next refl (so_far.stored name refl) is))
-      (most_then a d e (put_units m (Some name) (geometry_of a (mounted to))) (most_units (geometry_of a (mounted to))) so_far.units one)
+      (most_then a d e (put_units m (Some name) (geometry_of a (mounted to))) (command_units (geometry_of a (mounted to))) so_far.units one)
 
   -- as all of it may spend
-  pub copying-most : (a d e : Device) (from to now : S) (name : List ℕ) → IsCopying a d from to now (Some name) → SpendsAtMost d e (most_units (geometry_of d (mounted now)))
-      → SpendsAtMost a e (maps.len (on contents a (mounted from)) * most_units (geometry_of a (mounted to)))
+  pub copying-most : (a d e : Device) (from to now : S) (name : List ℕ) → IsCopying a d from to now (Some name) → SpendsAtMost d e (command_units (geometry_of d (mounted now)))
+      → SpendsAtMost a e (maps.len (on contents a (mounted from)) * command_units (geometry_of a (mounted to)))
   copying-most a d e from to now name so_far spent =
       let m = on contents a (mounted from) in
       let next = next_name m (Some name) in
-      most_weaker a e (put_units m next (geometry_of a (mounted to))) (maps.len m * most_units (geometry_of a (mounted to))) (put-all m next (geometry_of a (mounted to))) (copying-spends a d e from to now name next so_far refl spent)
+      most_weaker a e (put_units m next (geometry_of a (mounted to))) (maps.len m * command_units (geometry_of a (mounted to))) (put-all m next (geometry_of a (mounted to))) (copying-spends a d e from to now name next so_far refl spent)
 
   pub copying-step : {T : Type 0} (a d e : Device) (from to now after : S) (name value : List ℕ) (next : Option (List ℕ)) (result : Result T SetFault) (x : T) → result ≡ Ok x → IsCopying a d from to now (Some name)
       → IsStored (on contents a (mounted from)) name value
       → Touches (mounted now ∷ []) d e (set_lost result) → mounted after ≡ mounted now → sectors_of e (mounted from) ≡ sectors_of d (mounted from)
       → SetEnds (room (mounted now) (geometry_of d (mounted now))) (mounted now).sectors d e (on contents d (mounted now)) (on contents e (mounted now)) name value result
       → (set_lost result ≡ false → StandsOn mounted stands e after)
-      → next ≡ next_name (on contents e (mounted from)) (Some name) → SpendsAtMost d e (most_units (geometry_of d (mounted now)))
+      → next ≡ next_name (on contents e (mounted from)) (Some name) → SpendsAtMost d e (command_units (geometry_of d (mounted now)))
       → IsCopying a e from to after next
   copying-step {T} a d e from to now after name value next result x ok so_far has touches area source ends standing is spent =
       let did = subst (λ (r : Result T SetFault). SetEnds (room (mounted to) (geometry_of a (mounted to))) (mounted to).sectors d e (before (on contents a (mounted from)) (Some name)) (on contents e (mounted to)) name value r) ok

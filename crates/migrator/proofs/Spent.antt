@@ -24,7 +24,7 @@ use Rattle.fcb_ring.specs.Writing.{record_cost}
 use Rattle.fcb_ring.proofs.AppendLemmas.{unit-after}
 use Rattle.fcb_ring.proofs.AreaLemmas.{count-sectors}
 use Rattle.backend_api.specs.Map.{Map}
-use Rattle.backend_api.specs.Room.{most_units, mount_units}
+use Rattle.backend_api.specs.Room.{command_units, mount_units}
 use Rattle.migrator.specs.Choosing.{choice_units}
 use Rattle.migrator.specs.Migrating.{fill_units, move_units}
 use Rattle.migrator.proofs.Names.{left, left-within}
@@ -94,16 +94,16 @@ written-within d area = subst (λ (n : ℕ). count_by is_written (sectors_of d a
 
 -- what was spent until it is the turn of a name
 abbrev pub put_units : Map → Option (List ℕ) → Geometry → ℕ
-put_units m at g = (maps.len m - left (maps.keys m) at) * most_units g
+put_units m at g = (maps.len m - left (maps.keys m) at) * command_units g
 
-pub put-next : (m : Map) (at next : Option (List ℕ)) (g : Geometry) → left (maps.keys m) next < left (maps.keys m) at → put_units m at g + most_units g ≤ put_units m next g
+pub put-next : (m : Map) (at next : Option (List ℕ)) (g : Geometry) → left (maps.keys m) next < left (maps.keys m) at → put_units m at g + command_units g ≤ put_units m next g
 put-next m at next g fewer =
     let within = left-within m at in
     let more : maps.len m - left (maps.keys m) at < maps.len m - left (maps.keys m) next = omega arith in
-    row_fits (maps.len m - left (maps.keys m) at) (most_units g) (maps.len m - left (maps.keys m) next) (most_units g) more (omega arith)
+    row_fits (maps.len m - left (maps.keys m) at) (command_units g) (maps.len m - left (maps.keys m) next) (command_units g) more (omega arith)
 
-pub put-all : (m : Map) (at : Option (List ℕ)) (g : Geometry) → put_units m at g ≤ maps.len m * most_units g
-put-all m at g = mul-le (maps.len m - left (maps.keys m) at) (most_units g) (maps.len m) (most_units g) (omega arith) (omega arith)
+pub put-all : (m : Map) (at : Option (List ℕ)) (g : Geometry) → put_units m at g ≤ maps.len m * command_units g
+put-all m at g = mul-le (maps.len m - left (maps.keys m) at) (command_units g) (maps.len m) (command_units g) (omega arith) (omega arith)
 
 -- it was erased, whole or in part
 pub erased-most : {E : Type 0} (d e : Device) (area : Area) (result : Result (Unit {0}) E) → OnOk result (Spends d e (count_by is_written (sectors_of d area))) → OnErr result (SpendsAtMost d e (count_by is_written (sectors_of d area))) → SpendsAtMost d e area.sectors
@@ -127,13 +127,13 @@ pub opened-first : (a b : Device) (area : Area) (m : Map) → SpendsAtMost a b (
 opened-first a b area m spent = most_weaker a b (area.sectors + mount_units (geometry_of a area)) (fill_units (geometry_of a area) (maps.len m)) (omega arith) spent
 
 -- all settings were put
-pub filled-most : (a b e : Device) (area into : Area) (m copied : Map) → b.banks ≡ a.banks → into ≡ area → copied ≡ m → SpendsAtMost a b (area.sectors + mount_units (geometry_of a area)) → SpendsAtMost b e (maps.len copied * most_units (geometry_of b into))
+pub filled-most : (a b e : Device) (area into : Area) (m copied : Map) → b.banks ≡ a.banks → into ≡ area → copied ≡ m → SpendsAtMost a b (area.sectors + mount_units (geometry_of a area)) → SpendsAtMost b e (maps.len copied * command_units (geometry_of b into))
     → SpendsAtMost a e (fill_units (geometry_of a area) (maps.len m))
 filled-most a b e area into m copied banks same is first second =
     let g : geometry_of b into ≡ geometry_of a area = ap (geometry_of b) same ∙ units-still a b area banks in
-    let puts : SpendsAtMost b e (maps.len m * most_units (geometry_of a area)) =
-    subst (λ (x : Geometry). SpendsAtMost b e (maps.len m * most_units x)) g (subst (λ (x : Map). SpendsAtMost b e (maps.len x * most_units (geometry_of b into))) is second) in
-    most_then a b e (area.sectors + mount_units (geometry_of a area)) (maps.len m * most_units (geometry_of a area)) first puts
+    let puts : SpendsAtMost b e (maps.len m * command_units (geometry_of a area)) =
+    subst (λ (x : Geometry). SpendsAtMost b e (maps.len m * command_units x)) g (subst (λ (x : Map). SpendsAtMost b e (maps.len x * command_units (geometry_of b into))) is second) in
+    most_then a b e (area.sectors + mount_units (geometry_of a area)) (maps.len m * command_units (geometry_of a area)) first puts
 
 -- ---- an area that is filled, and then chosen
 

@@ -13,7 +13,7 @@ use Rattle.fcb_ring.specs.Standing.{is_up, ring_damage}
 use Rattle.fcb_ring.specs.declared.ring.Ring.{Ring}
 use Rattle.backend_api.specs.Map.{Map}
 use Rattle.flash_map.specs.On.{on, StandsOn}
-use Rattle.backend_api.specs.Room.{Room, most_units, mount_units}
+use Rattle.backend_api.specs.Room.{Room, command_units, mount_units}
 use Rattle.backend_api.specs.declared.backend.SetFault.{SetFault}
 use Rattle.backend_api.specs.declared.backend.SetFault.TheVariants.{NoSpace as NoPlace, TooManyNames as OneTooMany, PowerLost as CopyLost}
 use Rattle.flash_sim.specs.declared.flash.PowerLost.{PowerLost as Lost}
@@ -123,7 +123,7 @@ pub record IsMoved (damage : Area → Geometry → List (List ℕ) → Option Da
 -- The most units and erases of filling an area, whole or cut: it is erased and mounted, and so many settings
 -- are put into it.
 abbrev pub fill_units : Geometry → ℕ → ℕ
-fill_units geometry names = geometry.sectors + mount_units geometry + names * most_units geometry
+fill_units geometry names = geometry.sectors + mount_units geometry + names * command_units geometry
 
 -- The most units and erases of moving so many settings to an area, whole or cut: it is filled, and then
 -- chosen.

@@ -8,7 +8,7 @@ ghost use Rattle.flash_map.specs.Spending.{SpendsAtMost};
 ghost use Rattle.flash_map.specs.Touches.{Touches};
 ghost use Rattle.backend_api.specs.Ends.{set_lost, SetEndsOn};
 ghost use Rattle.backend_api.specs.Map.{IsStored, Map as settings_type};
-ghost use Rattle.backend_api.specs.Room.{most_units};
+ghost use Rattle.backend_api.specs.Room.{command_units};
 ghost use Rattle.flash_map.specs.On.{on, StandsOn};
 ghost use Rattle.migrator.specs.Copying.{AreTwoStores, CopyEnds, PutsInOrder};
 ghost use Rattle.migrator.specs.Migrating.{room_on};
@@ -81,7 +81,7 @@ fn copy_one<F: Flash, K: Backend, L: Ledger>(
         (value : List ℕ) → IsStored (on K.contents d (K.mounted_on from.now)) name.now value
         → SetEndsOn K.room K.contents d e (K.mounted_on to.old) name.now value result }
     ensures at_most { let d = F.device flash.old in
-        SpendsAtMost d (F.device flash.new) (most_units (geometry_of d (K.mounted_on to.old))) }
+        SpendsAtMost d (F.device flash.new) (command_units (geometry_of d (K.mounted_on to.old))) }
     ensures stands { set_lost result ≡ false
         → StandsOn K.mounted_on K.stands (F.device flash.new) to.new }
 {
@@ -111,7 +111,7 @@ pub(crate) fn copy_all<F: Flash, K: Backend, L: Ledger>(
     ensures at_most { let area = K.mounted_on to.old in let d = F.device flash.old in
         let settings = on K.contents d (K.mounted_on from.now) in
         SpendsAtMost d (F.device flash.new)
-        (finite.len settings * most_units (geometry_of d area)) }
+        (finite.len settings * command_units (geometry_of d area)) }
     ensures stands { set_lost result ≡ false
         → StandsOn K.mounted_on K.stands (F.device flash.new) to.new }
 {

@@ -1,4 +1,4 @@
-// The selector: a ring of records, the last of which that names a store area tells which one is
+// The selector: a ring of records, the last of which that names a store area says which one is
 // active.
 ghost use Rattle.std.specs.Prelude.{◌≡◌, ◌+◌, ◌<◌, ◌∷◌, [], List, true, false, is_err, None, Some, OnOk, OnErr};
 ghost use Rattle.std.specs.Option.{option_map, option_or, ForSome};

@@ -13,7 +13,7 @@ use Rattle.flash_map.specs.Spending.{Spends, SpendsAtMost}
 use Rattle.flash_map.proofs.SpendingLemmas.{spends_then}
 use Rattle.backend_api.specs.Ends.{SpendsSome}
 use Rattle.backend_api.specs.Map.{Map, IsStored}
-use Rattle.backend_api.specs.Room.{Room, most_units}
+use Rattle.backend_api.specs.Room.{Room, command_units}
 use Rattle.backend_api.proofs.LeastLemmas.{cmp}
 use Rattle.backend_api.proofs.MapLemmas.{insert-stored, ties_itself, ties_same}
 use Rattle.migrator.specs.Migrating.{room_on}
@@ -122,6 +122,6 @@ pub most-first : (d m : Device) (first second : ℕ) → SpendsAtMost d m first 
 most-first d m first second one = (one.0, (let a = one.1 in omega arith), one.2)
 
 -- each in its own area
-pub most-both-on : (d m e : Device) (t o : Area) → m.banks ≡ d.banks → SpendsAtMost d m (most_units (geometry_of d t)) → SpendsAtMost m e (most_units (geometry_of m o)) → SpendsAtMost d e (most_units (geometry_of d t) + most_units (geometry_of d o))
+pub most-both-on : (d m e : Device) (t o : Area) → m.banks ≡ d.banks → SpendsAtMost d m (command_units (geometry_of d t)) → SpendsAtMost m e (command_units (geometry_of m o)) → SpendsAtMost d e (command_units (geometry_of d t) + command_units (geometry_of d o))
 most-both-on d m e t o banks one two =
-    most_then d m e (most_units (geometry_of d t)) (most_units (geometry_of d o)) one (subst (λ (g : Geometry). SpendsAtMost m e (most_units g)) (geometry-same d m o banks) two)
+    most_then d m e (command_units (geometry_of d t)) (command_units (geometry_of d o)) one (subst (λ (g : Geometry). SpendsAtMost m e (command_units g)) (geometry-same d m o banks) two)

@@ -190,11 +190,11 @@ module _ (room : Room) (p : Prices) (is : IsRoomBy room p) (sectors limit : ℕ)
         let test : List ℕ → Bool = λ other. eqb (p.class other) (p.class one.name) in
         let here : one_for test (one.name, one.value) ≡ 1 = ap (λ (t : Bool). cond t 1 0) (same-class (p.class one.name)) in
         let part = before-total (one_for test) m one.name one.value one.stored in
-        let front = count-total test (before m (Some one.name)) in
+        let prefix = count-total test (before m (Some one.name)) in
         let all = count-total test m in
         let few = fits.few one.name (stored-key m one.name one.value one.stored) in
         let reached : p.most ≤ alike p (before m (Some one.name)) one.name = le-of p.most (alike p (before m (Some one.name)) one.name) full in
-        absurd (omega (arith, here, part, front, all, few, reached))
+        absurd (omega (arith, here, part, prefix, all, few, reached))
       where
         same-class : (c : ℕ) → eqb c c ≡ true
         same-class c = grind (arith, nat_tests)

@@ -5,7 +5,7 @@ use Rattle.flash_map.specs.declared.area.Role.{Role}
 use Rattle.flash_map.specs.declared.area.Role.TheVariants.{Nvs, Zms, Fcb, Sel}
 use Rattle.named_items.specs.NvsStore.{nvs_price, nvs_cap}
 use Rattle.named_items.specs.ZmsStore.{zms_price, zms_cap}
-use Rattle.backend_nvs.specs.Numbers.{nvs_counted}
+use Rattle.backend_nvs.specs.IdLayout.{nvs_counted}
 use Rattle.backend_zms.specs.Hash.{group_of}
 use Rattle.backend_zms.specs.declared.hash.TheConstants.{GROUP_SIZE}
 use Rattle.mirror.specs.Room.{Prices}

@@ -8,7 +8,7 @@ ghost use Rattle.flash_map.specs.Touches.{Touches};
 ghost use Rattle.backend_api.specs.Ends.{set_lost};
 ghost use Rattle.backend_api.specs.Map.{IsStored, next_name};
 ghost use Rattle.setting_name.specs.Name.{IsName};
-ghost use Rattle.backend_api.specs.Room.{most_units};
+ghost use Rattle.backend_api.specs.Room.{command_units};
 ghost use Rattle.mirror.specs.Mirrored.{HasRoom, IsMirror, LooksForBoth, MirrorDeletes, MirrorSets, SameSide, higher, lower};
 ghost use Rattle.mirror.specs.Room.{too_many_on};
 
@@ -132,8 +132,8 @@ impl<K: Priced> Mirror<K> {
             name.now value.now result }
         ensures at_most { let d = F.device flash.old in
             SpendsAtMost d (F.device flash.new)
-            (most_units (geometry_of d self.old.trusted.area)
-            + most_units (geometry_of d self.old.other.area)) }
+            (command_units (geometry_of d self.old.trusted.area)
+            + command_units (geometry_of d self.old.other.area)) }
         ensures mirrors { let e = F.device flash.new in
             set_lost result ≡ false
             → IsMirror K.mounted_on K.stands K.contents K.room K.prices e self.new.trusted
@@ -230,8 +230,8 @@ impl<K: Priced> Mirror<K> {
             name.now value.now result }
         ensures at_most { let d = F.device flash.old in
             SpendsAtMost d (F.device flash.new)
-            (most_units (geometry_of d self.old.trusted.area)
-            + most_units (geometry_of d self.old.other.area)) }
+            (command_units (geometry_of d self.old.trusted.area)
+            + command_units (geometry_of d self.old.other.area)) }
         ensures mirrors { let e = F.device flash.new in
             set_lost result ≡ false
             → IsMirror K.mounted_on K.stands K.contents K.room K.prices e self.new.trusted
@@ -271,8 +271,8 @@ impl<K: Priced> Mirror<K> {
             name.now result }
         ensures at_most { let d = F.device flash.old in
             SpendsAtMost d (F.device flash.new)
-            (most_units (geometry_of d self.old.trusted.area)
-            + most_units (geometry_of d self.old.other.area)) }
+            (command_units (geometry_of d self.old.trusted.area)
+            + command_units (geometry_of d self.old.other.area)) }
         ensures mirrors { let e = F.device flash.new in
             is_err result ≡ false
             → IsMirror K.mounted_on K.stands K.contents K.room K.prices e self.new.trusted

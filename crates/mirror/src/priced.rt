@@ -18,7 +18,7 @@ use flash_map::Area;
 use flash_sim::Flash;
 use setting_name::Name;
 
-/// A backend whose numbers of room can be told from the lengths of names and values, and which
+/// A backend whose numbers of room can be known from the lengths of names and values, and which
 /// never takes what a loss of power left for another record, on areas of the roles that may be
 /// mirrored.
 pub trait Priced: Backend {

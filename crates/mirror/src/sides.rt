@@ -6,7 +6,7 @@ ghost use Rattle.flash_map.specs.On.{on};
 ghost use Rattle.flash_map.specs.Spending.{SpendsAtMost};
 ghost use Rattle.flash_map.specs.Touches.{Touches};
 ghost use Rattle.backend_api.specs.Map.{IsAbsent, IsStored};
-ghost use Rattle.backend_api.specs.Room.{HasNoRoom, most_units};
+ghost use Rattle.backend_api.specs.Room.{HasNoRoom, command_units};
 ghost use Rattle.migrator.specs.Migrating.{room_on};
 ghost use Rattle.mirror.specs.Mirrored.{SameSide, SideCommand, SideStands};
 ghost use Rattle.mirror.specs.Room.{too_many_on};
@@ -52,7 +52,7 @@ pub(crate) fn put<K: Priced, F: Flash, L: Ledger>(
         SideCommand K.contents d (F.device flash.new) side.old.area
         (IsStored settings name.now value.now) (finite.insert settings name.now value.now) result }
     ensures at_most { let d = F.device flash.old in
-        SpendsAtMost d (F.device flash.new) (most_units (geometry_of d side.old.area)) }
+        SpendsAtMost d (F.device flash.new) (command_units (geometry_of d side.old.area)) }
     ensures sound { on K.damage (F.device flash.new) side.old.area ≡ None }
     ensures stands { is_err result ≡ false
         → SideStands K.mounted_on K.stands (F.device flash.new) side.new }
@@ -82,7 +82,7 @@ pub(crate) fn take<K: Priced, F: Flash, L: Ledger>(
         SideCommand K.contents d (F.device flash.new) side.old.area
         (IsAbsent settings name.now) (finite.remove settings name.now) result }
     ensures at_most { let d = F.device flash.old in
-        SpendsAtMost d (F.device flash.new) (most_units (geometry_of d side.old.area)) }
+        SpendsAtMost d (F.device flash.new) (command_units (geometry_of d side.old.area)) }
     ensures sound { on K.damage (F.device flash.new) side.old.area ≡ None }
     ensures stands { is_err result ≡ false
         → SideStands K.mounted_on K.stands (F.device flash.new) side.new }

@@ -7,13 +7,13 @@ use Rattle.script_lines.specs.Plan.{Replan, plan_by}
 use Rattle.script_lines.specs.Plan.Replan.{keeps}
 use Rattle.mirror_session.specs.declared.line.Line.{Line}
 use Rattle.mirror_session.specs.declared.answer.Answer.{Answer}
-use Rattle.mirror_session.specs.Plan.{as_told, units_of, is_lost, replan}
+use Rattle.mirror_session.specs.Plan.{as_plain, units_of, is_lost, replan}
 use Rattle.mirror_session.specs.LineDone.{Accounts, Keeps}
 
 spent_is : (spent spent' more : ℕ) → spent' ≡ counted spent more → spent + (spent' - spent) ≡ spent'
 spent_is spent spent' more is = omega arith
 
--- where the count is not at its end, it tells the units
+-- where the count is not at its end, it reports the units
 pub units_are : (spent spent' more : ℕ) → spent' ≡ counted spent more → spent' < 2 ^ 64 - 1 → more ≡ spent' - spent
 units_are spent spent' more is below = omega arith
 
@@ -41,7 +41,7 @@ kept areas line answer old new touches stays lasts units = record {
       let real : touches.units ≡ units_of answer = units_are old.spent new.spent touches.units touches.spent counts ∙ sym units in
       touches.ends.plan ∙ ap (lowered old.plan) real
       ∙ sym (ap (λ (b : Bool). cond b (dropped old.plan) (lowered old.plan (units_of answer))) lasts)
-      ∙ sym (ap (λ (n : Replan). plan_by n old.plan (as_told answer)) stays);
+      ∙ sym (ap (λ (n : Replan). plan_by n old.plan (as_plain answer)) stays);
   unplanned = λ free never. (touches.ends.plan ∙ ap (λ (plan : Plan). lowered plan touches.units) never, touches.ends.losses);
 }
 
@@ -56,6 +56,6 @@ lost areas line answer old new on touches stays is units =
       allows = λ counts.
           let real : touches.units ≡ units_of answer = units_are old.spent new.spent touches.units touches.spent counts ∙ sym units in
           subst (λ (b : Bool). MatchBool b (LostAfter old.plan (units_of answer)) (Lasts old.plan (units_of answer))) (sym is) (subst (λ (n : ℕ). LostAfter old.plan n) real cut.lost);
-      plan = λ counts. cut.plan ∙ sym (ap (λ (b : Bool). cond b (dropped old.plan) (lowered old.plan (units_of answer))) is) ∙ sym (ap (λ (n : Replan). plan_by n old.plan (as_told answer)) stays);
+      plan = λ counts. cut.plan ∙ sym (ap (λ (b : Bool). cond b (dropped old.plan) (lowered old.plan (units_of answer))) is) ∙ sym (ap (λ (n : Replan). plan_by n old.plan (as_plain answer)) stays);
       unplanned = λ free never. absurd (subst (λ (plan : Plan). LostAfter plan touches.units) never cut.lost);
     }

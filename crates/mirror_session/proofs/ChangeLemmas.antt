@@ -17,7 +17,7 @@ use Rattle.backend_api.specs.Commands.{all_applied}
 use Rattle.backend_api.specs.Commands.Command.{Put, Del as Delete}
 use Rattle.backend_api.specs.Ends.{SpendsSome}
 use Rattle.backend_api.specs.Map.{Map, IsStored, IsAbsent}
-use Rattle.backend_api.specs.Room.{most_units}
+use Rattle.backend_api.specs.Room.{command_units}
 use Rattle.backend_api.proofs.MapLemmas.{insert-stored, remove-absent}
 use Rattle.migrator.specs.Areas.{is_store_at}
 use Rattle.mirror.specs.Mirrored.{FindsNoRoom, IsFull}
@@ -167,13 +167,13 @@ module _ (m : Meanings) (serves : Area → Geometry → Type 0) (areas : List Ar
   ordered : (P : ℕ → ℕ → Type 0) → (here < there → P here there) → (there ≤ here → P there here) → P (lower_place areas) (higher_place areas)
   ordered P up down = in_order serves areas old map P here there here_stores there_stores apart (order_cases P here there up down)
 
-  pub most_is : (n last : ℕ) → n ≤ most_units (geometry_of old area) + most_units (geometry_of old other) → n ≤ (rules_of m areas old.banks last).most
+  pub most_is : (n last : ℕ) → n ≤ command_units (geometry_of old area) + command_units (geometry_of old other) → n ≤ (rules_of m areas old.banks last).most
   most_is n last few = ordered (λ x y. n ≤ most_at areas old.banks x + most_at areas old.banks y) (λ below. both) (λ past. turned)
     where
       both : n ≤ most_at areas old.banks here + most_at areas old.banks there
       both =
-          subst (λ (a : Area). n ≤ most_units (geometry_in old.banks a) + most_at areas old.banks there) (sym at_here)
-          (subst (λ (a : Area). n ≤ most_units (geometry_in old.banks area) + most_units (geometry_in old.banks a)) (sym at_there) few)
+          subst (λ (a : Area). n ≤ command_units (geometry_in old.banks a) + most_at areas old.banks there) (sym at_here)
+          (subst (λ (a : Area). n ≤ command_units (geometry_in old.banks area) + command_units (geometry_in old.banks a)) (sym at_there) few)
 
       turned : n ≤ most_at areas old.banks there + most_at areas old.banks here
       turned = omega (arith, both)

@@ -15,7 +15,7 @@ use Rattle.flash_map.specs.Touches.{Touches}
 use Rattle.backend_api.specs.Commands.{Command, applied, all_applied}
 use Rattle.backend_api.specs.Commands.Command.{Put, Del as Delete}
 use Rattle.backend_api.specs.Map.{Map}
-use Rattle.backend_api.specs.Room.{most_units}
+use Rattle.backend_api.specs.Room.{command_units}
 use Rattle.backend_api.specs.declared.backend.SetFault.{SetFault}
 use Rattle.backend_api.specs.declared.backend.SetFault.TheVariants.{NoSpace, TooManyNames, PowerLost}
 use Rattle.migrator.specs.Active.{active_on, selector_damage_on}
@@ -32,7 +32,7 @@ use Rattle.session_table.specs.Bench.{area_at}
 use Rattle.mirror_session.specs.declared.line.Line.{Line}
 use Rattle.mirror_session.specs.declared.line.Line.TheVariants.{Set, Del}
 use Rattle.mirror_session.specs.declared.answer.Answer.{Answer}
-use Rattle.mirror_session.specs.declared.answer.Answer.TheVariants.{Told}
+use Rattle.mirror_session.specs.declared.answer.Answer.TheVariants.{Plain}
 use Rattle.mirror_session.specs.Answer.{done, lost}
 use Rattle.mirror_session.specs.Plan.{units_of, is_lost, replan}
 use Rattle.mirror_session.specs.Bench.{Meanings, beside_in, is_gone, moment, rules_of, state_of}
@@ -304,11 +304,11 @@ module _ {S : Type 0} (mounted_on : S → Area) (stands : S → Geometry → Lis
 
   -- ---- setting
 
-  module _ (name value : List ℕ) (some : 0 < length value) (most : SpendsAtMost old new (most_units (geometry_of old mirror.trusted.area) + most_units (geometry_of old mirror.other.area))) (units : ℕ) (units_are : units ≡ new.spent - old.spent) where
+  module _ (name value : List ℕ) (some : 0 < length value) (most : SpendsAtMost old new (command_units (geometry_of old mirror.trusted.area) + command_units (geometry_of old mirror.other.area))) (units : ℕ) (units_are : units ≡ new.spent - old.spent) where
     within_most : (last : ℕ) → new.spent - old.spent ≤ (rules_of m areas old.banks last).most
     within_most last =
         most_is m serves areas old map mirror.trusted.place mirror.other.place mirror.trusted.area mirror.other.area held.trusted.there held.other.there (at_here mounted_on stands m serves areas old mirror map held) (at_there mounted_on stands m serves areas old mirror map held)
-        (differs mounted_on stands m serves areas old mirror map held) (new.spent - old.spent) last (most_spent old new (most_units (geometry_of old mirror.trusted.area) + most_units (geometry_of old mirror.other.area)) most)
+        (differs mounted_on stands m serves areas old mirror map held) (new.spent - old.spent) last (most_spent old new (command_units (geometry_of old mirror.trusted.area) + command_units (geometry_of old mirror.other.area)) most)
 
     -- for the line as it is written, and the state as it is read
     seen : (last : ℕ) (answer : ℕ → settings_answer) → Changes (rules_of m areas old.banks last) (Put name value) (answer (new.spent - old.spent)) was (state_of m areas (moment new true))
@@ -344,9 +344,9 @@ module _ {S : Type 0} (mounted_on : S → Area) (stands : S → Geometry → Lis
           (free_by last end.0.few) (room_by last end.0) (within_most last) (end.1.settings.trusted_has ∙ sym (set_after before name value)) (end.1.settings.other_has ∙ sym (set_after before name value))) in
           (λ needs. both.0, both.1))
 
-      pub set_many : result ≡ Err TooManyNames → Touches (mirror.trusted.area ∷ mirror.other.area ∷ []) old new false → LineDone m areas (Set name value) (Told (settings.TooMany units)) (moment old true) (moment new true)
+      pub set_many : result ≡ Err TooManyNames → Touches (mirror.trusted.area ∷ mirror.other.area ∷ []) old new false → LineDone m areas (Set name value) (Plain (settings.TooMany units)) (moment old true) (moment new true)
       set_many is touches = let end = ended (Err TooManyNames) is in
-          whole touches (Set name value) (Told (settings.TooMany units)) refl refl refl refl refl refl tt (λ shown. subst (λ (d : Device). damage_shown m.damage areas d ≡ None) (sym end.1) shown) (same_fits touches end.1) (same_both touches end.1) units_are tt tt tt
+          whole touches (Set name value) (Plain (settings.TooMany units)) refl refl refl refl refl refl tt (λ shown. subst (λ (d : Device). damage_shown m.damage areas d ≡ None) (sym end.1) shown) (same_fits touches end.1) (same_both touches end.1) units_are tt tt tt
           (λ last within.
           let both = seen last (λ n. settings.TooMany n) (
             none_spent old new end.1,
@@ -356,9 +356,9 @@ module _ {S : Type 0} (mounted_on : S → Area) (stands : S → Geometry → Lis
           ) in
           (λ needs. both.0, both.1))
 
-      pub set_full : (need live : ℕ) → result ≡ Err (NoSpace need live) → Touches (mirror.trusted.area ∷ mirror.other.area ∷ []) old new false → LineDone m areas (Set name value) (Told (settings.NoSpace units need live)) (moment old true) (moment new true)
+      pub set_full : (need live : ℕ) → result ≡ Err (NoSpace need live) → Touches (mirror.trusted.area ∷ mirror.other.area ∷ []) old new false → LineDone m areas (Set name value) (Plain (settings.NoSpace units need live)) (moment old true) (moment new true)
       set_full need live is touches = let end = ended (Err (NoSpace need live)) is in
-          whole touches (Set name value) (Told (settings.NoSpace units need live)) refl refl refl refl refl refl tt (λ shown. subst (λ (d : Device). damage_shown m.damage areas d ≡ None) (sym end.2) shown) (same_fits touches end.2) (same_both touches end.2) units_are tt tt tt
+          whole touches (Set name value) (Plain (settings.NoSpace units need live)) refl refl refl refl refl refl tt (λ shown. subst (λ (d : Device). damage_shown m.damage areas d ≡ None) (sym end.2) shown) (same_fits touches end.2) (same_both touches end.2) units_are tt tt tt
           (λ last within.
           let both = seen last (λ n. settings.NoSpace n need live) (
             none_spent old new end.2,
@@ -386,12 +386,12 @@ module _ {S : Type 0} (mounted_on : S → Area) (stands : S → Geometry → Lis
 
   -- ---- deleting
 
-  module _ (name : List ℕ) (most : SpendsAtMost old new (most_units (geometry_of old mirror.trusted.area) + most_units (geometry_of old mirror.other.area))) (units : ℕ) (units_are : units ≡ new.spent - old.spent)
+  module _ (name : List ℕ) (most : SpendsAtMost old new (command_units (geometry_of old mirror.trusted.area) + command_units (geometry_of old mirror.other.area))) (units : ℕ) (units_are : units ≡ new.spent - old.spent)
       {T : Type 0} (result : Result T Lost) (ends : MirrorDeletes m.damage m.contents m.room m.prices old new mirror.trusted mirror.other name result) where
     delete_within : (last : ℕ) → new.spent - old.spent ≤ (rules_of m areas old.banks last).most
     delete_within last =
         most_is m serves areas old map mirror.trusted.place mirror.other.place mirror.trusted.area mirror.other.area held.trusted.there held.other.there (at_here mounted_on stands m serves areas old mirror map held) (at_there mounted_on stands m serves areas old mirror map held)
-        (differs mounted_on stands m serves areas old mirror map held) (new.spent - old.spent) last (most_spent old new (most_units (geometry_of old mirror.trusted.area) + most_units (geometry_of old mirror.other.area)) most)
+        (differs mounted_on stands m serves areas old mirror map held) (new.spent - old.spent) last (most_spent old new (command_units (geometry_of old mirror.trusted.area) + command_units (geometry_of old mirror.other.area)) most)
 
     delete_ended : (x : Result T Lost) → result ≡ x → MirrorDeletes m.damage m.contents m.room m.prices old new mirror.trusted mirror.other name x
     delete_ended x is = subst (λ (y : Result T Lost). MirrorDeletes m.damage m.contents m.room m.prices old new mirror.trusted mirror.other name y) is ends

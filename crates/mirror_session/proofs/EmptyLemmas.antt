@@ -8,7 +8,7 @@ use Rattle.settings_core.specs.Carrying.{command_of}
 use Rattle.script_lines.specs.declared.answer.Answer.TheVariants as settings
 use Rattle.mirror_session.specs.declared.line.Line.TheVariants.{Set, Del}
 use Rattle.mirror_session.specs.declared.answer.Answer.{Answer}
-use Rattle.mirror_session.specs.declared.answer.Answer.TheVariants.{Told}
+use Rattle.mirror_session.specs.declared.answer.Answer.TheVariants.{Plain}
 use Rattle.mirror_session.specs.Bench.{Meanings, Moment, rules_of, state_of}
 use Rattle.mirror_session.specs.LineDone.{Cuts, CutsBoth, LineDone}
 use Rattle.mirror_session.specs.State.{Rules, State}
@@ -16,12 +16,12 @@ use Rattle.mirror_session.specs.Step.{Changes, Step}
 
 module _ (m : Meanings) (areas : List Area) (name value : List ℕ) (is_delete : command_of name value ≡ Delete name) where
   as_set_step : (r : Rules) (answer : Answer) (old new : State) → Step r (Del name) answer old new → Step r (Set name value) answer old new
-  as_set_step r (Told settings.Off) old new is = is
-  as_set_step r (Told answer) old new is = (is.0, subst (λ (c : Command). Changes r c answer old new) (sym is_delete) is.1)
+  as_set_step r (Plain settings.Off) old new is = is
+  as_set_step r (Plain answer) old new is = (is.0, subst (λ (c : Command). Changes r c answer old new) (sym is_delete) is.1)
   as_set_step r answer old new none = absurd none
 
   as_set_cuts : (answer : Answer) (old new : Device) → Cuts m areas (Del name) answer old new → Cuts m areas (Set name value) answer old new
-  as_set_cuts (Told (settings.Lost units chance)) old new is = subst (λ (c : Command). CutsBoth m areas c old new) (sym is_delete) is
+  as_set_cuts (Plain (settings.Lost units chance)) old new is = subst (λ (c : Command). CutsBoth m areas c old new) (sym is_delete) is
   as_set_cuts answer old new is = tt
 
   pub as_set_line : (answer : Answer) (old new : Moment) → LineDone m areas (Del name) answer old new → LineDone m areas (Set name value) answer old new

@@ -34,7 +34,7 @@ module _ (m : Meanings) (areas : List Area) where
   pub one_more : (lines : List Line) (i : ℕ) (line : Line) (answers : List Answer) (answer : Answer) (first mid new : Device) (was whole : Bool) → i < length lines → line ≡ get_or lines i line
       → RanTo lines i answers first mid was → LineDone m areas line answer (moment mid was) (moment new whole) → RanTo lines (i + 1) (answers ++ answer ∷ []) first new whole
   one_more lines i line answers answer first mid new was whole below is so_far done =
-      subst (λ (front : List Line). Follows (LineDone m areas) (Mount ∷ front) (answers ++ answer ∷ []) (moment first false) (moment new whole)) (sym (lines_on lines i line below is))
+      subst (λ (prefix : List Line). Follows (LineDone m areas) (Mount ∷ prefix) (answers ++ answer ∷ []) (moment first false) (moment new whole)) (sym (lines_on lines i line below is))
       (last (LineDone m areas) (Mount ∷ take i lines) line answers answer (moment first false) (moment mid was) (moment new whole) so_far done)
 
   pub ran : (rests : Area → Geometry → List (List ℕ) → Type 0) (lines : List Line) (i : ℕ) (answers : List Answer) (first now : Device) (whole : Bool) → length lines ≤ i → RanTo lines i answers first now whole → RestsNow rests m areas (moment now whole)
@@ -42,7 +42,7 @@ module _ (m : Meanings) (areas : List Area) where
   ran rests lines i answers first now whole all so_far still = (
     whole,
     runs_of m areas (Mount ∷ lines) answers (moment first false) (moment now whole)
-        (subst (λ (front : List Line). Follows (LineDone m areas) (Mount ∷ front) answers (moment first false) (moment now whole)) (take_all i lines all) so_far),
+        (subst (λ (prefix : List Line). Follows (LineDone m areas) (Mount ∷ prefix) answers (moment first false) (moment now whole)) (take_all i lines all) so_far),
     still,
   )
 

@@ -20,4 +20,4 @@ mod SideLemmas
 pub mod SoundLemmas
 mod TableFacts
 mod TableLaws
-mod TellLemmas
+mod ReportLemmas

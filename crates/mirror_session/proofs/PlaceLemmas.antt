@@ -39,7 +39,7 @@ store_at areas place area there stores = ap (λ (o : Option Area). option_map_or
 pub store_is : (areas : List Area) (place : ℕ) (area : Area) → slice_get areas place ≡ Some area → is_store_at areas place ≡ true → is_store area ≡ true
 store_is areas place area there stores = sym (ap (λ (o : Option Area). option_map_or is_store o false) there) ∙ stores
 
--- which of two places is read is told by what is gone
+-- which of two places is read follows from what is gone
 pub trusted_of_is : (areas : List Area) (d : Device) → trusted_on areas d ≡ cond (is_gone areas d) (beside_in areas (active_on areas d)) (active_on areas d)
 trusted_of_is areas d = by (target areas (active_on areas d))
   where

@@ -10,12 +10,12 @@ use Rattle.session_table.proofs.FollowsLemmas.{kept, seen, then}
 use Rattle.mirror_session.specs.declared.line.Line.{Line}
 use Rattle.mirror_session.specs.declared.line.Line.TheVariants.{Set, Get, Del, Names, Mount, Cut, Uncut, Blank}
 use Rattle.mirror_session.specs.declared.answer.Answer.{Answer}
-use Rattle.mirror_session.specs.declared.answer.Answer.TheVariants.{Told, On, NoArea, NotYet}
+use Rattle.mirror_session.specs.declared.answer.Answer.TheVariants.{Plain, On, NoArea, NotYet}
 use Rattle.mirror_session.specs.Plan.{is_lost}
 use Rattle.mirror_session.specs.History.{IsMirrored, PowerStep}
 use Rattle.mirror_session.specs.Laws.{KeepsNamed, LosesPower, RunsInRow, StaysMirrored}
 use Rattle.mirror_session.specs.State.{State, Rules}
-use Rattle.mirror_session.specs.Step.{Arms, Blanks, Changes, Gets, Mounts, Step, Tells, TellsAll}
+use Rattle.mirror_session.specs.Step.{Arms, Blanks, Changes, Gets, Mounts, Step, Reports, ReportsAll}
 
 -- power stays but for a loss
 abbrev StaysOn : Answer → State → State → Type 0
@@ -25,28 +25,28 @@ power : (old new : State) → new ≡ old → new.is_on ≡ old.is_on
 power old new same = ap (λ (s : State). s.is_on) same
 
 module _ (r : Rules) where
-  change_power : (command : Command) (answer : settings_answer) (old new : State) → Changes r command answer old new → StaysOn (Told answer) old new
+  change_power : (command : Command) (answer : settings_answer) (old new : State) → Changes r command answer old new → StaysOn (Plain answer) old new
   change_power command (settings.Done units) old new is = ap (λ (s : State). s.is_on) is.state
   change_power command (settings.TooMany units) old new is = power old new is.2
   change_power command (settings.NoSpace units need live) old new is = power old new is.2
   change_power command (settings.Lost units false) old new is = ap (λ (s : State). s.is_on) is.state
   change_power command answer old new none = absurd none
 
-  get_power : (name : List ℕ) (answer : settings_answer) (old new : State) → Gets name answer old new → StaysOn (Told answer) old new
+  get_power : (name : List ℕ) (answer : settings_answer) (old new : State) → Gets name answer old new → StaysOn (Plain answer) old new
   get_power name (settings.Value value) old new is = power old new is.1
   get_power name settings.Absent old new is = power old new is.1
   get_power name answer old new none = absurd none
 
-  names_power : (answer : settings_answer) (old new : State) → TellsAll r answer old new → StaysOn (Told answer) old new
+  names_power : (answer : settings_answer) (old new : State) → ReportsAll r answer old new → StaysOn (Plain answer) old new
   names_power (settings.Names active pairs) old new is = power old new is.2
   names_power answer old new none = absurd none
 
-  mount_power : (answer : settings_answer) (old new : State) → Mounts r answer old new → new.is_on ≡ cond (is_lost (Told answer)) false true
+  mount_power : (answer : settings_answer) (old new : State) → Mounts r answer old new → new.is_on ≡ cond (is_lost (Plain answer)) false true
   mount_power (settings.Done units) old new is = ap (λ (s : State). s.is_on) is
   mount_power (settings.Lost units false) old new is = is.off
   mount_power answer old new none = absurd none
 
-  arm_power : (answer : settings_answer) (old new : State) → Arms answer old new → StaysOn (Told answer) old new
+  arm_power : (answer : settings_answer) (old new : State) → Arms answer old new → StaysOn (Plain answer) old new
   arm_power (settings.Done units) old new is = power old new is.1
   arm_power answer old new none = absurd none
 
@@ -54,10 +54,10 @@ module _ (r : Rules) where
   blank_power label On old new is = power old new is.1
   blank_power label NoArea old new is = power old new is.2
   blank_power label NotYet old new is = power old new is.3
-  blank_power label (Told (settings.Done units)) old new is = ap (λ (s : State). s.is_on) is.3.2
+  blank_power label (Plain (settings.Done units)) old new is = ap (λ (s : State). s.is_on) is.3.2
   blank_power label answer old new none = absurd none
 
-  line_power : (line : Line) (answer : settings_answer) (old new : State) → Tells r line answer old new → PowerStep line (Told answer) old.is_on new.is_on
+  line_power : (line : Line) (answer : settings_answer) (old new : State) → Reports r line answer old new → PowerStep line (Plain answer) old.is_on new.is_on
   line_power (Set name value) answer old new is = change_power (command_of name value) answer old new is
   line_power (Del name) answer old new is = change_power (Delete name) answer old new is
   line_power (Get name) answer old new is = get_power name answer old new is
@@ -65,12 +65,12 @@ module _ (r : Rules) where
   line_power Mount answer old new is = mount_power answer old new is
   line_power (Cut units) answer old new is = arm_power answer old new is
   line_power Uncut answer old new is = arm_power answer old new is
-  line_power (Blank label) answer old new is = blank_power label (Told answer) old new is
+  line_power (Blank label) answer old new is = blank_power label (Plain answer) old new is
 
   step_power : (line : Line) (answer : Answer) (old new : State) → Step r line answer old new → PowerStep line answer old.is_on new.is_on
-  step_power Mount (Told settings.Off) old new is = absurd (false≢true is.0)
-  step_power line (Told settings.Off) old new is = power old new is.2
-  step_power line (Told answer) old new is = line_power line answer old new is.1
+  step_power Mount (Plain settings.Off) old new is = absurd (false≢true is.0)
+  step_power line (Plain settings.Off) old new is = power old new is.2
+  step_power line (Plain answer) old new is = line_power line answer old new is.1
   step_power (Blank label) answer old new is = blank_power label answer old new is
   step_power line answer old new none = absurd none
 
@@ -94,7 +94,7 @@ module _ (r : Rules) where
   get_mirrored name settings.Absent old new was is = same_mirrored old new is.1 was
   get_mirrored name answer old new was none = absurd none
 
-  names_mirrored : (answer : settings_answer) (old new : State) → IsMirrored old → TellsAll r answer old new → IsMirrored new
+  names_mirrored : (answer : settings_answer) (old new : State) → IsMirrored old → ReportsAll r answer old new → IsMirrored new
   names_mirrored (settings.Names active pairs) old new was is = same_mirrored old new is.2 was
   names_mirrored answer old new was none = absurd none
 
@@ -111,10 +111,10 @@ module _ (r : Rules) where
   blank_mirrored label On old new was is = same_mirrored old new is.1 was
   blank_mirrored label NoArea old new was is = same_mirrored old new is.2 was
   blank_mirrored label NotYet old new was is = same_mirrored old new is.3 was
-  blank_mirrored label (Told (settings.Done units)) old new was is = off_mirrored new (ap (λ (s : State). s.is_on) is.3.2 ∙ is.1)
+  blank_mirrored label (Plain (settings.Done units)) old new was is = off_mirrored new (ap (λ (s : State). s.is_on) is.3.2 ∙ is.1)
   blank_mirrored label answer old new was none = absurd none
 
-  line_mirrored : (line : Line) (answer : settings_answer) (old new : State) → IsMirrored old → Tells r line answer old new → IsMirrored new
+  line_mirrored : (line : Line) (answer : settings_answer) (old new : State) → IsMirrored old → Reports r line answer old new → IsMirrored new
   line_mirrored (Set name value) answer old new was is = change_mirrored (command_of name value) answer old new was is
   line_mirrored (Del name) answer old new was is = change_mirrored (Delete name) answer old new was is
   line_mirrored (Get name) answer old new was is = get_mirrored name answer old new was is
@@ -122,11 +122,11 @@ module _ (r : Rules) where
   line_mirrored Mount answer old new was is = mount_mirrored answer old new is
   line_mirrored (Cut units) answer old new was is = arm_mirrored answer old new was is
   line_mirrored Uncut answer old new was is = arm_mirrored answer old new was is
-  line_mirrored (Blank label) answer old new was is = blank_mirrored label (Told answer) old new was is
+  line_mirrored (Blank label) answer old new was is = blank_mirrored label (Plain answer) old new was is
 
   pub step_mirrored : (line : Line) (answer : Answer) (old new : State) → Step r line answer old new → IsMirrored old → IsMirrored new
-  step_mirrored line (Told settings.Off) old new is was = same_mirrored old new is.2 was
-  step_mirrored line (Told answer) old new is was = line_mirrored line answer old new was is.1
+  step_mirrored line (Plain settings.Off) old new is was = same_mirrored old new is.2 was
+  step_mirrored line (Plain answer) old new is was = line_mirrored line answer old new was is.1
   step_mirrored (Blank label) answer old new is was = blank_mirrored label answer old new was is
   step_mirrored line answer old new none was = absurd none
 
@@ -152,7 +152,7 @@ module _ (r : Rules) where
   get_named name settings.Absent old new is = same_named (Get name) old new is.1
   get_named name answer old new none = absurd none
 
-  names_named : (answer : settings_answer) (old new : State) → TellsAll r answer old new → IsNamed r Names old new
+  names_named : (answer : settings_answer) (old new : State) → ReportsAll r answer old new → IsNamed r Names old new
   names_named (settings.Names active pairs) old new is = same_named Names old new is.2
   names_named answer old new none = absurd none
 
@@ -176,10 +176,10 @@ module _ (r : Rules) where
   blank_named label On old new is = same_named (Blank label) old new is.1
   blank_named label NoArea old new is = same_named (Blank label) old new is.2
   blank_named label NotYet old new is = same_named (Blank label) old new is.3
-  blank_named label (Told (settings.Done units)) old new is = inl (ap (λ (s : State). s.named) is.3.2)
+  blank_named label (Plain (settings.Done units)) old new is = inl (ap (λ (s : State). s.named) is.3.2)
   blank_named label answer old new none = absurd none
 
-  line_named : (line : Line) (answer : settings_answer) (old new : State) → Tells r line answer old new → IsNamed r line old new
+  line_named : (line : Line) (answer : settings_answer) (old new : State) → Reports r line answer old new → IsNamed r line old new
   line_named (Set name value) answer old new is = change_named (Set name value) (command_of name value) answer old new is
   line_named (Del name) answer old new is = change_named (Del name) (Delete name) answer old new is
   line_named (Get name) answer old new is = get_named name answer old new is
@@ -187,11 +187,11 @@ module _ (r : Rules) where
   line_named Mount answer old new is = mount_named answer old new is
   line_named (Cut units) answer old new is = arm_named (Cut units) answer old new is
   line_named Uncut answer old new is = arm_named Uncut answer old new is
-  line_named (Blank label) answer old new is = blank_named label (Told answer) old new is
+  line_named (Blank label) answer old new is = blank_named label (Plain answer) old new is
 
   step_named : (line : Line) (answer : Answer) (old new : State) → Step r line answer old new → IsNamed r line old new
-  step_named line (Told settings.Off) old new is = same_named line old new is.2
-  step_named line (Told answer) old new is = line_named line answer old new is.1
+  step_named line (Plain settings.Off) old new is = same_named line old new is.2
+  step_named line (Plain answer) old new is = line_named line answer old new is.1
   step_named (Blank label) answer old new is = blank_named label answer old new is
   step_named line answer old new none = absurd none
 

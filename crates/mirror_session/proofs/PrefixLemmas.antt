@@ -14,12 +14,12 @@ use Rattle.session_table.specs.Prefix.{Stand}
 use Rattle.mirror_session.specs.declared.line.Line.{Line}
 use Rattle.mirror_session.specs.declared.line.Line.TheVariants.{Set, Get, Del, Names, Mount, Cut, Uncut, Blank}
 use Rattle.mirror_session.specs.declared.answer.Answer.{Answer}
-use Rattle.mirror_session.specs.declared.answer.Answer.TheVariants.{Told, On, NoArea, NotYet}
-use Rattle.mirror_session.specs.Plan.{as_told}
+use Rattle.mirror_session.specs.declared.answer.Answer.TheVariants.{Plain, On, NoArea, NotYet}
+use Rattle.mirror_session.specs.Plan.{as_plain}
 use Rattle.mirror_session.specs.History.{IsAfterPrefix, IsMirrored, LogStep}
 use Rattle.mirror_session.specs.Laws.{HoldsAcknowledged}
 use Rattle.mirror_session.specs.State.{State, Rules, IsOn, IsOff, trusted_of}
-use Rattle.mirror_session.specs.Step.{Arms, Blanks, Changes, Gets, HasOrNot, Mounts, Step, StopsMounting, Tells, TellsAll, changing, commands_of}
+use Rattle.mirror_session.specs.Step.{Arms, Blanks, Changes, Gets, HasOrNot, Mounts, Step, StopsMounting, Reports, ReportsAll, changing, commands_of}
 use Rattle.mirror_session.proofs.PowerLemmas.{off_mirrored, step_mirrored}
 
 pub none_applied : (m : Map) → all_applied m [] ≡ m
@@ -30,9 +30,9 @@ pub one_applied : (m : Map) (c : Command) → all_applied m (c ∷ []) ≡ appli
 unfolding all_applied
 one_applied m c = refl
 
-both_applied : (m : Map) (front back : List Command) → all_applied m (front ++ back) ≡ all_applied (all_applied m front) back
+both_applied : (m : Map) (prefix back : List Command) → all_applied m (prefix ++ back) ≡ all_applied (all_applied m prefix) back
 unfolding all_applied
-both_applied m front back = fold-append applied m front back
+both_applied m prefix back = fold-append applied m prefix back
 
 on_or_off : {A : Type 0} (b : Bool) → b ≡ true → b ≡ false → A
 on_or_off b on off = absurd (false≢true (sym off ∙ on))
@@ -53,7 +53,7 @@ module _ (r : Rules) (start : Map) where
     pub before : List Command
     pub is : IsOneOf old first second before
     pub done : List Command
-    pub stand : Stand (as_told answer) (commands_of line old.settings) done
+    pub stand : Stand (as_plain answer) (commands_of line old.settings) done
     pub more : log ≡ before ++ done
     pub reads : IsOn new → new.settings ≡ all_applied start log
 
@@ -65,7 +65,7 @@ module _ (r : Rules) (start : Map) where
 
   module _ (old : State) (first second : List Command) (was : Holds old first second) where
     -- the state stays
-    still : (line : Line) (answer : Answer) (new : State) → new ≡ old → Stand (as_told answer) (commands_of line old.settings) []
+    still : (line : Line) (answer : Answer) (new : State) → new ≡ old → Stand (as_plain answer) (commands_of line old.settings) []
         → Goes line answer old new first second
     still line answer new same stand = record {
       one = first;
@@ -86,7 +86,7 @@ module _ (r : Rules) (start : Map) where
         read_log log (inr is) on = on_or_off new.is_on on is.1
 
     -- some commands were carried out in the trusted area, and some in the other one
-    goes_by : (line : Line) (answer : Answer) (new : State) (here there : List Command) → Stand (as_told answer) (commands_of line old.settings) here → Stand (as_told answer) (commands_of line old.settings) there
+    goes_by : (line : Line) (answer : Answer) (new : State) (here there : List Command) → Stand (as_plain answer) (commands_of line old.settings) here → Stand (as_plain answer) (commands_of line old.settings) there
         → new.settings ≡ all_applied old.settings here → (new.is_whole ≡ true → new.other ≡ all_applied old.settings there) → (IsOn new → there ≡ here) → Goes line answer old new first second
     goes_by line answer new here there stand also is other on = record {
       one = first ++ here;
@@ -110,13 +110,13 @@ module _ (r : Rules) (start : Map) where
         come log (inr same) = record { before = first; is = inl refl; done = there; stand = also; more = same.0; reads = λ now. on_or_off new.is_on now same.1 }
 
     -- no command, and the settings stay
-    stays : (line : Line) (answer : Answer) (new : State) → Stand (as_told answer) (commands_of line old.settings) [] → new.settings ≡ old.settings → (new.is_whole ≡ true → new.other ≡ old.settings)
+    stays : (line : Line) (answer : Answer) (new : State) → Stand (as_plain answer) (commands_of line old.settings) [] → new.settings ≡ old.settings → (new.is_whole ≡ true → new.other ≡ old.settings)
         → Goes line answer old new first second
     stays line answer new stand is other =
         goes_by line answer new [] [] stand stand (is ∙ sym (none_applied old.settings)) (λ whole. other whole ∙ sym (none_applied old.settings)) (λ now. refl)
 
     -- the trusted area was replaced
-    moved : (line : Line) (answer : Answer) (new : State) → Stand (as_told answer) (commands_of line old.settings) [] → IsOff old → old.is_whole ≡ true → new.is_whole ≡ false → new.settings ≡ old.other
+    moved : (line : Line) (answer : Answer) (new : State) → Stand (as_plain answer) (commands_of line old.settings) [] → IsOff old → old.is_whole ≡ true → new.is_whole ≡ false → new.settings ≡ old.other
         → Goes line answer old new first second
     moved line answer new stand off whole not is = record {
       one = second;
@@ -145,9 +145,9 @@ module _ (r : Rules) (start : Map) where
       stands_none units = record { rest = commands_of line old.settings; are = refl }
 
       lost : (units : ℕ) (new : State) → is_idle old.settings command ≡ false → new.is_on ≡ false → HasOrNot command old.settings new.settings → HasOrNot command old.settings new.other
-          → Goes line (Told (settings.Lost units false)) old new first second
+          → Goes line (Plain (settings.Lost units false)) old new first second
       lost units new busy off here there = let one = parted here in let two = parted there in
-          goes_by line (Told (settings.Lost units false)) new one.0 two.0 one.1 two.1 one.2 (λ whole. two.2) (λ now. on_or_off new.is_on now off)
+          goes_by line (Plain (settings.Lost units false)) new one.0 two.0 one.1 two.1 one.2 (λ whole. two.2) (λ now. on_or_off new.is_on now off)
         where
           parted : {after : Map} → HasOrNot command old.settings after
               → (done : List Command) × Stand (settings.Lost units false) (commands_of line old.settings) done × (after ≡ all_applied old.settings done)
@@ -158,64 +158,64 @@ module _ (r : Rules) (start : Map) where
       has_or (inl none) = inl none
       has_or (inr some) = inr some.0
 
-      changes : (answer : settings_answer) (new : State) → Changes r command answer old new → Goes line (Told answer) old new first second
+      changes : (answer : settings_answer) (new : State) → Changes r command answer old new → Goes line (Plain answer) old new first second
       changes (settings.Done units) new is =
-          goes_by line (Told (settings.Done units)) new (changing old.settings command) (changing old.settings command) (sym are) (sym are) (ap (λ (s : State). s.settings) is.state) (λ whole. ap (λ (s : State). s.other) is.state) (λ now. refl)
-      changes (settings.TooMany units) new is = still line (Told (settings.TooMany units)) new is.2 refl
-      changes (settings.NoSpace units need live) new is = still line (Told (settings.NoSpace units need live)) new is.2 refl
+          goes_by line (Plain (settings.Done units)) new (changing old.settings command) (changing old.settings command) (sym are) (sym are) (ap (λ (s : State). s.settings) is.state) (λ whole. ap (λ (s : State). s.other) is.state) (λ now. refl)
+      changes (settings.TooMany units) new is = still line (Plain (settings.TooMany units)) new is.2 refl
+      changes (settings.NoSpace units need live) new is = still line (Plain (settings.NoSpace units need live)) new is.2 refl
       changes (settings.Lost units false) new is = lost units new is.changes (ap (λ (s : State). s.is_on) is.state) is.here (has_or is.there)
       changes answer new none = absurd none
 
     -- ---- the other lines
 
-    gets : (name : List ℕ) (answer : settings_answer) (new : State) → Gets name answer old new → Goes (Get name) (Told answer) old new first second
-    gets name (settings.Value value) new is = still (Get name) (Told (settings.Value value)) new is.1 refl
-    gets name settings.Absent new is = still (Get name) (Told settings.Absent) new is.1 refl
+    gets : (name : List ℕ) (answer : settings_answer) (new : State) → Gets name answer old new → Goes (Get name) (Plain answer) old new first second
+    gets name (settings.Value value) new is = still (Get name) (Plain (settings.Value value)) new is.1 refl
+    gets name settings.Absent new is = still (Get name) (Plain settings.Absent) new is.1 refl
     gets name answer new none = absurd none
 
-    tells_all : (answer : settings_answer) (new : State) → TellsAll r answer old new → Goes Names (Told answer) old new first second
-    tells_all (settings.Names active pairs) new is = still Names (Told (settings.Names active pairs)) new is.2 refl
-    tells_all answer new none = absurd none
+    reports_all : (answer : settings_answer) (new : State) → ReportsAll r answer old new → Goes Names (Plain answer) old new first second
+    reports_all (settings.Names active pairs) new is = still Names (Plain (settings.Names active pairs)) new is.2 refl
+    reports_all answer new none = absurd none
 
-    not_mounted : (units : ℕ) (new : State) → StopsMounting r old new → Goes Mount (Told (settings.Lost units false)) old new first second
+    not_mounted : (units : ℕ) (new : State) → StopsMounting r old new → Goes Mount (Plain (settings.Lost units false)) old new first second
     not_mounted units new is =
-        stays Mount (Told (settings.Lost units false)) new (record { rest = []; are = refl }) is.settings (λ whole. on_or_off new.is_whole whole is.not_whole)
+        stays Mount (Plain (settings.Lost units false)) new (record { rest = []; are = refl }) is.settings (λ whole. on_or_off new.is_whole whole is.not_whole)
 
-    mounts : (answer : settings_answer) (new : State) → Mounts r answer old new → Goes Mount (Told answer) old new first second
-    mounts (settings.Done units) new is = stays Mount (Told (settings.Done units)) new refl (ap (λ (s : State). s.settings) is) (λ whole. ap (λ (s : State). s.other) is)
+    mounts : (answer : settings_answer) (new : State) → Mounts r answer old new → Goes Mount (Plain answer) old new first second
+    mounts (settings.Done units) new is = stays Mount (Plain (settings.Done units)) new refl (ap (λ (s : State). s.settings) is) (λ whole. ap (λ (s : State). s.other) is)
     mounts (settings.Lost units false) new is = not_mounted units new is
     mounts answer new none = absurd none
 
-    arms : (line : Line) (answer : settings_answer) (new : State) → commands_of line old.settings ≡ [] → Arms answer old new → Goes line (Told answer) old new first second
-    arms line (settings.Done units) new none is = still line (Told (settings.Done units)) new is.1 (sym none)
+    arms : (line : Line) (answer : settings_answer) (new : State) → commands_of line old.settings ≡ [] → Arms answer old new → Goes line (Plain answer) old new first second
+    arms line (settings.Done units) new none is = still line (Plain (settings.Done units)) new is.1 (sym none)
     arms line answer new none not = absurd not
 
     replaced : (label : List ℕ) (units place : ℕ) (new : State) (b : Bool) → (place == trusted_of r old) ≡ b → IsOff old → old.is_whole ≡ true
         → new ≡ record old { settings = cond b old.other old.settings; other = new.other; gone = new.gone; is_whole = false }
-        → Goes (Blank label) (Told (settings.Done units)) old new first second
+        → Goes (Blank label) (Plain (settings.Done units)) old new first second
     replaced label units place new true is off whole same =
-        moved (Blank label) (Told (settings.Done units)) new refl off whole (ap (λ (s : State). s.is_whole) same) (ap (λ (s : State). s.settings) same)
+        moved (Blank label) (Plain (settings.Done units)) new refl off whole (ap (λ (s : State). s.is_whole) same) (ap (λ (s : State). s.settings) same)
     replaced label units place new false is off whole same =
-        stays (Blank label) (Told (settings.Done units)) new refl (ap (λ (s : State). s.settings) same) (λ now. on_or_off new.is_whole now (ap (λ (s : State). s.is_whole) same))
+        stays (Blank label) (Plain (settings.Done units)) new refl (ap (λ (s : State). s.settings) same) (λ now. on_or_off new.is_whole now (ap (λ (s : State). s.is_whole) same))
 
-    blanks : (label : List ℕ) (answer : settings_answer) (new : State) → Blanks r label (Told answer) old new → Goes (Blank label) (Told answer) old new first second
+    blanks : (label : List ℕ) (answer : settings_answer) (new : State) → Blanks r label (Plain answer) old new → Goes (Blank label) (Plain answer) old new first second
     blanks label (settings.Done units) new is =
         replaced label units is.3.0 new (is.3.0 == trusted_of r old) refl is.1 is.2 is.3.2
     blanks label answer new none = absurd none
 
-    by_line : (line : Line) (answer : settings_answer) (new : State) → Tells r line answer old new → Goes line (Told answer) old new first second
+    by_line : (line : Line) (answer : settings_answer) (new : State) → Reports r line answer old new → Goes line (Plain answer) old new first second
     by_line (Set name value) answer new is = changes (Set name value) (command_of name value) refl answer new is
     by_line (Del name) answer new is = changes (Del name) (Delete name) refl answer new is
     by_line (Get name) answer new is = gets name answer new is
-    by_line Names answer new is = tells_all answer new is
+    by_line Names answer new is = reports_all answer new is
     by_line Mount answer new is = mounts answer new is
     by_line (Cut units) answer new is = arms (Cut units) answer new refl is
     by_line Uncut answer new is = arms Uncut answer new refl is
     by_line (Blank label) answer new is = blanks label answer new is
 
     goes_on : (line : Line) (answer : Answer) (new : State) → Step r line answer old new → Goes line answer old new first second
-    goes_on line (Told settings.Off) new is = still line (Told settings.Off) new is.2 refl
-    goes_on line (Told answer) new is = by_line line answer new is.1
+    goes_on line (Plain settings.Off) new is = still line (Plain settings.Off) new is.2 refl
+    goes_on line (Plain answer) new is = by_line line answer new is.1
     goes_on (Blank label) On new is = still (Blank label) On new is.1 refl
     goes_on (Blank label) NoArea new is = still (Blank label) NoArea new is.2 refl
     goes_on (Blank label) NotYet new is = still (Blank label) NotYet new is.3 refl

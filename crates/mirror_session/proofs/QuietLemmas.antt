@@ -20,7 +20,7 @@ use Rattle.session_table.specs.Step.{as_pair}
 use Rattle.mirror_session.specs.declared.line.Line.{Line}
 use Rattle.mirror_session.specs.declared.line.Line.TheVariants.{Set, Get, Del, Names, Mount, Cut, Uncut, Blank}
 use Rattle.mirror_session.specs.declared.answer.Answer.{Answer}
-use Rattle.mirror_session.specs.declared.answer.Answer.TheVariants.{Told, On, NoArea, NotYet}
+use Rattle.mirror_session.specs.declared.answer.Answer.TheVariants.{Plain, On, NoArea, NotYet}
 use Rattle.mirror_session.specs.Answer.{done, off}
 use Rattle.mirror_session.specs.Plan.{units_of, is_lost, replan}
 use Rattle.mirror_session.specs.Bench.{Meanings, labelled, moment, rules_of, state_of}
@@ -83,15 +83,15 @@ module _ (m : Meanings) (areas : List Area) (d : Device) where
   powered : d.is_on ≡ true → (d.is_on && true) ≡ true
   powered power = ap (λ (b : Bool). b && true) power
 
-  pub found : (name value : List ℕ) → d.is_on ≡ true → IsStored (on m.contents d (area_at areas (trusted_on areas d))) name value → LineDone m areas (Get name) (Told (settings.Value value)) (moment d true) (moment d true)
-  found name value power is = quiet true (Get name) (Told (settings.Value value)) (λ last. (λ needs. powered power, (is, refl))) refl refl refl refl refl tt tt tt (λ shown. shown) tt
+  pub found : (name value : List ℕ) → d.is_on ≡ true → IsStored (on m.contents d (area_at areas (trusted_on areas d))) name value → LineDone m areas (Get name) (Plain (settings.Value value)) (moment d true) (moment d true)
+  found name value power is = quiet true (Get name) (Plain (settings.Value value)) (λ last. (λ needs. powered power, (is, refl))) refl refl refl refl refl tt tt tt (λ shown. shown) tt
 
-  pub missing : (name : List ℕ) → d.is_on ≡ true → IsAbsent (on m.contents d (area_at areas (trusted_on areas d))) name → LineDone m areas (Get name) (Told settings.Absent) (moment d true) (moment d true)
-  missing name power is = quiet true (Get name) (Told settings.Absent) (λ last. (λ needs. powered power, (is, refl))) refl refl refl refl refl tt tt tt (λ shown. shown) tt
+  pub missing : (name : List ℕ) → d.is_on ≡ true → IsAbsent (on m.contents d (area_at areas (trusted_on areas d))) name → LineDone m areas (Get name) (Plain settings.Absent) (moment d true) (moment d true)
+  missing name power is = quiet true (Get name) (Plain settings.Absent) (λ last. (λ needs. powered power, (is, refl))) refl refl refl refl refl tt tt tt (λ shown. shown) tt
 
   pub names : (active : List ℕ) (pairs : List Pair) → d.is_on ≡ true → active ≡ (area_at areas (active_on areas d)).label.bytes → pairs ≡ map as_pair (entries (on m.contents d (area_at areas (trusted_on areas d))))
-      → LineDone m areas Names (Told (settings.Names active pairs)) (moment d true) (moment d true)
-  names active pairs power label are = quiet true Names (Told (settings.Names active pairs)) (λ last. (λ needs. powered power, (label, are, refl))) refl refl refl refl refl tt tt tt (λ shown. shown) tt
+      → LineDone m areas Names (Plain (settings.Names active pairs)) (moment d true) (moment d true)
+  names active pairs power label are = quiet true Names (Plain (settings.Names active pairs)) (λ last. (λ needs. powered power, (label, are, refl))) refl refl refl refl refl tt tt tt (λ shown. shown) tt
 
   -- ---- an area that is not replaced
 

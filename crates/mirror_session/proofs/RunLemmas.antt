@@ -15,7 +15,7 @@ use Rattle.session_table.proofs.FollowsLemmas.{kept, summed}
 use Rattle.mirror_session.specs.declared.line.Line.{Line}
 use Rattle.mirror_session.specs.declared.line.Line.TheVariants.{Mount}
 use Rattle.mirror_session.specs.declared.answer.Answer.{Answer}
-use Rattle.mirror_session.specs.declared.answer.Answer.TheVariants.{Told}
+use Rattle.mirror_session.specs.declared.answer.Answer.TheVariants.{Plain}
 use Rattle.mirror_session.specs.Plan.{units_of, is_lost, losses_in, Planned, plan_through, PlansNoLoss}
 use Rattle.mirror_session.specs.declared.fault.SessionFault.{SessionFault}
 use Rattle.mirror_session.specs.declared.fault.SessionFault.TheVariants.{Damaged, Unfit, NoMemory}
@@ -23,7 +23,7 @@ use Rattle.mirror_session.specs.Bench.{Meanings, Moment, rules_of, state_of}
 use Rattle.mirror_session.specs.Laws.{LinesMakeRuns}
 use Rattle.session_table.specs.Bench.{StaysUnplanned}
 use Rattle.mirror_session.specs.LineDone.{BothNow, FitNow, FitsThen, Keeps, LineDone, replaces}
-use Rattle.mirror_session.specs.Running.{LineStops, Ran, RunStops, StopsAt, TellsUnfit, is_mounted, mounted_in, replaced_in}
+use Rattle.mirror_session.specs.Running.{LineStops, Ran, RunStops, StopsAt, ReportsUnfit, is_mounted, mounted_in, replaced_in}
 use Rattle.session_table.specs.Rules.{IsCounted}
 use Rattle.mirror_session.specs.Step.{Step}
 use Rattle.mirror_session.proofs.AccountLemmas.{counted_none}
@@ -113,7 +113,7 @@ module _ (m : Meanings) (areas : List Area) where
   -- ---- what the areas read as fits
 
   mounted_fits : (line : Line) (answer : Answer) (new : Moment) → is_mounted line answer ≡ true → FitsThen m areas line answer new → FitNow m areas new
-  mounted_fits Mount (Told (settings.Done units)) new is fits = fits
+  mounted_fits Mount (Plain (settings.Done units)) new is fits = fits
   mounted_fits line answer new is fits = absurd (false≢true is)
 
   -- from the beginning, or from a mount that was whole on
@@ -129,40 +129,40 @@ module _ (m : Meanings) (areas : List Area) where
       by true is = inl (mounted_fits line answer runs.0 is runs.1.fits)
       by false is = inr (sym (ap (λ (b : Bool). b || mounted_in lines answers) is) ∙ mounted)
 
-  wants_no_fit : (fault : SessionFault) → fault ≡ NoMemory → TellsUnfit fault → ⊥
-  wants_no_fit fault wants tells = no (subst TellsUnfit wants tells)
+  wants_no_fit : (fault : SessionFault) → fault ≡ NoMemory → ReportsUnfit fault → ⊥
+  wants_no_fit fault wants reports = no (subst ReportsUnfit wants reports)
     where
-      no : TellsUnfit NoMemory → ⊥
+      no : ReportsUnfit NoMemory → ⊥
       no is = is
 
-  line_fits : (line : Line) (old : Moment) (new : Device) (fault : SessionFault) → LineStops m areas line old.device new fault → TellsUnfit fault → FitNow m areas old → ⊥
-  line_fits line old new (Unfit place) stops tells fit = stops.2 fit.settings
-  line_fits line old new (Damaged place damaged) stops tells fit = tells
-  line_fits line old new NoMemory stops tells fit = tells
+  line_fits : (line : Line) (old : Moment) (new : Device) (fault : SessionFault) → LineStops m areas line old.device new fault → ReportsUnfit fault → FitNow m areas old → ⊥
+  line_fits line old new (Unfit place) stops reports fit = stops.2 fit.settings
+  line_fits line old new (Damaged place damaged) stops reports fit = reports
+  line_fits line old new NoMemory stops reports fit = reports
 
-  stop_fits : (front rest : List Line) (old : Moment) (new : Device) (fault : SessionFault) → StopsAt m areas front rest old.device new fault → TellsUnfit fault → FitNow m areas old → ⊥
-  stop_fits front [] old new fault stops tells fit = wants_no_fit fault stops.1 tells
-  stop_fits front (line ∷ rest) old new fault (inl lacks) tells fit = wants_no_fit fault lacks.1 tells
-  stop_fits front (line ∷ rest) old new fault (inr stops) tells fit = line_fits line old new fault stops tells fit
+  stop_fits : (prefix rest : List Line) (old : Moment) (new : Device) (fault : SessionFault) → StopsAt m areas prefix rest old.device new fault → ReportsUnfit fault → FitNow m areas old → ⊥
+  stop_fits prefix [] old new fault stops reports fit = wants_no_fit fault stops.1 reports
+  stop_fits prefix (line ∷ rest) old new fault (inl lacks) reports fit = wants_no_fit fault lacks.1 reports
+  stop_fits prefix (line ∷ rest) old new fault (inr stops) reports fit = line_fits line old new fault stops reports fit
 
   -- The first lines were carried out, and then one stopped.
-  pub stopped : (lines front rest : List Line) (answers : List Answer) (old mid : Moment) (new : Device) (fault : SessionFault) → lines ≡ front ++ rest → Follows (LineDone m areas) front answers old mid → StopsAt m areas front rest mid.device new fault
+  pub stopped : (lines prefix rest : List Line) (answers : List Answer) (old mid : Moment) (new : Device) (fault : SessionFault) → lines ≡ prefix ++ rest → Follows (LineDone m areas) prefix answers old mid → StopsAt m areas prefix rest mid.device new fault
       → RunStops m areas lines old new fault
-  stopped lines front rest answers old mid new fault are runs stops = record {
-    front = front;
+  stopped lines prefix rest answers old mid new fault are runs stops = record {
+    prefix = prefix;
     rest = rest;
     are = are;
     answers = answers;
     mid = mid;
-    runs = runs_of front answers old mid runs;
+    runs = runs_of prefix answers old mid runs;
     stops = stops;
-    early = λ tells. by tells (mounted_in front answers) refl;
-    fitting = λ tells fit. stop_fits front rest mid new fault stops tells (fit_of front answers old mid runs (inl fit));
+    early = λ reports. by reports (mounted_in prefix answers) refl;
+    fitting = λ reports fit. stop_fits prefix rest mid new fault stops reports (fit_of prefix answers old mid runs (inl fit));
   }
     where
-      by : TellsUnfit fault → (b : Bool) → mounted_in front answers ≡ b → mounted_in front answers ≡ false
-      by tells true is = absurd (stop_fits front rest mid new fault stops tells (fit_of front answers old mid runs (inr is)))
-      by tells false is = is
+      by : ReportsUnfit fault → (b : Bool) → mounted_in prefix answers ≡ b → mounted_in prefix answers ≡ false
+      by reports true is = absurd (stop_fits prefix rest mid new fault stops reports (fit_of prefix answers old mid runs (inr is)))
+      by reports false is = is
 
 pub lines_make_runs : LinesMakeRuns
 lines_make_runs m areas lines answers old new runs = runs_of m areas lines answers old new runs

@@ -37,15 +37,15 @@ not_both area other size banks offset is from below apart inside =
     ]
 
 -- sectors that agree byte by byte
-same_front : (n : ℕ) (xs ys : List ℕ) → length xs ≡ length ys → ((i : ℕ) → i < n → get_or xs i 0 ≡ get_or ys i 0) → take n xs ≡ take n ys
-same_front n xs ys len same = ext_get_or 0 (take n xs) (take n ys) (omega (arith, length-take n xs, length-take n ys)) (λ i below.
+same_prefix : (n : ℕ) (xs ys : List ℕ) → length xs ≡ length ys → ((i : ℕ) → i < n → get_or xs i 0 ≡ get_or ys i 0) → take n xs ≡ take n ys
+same_prefix n xs ys len same = ext_get_or 0 (take n xs) (take n ys) (omega (arith, length-take n xs, length-take n ys)) (λ i below.
     let within : i < n = omega (arith, length-take n xs) in
     get_or-take n xs i 0 within ∙ same i within ∙ sym (get_or-take n ys i 0 within))
 
 same_sectors : (n size : ℕ) (xs ys : List ℕ) → length xs ≡ length ys → ((i : ℕ) → i < n * size → get_or xs i 0 ≡ get_or ys i 0) → sectors_from n size xs ≡ sectors_from n size ys
 same_sectors zero size xs ys len same = refl
 same_sectors (suc n) size xs ys len same =
-    ap (λ (l : List ℕ). l ∷ sectors_from n size (drop size xs)) (same_front size xs ys len (λ i below. same i (omega arith)))
+    ap (λ (l : List ℕ). l ∷ sectors_from n size (drop size xs)) (same_prefix size xs ys len (λ i below. same i (omega arith)))
     ∙ ap (λ (l : List (List ℕ)). take size ys ∷ l)
     (same_sectors n size (drop size xs) (drop size ys) (omega (arith, length-drop size xs, length-drop size ys)) (λ i below.
     get_or-drop size xs i 0 ∙ same (size + i) (omega arith) ∙ sym (get_or-drop size ys i 0)))

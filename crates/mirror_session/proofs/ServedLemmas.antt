@@ -5,7 +5,7 @@ use Rattle.text_parts.specs.Parts.{parts}
 use Rattle.script_lines.specs.Forms.{Form, Field, IsNothing, Said, SaysAll, SaysBytes, Spells, form, form_at}
 use Rattle.script_lines.specs.Forms.Field.{a_name, any_bytes}
 use Rattle.script_lines.specs.Forms.Said.{name, bytes}
-use Rattle.script_lines.specs.Script.{SpellsAll, told}
+use Rattle.script_lines.specs.Script.{SpellsAll, spoken}
 use Rattle.mirror_session.specs.Line.{mirror_forms, row_of}
 use Rattle.mirror_session.specs.declared.line.Line.{Line}
 use Rattle.mirror_session.specs.declared.line.Line.TheVariants.{Set, Get, Del, Names, Mount, Cut, Uncut, Blank}
@@ -56,4 +56,4 @@ lines_fit limit (text ∷ texts) (first ∷ lines) is zero line below = line_fit
 lines_fit limit (text ∷ texts) (first ∷ lines) is (suc k) line below = lines_fit limit texts lines is.1 k line (omega arith)
 
 pub lines_are_served : LinesAreServed
-lines_are_served limit text lines is = lines_fit limit (told (parts 10 text)) lines is
+lines_are_served limit text lines is = lines_fit limit (spoken (parts 10 text)) lines is

@@ -1,24 +1,24 @@
--- The lines of words that an answer is told in, and their text: those of a line on settings, and what `blank`
--- alone answers.
+-- The lines of words that an answer is printed in, and their text: those of a line on settings, and
+-- what `blank` alone answers.
 use Rattle.std.specs.Prelude.{ℕ, ⊤, false, List, [], ◌∷◌, codes}
 use Rattle.script_lines.specs.declared.answer.Answer.TheVariants as settings
 use Rattle.script_lines.specs.Answer.{lines_text, one}
 use Rattle.script_lines.specs.Answer as of_settings
 use Rattle.mirror_session.specs.declared.answer.Answer.{Answer}
-use Rattle.mirror_session.specs.declared.answer.Answer.TheVariants.{Told, On, NoArea, NotYet}
+use Rattle.mirror_session.specs.declared.answer.Answer.TheVariants.{Plain, On, NoArea, NotYet}
 
 abbrev pub done : ℕ → Answer
-done units = Told (settings.Done units)
+done units = Plain (settings.Done units)
 
 -- with no chance, which there is in a ring of records alone
 abbrev pub lost : ℕ → Answer
-lost units = Told (settings.Lost units false)
+lost units = Plain (settings.Lost units false)
 
 abbrev pub off : Answer
-off = Told settings.Off
+off = Plain settings.Off
 
 abbrev pub lines_of : Answer → List (List (List ℕ))
-lines_of (Told answer) = of_settings.lines_of answer
+lines_of (Plain answer) = of_settings.lines_of answer
 lines_of On = one (codes "on" ∷ [])
 lines_of NoArea = one (codes "noarea" ∷ [])
 lines_of NotYet = one (codes "notyet" ∷ [])
@@ -27,6 +27,6 @@ abbrev pub text_of : Answer → List ℕ
 text_of answer = lines_text (lines_of answer)
 
 -- what an answer must be to have a text
-abbrev pub CanTell : Answer → Type 0
-CanTell (Told answer) = of_settings.CanTell answer
-CanTell answer = ⊤
+abbrev pub CanReport : Answer → Type 0
+CanReport (Plain answer) = of_settings.CanReport answer
+CanReport answer = ⊤

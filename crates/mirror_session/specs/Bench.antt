@@ -11,7 +11,7 @@ use Rattle.flash_map.specs.Area.{value_limit}
 use Rattle.flash_map.specs.Map.{has_label}
 use Rattle.flash_map.specs.On.{on}
 use Rattle.backend_api.specs.Map.{Map}
-use Rattle.backend_api.specs.Room.{Room, most_units}
+use Rattle.backend_api.specs.Room.{Room, command_units}
 use Rattle.migrator.specs.Active.{active_on}
 use Rattle.migrator.specs.Areas.{first_store, is_store_at, target}
 use Rattle.mirror.specs.Room.{Prices, mirror_room}
@@ -80,7 +80,7 @@ abbrev pub is_too_many_at : Meanings → List Area → List Bank → Map → Lis
 is_too_many_at m areas banks settings name place = (room_at m areas banks place).too_many settings name
 
 abbrev pub most_at : List Area → List Bank → ℕ → ℕ
-most_at areas banks place = most_units (geometry_in banks (area_at areas place))
+most_at areas banks place = command_units (geometry_in banks (area_at areas place))
 
 -- the places of the two store areas, in the order of the map
 abbrev pub lower_place : List Area → ℕ

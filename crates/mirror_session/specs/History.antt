@@ -8,7 +8,7 @@ use Rattle.session_table.specs.Prefix.{Stand}
 use Rattle.mirror_session.specs.declared.line.Line.{Line}
 use Rattle.mirror_session.specs.declared.line.Line.TheVariants.{Mount}
 use Rattle.mirror_session.specs.declared.answer.Answer.{Answer}
-use Rattle.mirror_session.specs.Plan.{as_told, is_lost}
+use Rattle.mirror_session.specs.Plan.{as_plain, is_lost}
 use Rattle.mirror_session.specs.State.{State, Rules, IsOn}
 use Rattle.mirror_session.specs.Step.{Step, commands_of}
 
@@ -21,12 +21,12 @@ pub record Logged : Type 0 where
   pub state : State
   pub log : List Command
 
--- A line adds those of its commands that stand: all where it was done, a front of them where power was lost.
--- With power on both areas read as the start after all commands that stand.
+-- A line adds those of its commands that stand: all where it was done, the first of them where
+-- power was lost. With power on both areas read as the start after all commands that stand.
 pub record LogStep (r : Rules) (start : Map) (line : Line) (answer : Answer) (old new : Logged) : Type 0 where
   pub step : Step r line answer old.state new.state
   pub done : List Command
-  pub stand : Stand (as_told answer) (commands_of line old.state.settings) done
+  pub stand : Stand (as_plain answer) (commands_of line old.state.settings) done
   pub log : new.log ≡ old.log ++ done
   pub reads : IsOn new.state → new.state.settings ≡ all_applied start new.log
   pub both : IsMirrored new.state

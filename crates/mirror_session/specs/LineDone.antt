@@ -25,7 +25,7 @@ use Rattle.session_table.specs.Bench.{area_at, geometry_in, StaysUnplanned}
 use Rattle.mirror_session.specs.declared.line.Line.{Line}
 use Rattle.mirror_session.specs.declared.line.Line.TheVariants.{Set, Del, Mount, Blank}
 use Rattle.mirror_session.specs.declared.answer.Answer.{Answer}
-use Rattle.mirror_session.specs.declared.answer.Answer.TheVariants.{Told}
+use Rattle.mirror_session.specs.declared.answer.Answer.TheVariants.{Plain}
 use Rattle.mirror_session.specs.Plan.{units_of, is_lost, replan, Allows, plan_after, PlansNoLoss}
 use Rattle.mirror_session.specs.Bench.{Meanings, Moment, beside_in, labelled, rules_of, state_of}
 use Rattle.session_table.specs.Rules.{IsCounted}
@@ -44,7 +44,7 @@ powered_for line d = d
 
 -- an area was replaced
 abbrev pub replaces : Line → Answer → Bool
-replaces (Blank label) (Told (settings.Done units)) = true
+replaces (Blank label) (Plain (settings.Done units)) = true
 replaces line answer = false
 
 -- the banks, the count of loads, and each byte outside the areas
@@ -83,7 +83,7 @@ Blanks areas label old new =
 
 -- what a line that replaced an area makes of the bytes
 abbrev pub Replaced : List Area → Line → Answer → Device → Device → Type 0
-Replaced areas (Blank label) (Told (settings.Done units)) old new = Blanks areas label old new
+Replaced areas (Blank label) (Plain (settings.Done units)) old new = Blanks areas label old new
 Replaced areas line answer old new = ⊤
 
 -- the areas that a line works on: a command on the two store areas alone, and another line on those of the
@@ -104,9 +104,9 @@ CutsBoth m areas command old new =
     IsCutBoth m.damage m.contents new named other before (applied before command)
 
 abbrev pub Cuts : Meanings → List Area → Line → Answer → Device → Device → Type 0
-Cuts m areas (Set name value) (Told (settings.Lost units chance)) old new =
+Cuts m areas (Set name value) (Plain (settings.Lost units chance)) old new =
     CutsBoth m areas (command_of name value) old new
-Cuts m areas (Del name) (Told (settings.Lost units chance)) old new = CutsBoth m areas (Delete name) old new
+Cuts m areas (Del name) (Plain (settings.Lost units chance)) old new = CutsBoth m areas (Delete name) old new
 Cuts m areas line answer old new = ⊤
 
 -- A mount spends at most so many units and erases as a mount of each of the three areas, a choice of the
@@ -121,9 +121,9 @@ MountsWithin m areas units old =
 -- A mount that was whole found no damage. One that was cut found none in the selector, and none in the area
 -- that is read, or the loss lies in the selector's area.
 abbrev pub Finds : Meanings → List Area → Line → Answer → Device → Device → Type 0
-Finds m areas Mount (Told (settings.Done units)) old new =
+Finds m areas Mount (Plain (settings.Done units)) old new =
     (damage_shown m.damage areas old ≡ None) × MountsWithin m areas units old
-Finds m areas Mount (Told (settings.Lost units chance)) old new =
+Finds m areas Mount (Plain (settings.Lost units chance)) old new =
     (selector_damage_on areas old ≡ None)
     × ((on m.damage old (area_at areas (trusted_on areas old)) ≡ None)
     ⊎ ((selector : Area) → selector_of areas ≡ Some selector
@@ -155,7 +155,7 @@ FitNow m areas now = AllFit m areas now.device.banks (state_of m areas now)
 
 -- and after a mount that was whole
 abbrev pub FitsThen : Meanings → List Area → Line → Answer → Moment → Type 0
-FitsThen m areas Mount (Told (settings.Done units)) new = FitNow m areas new
+FitsThen m areas Mount (Plain (settings.Done units)) new = FitNow m areas new
 FitsThen m areas line answer new = ⊤
 
 -- where the map showed no damage it shows none
@@ -174,7 +174,7 @@ abbrev pub is_quiet : Line → Answer → Bool
 is_quiet (Set name value) answer = false
 is_quiet (Del name) answer = false
 is_quiet Mount answer = false
-is_quiet (Blank label) (Told (settings.Done units)) = false
+is_quiet (Blank label) (Plain (settings.Done units)) = false
 is_quiet line answer = true
 
 -- the plan alone may differ

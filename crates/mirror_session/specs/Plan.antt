@@ -10,18 +10,18 @@ use Rattle.script_lines.specs.Plan.Replan.{keeps, drops, plans}
 use Rattle.mirror_session.specs.declared.line.Line.{Line}
 use Rattle.mirror_session.specs.declared.line.Line.TheVariants.{Cut, Uncut, Blank}
 use Rattle.mirror_session.specs.declared.answer.Answer.{Answer}
-use Rattle.mirror_session.specs.declared.answer.Answer.TheVariants.{Told}
+use Rattle.mirror_session.specs.declared.answer.Answer.TheVariants.{Plain}
 
--- what `blank` alone answers tells of no unit and of no loss, as `off` does
-abbrev pub as_told : Answer → settings_answer
-as_told (Told answer) = answer
-as_told answer = settings.Off
+-- what `blank` alone answers reports no unit and no loss, as `off` does
+abbrev pub as_plain : Answer → settings_answer
+as_plain (Plain answer) = answer
+as_plain answer = settings.Off
 
 abbrev pub units_of : Answer → ℕ
-units_of answer = of_settings.units_of (as_told answer)
+units_of answer = of_settings.units_of (as_plain answer)
 
 abbrev pub is_lost : Answer → Bool
-is_lost answer = of_settings.is_lost (as_told answer)
+is_lost answer = of_settings.is_lost (as_plain answer)
 
 abbrev pub units_in : List Answer → ℕ
 units_in answers = sum_by units_of answers
@@ -33,14 +33,14 @@ losses_in answers = count_by is_lost answers
 abbrev pub replan : Line → Answer → Replan
 replan (Cut units) answer = plans units
 replan Uncut answer = drops
-replan (Blank label) (Told (settings.Done units)) = drops
+replan (Blank label) (Plain (settings.Done units)) = drops
 replan line answer = keeps
 
 abbrev pub Allows : Plan → Answer → Type 0
-Allows plan answer = of_settings.Allows plan (as_told answer)
+Allows plan answer = of_settings.Allows plan (as_plain answer)
 
 abbrev pub plan_after : Plan → Line → Answer → Plan
-plan_after plan line answer = of_settings.plan_by (replan line answer) plan (as_told answer)
+plan_after plan line answer = of_settings.plan_by (replan line answer) plan (as_plain answer)
 
 abbrev pub Planned : Plan → List Line → List Answer → Type 0
 Planned plan [] [] = ⊤

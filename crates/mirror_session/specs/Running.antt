@@ -15,7 +15,7 @@ use Rattle.session_table.specs.Follows.{Follows}
 use Rattle.mirror_session.specs.declared.line.Line.{Line}
 use Rattle.mirror_session.specs.declared.line.Line.TheVariants.{Get, Names, Mount, Blank}
 use Rattle.mirror_session.specs.declared.answer.Answer.{Answer}
-use Rattle.mirror_session.specs.declared.answer.Answer.TheVariants.{Told}
+use Rattle.mirror_session.specs.declared.answer.Answer.TheVariants.{Plain}
 use Rattle.mirror_session.specs.Plan.{units_in, losses_in, Planned, plan_through, PlansNoLoss}
 use Rattle.mirror_session.specs.declared.fault.SessionFault.{SessionFault}
 use Rattle.mirror_session.specs.declared.fault.SessionFault.TheVariants.{Damaged, Unfit, NoMemory}
@@ -91,18 +91,18 @@ LineStops m areas line old new NoMemory = (takes_memory line ≡ true) × Begins
 
 -- lines were carried out, and memory was wanting to keep the answer to the last of them
 abbrev pub LacksAnswer : List Line → Device → Device → SessionFault → Type 0
-LacksAnswer front old new fault = (1 ≤ length front) × (fault ≡ NoMemory) × (new ≡ old)
+LacksAnswer prefix old new fault = (1 ≤ length prefix) × (fault ≡ NoMemory) × (new ≡ old)
 
--- Behind the lines of the front the next one stopped; or memory was wanting for the answer to the line
+-- Behind the first lines the next one stopped; or memory was wanting for the answer to the line
 -- before.
 abbrev pub StopsAt : Meanings → List Area → List Line → List Line → Device → Device → SessionFault → Type 0
-StopsAt m areas front [] old new fault = LacksAnswer front old new fault
-StopsAt m areas front (line ∷ lines) old new fault =
-    LacksAnswer front old new fault ⊎ LineStops m areas line old new fault
+StopsAt m areas prefix [] old new fault = LacksAnswer prefix old new fault
+StopsAt m areas prefix (line ∷ lines) old new fault =
+    LacksAnswer prefix old new fault ⊎ LineStops m areas line old new fault
 
 -- a mount among these lines was whole
 abbrev pub is_mounted : Line → Answer → Bool
-is_mounted Mount (Told (settings.Done units)) = true
+is_mounted Mount (Plain (settings.Done units)) = true
 is_mounted line answer = false
 
 abbrev pub mounted_in : List Line → List Answer → Bool
@@ -110,24 +110,24 @@ mounted_in (line ∷ lines) (answer ∷ answers) = is_mounted line answer || mou
 mounted_in lines answers = false
 
 -- a mount found settings that do not fit
-abbrev pub TellsUnfit : SessionFault → Type 0
-TellsUnfit (Damaged place damaged) = ⊥
-TellsUnfit (Unfit place) = ⊤
-TellsUnfit NoMemory = ⊥
+abbrev pub ReportsUnfit : SessionFault → Type 0
+ReportsUnfit (Damaged place damaged) = ⊥
+ReportsUnfit (Unfit place) = ⊤
+ReportsUnfit NoMemory = ⊥
 
--- The first lines were carried out, and then a line stopped. That settings do not fit is told by no mount
+-- The first lines were carried out, and then a line stopped. That settings do not fit is reported by no mount
 -- behind one that was whole, and by none where the settings fitted both areas when the lines began.
 pub record RunStops (m : Meanings) (areas : List Area) (lines : List Line) (old : Moment) (new : Device)
     (fault : SessionFault) : Type 0 where
-  pub front : List Line
+  pub prefix : List Line
   pub rest : List Line
-  pub are : lines ≡ front ++ rest
+  pub are : lines ≡ prefix ++ rest
   pub answers : List Answer
   pub mid : Moment
-  pub runs : Ran m areas front answers old mid
-  pub stops : StopsAt m areas front rest mid.device new fault
-  pub early : TellsUnfit fault → mounted_in front answers ≡ false
-  pub fitting : TellsUnfit fault → ¬ FitNow m areas old
+  pub runs : Ran m areas prefix answers old mid
+  pub stops : StopsAt m areas prefix rest mid.device new fault
+  pub early : ReportsUnfit fault → mounted_in prefix answers ≡ false
+  pub fitting : ReportsUnfit fault → ¬ FitNow m areas old
 
 -- How lines end: all were carried out, with these answers, and a mount has nothing to do where power is on,
 -- and there are settings or the selector names the area that is read; or one stopped.

@@ -12,7 +12,7 @@ use Rattle.session_table.specs.Step.{as_pair}
 use Rattle.mirror_session.specs.declared.line.Line.{Line}
 use Rattle.mirror_session.specs.declared.line.Line.TheVariants.{Set, Get, Del, Names, Mount, Cut, Uncut, Blank}
 use Rattle.mirror_session.specs.declared.answer.Answer.{Answer}
-use Rattle.mirror_session.specs.declared.answer.Answer.TheVariants.{Told, On, NoArea, NotYet}
+use Rattle.mirror_session.specs.declared.answer.Answer.TheVariants.{Plain, On, NoArea, NotYet}
 use Rattle.session_table.specs.Rules.{IsCounted}
 use Rattle.mirror_session.specs.State.{State, Rules, IsOn, IsOff, trusted_of}
 
@@ -95,10 +95,10 @@ Gets name settings.Absent old new = IsAbsent old.settings name × (new ≡ old)
 Gets name answer old new = ⊥
 
 -- the label of the named area, and all settings
-abbrev pub TellsAll : Rules → settings_answer → State → State → Type 0
-TellsAll r (settings.Names active pairs) old new =
+abbrev pub ReportsAll : Rules → settings_answer → State → State → Type 0
+ReportsAll r (settings.Names active pairs) old new =
     (active ≡ r.label old.named) × (pairs ≡ map as_pair (entries old.settings)) × (new ≡ old)
-TellsAll r answer old new = ⊥
+ReportsAll r answer old new = ⊥
 
 -- ---- mounts
 
@@ -146,7 +146,7 @@ Blanks r label On old new = IsOn old × (new ≡ old)
 Blanks r label NoArea old new = IsOff old × (r.place label ≡ None) × (new ≡ old)
 Blanks r label NotYet old new =
     IsOff old × ((place : ℕ) × (r.place label ≡ Some place)) × (old.is_whole ≡ false) × (new ≡ old)
-Blanks r label (Told (settings.Done units)) old new =
+Blanks r label (Plain (settings.Done units)) old new =
     (units ≡ 0) × IsOff old × (old.is_whole ≡ true)
     × ((place : ℕ) × (r.place label ≡ Some place) × Replaces r place old new)
 Blanks r label answer old new = ⊥
@@ -162,19 +162,19 @@ needs_power (Blank label) = false
 needs_power line = true
 
 -- what lines on settings answer too
-abbrev pub Tells : Rules → Line → settings_answer → State → State → Type 0
-Tells r (Set name value) answer old new = Changes r (command_of name value) answer old new
-Tells r (Del name) answer old new = Changes r (Delete name) answer old new
-Tells r (Get name) answer old new = Gets name answer old new
-Tells r Names answer old new = TellsAll r answer old new
-Tells r Mount answer old new = Mounts r answer old new
-Tells r (Cut units) answer old new = Arms answer old new
-Tells r Uncut answer old new = Arms answer old new
-Tells r (Blank label) answer old new = Blanks r label (Told answer) old new
+abbrev pub Reports : Rules → Line → settings_answer → State → State → Type 0
+Reports r (Set name value) answer old new = Changes r (command_of name value) answer old new
+Reports r (Del name) answer old new = Changes r (Delete name) answer old new
+Reports r (Get name) answer old new = Gets name answer old new
+Reports r Names answer old new = ReportsAll r answer old new
+Reports r Mount answer old new = Mounts r answer old new
+Reports r (Cut units) answer old new = Arms answer old new
+Reports r Uncut answer old new = Arms answer old new
+Reports r (Blank label) answer old new = Blanks r label (Plain answer) old new
 
 -- with power off, `off` and no change; else by the line
 abbrev pub Step : Rules → Line → Answer → State → State → Type 0
-Step r line (Told settings.Off) old new = (needs_power line ≡ true) × IsOff old × (new ≡ old)
-Step r line (Told answer) old new = (needs_power line ≡ true → IsOn old) × Tells r line answer old new
+Step r line (Plain settings.Off) old new = (needs_power line ≡ true) × IsOff old × (new ≡ old)
+Step r line (Plain answer) old new = (needs_power line ≡ true → IsOn old) × Reports r line answer old new
 Step r (Blank label) answer old new = Blanks r label answer old new
 Step r line answer old new = ⊥

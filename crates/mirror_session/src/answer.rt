@@ -1,6 +1,6 @@
 // Answers and their texts.
 ghost use Rattle.std.specs.Prelude.{◌≡◌, IfOk};
-ghost use Rattle.mirror_session.specs.Answer.{CanTell, done, lost, off, text_of};
+ghost use Rattle.mirror_session.specs.Answer.{CanReport, done, lost, off, text_of};
 
 use flash_sim::NoMemory;
 use script_lines::Answer as SettingsAnswer;
@@ -10,7 +10,7 @@ use std::alloc::Global;
 #[derive(Debug, Drop)]
 pub enum Answer {
     /// What a line on settings answers too.
-    Told { answer: SettingsAnswer },
+    Plain { answer: SettingsAnswer },
     /// Power is on, and no area is replaced then.
     On,
     /// No area for settings has this label.
@@ -24,7 +24,7 @@ impl Answer {
     pub fn done(units: u64) -> Answer
         ensures { result ≡ done units }
     {
-        Answer::Told {
+        Answer::Plain {
             answer: SettingsAnswer::Done { units },
         }
     }
@@ -33,7 +33,7 @@ impl Answer {
     pub fn lost(units: u64) -> Answer
         ensures { result ≡ lost units }
     {
-        Answer::Told {
+        Answer::Plain {
             answer: SettingsAnswer::Lost {
                 units,
                 chance: false,
@@ -45,7 +45,7 @@ impl Answer {
     pub fn off() -> Answer
         ensures { result ≡ off }
     {
-        Answer::Told {
+        Answer::Plain {
             answer: SettingsAnswer::Off,
         }
     }
@@ -68,11 +68,11 @@ fn bytes_of(alloc: Global, text: &str) -> Result<Vec<u8>, NoMemory>
 /// # Errors
 /// Want of memory alone.
 pub fn answer_text(alloc: Global, answer: &Answer) -> Result<Vec<u8>, NoMemory>
-    requires { CanTell answer.now }
+    requires { CanReport answer.now }
     ensures { IfOk result (λ text. text.items ≡ text_of answer.now) }
 {
     match answer {
-        Answer::Told { answer } => script_lines::answer_text(alloc, answer),
+        Answer::Plain { answer } => script_lines::answer_text(alloc, answer),
         Answer::On => bytes_of(alloc, "on\n"),
         Answer::NoArea => bytes_of(alloc, "noarea\n"),
         Answer::NotYet => bytes_of(alloc, "notyet\n"),

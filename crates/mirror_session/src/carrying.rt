@@ -17,7 +17,7 @@ use crate::fault::SessionFault;
 use crate::line::Line;
 use crate::mounting::mount;
 use crate::planning::{drop_plan, plan_loss};
-use crate::telling::{get_setting, tell_all};
+use crate::reporting::{get_setting, report_all};
 use flash_map::FlashMap;
 use flash_sim::{Bench, Flash, NoMemory, Steps};
 use migrator::area_at;
@@ -260,7 +260,7 @@ fn with_power<K: Priced, B: Bench, L: Ledger>(
         Line::Set { name, value } => Ok(change_setting(bench, mirror, map, name, value, steps)),
         Line::Del { name } => Ok(delete_setting(bench, mirror, map, name, steps)),
         Line::Get { name } => get_setting(alloc, bench, mirror, map, name, steps),
-        Line::Names => tell_all(alloc, bench, mirror, map, steps),
+        Line::Names => report_all(alloc, bench, mirror, map, steps),
         _ => unreachable!(),
     }
 }

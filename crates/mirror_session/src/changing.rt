@@ -44,10 +44,10 @@ pub fn set_setting<K: Priced, B: Bench, L: Ledger>(
     let units = bench.spent() - before;
     match end {
         Ok(()) => Answer::done(units),
-        Err(SetFault::NoSpace { need, live }) => Answer::Told {
+        Err(SetFault::NoSpace { need, live }) => Answer::Plain {
             answer: SettingsAnswer::NoSpace { units, need, live },
         },
-        Err(SetFault::TooManyNames) => Answer::Told {
+        Err(SetFault::TooManyNames) => Answer::Plain {
             answer: SettingsAnswer::TooMany { units },
         },
         Err(SetFault::PowerLost) => Answer::lost(units),

@@ -15,9 +15,9 @@ mod mounting;
 mod plan;
 mod planning;
 mod reading;
+mod reporting;
 mod running;
 mod script;
-mod telling;
 
 pub use answer::{Answer, answer_text};
 pub use answers::Answers;

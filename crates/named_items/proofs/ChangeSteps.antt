@@ -16,12 +16,12 @@ use Rattle.backend_api.proofs.MapLemmas.{get-insert_same}
 use Rattle.named_items.specs.StoreEnds as stored
 use Rattle.named_items.specs.Numbering.{Numbering, IsNumbering}
 use Rattle.named_items.specs.PairRoom.{pair_room, IsCountCost}
-use Rattle.named_items.specs.Pairs.{count_in, is_pair, pair_at, settings_in, IsAt, HasNoStrays}
+use Rattle.named_items.specs.Pairs.{count_in, is_pair, pair_at, settings_in, IsAt, HasNoOrphans}
 use Rattle.named_items.proofs.CostLemmas.{get-put, get-put_other}
 use Rattle.named_items.proofs.PairLemmas.{Makes, pair-made, made-pair, one-name, place-put}
 use Rattle.named_items.proofs.NameLemmas.{get-at, at-value}
-use Rattle.named_items.proofs.RoomLemmas.{refused-room, stored-numbers, items-within}
-use Rattle.named_items.proofs.StrayLemmas.{one-place, put-clean}
+use Rattle.named_items.proofs.RoomLemmas.{refused-room, stored-numbering, items-within}
+use Rattle.named_items.proofs.OrphanLemmas.{one-place, put-clean}
 use Rattle.named_items.specs.Putting.{room_in, IsPut}
 use Rattle.named_items.proofs.SpendSteps.{geometry-stays}
 
@@ -34,15 +34,15 @@ pub moved-lawful : (own other : Area) → other ≡ own → (a b : Device) → b
 moved-lawful own other same a b banks lawful =
     subst (λ (x : Area). IsLawfulFor b.banks x) (sym same) (subst (λ (list : List Bank). IsLawfulFor list own) (sym banks) lawful)
 
-module _ (numbers : Area → Numbering) (counted : (ℕ → ℕ) → ℕ) (too_many : Map → List ℕ → Bool) (contents : Area → Geometry → List (List ℕ) → Items) (own other : Area) (same : other ≡ own) where
-  pub moved-clean : (b : Device) → HasNoStrays (numbers own) (on contents b own) → HasNoStrays (numbers other) (on contents b other)
-  moved-clean b clean = subst (λ (x : Area). HasNoStrays (numbers x) (on contents b x)) (sym same) clean
+module _ (numbering : Area → Numbering) (counted : (ℕ → ℕ) → ℕ) (too_many : Map → List ℕ → Bool) (contents : Area → Geometry → List (List ℕ) → Items) (own other : Area) (same : other ≡ own) where
+  pub moved-clean : (b : Device) → HasNoOrphans (numbering own) (on contents b own) → HasNoOrphans (numbering other) (on contents b other)
+  moved-clean b clean = subst (λ (x : Area). HasNoOrphans (numbering x) (on contents b x)) (sym same) clean
 
-  pub moved-cost : (price : Geometry → ℕ → ℕ) (cap : Geometry → ℕ) (a b : Device) (settings : Map) → b.banks ≡ a.banks → settings_in (numbers own) (on contents b own) ≡ settings
-      → (room_in counted too_many price cap (geometry_of b other)).cost (settings_in (numbers other) (on contents b other)) ≡ (room_in counted too_many price cap (geometry_of a own)).cost settings
+  pub moved-cost : (price : Geometry → ℕ → ℕ) (cap : Geometry → ℕ) (a b : Device) (settings : Map) → b.banks ≡ a.banks → settings_in (numbering own) (on contents b own) ≡ settings
+      → (room_in counted too_many price cap (geometry_of b other)).cost (settings_in (numbering other) (on contents b other)) ≡ (room_in counted too_many price cap (geometry_of a own)).cost settings
   moved-cost price cap a b settings banks is =
-      ap (λ (x : Area). (room_in counted too_many price cap (geometry_of b x)).cost (settings_in (numbers x) (on contents b x))) same
-      ∙ ap (λ (g : Geometry). (room_in counted too_many price cap g).cost (settings_in (numbers own) (on contents b own))) (geometry-stays a b own banks)
+      ap (λ (x : Area). (room_in counted too_many price cap (geometry_of b x)).cost (settings_in (numbering x) (on contents b x))) same
+      ∙ ap (λ (g : Geometry). (room_in counted too_many price cap g).cost (settings_in (numbering own) (on contents b own))) (geometry-stays a b own banks)
       ∙ ap (λ (m : Map). (room_in counted too_many price cap (geometry_of a own)).cost m) is
 
   pub moved-price : (price : Geometry → ℕ → ℕ) (a b : Device) (length : ℕ) → b.banks ≡ a.banks → price (geometry_of b other) length ≡ price (geometry_of a own) length
@@ -51,7 +51,7 @@ module _ (numbers : Area → Numbering) (counted : (ℕ → ℕ) → ℕ) (too_m
 
 module _ (n : Numbering) (laws : IsNumbering n) (counted : (ℕ → ℕ) → ℕ) (too_many : Map → List ℕ → Bool) (counts : (price : ℕ → ℕ) → IsCountCost n price (counted price))
     (stored-few : (settings : Map) (name : List ℕ) → contains_key settings name ≡ true → too_many settings name ≡ false)
-    (items : Items) (clean : HasNoStrays n items) (name value : List ℕ) (place second : ℕ) (at : IsAt n items name place) (passes : is_pair n place name value ≡ true) (is_second : second ≡ place + n.step) where
+    (items : Items) (clean : HasNoOrphans n items) (name value : List ℕ) (place second : ℕ) (at : IsAt n items name place) (passes : is_pair n place name value ≡ true) (is_second : second ≡ place + n.step) where
   abbrev new : Items
   new = insert items (place + n.step) value
 
@@ -75,8 +75,8 @@ module _ (n : Numbering) (laws : IsNumbering n) (counted : (ℕ → ℕ) → ℕ
       place-put n items new (place + n.step) (λ other off. get-put_other items (place + n.step) value other off) laws place at.inside (inr refl) name value new-pair
       (λ x has. one-name (pair_at n items place) x name has at.here) at.lowest
 
-  pub change-clean : HasNoStrays n (insert items second value)
-  change-clean = subst (λ (id : ℕ). HasNoStrays n (insert items id value)) (sym is_second)
+  pub change-clean : HasNoOrphans n (insert items second value)
+  change-clean = subst (λ (id : ℕ). HasNoOrphans n (insert items id value)) (sym is_second)
       (put-clean n laws items new place at.inside (λ id a b. get-put_other items (place + n.step) value id b) name value new-pair
       (λ other within has. one-place n laws items clean name other place within at.inside has at.here) clean)
 
@@ -116,14 +116,14 @@ module _ (n : Numbering) (laws : IsNumbering n) (counted : (ℕ → ℕ) → ℕ
     pub change-refused : (need live : ℕ) → stored.FindsNoSpace price cap sectors items after second value need live → (given cost : ℕ) → given ≡ price (length value) → cost ≡ (pair_room price cap (counted price) too_many).cost (settings_in n items)
         → FindsNoSpace (pair_room price cap (counted price) too_many) sectors (settings_in n items) (settings_in n after) name value given cost
     change-refused need live finds given cost needs lives =
-        let numbers = stored-numbers price cap (counted price) too_many (settings_in n items) name value contains in
-        let largest : (pair_room price cap (counted price) too_many).largest (settings_in n items) name value ≡ price (length value) = numbers.0 in
+        let numbering = stored-numbering price cap (counted price) too_many (settings_in n items) name value contains in
+        let largest : (pair_room price cap (counted price) too_many).largest (settings_in n items) name value ≡ price (length value) = numbering.0 in
         let most = items-within price cap (counted price) too_many n laws (counts price) items clean in
         record {
           free = change-few;
           other = λ is. finds.other (stored-holds is);
           full = refused-room price cap (counted price) too_many sectors (price (length value)) (items_cost price items) (settings_in n items) name value (omega arith) (omega arith) finds.full;
-          needs = needs ∙ sym numbers.1;
+          needs = needs ∙ sym numbering.1;
           lives = lives;
           settings = ap (settings_in n) finds.items;
         }

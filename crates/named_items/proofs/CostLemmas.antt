@@ -15,10 +15,10 @@ use Rattle.item_laws.specs.Items.{Items}
 use Rattle.backend_api.specs.Map.{Map}
 use Rattle.named_items.specs.Numbering.{Numbering, IsNumbering}
 use Rattle.named_items.specs.Cost.{item_cost, pair_cost, settings_cost}
-use Rattle.named_items.specs.Pairs.{count_in, pair_of, pair_at, settings_in, HasName, IsInside, IsAt, HasNoStrays}
+use Rattle.named_items.specs.Pairs.{count_in, pair_of, pair_at, settings_in, HasName, IsInside, IsAt, HasNoOrphans}
 use Rattle.named_items.proofs.RangePairs.{Pair, look, pairs_on, map_on, get-on, on-agree, on-more, on-none}
 use Rattle.named_items.proofs.PairLemmas.{Makes, pair-made, made-pair, no-name, has-pair, one-name, settings-on}
-use Rattle.named_items.proofs.StrayLemmas.{one-place, kept-place}
+use Rattle.named_items.proofs.OrphanLemmas.{one-place, kept-place}
 
 some_none : {A : Type 0} (x : A) → Some x ≡ None → ⊥
 some_none x e = cc
@@ -195,7 +195,7 @@ module _ (price : ℕ → ℕ) where
             ] in
             let ih : items_cost price m2 ≡ item_cost price (map.get m2 n.count_id) + sum_by (pair_cost price) (pairs_on (pair_at n m2) n.first c) = so_far m2 less in
             let count : item_cost price (map.get m2 n.count_id) ≡ item_cost price (map.get items n.count_id) = ap (item_cost price) (stays n.count_id (λ (e : n.count_id ≡ n.first + c). absurd (omega arith)) (λ (e : n.count_id ≡ n.first + c + n.step). absurd (omega arith))) in
-            let front : sum_by (pair_cost price) (pairs_on (pair_at n m2) n.first c) ≡ sum_by (pair_cost price) (pairs_on (pair_at n items) n.first c) = ap (sum_by (pair_cost price)) (on-agree (pair_at n m2) (pair_at n items) n.first c same) in
+            let prefix : sum_by (pair_cost price) (pairs_on (pair_at n m2) n.first c) ≡ sum_by (pair_cost price) (pairs_on (pair_at n items) n.first c) = ap (sum_by (pair_cost price)) (on-agree (pair_at n m2) (pair_at n items) n.first c same) in
             let all : sum_by (pair_cost price) (pairs_on (pair_at n items) n.first (suc c)) ≡ sum_by (pair_cost price) (pairs_on (pair_at n items) n.first c) + (price (length name) + price (length made.value)) =
             ap (sum_by (pair_cost price)) (more ∙ ap (λ (o : Option Pair). pairs_on (pair_at n items) n.first c ++ cons_option o []) pair)
             ∙ sum_by-append (pair_cost price) (pairs_on (pair_at n items) n.first c) ((name, made.value) ∷ [])
@@ -238,11 +238,11 @@ map-sum g f a (suc m) distinct = by (map-sum g f (a + 1) m (λ name i j p q r s 
         ∙ ap (λ (x : ℕ). g (name, value) + x) rest
         ∙ sym (sum_by-cons g (name, value) (pairs_on f (a + 1) m)))
 
-module _ (n : Numbering) (laws : IsNumbering n) (items : Items) (clean : HasNoStrays n items) where
+module _ (n : Numbering) (laws : IsNumbering n) (items : Items) (clean : HasNoOrphans n items) where
   pub clean-distinct : Distinct (pair_at n items) n.first (count_in n items)
   clean-distinct name i j p q r s x y = one-place n laws items clean name i j (record { from = p; to = q }) (record { from = r; to = s }) x y
 
-  -- Where there are no strays, the items cost what the settings and the count do.
+  -- Where there are no orphans, the items cost what the settings and the count do.
   pub clean-cost : (price : ℕ → ℕ) → items_cost price items ≡ item_cost price (map.get items n.count_id) + settings_cost price (settings_in n items)
   clean-cost price =
       let few : count_in n items ≤ n.step = laws.few (map.get items n.count_id) in

@@ -10,14 +10,14 @@ use Rattle.backend_api.specs.Map.{Map}
 use Rattle.backend_api.proofs.MapLemmas.{get-remove_same, remove-absent}
 use Rattle.item_laws.specs.Items.{Items}
 use Rattle.named_items.specs.Numbering.{Numbering, IsNumbering}
-use Rattle.named_items.specs.Pairs.{count_in, settings_in, IsInside, IsAt, IsPlaceOf, HasNoStrays}
+use Rattle.named_items.specs.Pairs.{count_in, settings_in, IsInside, IsAt, IsIdOfName, HasNoOrphans}
 use Rattle.named_items.proofs.CostLemmas.{get-cut, get-cut_other}
 use Rattle.named_items.proofs.PairLemmas.{place-bare, place-taken, no-name}
-use Rattle.named_items.proofs.StrayLemmas.{one-place, taken-clean}
+use Rattle.named_items.proofs.OrphanLemmas.{one-place, taken-clean}
 use Rattle.named_items.proofs.NameLemmas.{get-at, get-nowhere, at-value}
 use Rattle.named_items.specs.Ends.{DeletesPair}
 
-module _ (n : Numbering) (laws : IsNumbering n) (items : Items) (clean : HasNoStrays n items) (name : List ℕ) (place : ℕ) (at : IsAt n items name place) where
+module _ (n : Numbering) (laws : IsNumbering n) (items : Items) (clean : HasNoOrphans n items) (name : List ℕ) (place : ℕ) (at : IsAt n items name place) where
   low : n.first ≤ place
   low = at.inside.from
 
@@ -62,7 +62,7 @@ module _ (n : Numbering) (laws : IsNumbering n) (items : Items) (clean : HasNoSt
       (no-name n place (get both place) (get both (place + n.step)) both-name)
       ∙ name-gone
 
-  pub both-clean_after : HasNoStrays n (remove (remove items place) (place + n.step))
+  pub both-clean_after : HasNoOrphans n (remove (remove items place) (place + n.step))
   both-clean_after = taken-clean n laws items both place at.inside both-others both-name (get-cut (remove items place) (place + n.step)) clean
 
   -- the settings of a delete that was cut
@@ -99,12 +99,12 @@ module _ (n : Numbering) (laws : IsNumbering n) (items : Items) (clean : HasNoSt
   delete-cut after (Ok x) is ends = absurd (false≢true is)
   delete-cut after (Err lost) is ends = pair-cut after ends
 
-  pub delete-clean : {U : Type 0} (after : Items) (r : Result U Lost) → is_err r ≡ false → DeletesPair items after place (place + n.step) r → HasNoStrays n after
-  delete-clean after (Ok x) is ends = subst (HasNoStrays n) (sym ends) both-clean_after
+  pub delete-clean : {U : Type 0} (after : Items) (r : Result U Lost) → is_err r ≡ false → DeletesPair items after place (place + n.step) r → HasNoOrphans n after
+  delete-clean after (Ok x) is ends = subst (HasNoOrphans n) (sym ends) both-clean_after
   delete-clean after (Err lost) is ends = absurd (false≢true (sym is))
 
 -- an absent name
-pub delete-absent : (d : Device) (n : Numbering) (items : Items) (name : List ℕ) → IsPlaceOf n items name None → DeleteEnds {T = Unit {0}} d d (settings_in n items) (settings_in n items) name (Ok tt)
+pub delete-absent : (d : Device) (n : Numbering) (items : Items) (name : List ℕ) → IsIdOfName n items name None → DeleteEnds {T = Unit {0}} d d (settings_in n items) (settings_in n items) name (Ok tt)
 delete-absent d n items name none =
     let absent = get-nowhere n items name none in
     record { settings = sym (remove-absent (settings_in n items) name absent); absent = λ is. refl; spends = λ some. absurd (some absent) }

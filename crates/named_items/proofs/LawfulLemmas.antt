@@ -53,7 +53,7 @@ passes-setting : (n : Numbering) (place : ℕ) (name value : List ℕ) → is_pa
 passes-setting n place name value is =
     let last = and_parts _ (nat_le (length value) n.longest) is in
     let third = and_parts _ (nat_le 1 (length value)) last.0 in
-    let second = and_parts (is_name name) (n.is_home place name) third.0 in
+    let second = and_parts (is_name name) (n.is_candidate place name) third.0 in
     record { named = is_name-sound name second.0; valued = (at_most 1 (length value) third.1, at_most (length value) n.longest last.1) }
 
 of-setting : (n : Numbering) (place : ℕ) (first second : Option (List ℕ)) → IfSetting n.longest (pair_of n place first second)

@@ -2,7 +2,7 @@ pub mod ChangeSteps
 pub mod CostLemmas
 pub mod EmptySteps
 pub mod FormatSteps
-pub mod HomeLemmas
+pub mod CandidateLemmas
 mod ItemSteps
 pub mod LawfulLemmas
 pub mod LookupSteps
@@ -23,6 +23,6 @@ mod SetSteps
 mod SoFar
 pub mod SpendSteps
 mod StopSteps
-pub mod StrayLemmas
-pub mod StraySteps
+pub mod OrphanLemmas
+pub mod OrphanSteps
 mod ZmsSteps

@@ -16,26 +16,26 @@ use Rattle.named_items.specs.Looking.{is_value, IsHere}
 module _ (n : Numbering) where
   record Parts (place : ℕ) (name value : List ℕ) : Type 0 where
     pub lawful : is_name name ≡ true
-    pub home : n.is_home place name ≡ true
+    pub candidate : n.is_candidate place name ≡ true
     pub some : nat_le 1 (length value) ≡ true
     pub short : nat_le (length value) n.longest ≡ true
 
   parts : (place : ℕ) (name value : List ℕ) → is_pair n place name value ≡ true → Parts place name value
   parts place name value is =
-      let last = and_parts (is_name name && n.is_home place name && nat_le 1 (length value)) (nat_le (length value) n.longest) is in
-      let third = and_parts (is_name name && n.is_home place name) (nat_le 1 (length value)) last.0 in
-      let second = and_parts (is_name name) (n.is_home place name) third.0 in
-      record { lawful = second.0; home = second.1; some = third.1; short = last.1 }
+      let last = and_parts (is_name name && n.is_candidate place name && nat_le 1 (length value)) (nat_le (length value) n.longest) is in
+      let third = and_parts (is_name name && n.is_candidate place name) (nat_le 1 (length value)) last.0 in
+      let second = and_parts (is_name name) (n.is_candidate place name) third.0 in
+      record { lawful = second.0; candidate = second.1; some = third.1; short = last.1 }
 
   whole : (place : ℕ) (name value : List ℕ) → Parts place name value → is_pair n place name value ≡ true
   whole place name value p =
-      and_from (is_name name && n.is_home place name && nat_le 1 (length value)) (nat_le (length value) n.longest)
-      (and_from (is_name name && n.is_home place name) (nat_le 1 (length value)) (and_from (is_name name) (n.is_home place name) p.lawful p.home) p.some) p.short
+      and_from (is_name name && n.is_candidate place name && nat_le 1 (length value)) (nat_le (length value) n.longest)
+      (and_from (is_name name && n.is_candidate place name) (nat_le 1 (length value)) (and_from (is_name name) (n.is_candidate place name) p.lawful p.candidate) p.some) p.short
 
   -- a lawful name at a place of its own and a value of 1 to the most bytes are a pair
-  pub all-pass : (place : ℕ) (name value : List ℕ) → IsName name → n.is_home place name ≡ true → 0 < length value → length value ≤ n.longest → is_pair n place name value ≡ true
-  all-pass place name value named home some short =
-      whole place name value (record { lawful = is_name-complete name named; home = home; some = at_least (length value) some; short = at_most (length value) short })
+  pub all-pass : (place : ℕ) (name value : List ℕ) → IsName name → n.is_candidate place name ≡ true → 0 < length value → length value ≤ n.longest → is_pair n place name value ≡ true
+  all-pass place name value named candidate some short =
+      whole place name value (record { lawful = is_name-complete name named; candidate = candidate; some = at_least (length value) some; short = at_most (length value) short })
     where
       at_least : (k : ℕ) → 0 < k → nat_le 1 k ≡ true
       at_least k lt = grind (arith, nat_tests)
@@ -44,12 +44,12 @@ module _ (n : Numbering) where
       at_most k le = grind (arith, nat_tests)
 
   -- both are there
-  pub here-has : (place : ℕ) (name : List ℕ) (first second : Option (List ℕ)) → IsHere n.longest first second name → IsName name → n.is_home place name ≡ true → HasName (pair_of n place first second) name
-  here-has place name first None is named home = absurd (false≢true is.valued)
-  here-has place name first (Some value) is named home =
+  pub here-has : (place : ℕ) (name : List ℕ) (first second : Option (List ℕ)) → IsHere n.longest first second name → IsName name → n.is_candidate place name ≡ true → HasName (pair_of n place first second) name
+  here-has place name first None is named candidate = absurd (false≢true is.valued)
+  here-has place name first (Some value) is named candidate =
       let sizes = and_parts (nat_le 1 (length value)) (nat_le (length value) n.longest) is.valued in
       subst (λ (o : Option Pair). HasName o name)
-      (sym (made-pair n place name value first (Some value) is.named refl (whole place name value (record { lawful = is_name-complete name named; home = home; some = sizes.0; short = sizes.1 })))) refl
+      (sym (made-pair n place name value first (Some value) is.named refl (whole place name value (record { lawful = is_name-complete name named; candidate = candidate; some = sizes.0; short = sizes.1 })))) refl
 
   pub has-here : (place : ℕ) (name : List ℕ) (first second : Option (List ℕ)) → HasName (pair_of n place first second) name → IsHere n.longest first second name
   has-here place name first second has =
@@ -79,7 +79,7 @@ module _ (n : Numbering) where
 
     -- another value of it would be one, too
     pub at-passes : (value : List ℕ) → 0 < length value → length value ≤ n.longest → is_pair n place name value ≡ true
-    at-passes value some short = all-pass place name value at-lawful (parts place name made.value made.passes).home some short
+    at-passes value some short = all-pass place name value at-lawful (parts place name made.value made.passes).candidate some short
 
     -- both ids are the store's
     pub at-known : (top : ℕ) → ((count : Option (List ℕ)) → n.first + n.count_of count + n.step ≤ top) → place + n.step < top

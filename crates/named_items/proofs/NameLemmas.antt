@@ -15,10 +15,10 @@ use Rattle.setting_name.proofs.NameTest.{is_name-sound, is_name-complete}
 use Rattle.backend_api.specs.Map.{Map, IsValue, IsSettings}
 use Rattle.backend_api.proofs.MapLemmas.{ties_itself}
 use Rattle.named_items.specs.Numbering.{Numbering, IsNumbering}
-use Rattle.named_items.specs.Pairs.{count_in, is_pair, pair_of, pair_at, settings_in, HasName, IsInside, IsLowest, IsAt, IsPlaceOf, HasNoStrays, IsKept}
+use Rattle.named_items.specs.Pairs.{count_in, is_pair, pair_of, pair_at, settings_in, HasName, IsInside, IsLowest, IsAt, IsIdOfName, HasNoOrphans, IsKept}
 use Rattle.named_items.proofs.RangePairs.{Pair, tie, found, look, pairs_on, map_on, get-on, on-none, on-some, on-split, or-some, or-none}
 use Rattle.named_items.proofs.PairLemmas.{Makes, pair-made, made-pair, no-name, has-pair, one-name, settings-on}
-use Rattle.named_items.proofs.StrayLemmas.{kept-place}
+use Rattle.named_items.proofs.OrphanLemmas.{kept-place}
 use Rattle.named_items.proofs.CostLemmas.{Distinct, map-sum, clean-distinct}
 
 some_none : {A : Type 0} (x : A) → Some x ≡ None → ⊥
@@ -46,7 +46,7 @@ module _ (n : Numbering) (items : Items) where
       some_same x y e = cc
 
   -- where it stands nowhere
-  pub get-nowhere : (name : List ℕ) → IsPlaceOf n items name None → map.get (settings_in n items) name ≡ None
+  pub get-nowhere : (name : List ℕ) → IsIdOfName n items name None → map.get (settings_in n items) name ≡ None
   get-nowhere name none =
       ap (λ (m : Map). map.get m name) (settings-on n items) ∙ get-on (pair_at n items) n.first (count_in n items) name
       ∙ on-none (pair_at n items) name n.first (count_in n items) (λ k from to. none k (record { from = from; to = to }))
@@ -58,7 +58,7 @@ module _ (n : Numbering) (items : Items) where
       (made.value, made.is_value)
 
   -- a name with a value stands somewhere, and one without nowhere
-  pub nowhere-none : (name : List ℕ) → map.get (settings_in n items) name ≡ None → IsPlaceOf n items name None
+  pub nowhere-none : (name : List ℕ) → map.get (settings_in n items) name ≡ None → IsIdOfName n items name None
   nowhere-none name none = λ place inside has. lowest place inside has
     where
       look-none : look name (pairs_on (pair_at n items) n.first (count_in n items)) ≡ None
@@ -116,7 +116,7 @@ on-free f a (suc m) p from to none =
     by None lt = omega arith
     by (Some x) lt = omega arith
 
-module _ (n : Numbering) (laws : IsNumbering n) (items : Items) (clean : HasNoStrays n items) where
+module _ (n : Numbering) (laws : IsNumbering n) (items : Items) (clean : HasNoOrphans n items) where
   pub clean-len : map.len (settings_in n items) ≡ length (pairs_on (pair_at n items) n.first (count_in n items))
   clean-len =
       map.len-entries (settings_in n items) ∙ length-sum (map.entries (settings_in n items))

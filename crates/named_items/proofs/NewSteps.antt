@@ -12,12 +12,12 @@ use Rattle.backend_api.specs.Room.{Room}
 use Rattle.backend_api.proofs.MapLemmas.{get-insert_same}
 use Rattle.named_items.specs.Numbering.{Numbering, IsNumbering}
 use Rattle.named_items.specs.PairRoom.{pair_room, IsCountCost}
-use Rattle.named_items.specs.Pairs.{is_pair, settings_in, IsInside, IsPlaceOf, HasNoStrays}
+use Rattle.named_items.specs.Pairs.{is_pair, settings_in, IsInside, IsIdOfName, HasNoOrphans}
 use Rattle.named_items.proofs.NameLemmas.{get-nowhere}
 use Rattle.named_items.proofs.RoomLemmas.{new-need}
 use Rattle.named_items.specs.Ends.{IsRefused, IsFree}
 use Rattle.named_items.specs.Putting.{IsPut}
-use Rattle.named_items.proofs.SetSteps.{value-leaves, name-sets, name-clean, refused-tells}
+use Rattle.named_items.proofs.SetSteps.{value-leaves, name-sets, name-clean, refused-describes}
 
 none_some : {A : Type 0} (x : A) → None ≡ Some x → ⊥
 none_some x e = cc
@@ -25,7 +25,7 @@ none_some x e = cc
 -- ---- a new name
 
 module _ (n : Numbering) (laws : IsNumbering n) (counted : (ℕ → ℕ) → ℕ) (too_many : Map → List ℕ → Bool) (counts : (price : ℕ → ℕ) → IsCountCost n price (counted price))
-    (items : Items) (clean : HasNoStrays n items) (name value : List ℕ) (absent : IsPlaceOf n items name None) where
+    (items : Items) (clean : HasNoOrphans n items) (name value : List ℕ) (absent : IsIdOfName n items name None) where
   pub not-stored : ¬ IsStored (settings_in n items) name value
   not-stored is = none_some value (sym (get-nowhere n items name absent) ∙ is)
 
@@ -42,8 +42,8 @@ module _ (n : Numbering) (laws : IsNumbering n) (counted : (ℕ → ℕ) → ℕ
           spends = λ other. spends (λ same. other (ap (λ (m : Map). get m name) (sym same ∙ sets) ∙ get-insert_same (settings_in n items) name value));
         }
 
-    pub new-clean : (after : Items) → after ≡ insert (insert items second value) place name → HasNoStrays n after
-    new-clean after is = subst (HasNoStrays n) (sym (is ∙ ap (λ (id : ℕ). insert (insert items id value) place name) is_second)) (name-clean n laws items clean name value place inside free.0 absent passes)
+    pub new-clean : (after : Items) → after ≡ insert (insert items second value) place name → HasNoOrphans n after
+    new-clean after is = subst (HasNoOrphans n) (sym (is ∙ ap (λ (id : ℕ). insert (insert items id value) place name) is_second)) (name-clean n laws items clean name value place inside free.0 absent passes)
 
     pub new-cut : (after : Items) → (after ≡ items) ⊎ (after ≡ insert items second value) ⊎ (after ≡ insert (insert items second value) place name)
         → IsPut (settings_in n items) (settings_in n after) name value
@@ -63,7 +63,7 @@ module _ (n : Numbering) (laws : IsNumbering n) (counted : (ℕ → ℕ) → ℕ
         record {
           free = few;
           other = not-stored;
-          full = refused-tells n laws items clean name value place inside free.0 absent passes price cap (counted price) sectors too_many (counts price) a b refused;
+          full = refused-describes n laws items clean name value place inside free.0 absent passes price cap (counted price) sectors too_many (counts price) a b refused;
           needs = needs ∙ sym (new-need price cap (counted price) too_many (settings_in n items) name value none);
           lives = lives;
           settings = ap (settings_in n) is;

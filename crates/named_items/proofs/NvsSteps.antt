@@ -11,9 +11,9 @@ use Rattle.flash_map.proofs.Rounding.{padding, padded_bounds}
 use Rattle.nvs_store.specs.Geometry.{cost}
 use Rattle.nvs_store.proofs.SlotReads.{slot_size_bounds}
 use Rattle.nvs_store.proofs.Views.{unit_is}
-use Rattle.nvs_format.specs.Kinds.{kind}
-use Rattle.nvs_format.proofs.KindLemmas.{nvs_is_kind}
-use Rattle.item_store.specs.Kind.{IsKind}
+use Rattle.nvs_format.specs.Formats.{format_of}
+use Rattle.nvs_format.proofs.FormatLemmas.{nvs_is_format}
+use Rattle.item_store.specs.SectorFormat.{IsSectorFormat}
 use Rattle.named_items.specs.RingStore.{IsFrugal}
 use Rattle.named_items.proofs.MostUnits.{units-within}
 
@@ -24,10 +24,10 @@ module _ (d : Device) (area : Area) (lawful : IsLawful d.banks d.bytes) (own : I
   is-unit : IsUnit (unit_of d area)
   is-unit = unit_is d area lawful own.in_bank
 
-  pub nvs-law : IsKind (kind (geometry_of d area))
-  nvs-law = nvs_is_kind (unit_of d area) is-unit
+  pub nvs-law : IsSectorFormat (format_of (geometry_of d area))
+  nvs-law = nvs_is_format (unit_of d area) is-unit
 
-  pub nvs-frugal : IsFrugal (kind (geometry_of d area)) (sector_size d area) (sector_size d area / unit_of d area)
+  pub nvs-frugal : IsFrugal (format_of (geometry_of d area)) (sector_size d area) (sector_size d area / unit_of d area)
   nvs-frugal = record {
     round = omega arith;
     entry = λ len short.
@@ -42,5 +42,5 @@ module _ (d : Device) (area : Area) (lawful : IsLawful d.banks d.bytes) (own : I
   }
 
 -- a blank sector is all FF
-pub nvs-erased : (geometry : Geometry) (b : List ℕ) → is_erased b ≡ true → (kind geometry).reading.is_blank b ≡ true
+pub nvs-erased : (geometry : Geometry) (b : List ℕ) → is_erased b ≡ true → (format_of geometry).reading.is_blank b ≡ true
 nvs-erased geometry b erased = erased

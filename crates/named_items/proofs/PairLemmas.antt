@@ -5,7 +5,7 @@ use Rattle.std.proofs.lemmas.Bool.{cases_Bool, cases_eq, cases_lt, false≢true}
 use Rattle.item_laws.specs.Items.{Items}
 use Rattle.backend_api.specs.Map.{Map}
 use Rattle.named_items.specs.Numbering.{Numbering, IsNumbering}
-use Rattle.named_items.specs.Pairs.{count_in, is_pair, pair_of, pair_at, settings_in, HasName, IsInside, IsLowest, IsAt, IsPlaceOf, IsCount, IsPart, IsKept, HasNoStrays, AltersOnly}
+use Rattle.named_items.specs.Pairs.{count_in, is_pair, pair_of, pair_at, settings_in, HasName, IsInside, IsLowest, IsAt, IsIdOfName, IsCount, IsPart, IsKept, HasNoOrphans, AltersOnly}
 use Rattle.named_items.proofs.RangePairs.{Pair, pairs_on, map_on, map-agree, map-more, get-on, on-none, on-some, on-put, on-take, on-hide}
 
 some_none : {A : Type 0} (x : A) → Some x ≡ None → ⊥
@@ -152,7 +152,7 @@ module _ (n : Numbering) (old new : Items) (id : ℕ) (only : AltersOnly old new
           ∙ ap (λ (m : Map). remove m name) (sym (settings-on n old))
 
       -- It loses a setting whose name a lower place has.
-      pub place-hidden : (name : List ℕ) (lower : ℕ) → HasName (pair_at n old place) name → pair_at n new place ≡ None → n.first ≤ lower → lower < place → HasName (pair_at n old lower) name → settings_in n new ≡ settings_in n old
-      place-hidden name lower here gone low high has =
+      pub place-ignored : (name : List ℕ) (lower : ℕ) → HasName (pair_at n old place) name → pair_at n new place ≡ None → n.first ≤ lower → lower < place → HasName (pair_at n old lower) name → settings_in n new ≡ settings_in n old
+      place-ignored name lower here gone low high has =
           sym along ∙ on-hide (pair_at n old) (pair_at n new) n.first (count_in n old) place from to others name lower gone (λ x its. one-name (pair_at n old place) x name its here) low high has
           ∙ sym (settings-on n old)

@@ -1,33 +1,33 @@
--- Names by their bytes: which items of the ids of names are the names of settings that count, where items are strays and where none is.
+-- Names by their bytes: which items of the ids of names are the names of settings that count, where items are orphans and where none is.
 use Rattle.std.proofs.Common.{◌≡◌, ℕ, ◌+◌, ◌<◌, ◌≤◌, true, List, Option, Some, None, is_some, refl, sym, ap, subst, ◌∙◌, inl, inr, arith}
 use Rattle.std.specs.FinMap.{get, contains_key}
 use Rattle.std.proofs.lemmas.Bool.{false≢true}
 use Rattle.setting_name.specs.Name.{IsName}
-use Rattle.item_laws.specs.Bytes.{is_past, HasBytes, IsIdOf, IsNextOf}
+use Rattle.item_laws.specs.Bytes.{is_behind as bytes_behind, HasBytes, IsIdOf, IsNextOf}
 use Rattle.item_laws.specs.Items.{Items}
 use Rattle.backend_api.specs.Least.{IsLeast}
 use Rattle.backend_api.specs.Map.{is_behind, next_name}
 use Rattle.backend_api.proofs.LeastLemmas.{next-least}
 use Rattle.named_items.specs.Numbering.{Numbering, IsNumbering}
-use Rattle.named_items.specs.Pairs.{count_in, pair_at, settings_in, HasName, IsInside, IsAt, IsPlaceOf, IsKept, HasNoStrays}
-use Rattle.named_items.proofs.HomeLemmas.{at-home}
+use Rattle.named_items.specs.Pairs.{count_in, pair_at, settings_in, HasName, IsInside, IsAt, IsIdOfName, IsKept, HasNoOrphans}
+use Rattle.named_items.proofs.CandidateLemmas.{at-candidate}
 use Rattle.named_items.proofs.NameLemmas.{get-at, at-value, get-nowhere}
-use Rattle.named_items.proofs.StrayLemmas.{seek}
-use Rattle.named_items.specs.PairHomes.{AreOfNames, IsAmong, HasHomes, HasAllHomes}
+use Rattle.named_items.proofs.OrphanLemmas.{seek}
+use Rattle.named_items.specs.CandidateIds.{AreOfNames, IsCandidateId, HasCandidates, HasAllCandidates}
 use Rattle.named_items.specs.Looking.{IsForName}
-use Rattle.named_items.specs.declared.homes.Ids.{Ids}
+use Rattle.named_items.specs.declared.candidates.Ids.{Ids}
 use Rattle.named_items.proofs.LookupSteps.{at-lawful, has-here, named-as}
-use Rattle.named_items.proofs.StraySteps.{named-at}
+use Rattle.named_items.proofs.OrphanSteps.{named-at}
 
 some_none : {A : Type 0} (x : A) → Some x ≡ None → ⊥
 some_none x e = cc
 
 -- greater in byte order, said of bytes and of names
-past-behind : (after : Option (List ℕ)) (name : List ℕ) → is_past after name ≡ is_behind after name
+past-behind : (after : Option (List ℕ)) (name : List ℕ) → bytes_behind after name ≡ is_behind after name
 past-behind None name = refl
 past-behind (Some text) name = refl
 
--- ---- also where items are strays
+-- ---- also where items are orphans
 
 -- each of these ids is for names
 among-own : (n : Numbering) (top : ℕ) (ids : Ids) → AreOfNames n top ids → (id : ℕ) → ids.least ≤ id → id < ids.most + 1 → IsForName n id
@@ -60,7 +60,7 @@ module _ (n : Numbering) (items : Items) where
 
 -- ---- where none is
 
-module _ (n : Numbering) (laws : IsNumbering n) (items : Items) (clean : HasNoStrays n items) (top : ℕ) (ids : Ids) (own : AreOfNames n top ids) where
+module _ (n : Numbering) (laws : IsNumbering n) (items : Items) (clean : HasNoOrphans n items) (top : ℕ) (ids : Ids) (own : AreOfNames n top ids) where
   -- it is neither a count nor a value
   name-is : (id : ℕ) (bytes : List ℕ) → HasBytes ids.least ids.most items id bytes → IsAt n items bytes id
   name-is id bytes has =
@@ -70,22 +70,22 @@ module _ (n : Numbering) (laws : IsNumbering n) (items : Items) (clean : HasNoSt
         | inr kept ↦ kept-at n items laws bytes id (among-own n top ids own id has.from (omega arith)) has.has kept
       ]
 
-  here-bytes : (name : List ℕ) (place : ℕ) → HasName (pair_at n items place) name → IsAmong ids place → HasBytes ids.least ids.most items place name
+  here-bytes : (name : List ℕ) (place : ℕ) → HasName (pair_at n items place) name → IsCandidateId ids place → HasBytes ids.least ids.most items place name
   here-bytes name place has among = record { from = among.from; to = among.to; has = (has-here n place name (get items place) (get items (place + n.step)) has).named }
 
   -- an id that has the bytes of a name is its place, and without one the name has none
-  pub place-found : (name : List ℕ) → HasHomes n name ids → (o : Option ℕ) → IsIdOf ids.least ids.most items name o → IsPlaceOf n items name o
-  place-found name homes None none = λ other inside has. none other (here-bytes name other has (homes items other inside (at-home n items name other has)))
-  place-found name homes (Some id) has = name-is id name has
+  pub place-found : (name : List ℕ) → HasCandidates n name ids → (o : Option ℕ) → IsIdOf ids.least ids.most items name o → IsIdOfName n items name o
+  place-found name candidates None none = λ other inside has. none other (here-bytes name other has (candidates items other inside (at-candidate n items name other has)))
+  place-found name candidates (Some id) has = name-is id name has
 
   at-key : (name : List ℕ) (place : ℕ) → IsAt n items name place → contains_key (settings_in n items) name ≡ true
   at-key name place at = let value = at-value n items name place at in ap is_some (get-at n items name value.0 place at value.1)
 
-  module _ (homes : HasAllHomes n ids) (after : Option (List ℕ)) where
+  module _ (candidates : HasAllCandidates n ids) (after : Option (List ℕ)) where
     key-bytes : (name : List ℕ) → contains_key (settings_in n items) name ≡ true → (place : ℕ) × HasBytes ids.least ids.most items place name
     key-bytes name has =
         elim (seek (pair_at n items) name n.first (count_in n items)) [
-          | inl some ↦ (some.0, here-bytes name some.0 some.3 (homes items some.0 (record { from = some.1; to = some.2 })))
+          | inl some ↦ (some.0, here-bytes name some.0 some.3 (candidates items some.0 (record { from = some.1; to = some.2 })))
           | inr none ↦ absurd (false≢true (sym (ap is_some (get-nowhere n items name (λ place inside. none place inside.from inside.to))) ∙ has))
         ]
 

@@ -37,9 +37,9 @@ look-append q (x ∷ xs) ys =
       | false ↦ look-append q xs ys
     ]
 
-look-front : (q : List ℕ) (o : Option Pair) (xs : List Pair) → look q (cons_option o xs) ≡ option_or (found q o) (look q xs)
-look-front q None xs = refl
-look-front q (Some x) xs =
+look-prefix : (q : List ℕ) (o : Option Pair) (xs : List Pair) → look q (cons_option o xs) ≡ option_or (found q o) (look q xs)
+look-prefix q None xs = refl
+look-prefix q (Some x) xs =
     elim (tie q x.0) as (λ (b : Bool). cond b (Some x.1) (look q xs) ≡ option_or (cond b (Some x.1) None) (look q xs)) [
       | true ↦ refl
       | false ↦ refl
@@ -74,7 +74,7 @@ on-agree f g a (suc m) same =
 pub on-none : (f : ℕ → Option Pair) (q : List ℕ) (a m : ℕ) → ((k : ℕ) → a ≤ k → k < a + m → ¬ HasName (f k) q) → look q (pairs_on f a m) ≡ None
 on-none f q a zero none = refl
 on-none f q a (suc m) none =
-    look-front q (f a) (pairs_on f (a + 1) m)
+    look-prefix q (f a) (pairs_on f (a + 1) m)
     ∙ ap (λ (o : Option (List ℕ)). option_or o (look q (pairs_on f (a + 1) m))) (found-other q (f a) (none a (omega arith) (omega arith)))
     ∙ on-none f q (a + 1) m (λ k from to. none k (omega arith) (omega arith))
 
@@ -93,7 +93,7 @@ on-split f q a m p from to =
     ∙ ap (λ (xs : List ℕ). look q (filter_map f xs)) (range-append a (p - a) (suc (a + m - (p + 1))) ∙ ap (λ (b : ℕ). range_with_len a (p - a) ++ range_with_len b (suc (a + m - (p + 1)))) at)
     ∙ ap (look q) (filter_map-append f (range_with_len a (p - a)) (range_with_len p (suc (a + m - (p + 1)))))
     ∙ look-append q (pairs_on f a (p - a)) (pairs_on f p (suc (a + m - (p + 1))))
-    ∙ ap (option_or (look q (pairs_on f a (p - a)))) (look-front q (f p) (pairs_on f (p + 1) (a + m - (p + 1))))
+    ∙ ap (option_or (look q (pairs_on f a (p - a)))) (look-prefix q (f p) (pairs_on f (p + 1) (a + m - (p + 1))))
 
 some_value : Option (List ℕ) → Type 0
 some_value o = (v : List ℕ) × (o ≡ Some v)

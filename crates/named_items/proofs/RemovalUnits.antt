@@ -13,8 +13,8 @@ use Rattle.flash_map.proofs.Plans.{counted_counted}
 use Rattle.flash_map.specs.declared.area.Geometry.{Geometry}
 use Rattle.backend_api.specs.Room.{mount_units, removal_units}
 use Rattle.item_laws.specs.Items.{Items}
-use Rattle.named_items.specs.StoreEnds.{DeleteEnds, most_items, most_units}
-use Rattle.named_items.specs.Strays.{SpendsPerItem}
+use Rattle.named_items.specs.StoreEnds.{DeleteEnds, most_items, item_units}
+use Rattle.named_items.specs.Orphans.{SpendsPerItem}
 
 step : (n m : ℕ) → (n + 1) * m ≡ n * m + m
 step n m = grind arith
@@ -105,21 +105,21 @@ quarter : (s x : ℕ) → 3 * s * x ≤ 12 * s * x
 quarter s x = let three : 3 * s ≤ 12 * s = omega arith in mul-le-mul_right x three
 
 module _ (g : Geometry) where
-  store-le : most_units g ≤ mount_units g
+  store-le : item_units g ≤ mount_units g
   store-le =
       let wide = quarter g.sectors (g.sector / g.unit + 3) in
       omega arith
 
-  pub store-mounted : (d e : Device) → SpendsAtMost d e (most_units g) → SpendsAtMost d e (mount_units g)
+  pub store-mounted : (d e : Device) → SpendsAtMost d e (item_units g) → SpendsAtMost d e (mount_units g)
   store-mounted d e spent =
       let le = store-le in
-      let within : spent.0 ≤ most_units g = spent.1 in
+      let within : spent.0 ≤ item_units g = spent.1 in
       (spent.0, omega arith, spent.2)
 
-  pub all-removed : (d e f : Device) (items : ℕ) → items ≤ most_items g → SpendsAtMost d e (most_units g) → SpendsAtMost e f (items * removal_units g) → SpendsAtMost d f (mount_units g)
+  pub all-removed : (d e f : Device) (items : ℕ) → items ≤ most_items g → SpendsAtMost d e (item_units g) → SpendsAtMost e f (items * removal_units g) → SpendsAtMost d f (mount_units g)
   all-removed d e f items few one two =
       let wide = quarter g.sectors (g.sector / g.unit + 3) in
       let each : items * removal_units g ≤ g.sectors * (g.sector / 8) * removal_units g = mul-le-mul_right (removal_units g) few in
-      let first : one.0 ≤ most_units g = one.1 in
+      let first : one.0 ≤ item_units g = one.1 in
       let second : two.0 ≤ items * removal_units g = two.1 in
       (one.0 + two.0, omega arith, two.2 ∙ ap (λ (n : ℕ). counted n two.0) one.2 ∙ counted_counted d.spent one.0 two.0)

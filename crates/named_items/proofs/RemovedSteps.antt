@@ -9,9 +9,9 @@ use Rattle.item_laws.specs.Items.{Items}
 use Rattle.named_items.specs.Numbering.{Numbering, IsNumbering}
 use Rattle.named_items.specs.Pairs.{IsKept, AltersOnly}
 use Rattle.named_items.proofs.CostLemmas.{get-cut, get-cut_other}
-use Rattle.named_items.proofs.StrayLemmas.{kept-stays}
+use Rattle.named_items.proofs.OrphanLemmas.{kept-stays}
 use Rattle.named_items.specs.StoreEnds.{IsNextId, DeleteEnds}
-use Rattle.named_items.specs.Strays.{OnlyRemoves, RemovalEnds, StaysKept, StopsAt}
+use Rattle.named_items.specs.Orphans.{OnlyRemoves, RemovalEnds, StaysKept, StopsAt}
 use Rattle.named_items.proofs.SoFar.{HasNoneBefore}
 
 -- ---- one delete, whatever its result
@@ -42,13 +42,13 @@ module _ (items after : Items) (id : ℕ) where
   pub delete-gone : {U : Type 0} (d e : Device) (r : Result U Lost) → DeleteEnds d e items after id r → OnlyRemoves items after
   delete-gone d e r ends = removes (deleted d e r ends)
 
-  module _ (n : Numbering) (laws : IsNumbering n) (stray : ¬ IsKept n items id) where
+  module _ (n : Numbering) (laws : IsNumbering n) (orphan : ¬ IsKept n items id) where
     stays : Deleted → StaysKept n items after
     stays (inl same) other kept = subst (λ (m : Items). IsKept n m other) (sym same) kept
     stays (inr cut) other kept = elim (cases_eq other id) [
-      | inl e ↦ absurd (stray (subst (IsKept n items) e kept))
+      | inl e ↦ absurd (orphan (subst (IsKept n items) e kept))
       | inr apart ↦ subst (λ (m : Items). IsKept n m other) (sym cut)
-          (kept-stays n laws items (remove items id) id (λ o a. get-cut_other items id o a) (get-cut items id) stray other apart kept)
+          (kept-stays n laws items (remove items id) id (λ o a. get-cut_other items id o a) (get-cut items id) orphan other apart kept)
     ]
 
     pub delete-still : {U : Type 0} (d e : Device) (r : Result U Lost) → DeleteEnds d e items after id r → StaysKept n items after

@@ -1,4 +1,4 @@
--- What the calls of a store over sectors of any kind say of an area's geometry and sectors.
+-- What the calls of a store over sectors of any format say of an area's geometry and sectors.
 use Rattle.std.proofs.Common.{◌≡◌, ℕ, zero, suc, ◌+◌, ◌-◌, ◌*◌, ◌/◌, ◌<◌, ◌≤◌, ◌⊎◌, true, false, List, [], length, None, Result, Ok, Err, refl, sym, ap, subst, ◌∙◌, inl, inr, arith}
 use Rattle.std.specs.Prelude.{IfOk}
 use Rattle.std.specs.FinMap.{get, get-empty}
@@ -28,7 +28,7 @@ use Rattle.item_laws.specs.Forms.{AtRest}
 use Rattle.item_laws.proofs.AreaReads.{length-sectors}
 use Rattle.item_laws.proofs.LiveLemmas.{option_cases, some_none}
 use Rattle.item_store.specs.declared.store.Store.{Store}
-use Rattle.item_store.specs.Kind.{Kind, IsKind}
+use Rattle.item_store.specs.SectorFormat.{SectorFormat, IsSectorFormat}
 use Rattle.item_store.specs.Standing.{items, items_at, list_at}
 use Rattle.item_store.specs.Stands as ring
 use Rattle.item_store.specs.Wrapped.{store_in}
@@ -42,14 +42,14 @@ use Rattle.backend_api.specs.Ends as api
 use Rattle.backend_api.specs.Room.{removal_units}
 use Rattle.backend_api.specs.Written.{StaysWritten}
 use Rattle.named_items.specs.Blank.{items-none}
-use Rattle.named_items.specs.StoreEnds.{most_units, WriteEnds, DeleteEnds}
+use Rattle.named_items.specs.StoreEnds.{item_units, WriteEnds, DeleteEnds}
 use Rattle.named_items.specs.RingStore.{ring_rests, RingStands, IsFrugal}
 use Rattle.named_items.proofs.MostUnits.{rounds-within, spends-none, between-most}
 
 -- ---- a store that stands
 
-module _ {T : Type 0} (role : Role) (kind : Geometry → Kind) (kept : Geometry → List ℕ → T) where
-  pub ring-on : (d : Device) (store : Store T) → IsLawfulFor d.banks store.area → RingStands role kind kept store (geometry_of d store.area) (sectors_of d store.area) → ring.StandsOn role kind kept d store
+module _ {T : Type 0} (role : Role) (format_of : Geometry → SectorFormat) (kept : Geometry → List ℕ → T) where
+  pub ring-on : (d : Device) (store : Store T) → IsLawfulFor d.banks store.area → RingStands role format_of kept store (geometry_of d store.area) (sectors_of d store.area) → ring.StandsOn role format_of kept d store
   ring-on d store lawful stands = record {
     area = record { lawful = lawful; role_is = stands.role };
     up = stands.up;
@@ -60,7 +60,7 @@ module _ {T : Type 0} (role : Role) (kind : Geometry → Kind) (kept : Geometry 
     cached = stands.cached;
   }
 
-  pub ring-of : (d : Device) (store : Store T) → ring.StandsOn role kind kept d store → RingStands role kind kept store (geometry_of d store.area) (sectors_of d store.area)
+  pub ring-of : (d : Device) (store : Store T) → ring.StandsOn role format_of kept d store → RingStands role format_of kept store (geometry_of d store.area) (sectors_of d store.area)
   ring-of d store stands = record {
     role = stands.area.role_is;
     up = stands.up;
@@ -74,45 +74,45 @@ module _ {T : Type 0} (role : Role) (kind : Geometry → Kind) (kept : Geometry 
   -- ---- how a mount ends
 
   module _ {S : Type 0} (held : S → Store T) (old new : Device) (area : Area) (banks : new.banks ≡ old.banks) where
-    pub ring-mounts : (r : Result S MountFault) → ring.MountEnds role kind kept old new area (store_in held r) → api.MountEnds ((kind (geometry_of old area)).damage (sectors_of old area)) old new r
+    pub ring-mounts : (r : Result S MountFault) → ring.MountEnds role format_of kept old new area (store_in held r) → api.MountEnds ((format_of (geometry_of old area)).damage (sectors_of old area)) old new r
     ring-mounts (Ok s) ends = ends.0
     ring-mounts (Err (HasDamage damaged)) ends = ends
     ring-mounts (Err MountLost) ends = ends.0
     ring-mounts (Err NoMemory) ends = ends
 
     -- an area with no damage has none, and its items stay
-    kept_there : (r : Result S MountFault) → ring.MountEnds role kind kept old new area (store_in held r) → (kind (geometry_of old area)).damage (sectors_of old area) ≡ None → (items (kind (geometry_of old area)) (sectors_of new area) ≡ items (kind (geometry_of old area)) (sectors_of old area)) × ((kind (geometry_of old area)).damage (sectors_of new area) ≡ None)
+    kept_there : (r : Result S MountFault) → ring.MountEnds role format_of kept old new area (store_in held r) → (format_of (geometry_of old area)).damage (sectors_of old area) ≡ None → (items (format_of (geometry_of old area)) (sectors_of new area) ≡ items (format_of (geometry_of old area)) (sectors_of old area)) × ((format_of (geometry_of old area)).damage (sectors_of new area) ≡ None)
     kept_there (Ok s) ends none = (ends.3.items, ends.3.undamaged)
     kept_there (Err (HasDamage damaged)) ends none = absurd (some_none damaged (sym ends.0 ∙ none))
     kept_there (Err MountLost) ends none = (ends.1.items, ends.1.undamaged)
     kept_there (Err NoMemory) ends none =
-        (ap (λ (x : Device). items (kind (geometry_of old area)) (sectors_of x area)) ends, ap (λ (x : Device). (kind (geometry_of old area)).damage (sectors_of x area)) ends ∙ none)
+        (ap (λ (x : Device). items (format_of (geometry_of old area)) (sectors_of x area)) ends, ap (λ (x : Device). (format_of (geometry_of old area)).damage (sectors_of x area)) ends ∙ none)
 
-    pub ring-sound : (r : Result S MountFault) → ring.MountEnds role kind kept old new area (store_in held r) → (kind (geometry_of old area)).damage (sectors_of old area) ≡ None → (kind (geometry_of new area)).damage (sectors_of new area) ≡ None
-    ring-sound r ends none = from_geometry (λ u. (kind u).damage (sectors_of new area) ≡ None) old new area banks (kept_there r ends none).1
+    pub ring-sound : (r : Result S MountFault) → ring.MountEnds role format_of kept old new area (store_in held r) → (format_of (geometry_of old area)).damage (sectors_of old area) ≡ None → (format_of (geometry_of new area)).damage (sectors_of new area) ≡ None
+    ring-sound r ends none = from_geometry (λ u. (format_of u).damage (sectors_of new area) ≡ None) old new area banks (kept_there r ends none).1
 
-    pub ring-keeps : (r : Result S MountFault) → ring.MountEnds role kind kept old new area (store_in held r) → (kind (geometry_of old area)).damage (sectors_of old area) ≡ None → items (kind (geometry_of new area)) (sectors_of new area) ≡ items (kind (geometry_of old area)) (sectors_of old area)
+    pub ring-keeps : (r : Result S MountFault) → ring.MountEnds role format_of kept old new area (store_in held r) → (format_of (geometry_of old area)).damage (sectors_of old area) ≡ None → items (format_of (geometry_of new area)) (sectors_of new area) ≡ items (format_of (geometry_of old area)) (sectors_of old area)
     ring-keeps r ends none =
-        from_geometry (λ u. items (kind u) (sectors_of new area) ≡ items (kind (geometry_of old area)) (sectors_of old area)) old new area banks (kept_there r ends none).0
+        from_geometry (λ u. items (format_of u) (sectors_of new area) ≡ items (format_of (geometry_of old area)) (sectors_of old area)) old new area banks (kept_there r ends none).0
 
-    pub ring-mounted : (r : Result S MountFault) → ring.MountEnds role kind kept old new area (store_in held r) → IfOk r (λ s. (held s).area ≡ area)
+    pub ring-mounted : (r : Result S MountFault) → ring.MountEnds role format_of kept old new area (store_in held r) → IfOk r (λ s. (held s).area ≡ area)
     ring-mounted (Ok s) ends = ends.2
     ring-mounted (Err fault) ends = tt
 
-    pub ring-up : (r : Result S MountFault) → ring.MountEnds role kind kept old new area (store_in held r) → IfOk r (λ s. RingStands role kind kept (held s) (geometry_of new (held s).area) (sectors_of new (held s).area))
+    pub ring-up : (r : Result S MountFault) → ring.MountEnds role format_of kept old new area (store_in held r) → IfOk r (λ s. RingStands role format_of kept (held s) (geometry_of new (held s).area) (sectors_of new (held s).area))
     ring-up (Ok s) ends = ring-of new (held s) ends.1
     ring-up (Err fault) ends = tt
 
     -- where there is nothing to do, nothing changes
-    module _ (law : IsKind (kind (geometry_of old area))) (own : IsLawfulFor old.banks area) where
-      at_rest : (kind (geometry_of old area)).damage (sectors_of old area) ≡ None → ring_rests kind area (geometry_of old area) (sectors_of old area) → AtRest (kind (geometry_of old area)).reading (sectors_of old area) (open_sector (kind (geometry_of old area)).reading (sectors_of old area))
+    module _ (law : IsSectorFormat (format_of (geometry_of old area))) (own : IsLawfulFor old.banks area) where
+      at_rest : (format_of (geometry_of old area)).damage (sectors_of old area) ≡ None → ring_rests format_of area (geometry_of old area) (sectors_of old area) → AtRest (format_of (geometry_of old area)).reading (sectors_of old area) (open_sector (format_of (geometry_of old area)).reading (sectors_of old area))
       at_rest none rests =
           let count = length-sectors old area in
-          rest_from (kind (geometry_of old area)) law (sectors_of old area) (open_sector (kind (geometry_of old area)).reading (sectors_of old area))
-          (form_here (kind (geometry_of old area)) law (sectors_of old area) (open_sector (kind (geometry_of old area)).reading (sectors_of old area)) (omega (arith, own.several, count)) none refl)
-          (redo_is (kind (geometry_of old area)) law (sectors_of old area) (open_sector (kind (geometry_of old area)).reading (sectors_of old area)) false ((kind (geometry_of old area)).reading.has_gc_done (sector_at (sectors_of old area) (open_sector (kind (geometry_of old area)).reading (sectors_of old area)))) rests refl)
+          rest_from (format_of (geometry_of old area)) law (sectors_of old area) (open_sector (format_of (geometry_of old area)).reading (sectors_of old area))
+          (form_here (format_of (geometry_of old area)) law (sectors_of old area) (open_sector (format_of (geometry_of old area)).reading (sectors_of old area)) (omega (arith, own.several, count)) none refl)
+          (redo_is (format_of (geometry_of old area)) law (sectors_of old area) (open_sector (format_of (geometry_of old area)).reading (sectors_of old area)) false ((format_of (geometry_of old area)).reading.has_gc_done (sector_at (sectors_of old area) (open_sector (format_of (geometry_of old area)).reading (sectors_of old area)))) rests refl)
 
-      pub ring-idle : (r : Result S MountFault) → ring.MountEnds role kind kept old new area (store_in held r) → ring_rests kind area (geometry_of old area) (sectors_of old area) → new ≡ old
+      pub ring-idle : (r : Result S MountFault) → ring.MountEnds role format_of kept old new area (store_in held r) → ring_rests format_of area (geometry_of old area) (sectors_of old area) → new ≡ old
       ring-idle (Ok s) ends rests = ends.5 (at_rest ends.0 rests)
       ring-idle (Err (HasDamage damaged)) ends rests = ends.1
       ring-idle (Err MountLost) ends rests = absurd (ends.3 (at_rest ends.0 rests))
@@ -120,7 +120,7 @@ module _ {T : Type 0} (role : Role) (kind : Geometry → Kind) (kept : Geometry 
 
 -- ---- how writing and deleting end
 
-module _ (k : Kind) (d e : Device) (area : Area) where
+module _ (k : SectorFormat) (d e : Device) (area : Area) where
   pub ring-writes : {V : Type 0} (id : ℕ) (bytes : List ℕ) (r : Result V WriteFault) → ring_writing.WriteEnds k d e area id bytes r
       → WriteEnds k.cost (k.cap (sector_size d area)) area.sectors d e (items_at k d area) (items_at k e area) id bytes r
   ring-writes id bytes (Ok x) ends = record { short = ends.short; items = ends.items; equal = ends.equal }
@@ -155,13 +155,13 @@ module _ (k : Kind) (d e : Device) (area : Area) where
     within sectors rounds len few short =
         rounds-within sectors (sector_size d area / unit_of d area) (k.units.round (sector_size d area)) rounds (k.units.entry len) few frugal.round (frugal.entry len short)
 
-    pub ring-write-most : {V : Type 0} (id : ℕ) (bytes : List ℕ) (r : Result V WriteFault) → ring_writing.WriteEnds k d e area id bytes r → SpendsAtMost d e (most_units (geometry_of d area))
+    pub ring-write-most : {V : Type 0} (id : ℕ) (bytes : List ℕ) (r : Result V WriteFault) → ring_writing.WriteEnds k d e area id bytes r → SpendsAtMost d e (item_units (geometry_of d area))
     ring-write-most id bytes (Ok x) ends = between-most d e 0 _ _ (within area.sectors (area.sectors - 1) (length bytes) (omega arith) ends.short) ends.at_most
     ring-write-most id bytes (Err (NoSpace need live)) ends = between-most d e 0 _ _ (within area.sectors (area.sectors - 1) (length bytes) (omega arith) ends.short) ends.at_most
     ring-write-most id bytes (Err TooLong) ends = spends-none d e _ ends.1
     ring-write-most id bytes (Err PowerLost) ends = between-most d e 0 _ _ (within area.sectors (area.sectors - 1) (length bytes) (omega arith) ends.short) ends.at_most
 
-    pub ring-delete-most : {V : Type 0} (id : ℕ) (r : Result V Lost) → ring_writing.DeleteEnds k d e area id r → SpendsAtMost d e (most_units (geometry_of d area))
+    pub ring-delete-most : {V : Type 0} (id : ℕ) (r : Result V Lost) → ring_writing.DeleteEnds k d e area id r → SpendsAtMost d e (item_units (geometry_of d area))
     ring-delete-most id (Ok x) ends = between-most d e 0 _ _ (within area.sectors 1 0 several frugal.delete) ends.at_most
     ring-delete-most id (Err x) ends = between-most d e 0 _ _ (within area.sectors 1 0 several frugal.delete) ends.at_most
 
@@ -170,29 +170,29 @@ module _ (k : Kind) (d e : Device) (area : Area) where
     ring-delete-removal id (Ok x) ends = between-most d e 0 _ _ (within 2 1 0 (omega arith) frugal.delete) ends.at_most
     ring-delete-removal id (Err x) ends = between-most d e 0 _ _ (within 2 1 0 (omega arith) frugal.delete) ends.at_most
 
-    pub ring-mount-most : SpendsBetween d e 0 (k.units.mount (sector_size d area)) → SpendsAtMost d e (most_units (geometry_of d area))
+    pub ring-mount-most : SpendsBetween d e 0 (k.units.mount (sector_size d area)) → SpendsAtMost d e (item_units (geometry_of d area))
     ring-mount-most spent =
         let most = rounds-within area.sectors (sector_size d area / unit_of d area) 0 0 (k.units.mount (sector_size d area)) (omega arith) (omega arith) frugal.mount in
-        between-most d e 0 (k.units.mount (sector_size d area)) (most_units (geometry_of d area)) (omega arith) spent
+        between-most d e 0 (k.units.mount (sector_size d area)) (item_units (geometry_of d area)) (omega arith) spent
 
 -- the same with the items of each device read by its own geometry, which is the same
-module _ (kind : Geometry → Kind) (d e : Device) (area : Area) (banks : e.banks ≡ d.banks) where
-  pub ring-writes_on : {V : Type 0} (id : ℕ) (bytes : List ℕ) (r : Result V WriteFault) → ring_writing.WriteEnds (kind (geometry_of d area)) d e area id bytes r
-      → WriteEnds (kind (geometry_of d area)).cost ((kind (geometry_of d area)).cap (sector_size d area)) area.sectors d e (items_at (kind (geometry_of d area)) d area) (items_at (kind (geometry_of e area)) e area) id bytes r
+module _ (format_of : Geometry → SectorFormat) (d e : Device) (area : Area) (banks : e.banks ≡ d.banks) where
+  pub ring-writes_on : {V : Type 0} (id : ℕ) (bytes : List ℕ) (r : Result V WriteFault) → ring_writing.WriteEnds (format_of (geometry_of d area)) d e area id bytes r
+      → WriteEnds (format_of (geometry_of d area)).cost ((format_of (geometry_of d area)).cap (sector_size d area)) area.sectors d e (items_at (format_of (geometry_of d area)) d area) (items_at (format_of (geometry_of e area)) e area) id bytes r
   ring-writes_on id bytes r ends =
-      from_geometry (λ u. WriteEnds (kind (geometry_of d area)).cost ((kind (geometry_of d area)).cap (sector_size d area)) area.sectors d e (items_at (kind (geometry_of d area)) d area) (items_at (kind u) e area) id bytes r) d e area banks
-      (ring-writes (kind (geometry_of d area)) d e area id bytes r ends)
+      from_geometry (λ u. WriteEnds (format_of (geometry_of d area)).cost ((format_of (geometry_of d area)).cap (sector_size d area)) area.sectors d e (items_at (format_of (geometry_of d area)) d area) (items_at (format_of u) e area) id bytes r) d e area banks
+      (ring-writes (format_of (geometry_of d area)) d e area id bytes r ends)
 
-  pub ring-deletes_on : {V : Type 0} (id : ℕ) (r : Result V Lost) → ring_writing.DeleteEnds (kind (geometry_of d area)) d e area id r
-      → DeleteEnds d e (items_at (kind (geometry_of d area)) d area) (items_at (kind (geometry_of e area)) e area) id r
+  pub ring-deletes_on : {V : Type 0} (id : ℕ) (r : Result V Lost) → ring_writing.DeleteEnds (format_of (geometry_of d area)) d e area id r
+      → DeleteEnds d e (items_at (format_of (geometry_of d area)) d area) (items_at (format_of (geometry_of e area)) e area) id r
   ring-deletes_on id r ends =
-      from_geometry (λ u. DeleteEnds d e (items_at (kind (geometry_of d area)) d area) (items_at (kind u) e area) id r) d e area banks
-      (ring-deletes (kind (geometry_of d area)) d e area id r ends)
+      from_geometry (λ u. DeleteEnds d e (items_at (format_of (geometry_of d area)) d area) (items_at (format_of u) e area) id r) d e area banks
+      (ring-deletes (format_of (geometry_of d area)) d e area id r ends)
 
 -- ---- what stays written
 
 -- the sectors before this place are blank, or something is written
-find-used : (k : Kind) (sectors : List (List ℕ)) (n : ℕ) → n ≤ length sectors → ((j : ℕ) → j < n → is_blank_at k.reading sectors j ≡ true) ⊎ IsWritten k sectors
+find-used : (k : SectorFormat) (sectors : List (List ℕ)) (n : ℕ) → n ≤ length sectors → ((j : ℕ) → j < n → is_blank_at k.reading sectors j ≡ true) ⊎ IsWritten k sectors
 find-used k sectors zero le = inl (λ j lt. absurd (omega arith))
 find-used k sectors (suc n) le =
     elim (find-used k sectors n (omega arith)) [
@@ -207,7 +207,7 @@ find-used k sectors (suc n) le =
     ]
 
 -- an area with an item is written
-pub present-written : (k : Kind) (law : IsKind k) (sectors : List (List ℕ)) (id : ℕ) → 2 ≤ length sectors → ¬ (get (items k sectors) id ≡ None) → IsWritten k sectors
+pub present-written : (k : SectorFormat) (law : IsSectorFormat k) (sectors : List (List ℕ)) (id : ℕ) → 2 ≤ length sectors → ¬ (get (items k sectors) id ≡ None) → IsWritten k sectors
 present-written k law sectors id several present =
     elim (find-used k sectors (length sectors) (omega arith)) [
       | inr written ↦ written
@@ -215,7 +215,7 @@ present-written k law sectors id several present =
     ]
 
 -- a sector all of whose bytes are FF is blank
-module _ (k : Kind) (erased : (b : List ℕ) → is_erased b ≡ true → k.reading.is_blank b ≡ true) (d e : Device) (area : Area) where
+module _ (k : SectorFormat) (erased : (b : List ℕ) → is_erased b ≡ true → k.reading.is_blank b ≡ true) (d e : Device) (area : Area) where
   written-stays : IsWritten k (sectors_of e area) → StaysWritten d e area
   written-stays written all =
       elim (cases_Bool (is_erased (sector_at (sectors_of e area) written.place))) [
@@ -231,7 +231,7 @@ module _ (k : Kind) (erased : (b : List ℕ) → is_erased b ≡ true → k.read
         | inr written ↦ written-stays written
       ]
 
-  pub ring-delete-written : {V : Type 0} (law : IsKind k) (several : 2 ≤ area.sectors) (id : ℕ) (r : Result V Lost) → ring_writing.DeleteEnds k d e area id r → (IsWritten k (sectors_of d area) → IsWritten k (sectors_of e area)) → StaysWritten d e area
+  pub ring-delete-written : {V : Type 0} (law : IsSectorFormat k) (several : 2 ≤ area.sectors) (id : ℕ) (r : Result V Lost) → ring_writing.DeleteEnds k d e area id r → (IsWritten k (sectors_of d area) → IsWritten k (sectors_of e area)) → StaysWritten d e area
   ring-delete-written law several id r ends kept =
       elim (option_cases (get (items_at k d area) id)) [
         | inl absent ↦ ring-changed (absent_ends r ends absent)

@@ -9,7 +9,7 @@ use Rattle.backend_api.specs.Map.{Map}
 use Rattle.backend_api.specs.Room.{Room, HasNoRoom}
 use Rattle.named_items.specs.Numbering.{Numbering, IsNumbering}
 use Rattle.named_items.specs.Cost.{item_cost, settings_cost}
-use Rattle.named_items.specs.Pairs.{settings_in, HasNoStrays}
+use Rattle.named_items.specs.Pairs.{settings_in, HasNoOrphans}
 use Rattle.named_items.specs.PairRoom.{pair_room, IsCountCost}
 use Rattle.named_items.proofs.CostLemmas.{clean-cost}
 
@@ -43,8 +43,8 @@ module _ (price : ℕ → ℕ) (cap counted : ℕ) (too_many : Map → List ℕ 
 
   -- ---- a name that has a value
 
-  pub stored-numbers : (settings : Map) (name value : List ℕ) → map.contains_key settings name ≡ true → (own.largest settings name value ≡ price (length value)) × (own.need settings name value ≡ price (length value))
-  stored-numbers settings name value has = (
+  pub stored-numbering : (settings : Map) (name value : List ℕ) → map.contains_key settings name ≡ true → (own.largest settings name value ≡ price (length value)) × (own.need settings name value ≡ price (length value))
+  stored-numbering settings name value has = (
     ap (λ (b : Bool). cond b (price (length value)) (max counted (max (price (length value)) (price (length name))))) has,
     ap (λ (b : Bool). cond b (price (length value)) (price (length value) + price (length name))) has,
   )
@@ -85,9 +85,9 @@ module _ (price : ℕ → ℕ) (cap counted : ℕ) (too_many : Map → List ℕ 
       chain : (x y z : ℕ) → x ≤ y → y ≤ z → x ≤ z
       chain x y z p q = omega arith
 
-  -- ---- what items cost where there are no strays
+  -- ---- what items cost where there are no orphans
 
-  module _ (n : Numbering) (laws : IsNumbering n) (counts : IsCountCost n price counted) (items : Items) (clean : HasNoStrays n items) where
+  module _ (n : Numbering) (laws : IsNumbering n) (counts : IsCountCost n price counted) (items : Items) (clean : HasNoOrphans n items) where
     count-cost : item_cost price (map.get items n.count_id) ≤ counted
     count-cost =
         elim (clean n.count_id) [

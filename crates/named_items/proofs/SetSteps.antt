@@ -8,15 +8,15 @@ use Rattle.backend_api.specs.Map.{Map}
 use Rattle.backend_api.specs.Room.{HasNoRoom}
 use Rattle.named_items.specs.Numbering.{Numbering, IsNumbering}
 use Rattle.named_items.specs.PairRoom.{pair_room, IsCountCost}
-use Rattle.named_items.specs.Pairs.{count_in, is_pair, pair_at, settings_in, HasName, IsInside, IsPlaceOf, HasNoStrays}
+use Rattle.named_items.specs.Pairs.{count_in, is_pair, pair_at, settings_in, HasName, IsInside, IsIdOfName, HasNoOrphans}
 use Rattle.named_items.proofs.CostLemmas.{get-put, get-put_other}
 use Rattle.named_items.proofs.PairLemmas.{place-bare, place-put, no-name, made-pair, pair-stays}
 use Rattle.named_items.proofs.NameLemmas.{get-nowhere}
 use Rattle.named_items.proofs.RoomLemmas.{refused-room, new-need, value-small, name-small, items-within}
-use Rattle.named_items.proofs.StrayLemmas.{put-clean}
+use Rattle.named_items.proofs.OrphanLemmas.{put-clean}
 use Rattle.named_items.specs.Ends.{IsRefused}
 
-module _ (n : Numbering) (laws : IsNumbering n) (items : Items) (clean : HasNoStrays n items) (name value : List ℕ) (place : ℕ) (inside : IsInside n items place) (free_name : get items place ≡ None) (absent : IsPlaceOf n items name None)
+module _ (n : Numbering) (laws : IsNumbering n) (items : Items) (clean : HasNoOrphans n items) (name value : List ℕ) (place : ℕ) (inside : IsInside n items place) (free_name : get items place ≡ None) (absent : IsIdOfName n items name None)
     (passes : is_pair n place name value ≡ true) where
   abbrev valued : Items
   valued = insert items (place + n.step) value
@@ -75,16 +75,16 @@ module _ (n : Numbering) (laws : IsNumbering n) (items : Items) (clean : HasNoSt
       (λ other from to. let high : place < n.first + count_in n items = inside.to in valued-pairs other from (omega arith))
       ∙ ap (λ (m : Map). insert m name value) value-leaves
 
-  -- and there is no stray
-  pub name-clean : HasNoStrays n (insert (insert items (place + n.step) value) place name)
+  -- and there is no orphan
+  pub name-clean : HasNoOrphans n (insert (insert items (place + n.step) value) place name)
   name-clean =
       put-clean n laws items both place inside (λ id a b. get-put_other valued place name id a ∙ get-put_other items (place + n.step) value id b) name value both-pair
       (λ other within has. absurd (absent other within has)) clean
 
-  -- a refused write tells that there is no room
-  pub refused-tells : (price : ℕ → ℕ) (cap counted sectors : ℕ) (too_many : Map → List ℕ → Bool) → IsCountCost n price counted → price (length value) ≤ cap → price (length name) ≤ cap → IsRefused price cap sectors items name value
+  -- a refused write reports that there is no room
+  pub refused-describes : (price : ℕ → ℕ) (cap counted sectors : ℕ) (too_many : Map → List ℕ → Bool) → IsCountCost n price counted → price (length value) ≤ cap → price (length name) ≤ cap → IsRefused price cap sectors items name value
       → HasNoRoom (pair_room price cap counted too_many) sectors (settings_in n items) name value
-  refused-tells price cap counted sectors too_many counts value_fits name_fits refused =
+  refused-describes price cap counted sectors too_many counts value_fits name_fits refused =
       let settings : Map = settings_in n items in
       let none : contains_key (settings_in n items) name ≡ false = ap is_some (get-nowhere n items name absent) in
       let need = new-need price cap counted too_many (settings_in n items) name value none in

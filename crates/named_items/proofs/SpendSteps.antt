@@ -15,7 +15,7 @@ use Rattle.flash_map.specs.Spending.{SpendsAtMost}
 use Rattle.flash_map.proofs.Plans.{counted_counted}
 use Rattle.backend_api.specs.Ends.{SpendsSome}
 use Rattle.flash_map.specs.On.{on}
-use Rattle.backend_api.specs.Room.{most_units}
+use Rattle.backend_api.specs.Room.{command_units}
 use Rattle.named_items.specs.StoreEnds as items
 
 pub geometry-stays : (a b : Device) (area : Area) → b.banks ≡ a.banks → geometry_of b area ≡ geometry_of a area
@@ -28,12 +28,12 @@ spends-then a b c first second one two =
     (one.0 + two.0, omega arith, two.2 ∙ ap (λ (n : ℕ). counted n two.0) one.2 ∙ counted_counted a.spent one.0 two.0)
 
 -- the bound of so many calls, in the geometry of the first one
-pub spends-calls : (a b c : Device) (area other : Area) (calls : ℕ) → b.banks ≡ a.banks → other ≡ area → SpendsAtMost a b (calls * items.most_units (geometry_of a area)) → SpendsAtMost b c (items.most_units (geometry_of b other))
-    → SpendsAtMost a c ((calls + 1) * items.most_units (geometry_of a area))
+pub spends-calls : (a b c : Device) (area other : Area) (calls : ℕ) → b.banks ≡ a.banks → other ≡ area → SpendsAtMost a b (calls * items.item_units (geometry_of a area)) → SpendsAtMost b c (items.item_units (geometry_of b other))
+    → SpendsAtMost a c ((calls + 1) * items.item_units (geometry_of a area))
 spends-calls a b c area other calls banks same one two =
     let g : geometry_of b other ≡ geometry_of a area = ap (geometry_of b) same ∙ geometry-stays a b area banks in
-    let second : SpendsAtMost b c (items.most_units (geometry_of a area)) = subst (λ (k : Geometry). SpendsAtMost b c (items.most_units k)) g two in
-    subst (SpendsAtMost a c) (step calls (items.most_units (geometry_of a area))) (spends-then a b c (calls * items.most_units (geometry_of a area)) (items.most_units (geometry_of a area)) one second)
+    let second : SpendsAtMost b c (items.item_units (geometry_of a area)) = subst (λ (k : Geometry). SpendsAtMost b c (items.item_units k)) g two in
+    subst (SpendsAtMost a c) (step calls (items.item_units (geometry_of a area))) (spends-then a b c (calls * items.item_units (geometry_of a area)) (items.item_units (geometry_of a area)) one second)
   where
     step : (x y : ℕ) → x * y + y ≡ (x + 1) * y
     step x y = grind arith
@@ -44,9 +44,9 @@ one-call a b most spent = subst (SpendsAtMost a b) (once most) spent
     once : (x : ℕ) → x ≡ 1 * x
     once x = omega arith
 
-pub calls-within : (a b : Device) (calls : ℕ) (geometry : Geometry) → calls ≤ 4 → SpendsAtMost a b (calls * items.most_units geometry) → SpendsAtMost a b (most_units geometry)
+pub calls-within : (a b : Device) (calls : ℕ) (geometry : Geometry) → calls ≤ 4 → SpendsAtMost a b (calls * items.item_units geometry) → SpendsAtMost a b (command_units geometry)
 calls-within a b calls geometry few spent =
-    let le : spent.0 ≤ calls * items.most_units geometry = spent.1 in
+    let le : spent.0 ≤ calls * items.item_units geometry = spent.1 in
     let all = four calls geometry.sectors (geometry.sector / geometry.unit + 3) few in
     (spent.0, omega arith, spent.2)
   where
@@ -80,12 +80,12 @@ calls-more a b calls more most few spent =
     let all : calls * most ≤ more * most = mul-le-mul_right most few in
     (spent.0, omega arith, spent.2)
 
-pub spends-both : (a b c : Device) (area other : Area) (first second : ℕ) → b.banks ≡ a.banks → other ≡ area → SpendsAtMost a b (first * items.most_units (geometry_of a area)) → SpendsAtMost b c (second * items.most_units (geometry_of b other))
-    → SpendsAtMost a c ((first + second) * items.most_units (geometry_of a area))
+pub spends-both : (a b c : Device) (area other : Area) (first second : ℕ) → b.banks ≡ a.banks → other ≡ area → SpendsAtMost a b (first * items.item_units (geometry_of a area)) → SpendsAtMost b c (second * items.item_units (geometry_of b other))
+    → SpendsAtMost a c ((first + second) * items.item_units (geometry_of a area))
 spends-both a b c area other first second banks same one two =
     let g : geometry_of b other ≡ geometry_of a area = ap (geometry_of b) same ∙ geometry-stays a b area banks in
-    let more : SpendsAtMost b c (second * items.most_units (geometry_of a area)) = subst (λ (k : Geometry). SpendsAtMost b c (second * items.most_units k)) g two in
-    subst (SpendsAtMost a c) (step first second (items.most_units (geometry_of a area))) (spends-then a b c (first * items.most_units (geometry_of a area)) (second * items.most_units (geometry_of a area)) one more)
+    let more : SpendsAtMost b c (second * items.item_units (geometry_of a area)) = subst (λ (k : Geometry). SpendsAtMost b c (second * items.item_units k)) g two in
+    subst (SpendsAtMost a c) (step first second (items.item_units (geometry_of a area))) (spends-then a b c (first * items.item_units (geometry_of a area)) (second * items.item_units (geometry_of a area)) one more)
   where
     step : (x y z : ℕ) → x * z + y * z ≡ (x + y) * z
     step x y z = grind arith

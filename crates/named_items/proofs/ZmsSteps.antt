@@ -8,11 +8,11 @@ use Rattle.flash_map.specs.declared.area.Role.TheVariants.{Zms as ZmsRole}
 use Rattle.flash_map.specs.Area.{geometry_of, sector_size, unit_of}
 use Rattle.flash_map.specs.Lawful.{IsLawfulFor, HasUnit}
 use Rattle.flash_map.specs.Units.{is_erased}
-use Rattle.item_store.specs.Kind.{IsKind}
+use Rattle.item_store.specs.SectorFormat.{IsSectorFormat}
 use Rattle.zms_cycle.specs.Sector.{cost, data_len}
-use Rattle.zms_format.specs.Kinds.{kind}
+use Rattle.zms_format.specs.Formats.{format_of}
 use Rattle.zms_format.proofs.Erased.{erased-unused}
-use Rattle.zms_format.proofs.KindLemmas.{zms_is_kind}
+use Rattle.zms_format.proofs.FormatLemmas.{zms_is_format}
 use Rattle.named_items.specs.RingStore.{IsFrugal}
 use Rattle.named_items.proofs.MostUnits.{units-within}
 
@@ -24,7 +24,7 @@ module _ (d : Device) (area : Area) (own : IsLawfulFor d.banks area) (role : are
   unit_16 : unit_of d area ≡ 16
   unit_16 = subst (λ (r : Role). HasUnit r (unit_of d area)) role own.unit
 
-  frugal_16 : IsFrugal (kind (geometry_of d area)) (sector_size d area) (sector_size d area / 16)
+  frugal_16 : IsFrugal (format_of (geometry_of d area)) (sector_size d area) (sector_size d area / 16)
   frugal_16 = record {
     round = omega arith;
     entry = λ len short.
@@ -34,12 +34,12 @@ module _ (d : Device) (area : Area) (own : IsLawfulFor d.banks area) (role : are
     delete = let least = own.at_least in let none = no-data in omega arith;
   }
 
-  pub zms-frugal : IsFrugal (kind (geometry_of d area)) (sector_size d area) (sector_size d area / unit_of d area)
-  zms-frugal = subst (λ (u : ℕ). IsFrugal (kind (geometry_of d area)) (sector_size d area) (sector_size d area / u)) (sym unit_16) frugal_16
+  pub zms-frugal : IsFrugal (format_of (geometry_of d area)) (sector_size d area) (sector_size d area / unit_of d area)
+  zms-frugal = subst (λ (u : ℕ). IsFrugal (format_of (geometry_of d area)) (sector_size d area) (sector_size d area / u)) (sym unit_16) frugal_16
 
-pub zms-law : (geometry : Geometry) → IsKind (kind geometry)
-zms-law geometry = zms_is_kind geometry
+pub zms-law : (geometry : Geometry) → IsSectorFormat (format_of geometry)
+zms-law geometry = zms_is_format geometry
 
 -- a sector all of whose bytes are FF is not in use
-pub zms-erased : (geometry : Geometry) (b : List ℕ) → is_erased b ≡ true → (kind geometry).reading.is_blank b ≡ true
+pub zms-erased : (geometry : Geometry) (b : List ℕ) → is_erased b ≡ true → (format_of geometry).reading.is_blank b ≡ true
 zms-erased geometry b erased = erased-unused geometry.kind b erased

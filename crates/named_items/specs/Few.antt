@@ -159,7 +159,7 @@ module _ (reading : Reading) (sectors : List (List ℕ)) (size : ℕ) (several :
       let kept =
       kept-le (counts_at reading sectors (open_sector reading sectors))
       (round (length sectors) (open_sector reading sectors)) in
-      let front =
+      let prefix =
       length-range_with_len (open_sector reading sectors + 1)
       (length sectors - (open_sector reading sectors + 1)) in
       let back = length-range_with_len 0 (open_sector reading sectors + 1) in

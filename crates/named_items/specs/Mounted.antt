@@ -8,23 +8,24 @@ use Rattle.flash_map.specs.Lawful.{IsLawfulFor}
 use Rattle.flash_map.specs.On.{on, StandsOn}
 use Rattle.item_laws.specs.Items.{Items}
 use Rattle.named_items.specs.Numbering.{Numbering}
-use Rattle.named_items.specs.Pairs.{HasNoStrays}
+use Rattle.named_items.specs.Pairs.{HasNoOrphans}
 
--- The store is mounted on a lawful area and knows it as it is. No item is a stray.
+-- The store is mounted on a lawful area and knows it as it is. No item is an orphan.
 pub record IsMounted {S : Type 0} (mounted_on : S → Area) (stands : S → Geometry → List (List ℕ) → Type 0)
-    (contents : Area → Geometry → List (List ℕ) → Items) (numbers : Area → Numbering) (d : Device) (store : S)
+    (contents : Area → Geometry → List (List ℕ) → Items) (numbering : Area → Numbering) (d : Device)
+    (store : S)
     : Type 0 where
   pub lawful : IsLawfulFor d.banks (mounted_on store)
   pub up : StandsOn mounted_on stands d store
-  pub clean : HasNoStrays (numbers (mounted_on store)) (on contents d (mounted_on store))
+  pub clean : HasNoOrphans (numbering (mounted_on store)) (on contents d (mounted_on store))
 
 -- A call hands such a store back, on this area.
 pub record IsMountedOn {S : Type 0} (mounted_on : S → Area) (stands : S → Geometry → List (List ℕ) → Type 0)
-    (contents : Area → Geometry → List (List ℕ) → Items) (numbers : Area → Numbering) (d : Device)
+    (contents : Area → Geometry → List (List ℕ) → Items) (numbering : Area → Numbering) (d : Device)
     (area : Area) (store : S) : Type 0 where
   pub on_it : mounted_on store ≡ area
   pub up : StandsOn mounted_on stands d store
-  pub clean : HasNoStrays (numbers area) (on contents d area)
+  pub clean : HasNoOrphans (numbering area) (on contents d area)
 
 -- The store keeps its area, which shows no damage. It knows the area as it is; where power was lost, it is
 -- down.

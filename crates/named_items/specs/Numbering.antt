@@ -10,7 +10,7 @@ pub record Numbering : Type 0 where
   pub first : ℕ
   pub step : ℕ
   -- a name may stand at this id
-  pub is_home : ℕ → List ℕ → Bool
+  pub is_candidate : ℕ → List ℕ → Bool
   -- the most bytes of a value
   pub longest : ℕ
 

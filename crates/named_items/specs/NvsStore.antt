@@ -13,12 +13,12 @@ use Rattle.flash_map.specs.declared.faults.Damaged.{Damaged}
 use Rattle.item_laws.specs.Items.{Items, items_of}
 use Rattle.nvs_store.specs.Geometry.{cost, capacity, slot_size}
 use Rattle.nvs_store.specs.Scans.{damage_of, list_of}
-use Rattle.nvs_format.specs.Kinds.{kind}
+use Rattle.nvs_format.specs.Formats.{format_of}
 use Rattle.item_store.specs.declared.latest.LastSlots.{LastSlots}
 use Rattle.nvs_gc.specs.declared.nvs.Nvs.{Nvs}
 use Rattle.nvs_gc.specs.Standing.{kept}
 use Rattle.named_items.specs.Limits.{value-leaves_room}
-use Rattle.named_items.specs.RingStore.{ring_rests, RingStands, ring_tells, ring-rested}
+use Rattle.named_items.specs.RingStore.{ring_rests, RingStands, ring_describes, ring-rested}
 
 abbrev pub nvs_damage : Area → Geometry → List (List ℕ) → Option Damaged
 nvs_damage area geometry sectors = damage_of geometry.unit sectors
@@ -28,7 +28,7 @@ nvs_items area geometry sectors = items_of (list_of geometry.unit sectors)
 
 -- no loss of power left anything undone
 abbrev pub nvs_rests : Area → Geometry → List (List ℕ) → Type 0
-nvs_rests area geometry sectors = ring_rests kind area geometry sectors
+nvs_rests area geometry sectors = ring_rests format_of area geometry sectors
 
 abbrev pub nvs_price : Geometry → ℕ → ℕ
 nvs_price geometry = cost geometry.unit
@@ -38,16 +38,16 @@ nvs_cap geometry = capacity geometry.unit geometry.sector
 
 -- The store is up: the area is not damaged and at rest, and the store knows its open sector.
 abbrev pub NvsStands : Nvs → Geometry → List (List ℕ) → Type 0
-NvsStands nvs geometry sectors = RingStands NvsRole kind kept nvs.store geometry sectors
+NvsStands nvs geometry sectors = RingStands NvsRole format_of kept nvs.store geometry sectors
 
 -- the index is a table of the last entries of ids
-abbrev pub nvs_tells : LastSlots → Geometry → List (List ℕ) → Type 0
-nvs_tells last geometry sectors = ring_tells kind last geometry sectors
+abbrev pub nvs_describes : LastSlots → Geometry → List (List ℕ) → Type 0
+nvs_describes last geometry sectors = ring_describes format_of last geometry sectors
 
 -- a mount of such an area would have nothing to do
 pub nvs-rested : (nvs : Nvs) (geometry : Geometry) (sectors : List (List ℕ))
     → NvsStands nvs geometry sectors → nvs_rests nvs.store.area geometry sectors
-nvs-rested nvs geometry sectors stands = ring-rested NvsRole kind kept nvs.store geometry sectors stands
+nvs-rested nvs geometry sectors stands = ring-rested NvsRole format_of kept nvs.store geometry sectors stands
 
 fits-4 : (sector length : ℕ) → length + 256 ≤ sector
     → slot_size 4 + padded 4 length ≤ sector - 4 * slot_size 4

@@ -15,7 +15,7 @@ module _ (n : Numbering) where
   -- a lawful name at an id of its own, and a value of 1 to the most bytes
   abbrev pub is_pair : ℕ → List ℕ → List ℕ → Bool
   is_pair place name value =
-      is_name name && n.is_home place name && nat_le 1 (length value) && nat_le (length value) n.longest
+      is_name name && n.is_candidate place name && nat_le 1 (length value) && nat_le (length value) n.longest
 
   -- the setting that two items are
   abbrev pub pair_of : ℕ → Option (List ℕ) → Option (List ℕ) → Option (List ℕ × List ℕ)
@@ -53,9 +53,9 @@ pub record IsAt (n : Numbering) (items : Items) (name : List ℕ) (place : ℕ) 
   pub lowest : IsLowest n items name place
 
 -- where the setting of this name stands that counts, if there is one
-abbrev pub IsPlaceOf : Numbering → Items → List ℕ → Option ℕ → Type 0
-IsPlaceOf n items name None = (other : ℕ) → IsInside n items other → ¬ HasName (pair_at n items other) name
-IsPlaceOf n items name (Some place) = IsAt n items name place
+abbrev pub IsIdOfName : Numbering → Items → List ℕ → Option ℕ → Type 0
+IsIdOfName n items name None = (other : ℕ) → IsInside n items other → ¬ HasName (pair_at n items other) name
+IsIdOfName n items name (Some place) = IsAt n items name place
 
 -- the item is a count
 pub record IsCount (n : Numbering) (items : Items) (id : ℕ) : Type 0 where
@@ -73,8 +73,8 @@ abbrev pub IsKept : Numbering → Items → ℕ → Type 0
 IsKept n items id = IsCount n items id ⊎ IsPart n items id
 
 -- each item is a count, or a part of a setting that counts
-abbrev pub HasNoStrays : Numbering → Items → Type 0
-HasNoStrays n items = (id : ℕ) → (get items id ≡ None) ⊎ IsKept n items id
+abbrev pub HasNoOrphans : Numbering → Items → Type 0
+HasNoOrphans n items = (id : ℕ) → (get items id ≡ None) ⊎ IsKept n items id
 
 -- the items are the same but for this one
 abbrev pub AltersOnly : Items → Items → ℕ → Type 0

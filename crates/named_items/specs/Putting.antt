@@ -15,7 +15,7 @@ use Rattle.item_laws.specs.Items.{Items}
 use Rattle.named_items.specs.Ends.{AltersTwo, IsFree}
 use Rattle.named_items.specs.Numbering.{Numbering}
 use Rattle.named_items.specs.PairRoom.{pair_room}
-use Rattle.named_items.specs.Pairs.{settings_in, HasNoStrays, IsAt, IsInside, IsPlaceOf}
+use Rattle.named_items.specs.Pairs.{settings_in, HasNoOrphans, IsAt, IsInside, IsIdOfName}
 
 -- by what a count costs and which name is one too many, and by the store's price and what a sector has
 abbrev pub room_in : ((ℕ → ℕ) → ℕ) → (Map → List ℕ → Bool) → (Geometry → ℕ → ℕ) → (Geometry → ℕ) → Geometry
@@ -36,37 +36,37 @@ pub record IsStorable (longest : ℕ) (value : List ℕ) : Type 0 where
 -- below the count, and neither its item nor that of its value is there.
 pub record IsNewAt (n : Numbering) (too_many : Map → List ℕ → Bool) (items : Items) (name : List ℕ) (id : ℕ)
     : Type 0 where
-  pub absent : IsPlaceOf n items name None
+  pub absent : IsIdOfName n items name None
   pub few : too_many (settings_in n items) name ≡ false
   pub inside : IsInside n items id
-  pub home : n.is_home id name ≡ true
+  pub candidate : n.is_candidate id name ≡ true
   pub free : IsFree items id (id + n.step)
 
--- How a set ends. Where power was lost, the settings are the old ones or have the value; else no item is a
--- stray.
+-- How a set ends. Where power was lost, the settings are the old ones or have the value; else no item is an
+-- orphan.
 pub record SetLeaves {T : Type 0} (n : Numbering) (room : Room) (sectors : ℕ) (old new : Device)
     (before after : Items) (name value : List ℕ) (result : Result T SetFault) : Type 0 where
   pub ends : SetEnds room sectors old new (settings_in n before) (settings_in n after) name value result
   pub cut : set_lost result ≡ true → IsPut (settings_in n before) (settings_in n after) name value
-  pub clean : set_lost result ≡ false → HasNoStrays n after
+  pub clean : set_lost result ≡ false → HasNoOrphans n after
 
 -- by the room and the items of an area
 abbrev pub SetLeavesOn : {T : Type 0} → (Area → Numbering) → (Geometry → Room)
     → (Area → Geometry → List (List ℕ) → Items) → Device → Device → Area → List ℕ → List ℕ
     → Result T SetFault → Type 0
-SetLeavesOn numbers room contents old new area name value result =
-    SetLeaves (numbers area) (room (geometry_of old area)) area.sectors old new (on contents old area)
+SetLeavesOn numbering room contents old new area name value result =
+    SetLeaves (numbering area) (room (geometry_of old area)) area.sectors old new (on contents old area)
     (on contents new area) name value result
 
 -- How a delete ends. Where power was lost, the settings are the old ones or those without the name; else no
--- item is a stray.
+-- item is an orphan.
 pub record DeleteLeaves {T : Type 0} (n : Numbering) (old new : Device) (before after : Items) (name : List ℕ)
     (result : Result T Lost) : Type 0 where
   pub ends : DeleteEnds old new (settings_in n before) (settings_in n after) name result
   pub cut : is_err result ≡ true
       → (settings_in n after ≡ settings_in n before)
       ⊎ (settings_in n after ≡ remove (settings_in n before) name)
-  pub clean : is_err result ≡ false → HasNoStrays n after
+  pub clean : is_err result ≡ false → HasNoOrphans n after
 
 -- no item changed but the two of the name's setting
 abbrev pub AltersOnlySetting : Numbering → Items → Items → List ℕ → Type 0
@@ -75,5 +75,5 @@ AltersOnlySetting n before after name =
 
 abbrev pub DeleteLeavesOn : {T : Type 0} → (Area → Numbering) → (Area → Geometry → List (List ℕ) → Items)
     → Device → Device → Area → List ℕ → Result T Lost → Type 0
-DeleteLeavesOn numbers contents old new area name result =
-    DeleteLeaves (numbers area) old new (on contents old area) (on contents new area) name result
+DeleteLeavesOn numbering contents old new area name result =
+    DeleteLeaves (numbering area) old new (on contents old area) (on contents new area) name result

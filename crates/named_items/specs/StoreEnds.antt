@@ -11,8 +11,8 @@ use Rattle.item_laws.specs.Items.{Items}
 use Rattle.item_laws.specs.NextIds.{IsBehind}
 
 -- the most units and erases of one write or delete
-abbrev pub most_units : Geometry → ℕ
-most_units geometry = 3 * geometry.sectors * (geometry.sector / geometry.unit + 3)
+abbrev pub item_units : Geometry → ℕ
+item_units geometry = 3 * geometry.sectors * (geometry.sector / geometry.unit + 3)
 
 -- how many items an area has at most: each has an entry of its own, of 8 bytes or more
 abbrev pub most_items : Geometry → ℕ

@@ -14,11 +14,11 @@ use Rattle.item_laws.specs.Items.{Items, items_of}
 use Rattle.item_store.specs.declared.latest.LastSlots.{LastSlots}
 use Rattle.zms_cycle.specs.Sector.{cost, capacity, data_len}
 use Rattle.zms_format.specs.Area.{damage_of, list_of}
-use Rattle.zms_format.specs.Kinds.{kind}
+use Rattle.zms_format.specs.Formats.{format_of}
 use Rattle.zms_store.specs.declared.store.Zms.{Zms}
 use Rattle.zms_store.specs.Standing.{kept}
 use Rattle.named_items.specs.Limits.{value-leaves_room}
-use Rattle.named_items.specs.RingStore.{ring_rests, RingStands, ring-rested, ring_tells}
+use Rattle.named_items.specs.RingStore.{ring_rests, RingStands, ring-rested, ring_describes}
 
 abbrev pub zms_damage : Area → Geometry → List (List ℕ) → Option Damaged
 zms_damage area geometry sectors = damage_of geometry.kind sectors
@@ -28,7 +28,7 @@ zms_items area geometry sectors = items_of (list_of geometry.kind sectors)
 
 -- no loss of power left anything undone
 abbrev pub zms_rests : Area → Geometry → List (List ℕ) → Type 0
-zms_rests area geometry sectors = ring_rests kind area geometry sectors
+zms_rests area geometry sectors = ring_rests format_of area geometry sectors
 
 abbrev pub zms_price : Geometry → ℕ → ℕ
 zms_price geometry = cost
@@ -38,16 +38,16 @@ zms_cap geometry = capacity geometry.sector
 
 -- The store is up: the area is not damaged and at rest, and the store knows its open sector.
 abbrev pub ZmsStands : Zms → Geometry → List (List ℕ) → Type 0
-ZmsStands zms geometry sectors = RingStands ZmsRole kind kept zms.store geometry sectors
+ZmsStands zms geometry sectors = RingStands ZmsRole format_of kept zms.store geometry sectors
 
 -- the index is a table of the last entries of ids
-abbrev pub zms_tells : LastSlots → Geometry → List (List ℕ) → Type 0
-zms_tells last geometry sectors = ring_tells kind last geometry sectors
+abbrev pub zms_describes : LastSlots → Geometry → List (List ℕ) → Type 0
+zms_describes last geometry sectors = ring_describes format_of last geometry sectors
 
 -- a mount of such an area would have nothing to do
 pub zms-rested : (zms : Zms) (geometry : Geometry) (sectors : List (List ℕ)) → ZmsStands zms geometry sectors
     → zms_rests zms.store.area geometry sectors
-zms-rested zms geometry sectors stands = ring-rested ZmsRole kind kept zms.store geometry sectors stands
+zms-rested zms geometry sectors stands = ring-rested ZmsRole format_of kept zms.store geometry sectors stands
 
 value-fits : (sector length : ℕ) → length + 256 ≤ sector → 16 + data_len length ≤ sector - 80
 unfolding data_len padded

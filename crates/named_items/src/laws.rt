@@ -6,11 +6,11 @@ ghost use Rattle.item_laws.specs.Items.{Items};
 ghost use Rattle.backend_api.specs.Map.{Map};
 ghost use Rattle.named_items.specs.Numbering.{Numbering, IsNumbering};
 ghost use Rattle.named_items.specs.PairRoom.{pair_room, IsCountCost};
-ghost use Rattle.named_items.specs.Pairs.{IsOf, count_in, pair_at, settings_in, HasName, IsInside, IsLowest, IsAt, IsKept, HasNoStrays};
+ghost use Rattle.named_items.specs.Pairs.{IsOf, count_in, pair_at, settings_in, HasName, IsInside, IsLowest, IsAt, IsKept, HasNoOrphans};
 
 /// The delete of an item that is neither a count nor a part of a setting that counts leaves the
 /// settings.
-pub fn stray_deleted()
+pub fn orphan_deleted()
     ensures { (n : Numbering) (items : Items) (id : ℕ) → IsNumbering n → ¬ IsKept n items id
         → settings_in n (remove items id) ≡ settings_in n items }
 {}
@@ -41,19 +41,19 @@ pub fn setting_written()
         → settings_in n (insert items id bytes) ≡ insert (settings_in n items) name value }
 {}
 
-/// Where there are no strays, the delete of a name takes its value away.
+/// Where there are no orphans, the delete of a name takes its value away.
 pub fn name_deleted()
     ensures { (n : Numbering) (items : Items) (name : List ℕ) (place : ℕ) → IsNumbering n
-        → HasNoStrays n items → IsAt n items name place
+        → HasNoOrphans n items → IsAt n items name place
         → settings_in n (remove items place) ≡ remove (settings_in n items) name }
 {}
 
-/// Where there are no strays, the items cost no more than the settings by the numbers of room,
+/// Where there are no orphans, the items cost no more than the settings by the numbers of room,
 /// which count the count also where there is none.
 pub fn items_cost_at_most()
     ensures { (n : Numbering) (items : Items) (price : ℕ → ℕ) (cap counted : ℕ)
         (too_many : Map → List ℕ → Bool) → IsNumbering n → IsCountCost n price counted
-        → HasNoStrays n items
+        → HasNoOrphans n items
         → items_cost price items
         ≤ (pair_room price cap counted too_many).cost (settings_in n items) }
 {}

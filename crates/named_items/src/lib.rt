@@ -2,25 +2,25 @@
 //! ZMS: look-up, set, delete, and the removal of orphans at mount.
 #![tactic(auto)]
 
-mod homes;
+mod candidates;
 pub mod laws;
 mod lookup;
 mod mounting;
-mod numbers;
+mod numbering;
 mod nvs;
+mod orphans;
 mod putting;
 mod store;
-mod strays;
 mod walking;
 mod writing;
 mod zms;
 
-pub use homes::Ids;
-pub use lookup::{is_at, is_free, is_named, is_value, standing_place, standing_value, value_of};
+pub use candidates::Ids;
+pub use lookup::{id_of_name, is_at, is_free, is_named, is_value, standing_value, value_of};
 pub use mounting::mount_store;
-pub use numbers::Numbers;
+pub use numbering::IdLayout;
+pub use orphans::{remove_if_orphan, remove_orphans};
 pub use putting::{NewNames, change_value, price_of_pair, put_new, refused, set_value};
 pub use store::ItemStore;
-pub use strays::{remove_if_stray, remove_strays};
 pub use walking::{name_in, next_name};
 pub use writing::{delete_name, delete_pair, put_pair};

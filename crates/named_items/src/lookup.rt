@@ -6,11 +6,11 @@ ghost use Rattle.setting_name.specs.Name.{IsName};
 ghost use Rattle.flash_map.specs.Area.{value_limit};
 ghost use Rattle.flash_map.specs.Lawful.{IsLawfulFor};
 ghost use Rattle.flash_map.specs.On.{on, HoldsOn, StandsOn};
-ghost use Rattle.named_items.specs.Pairs.{settings_in, HasNoStrays, IsPlaceOf};
+ghost use Rattle.named_items.specs.Pairs.{settings_in, HasNoOrphans, IsIdOfName};
 ghost use Rattle.named_items.specs.Ends.{IsFree};
 ghost use Rattle.named_items.specs.Looking.{is_value, HasIds, StandsHere};
 
-use crate::numbers::Numbers;
+use crate::numbering::IdLayout;
 use crate::store::ItemStore;
 use flash_sim::{Flash, Steps};
 use setting_name::Name;
@@ -53,7 +53,8 @@ pub fn is_at<S: ItemStore, F: Flash, L: Ledger>(
 ) -> bool
     requires lawful { IsLawfulFor (F.device flash.now).banks (S.mounted_on store.now) }
     requires stands { StandsOn S.mounted_on S.stands (F.device flash.now) store.now }
-    requires tells { HoldsOn (S.tells index.now) (F.device flash.now) (S.mounted_on store.now) }
+    requires describes { HoldsOn (S.describes index.now) (F.device flash.now)
+        (S.mounted_on store.now) }
     requires first { S.is_id first }
     requires second { S.is_id second }
     ensures yes_it { let area = S.mounted_on store.now in
@@ -84,7 +85,8 @@ pub fn is_free<S: ItemStore, F: Flash, L: Ledger>(
 ) -> bool
     requires lawful { IsLawfulFor (F.device flash.now).banks (S.mounted_on store.now) }
     requires stands { StandsOn S.mounted_on S.stands (F.device flash.now) store.now }
-    requires tells { HoldsOn (S.tells index.now) (F.device flash.now) (S.mounted_on store.now) }
+    requires describes { HoldsOn (S.describes index.now) (F.device flash.now)
+        (S.mounted_on store.now) }
     requires first { S.is_id first }
     requires second { S.is_id second }
     ensures { let items = on S.contents (F.device flash.now) (S.mounted_on store.now) in
@@ -96,9 +98,9 @@ pub fn is_free<S: ItemStore, F: Flash, L: Ledger>(
     store.get_by(flash, index, second, steps).is_none()
 }
 
-/// Where the setting of a name stands, if the name has a value. No item may be a stray. It is one
+/// Where the setting of a name stands, if the name has a value. No item may be an orphan. It is one
 /// walk over the store's entries at most, and makes no index.
-pub fn standing_place<N: Numbers, S: ItemStore, F: Flash, L: Ledger>(
+pub fn id_of_name<N: IdLayout, S: ItemStore, F: Flash, L: Ledger>(
     store: &S,
     flash: &F,
     name: &Name,
@@ -108,17 +110,17 @@ pub fn standing_place<N: Numbers, S: ItemStore, F: Flash, L: Ledger>(
     requires lawful { IsLawfulFor (F.device flash.now).banks (S.mounted_on store.now) }
     requires stands { StandsOn S.mounted_on S.stands (F.device flash.now) store.now }
     requires clean { let area = S.mounted_on store.now in
-        HasNoStrays (N.numbers area) (on S.contents (F.device flash.now) area) }
+        HasNoOrphans (N.numbering area) (on S.contents (F.device flash.now) area) }
     ensures { let area = S.mounted_on store.now in
-        IsPlaceOf (N.numbers area) (on S.contents (F.device flash.now) area) name.now result }
+        IsIdOfName (N.numbering area) (on S.contents (F.device flash.now) area) name.now result }
 {
-    let ids = N::homes_of(name);
+    let ids = N::candidates_of(name);
     store.id_of(flash, ids.least, ids.most, name.bytes(), steps)
 }
 
-/// The value of a name; none where it has no value. No item may be a stray. Where the name can have
+/// The value of a name; none where it has no value. No item may be an orphan. Where the name can have
 /// no item by what the store keeps in memory, the entries are not gone over. No index is made.
-pub fn standing_value<'a, N: Numbers, S: ItemStore, F: Flash, L: Ledger>(
+pub fn standing_value<'a, N: IdLayout, S: ItemStore, F: Flash, L: Ledger>(
     store: &S,
     flash: &'a F,
     name: &Name,
@@ -128,24 +130,24 @@ pub fn standing_value<'a, N: Numbers, S: ItemStore, F: Flash, L: Ledger>(
     requires lawful { IsLawfulFor (F.device flash.now).banks (S.mounted_on store.now) }
     requires stands { StandsOn S.mounted_on S.stands (F.device flash.now) store.now }
     requires clean { let area = S.mounted_on store.now in
-        HasNoStrays (N.numbers area) (on S.contents (F.device flash.now) area) }
+        HasNoOrphans (N.numbering area) (on S.contents (F.device flash.now) area) }
     ensures { let area = S.mounted_on store.now in
         option_map (λ bytes. bytes.now) result
-        ≡ finite.get (settings_in (N.numbers area) (on S.contents (F.device flash.now) area))
+        ≡ finite.get (settings_in (N.numbering area) (on S.contents (F.device flash.now) area))
         name.now }
 {
     if !N::may_have(store, flash, name, steps) {
         return None;
     }
-    let place = standing_place::<N, S, F, L>(store, flash, name, steps)?;
+    let place = id_of_name::<N, S, F, L>(store, flash, name, steps)?;
     store.get(flash, place + N::step(), steps)
 }
 
-/// The value of a name; none where it has no value. Items may be strays, as before a mount has
-/// removed them: none of them is told as a value. Where the name can have no item by what the store
+/// The value of a name; none where it has no value. Items may be orphans, as before a mount has
+/// removed them: none of them is given as a value. Where the name can have no item by what the store
 /// keeps in memory, the entries are not gone over. Else an index is made, and each id of the name
-/// looked at: where no item is a stray, `standing_value` is faster and tells the same.
-pub fn value_of<'a, N: Numbers, S: ItemStore, F: Flash, L: Ledger>(
+/// looked at: where no item is an orphan, `standing_value` is faster and gives the same.
+pub fn value_of<'a, N: IdLayout, S: ItemStore, F: Flash, L: Ledger>(
     store: &S,
     flash: &'a F,
     name: &Name,
@@ -156,14 +158,14 @@ pub fn value_of<'a, N: Numbers, S: ItemStore, F: Flash, L: Ledger>(
     requires stands { StandsOn S.mounted_on S.stands (F.device flash.now) store.now }
     ensures { let area = S.mounted_on store.now in
         option_map (λ bytes. bytes.now) result
-        ≡ finite.get (settings_in (N.numbers area) (on S.contents (F.device flash.now) area))
+        ≡ finite.get (settings_in (N.numbering area) (on S.contents (F.device flash.now) area))
         name.now }
 {
     if !N::may_have(store, flash, name, steps) {
         return None;
     }
     let mut index = S::new_index();
-    store.tell(flash, &mut index, steps);
+    store.fill_index(flash, &mut index, steps);
     let place = N::place_of(store, flash, &index, name, steps)?;
     store.get_by(flash, &index, place + N::step(), steps)
 }

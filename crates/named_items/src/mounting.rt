@@ -10,13 +10,13 @@ ghost use Rattle.backend_api.specs.Room.{mount_units};
 ghost use Rattle.backend_api.specs.Written.{StaysWritten};
 ghost use Rattle.flash_map.specs.On.{on, HoldsOn};
 ghost use Rattle.named_items.specs.Mounted.{IsMountedOn};
-ghost use Rattle.named_items.specs.Pairs.{HasNoStrays};
+ghost use Rattle.named_items.specs.Pairs.{HasNoOrphans};
 ghost use Rattle.named_items.specs.Looking.{HasIds};
-ghost use Rattle.named_items.specs.Strays.{KeepsSettings};
+ghost use Rattle.named_items.specs.Orphans.{KeepsSettings};
 
-use crate::numbers::Numbers;
+use crate::numbering::IdLayout;
+use crate::orphans::remove_orphans;
 use crate::store::ItemStore;
-use crate::strays::remove_strays;
 use flash_map::{Area, MountFault};
 use flash_sim::{Flash, Steps};
 use std::alloc::Global;
@@ -31,7 +31,7 @@ use std::sync::ledger::Ledger;
 /// `Damaged` exactly where the area shows damage, and then nothing was programmed; `PowerLost`; `NoMemory`, and then nothing was
 /// programmed either.
 #[tactic(auto, using(flash_map::proofs::Touches::then))]
-pub fn mount_store<N: Numbers, S: ItemStore, F: Flash, L: Ledger>(
+pub fn mount_store<N: IdLayout, S: ItemStore, F: Flash, L: Ledger>(
     alloc: Global,
     flash: &mut F,
     area: Area,
@@ -48,20 +48,20 @@ pub fn mount_store<N: Numbers, S: ItemStore, F: Flash, L: Ledger>(
     ensures sound { on S.damage (F.device flash.old) area ≡ None
         → on S.damage (F.device flash.new) area ≡ None }
     ensures keeps { on S.damage (F.device flash.old) area ≡ None
-        → KeepsSettings (N.numbers area) (on S.contents (F.device flash.old) area)
+        → KeepsSettings (N.numbering area) (on S.contents (F.device flash.old) area)
         (on S.contents (F.device flash.new) area) }
     ensures rests { HoldsOn S.rests (F.device flash.old) area
-        → HasNoStrays (N.numbers area) (on S.contents (F.device flash.old) area)
+        → HasNoOrphans (N.numbering area) (on S.contents (F.device flash.old) area)
         → F.device flash.new ≡ F.device flash.old }
     ensures written { StaysWritten (F.device flash.old) (F.device flash.new) area }
     ensures at_most { let d = F.device flash.old in
         SpendsAtMost d (F.device flash.new) (mount_units (geometry_of d area)) }
     ensures store { let e = F.device flash.new in
         IfOk result
-        (λ store. IsMountedOn S.mounted_on S.stands S.contents N.numbers e area store) }
+        (λ store. IsMountedOn S.mounted_on S.stands S.contents N.numbering e area store) }
 {
     match S::mount(alloc, flash, area, steps) {
-        Ok(mut store) => match remove_strays::<N, S, F, L>(&mut store, flash, steps) {
+        Ok(mut store) => match remove_orphans::<N, S, F, L>(&mut store, flash, steps) {
             Ok(()) => Ok(store),
             Err(_) => Err(MountFault::PowerLost),
         },

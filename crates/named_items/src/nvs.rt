@@ -3,7 +3,7 @@ ghost use Rattle.std.specs.Prelude.{◌≡◌, ◌<◌, min, option_map};
 ghost use Rattle.flash_map.specs.declared.area.Role.TheVariants.{Nvs as NvsRole};
 ghost use Rattle.named_items.specs.Blank.{nvs-undamaged, nvs-empty};
 ghost use Rattle.named_items.specs.Few.{nvs-few};
-ghost use Rattle.named_items.specs.NvsStore.{nvs_damage, nvs_items, nvs_rests, nvs_price, nvs_cap, nvs_tells, NvsStands, nvs-rested, nvs-fits};
+ghost use Rattle.named_items.specs.NvsStore.{nvs_damage, nvs_items, nvs_rests, nvs_price, nvs_cap, nvs_describes, NvsStands, nvs-rested, nvs-fits};
 
 use crate::store::ItemStore;
 use flash_map::{Area, MountFault, WriteFault, geometry};
@@ -47,7 +47,7 @@ impl ItemStore for Nvs {
 
     ghost runs = { λ store. store.store.up };
 
-    ghost tells = { λ last area geometry sectors. nvs_tells last geometry sectors };
+    ghost describes = { λ last area geometry sectors. nvs_describes last geometry sectors };
 
     ghost stands_up = { λ store geometry sectors stands. stands.up };
 
@@ -91,8 +91,13 @@ impl ItemStore for Nvs {
         LastSlots::new()
     }
 
-    fn tell<F: Flash, L: Ledger>(&self, flash: &F, index: &mut LastSlots, steps: &mut Steps<L>) {
-        Nvs::tell_last_slots(self, flash, index, steps)
+    fn fill_index<F: Flash, L: Ledger>(
+        &self,
+        flash: &F,
+        index: &mut LastSlots,
+        steps: &mut Steps<L>,
+    ) {
+        Nvs::fill_last_slots(self, flash, index, steps)
     }
 
     fn get_by<'a, F: Flash, L: Ledger>(

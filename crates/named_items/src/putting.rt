@@ -8,16 +8,16 @@ ghost use Rattle.flash_map.specs.Touches.{Touches};
 ghost use Rattle.flash_map.specs.On.{on, StandsOn};
 ghost use Rattle.backend_api.specs.declared.backend.SetFault.TheVariants.{NoSpace};
 ghost use Rattle.backend_api.specs.Ends.{set_lost};
-ghost use Rattle.backend_api.specs.Room.{most_units};
+ghost use Rattle.backend_api.specs.Room.{command_units};
 ghost use Rattle.named_items.specs.StoreEnds as items;
-ghost use Rattle.named_items.specs.Pairs.{settings_in, AltersOnly, IsAt, IsPlaceOf};
+ghost use Rattle.named_items.specs.Pairs.{settings_in, AltersOnly, IsAt, IsIdOfName};
 ghost use Rattle.named_items.specs.Ends.{AltersTwo};
 ghost use Rattle.named_items.specs.Looking.{HasIds};
 ghost use Rattle.named_items.specs.Mounted.{IsMounted, StaysMounted};
 ghost use Rattle.named_items.specs.Putting.{room_in, IsNewAt, IsStorable, SetLeavesOn};
 
-use crate::lookup::standing_place;
-use crate::numbers::Numbers;
+use crate::lookup::id_of_name;
+use crate::numbering::IdLayout;
 use crate::store::ItemStore;
 use crate::writing::put_pair;
 use backend_api::SetFault;
@@ -27,7 +27,7 @@ use setting_name::Name;
 use std::sync::ledger::Ledger;
 
 /// How a numbering puts a new name.
-pub trait NewNames: Numbers {
+pub trait NewNames: IdLayout {
     /// Gives a name its first value.
     ///
     /// # Errors
@@ -41,37 +41,39 @@ pub trait NewNames: Numbers {
         steps: &mut Steps<L>,
     ) -> Result<(), SetFault>
         requires ids { HasIds Self.top S.is_id }
-        requires here { IsMounted S.mounted_on S.stands S.contents Self.numbers (F.device flash.old)
+        requires here { IsMounted S.mounted_on S.stands S.contents Self.numbering
+            (F.device flash.old)
             store.old }
         requires value { IsStorable (value_limit (S.mounted_on store.old)) value.now }
         requires absent { let area = S.mounted_on store.old in
-            IsPlaceOf (Self.numbers area) (on S.contents (F.device flash.old) area) name.now None }
+            IsIdOfName (Self.numbering area) (on S.contents (F.device flash.old) area) name.now
+            None }
 
         ensures touches { Touches (S.mounted_on store.old ∷ []) (F.device flash.old)
             (F.device flash.new) (set_lost result) }
         ensures store { StaysMounted S.mounted_on S.stands S.runs S.damage (F.device flash.new)
             store.old store.new (set_lost result) }
         ensures ends { let d = F.device flash.old in let e = F.device flash.new in
-            SetLeavesOn Self.numbers (room_in Self.counted Self.too_many S.price S.cap) S.contents
+            SetLeavesOn Self.numbering (room_in Self.counted Self.too_many S.price S.cap) S.contents
             d e (S.mounted_on store.old) name.now value.now result }
         ensures at_most { let d = F.device flash.old in
             SpendsAtMost d (F.device flash.new)
-            (most_units (geometry_of d (S.mounted_on store.old))) };
+            (command_units (geometry_of d (S.mounted_on store.old))) };
 }
 
 /// The answer to a put that finds no room.
-pub fn refused<N: Numbers, S: ItemStore, F: Flash, L: Ledger>(
+pub fn refused<N: IdLayout, S: ItemStore, F: Flash, L: Ledger>(
     store: &S,
     flash: &F,
     need: u64,
     steps: &mut Steps<L>,
 ) -> SetFault
     requires ids { HasIds N.top S.is_id }
-    requires here { IsMounted S.mounted_on S.stands S.contents N.numbers (F.device flash.now)
+    requires here { IsMounted S.mounted_on S.stands S.contents N.numbering (F.device flash.now)
         store.now }
     ensures { let d = F.device flash.now in let area = S.mounted_on store.now in
         let room = room_in N.counted N.too_many S.price S.cap (geometry_of d area) in
-        result ≡ NoSpace need (room.cost (settings_in (N.numbers area) (on S.contents d area))) }
+        result ≡ NoSpace need (room.cost (settings_in (N.numbering area) (on S.contents d area))) }
 {
     SetFault::NoSpace {
         need,
@@ -83,7 +85,7 @@ pub fn refused<N: Numbers, S: ItemStore, F: Flash, L: Ledger>(
 ///
 /// # Errors
 /// `NoSpace`: the settings are as before. `PowerLost`: they are as before, or with the value.
-pub fn change_value<N: Numbers, S: ItemStore, F: Flash, L: Ledger>(
+pub fn change_value<N: IdLayout, S: ItemStore, F: Flash, L: Ledger>(
     store: &mut S,
     flash: &mut F,
     first: u32,
@@ -92,25 +94,25 @@ pub fn change_value<N: Numbers, S: ItemStore, F: Flash, L: Ledger>(
     steps: &mut Steps<L>,
 ) -> Result<(), SetFault>
     requires ids { HasIds N.top S.is_id }
-    requires here { IsMounted S.mounted_on S.stands S.contents N.numbers (F.device flash.old)
+    requires here { IsMounted S.mounted_on S.stands S.contents N.numbering (F.device flash.old)
         store.old }
     requires value { IsStorable (value_limit (S.mounted_on store.old)) value.now }
     requires at { let area = S.mounted_on store.old in
-        IsAt (N.numbers area) (on S.contents (F.device flash.old) area) name.now first }
+        IsAt (N.numbering area) (on S.contents (F.device flash.old) area) name.now first }
 
     ensures touches { Touches (S.mounted_on store.old ∷ []) (F.device flash.old)
         (F.device flash.new) (set_lost result) }
     ensures store { StaysMounted S.mounted_on S.stands S.runs S.damage (F.device flash.new)
         store.old store.new (set_lost result) }
     ensures ends { let d = F.device flash.old in let e = F.device flash.new in
-        SetLeavesOn N.numbers (room_in N.counted N.too_many S.price S.cap) S.contents d e
+        SetLeavesOn N.numbering (room_in N.counted N.too_many S.price S.cap) S.contents d e
         (S.mounted_on store.old) name.now value.now result }
     ensures others { let area = S.mounted_on store.old in
         AltersOnly (on S.contents (F.device flash.old) area)
-        (on S.contents (F.device flash.new) area) (first + (N.numbers area).step) }
+        (on S.contents (F.device flash.new) area) (first + (N.numbering area).step) }
     ensures at_most { let d = F.device flash.old in
         SpendsAtMost d (F.device flash.new)
-        (items.most_units (geometry_of d (S.mounted_on store.old))) }
+        (items.item_units (geometry_of d (S.mounted_on store.old))) }
 {
     match store.write(flash, first + N::step(), value, steps) {
         Ok(()) => Ok(()),
@@ -140,7 +142,7 @@ pub fn price_of_pair<S: ItemStore, F: Flash>(store: &S, flash: &F, name: &Name, 
 ///
 /// # Errors
 /// `NoSpace`: the settings are as before. `PowerLost`: they are as before, or with the value.
-pub fn put_new<N: Numbers, S: ItemStore, F: Flash, L: Ledger>(
+pub fn put_new<N: IdLayout, S: ItemStore, F: Flash, L: Ledger>(
     store: &mut S,
     flash: &mut F,
     first: u32,
@@ -149,11 +151,11 @@ pub fn put_new<N: Numbers, S: ItemStore, F: Flash, L: Ledger>(
     steps: &mut Steps<L>,
 ) -> Result<(), SetFault>
     requires ids { HasIds N.top S.is_id }
-    requires here { IsMounted S.mounted_on S.stands S.contents N.numbers (F.device flash.old)
+    requires here { IsMounted S.mounted_on S.stands S.contents N.numbering (F.device flash.old)
         store.old }
     requires value { IsStorable (value_limit (S.mounted_on store.old)) value.now }
     requires place { let area = S.mounted_on store.old in
-        IsNewAt (N.numbers area) N.too_many (on S.contents (F.device flash.old) area) name.now
+        IsNewAt (N.numbering area) N.too_many (on S.contents (F.device flash.old) area) name.now
         first }
 
     ensures touches { Touches (S.mounted_on store.old ∷ []) (F.device flash.old)
@@ -161,14 +163,14 @@ pub fn put_new<N: Numbers, S: ItemStore, F: Flash, L: Ledger>(
     ensures store { StaysMounted S.mounted_on S.stands S.runs S.damage (F.device flash.new)
         store.old store.new (set_lost result) }
     ensures ends { let d = F.device flash.old in let e = F.device flash.new in
-        SetLeavesOn N.numbers (room_in N.counted N.too_many S.price S.cap) S.contents d e
+        SetLeavesOn N.numbering (room_in N.counted N.too_many S.price S.cap) S.contents d e
         (S.mounted_on store.old) name.now value.now result }
     ensures others { let area = S.mounted_on store.old in
         AltersTwo (on S.contents (F.device flash.old) area)
-        (on S.contents (F.device flash.new) area) first (first + (N.numbers area).step) }
+        (on S.contents (F.device flash.new) area) first (first + (N.numbering area).step) }
     ensures at_most { let d = F.device flash.old in
         SpendsAtMost d (F.device flash.new)
-        (3 * items.most_units (geometry_of d (S.mounted_on store.old))) }
+        (3 * items.item_units (geometry_of d (S.mounted_on store.old))) }
 {
     let need = price_of_pair(store, flash, name, value);
     match put_pair(store, flash, first, first + N::step(), name, value, steps) {
@@ -193,7 +195,7 @@ pub fn set_value<N: NewNames, S: ItemStore, F: Flash, L: Ledger>(
     steps: &mut Steps<L>,
 ) -> Result<(), SetFault>
     requires ids { HasIds N.top S.is_id }
-    requires here { IsMounted S.mounted_on S.stands S.contents N.numbers (F.device flash.old)
+    requires here { IsMounted S.mounted_on S.stands S.contents N.numbering (F.device flash.old)
         store.old }
     requires value { IsStorable (value_limit (S.mounted_on store.old)) value.now }
 
@@ -202,12 +204,13 @@ pub fn set_value<N: NewNames, S: ItemStore, F: Flash, L: Ledger>(
     ensures store { StaysMounted S.mounted_on S.stands S.runs S.damage (F.device flash.new)
         store.old store.new (set_lost result) }
     ensures ends { let d = F.device flash.old in let e = F.device flash.new in
-        SetLeavesOn N.numbers (room_in N.counted N.too_many S.price S.cap) S.contents d e
+        SetLeavesOn N.numbering (room_in N.counted N.too_many S.price S.cap) S.contents d e
         (S.mounted_on store.old) name.now value.now result }
     ensures at_most { let d = F.device flash.old in
-        SpendsAtMost d (F.device flash.new) (most_units (geometry_of d (S.mounted_on store.old))) }
+        SpendsAtMost d (F.device flash.new)
+        (command_units (geometry_of d (S.mounted_on store.old))) }
 {
-    match standing_place::<N, S, F, L>(store, flash, name, steps) {
+    match id_of_name::<N, S, F, L>(store, flash, name, steps) {
         Some(place) => change_value::<N, S, F, L>(store, flash, place, name, value, steps),
         None => N::put_name(store, flash, name, value, steps),
     }

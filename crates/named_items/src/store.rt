@@ -18,7 +18,7 @@ ghost use Rattle.backend_api.specs.Ends.{MountEnds};
 ghost use Rattle.backend_api.specs.Room.{removal_units};
 ghost use Rattle.backend_api.specs.Written.{StaysWritten};
 ghost use Rattle.flash_map.specs.On.{on, HoldsOn, StandsOn};
-ghost use Rattle.named_items.specs.StoreEnds.{most_items, most_units, IsNextId, WriteEnds, DeleteEnds};
+ghost use Rattle.named_items.specs.StoreEnds.{most_items, item_units, IsNextId, WriteEnds, DeleteEnds};
 
 use flash_map::{Area, MountFault, WriteFault};
 use flash_sim::{Flash, PowerLost, Steps};
@@ -60,8 +60,8 @@ pub trait ItemStore: Drop {
     /// Whether no call of the store answered that power was lost.
     ghost runs: { Self → Bool };
 
-    /// The index tells where the items of an area stand in its sectors, which have this geometry.
-    ghost tells: { Self.Index → area_type → Geometry → List (List ℕ) → Type 0 };
+    /// The index says where the items of an area stand in its sectors, which have this geometry.
+    ghost describes: { Self.Index → area_type → Geometry → List (List ℕ) → Type 0 };
 
     /// Mounts a store on an area. The items stay, also where power is lost. It spends no more units
     /// and erases than a write may. The area is all FF afterwards only where it was so before.
@@ -90,7 +90,7 @@ pub trait ItemStore: Drop {
             → F.device flash.new ≡ F.device flash.old }
         ensures written { StaysWritten (F.device flash.old) (F.device flash.new) area }
         ensures at_most { let d = F.device flash.old in
-            SpendsAtMost d (F.device flash.new) (most_units (geometry_of d area)) }
+            SpendsAtMost d (F.device flash.new) (item_units (geometry_of d area)) }
         ensures on { IfOk result (λ store. mounted_on store ≡ area) }
         ensures stands { IfOk result
             (λ store. StandsOn mounted_on stands (F.device flash.new) store) };
@@ -116,17 +116,22 @@ pub trait ItemStore: Drop {
             → IsLawfulFor d.banks (mounted_on self.now) → StandsOn mounted_on stands d self.now
             → result ≡ false → finite.get (on contents d (mounted_on self.now)) id ≡ None };
 
-    /// An index for `tell` to fill.
+    /// An index for `fill_index` to fill.
     fn new_index() -> Self::Index;
 
-    /// Makes an index of where the items stand. It tells so as long as the area stays as it is.
-    /// What it told before is gone.
-    fn tell<F: Flash, L: Ledger>(&self, flash: &F, index: &mut Self::Index, steps: &mut Steps<L>)
+    /// Makes an index of where the items stand. It says so as long as the area stays as it is.
+    /// What it knew before is gone.
+    fn fill_index<F: Flash, L: Ledger>(
+        &self,
+        flash: &F,
+        index: &mut Self::Index,
+        steps: &mut Steps<L>,
+    )
         requires lawful { IsLawfulFor (F.device flash.now).banks (mounted_on self.now) }
         requires stands { StandsOn mounted_on stands (F.device flash.now) self.now }
-        ensures { HoldsOn (tells index.new) (F.device flash.now) (mounted_on self.now) };
+        ensures { HoldsOn (describes index.new) (F.device flash.now) (mounted_on self.now) };
 
-    /// The bytes of an item, as `get` gives them, by what the index tells.
+    /// The bytes of an item, as `get` gives them, by what the index says.
     fn get_by<'a, F: Flash, L: Ledger>(
         &self,
         flash: &'a F,
@@ -136,7 +141,8 @@ pub trait ItemStore: Drop {
     ) -> Option<&'a [u8]>
         requires lawful { IsLawfulFor (F.device flash.now).banks (mounted_on self.now) }
         requires stands { StandsOn mounted_on stands (F.device flash.now) self.now }
-        requires tells { HoldsOn (tells index.now) (F.device flash.now) (mounted_on self.now) }
+        requires describes { HoldsOn (describes index.now) (F.device flash.now)
+            (mounted_on self.now) }
         requires known { is_id id }
         ensures { option_map (λ bytes. bytes.now) result
             ≡ finite.get (on contents (F.device flash.now) (mounted_on self.now)) id };
@@ -205,7 +211,7 @@ pub trait ItemStore: Drop {
             WriteEnds (price (geometry_of d area)) (cap (geometry_of d area)) area.sectors d e
             (on contents d area) (on contents e area) id bytes.now result }
         ensures at_most { let d = F.device flash.old in
-            SpendsAtMost d (F.device flash.new) (most_units (geometry_of d (mounted_on self.old))) }
+            SpendsAtMost d (F.device flash.new) (item_units (geometry_of d (mounted_on self.old))) }
         ensures sound { on damage (F.device flash.new) (mounted_on self.old) ≡ None }
         ensures stands { write_lost result ≡ false
             → StandsOn mounted_on stands (F.device flash.new) self.new }
@@ -234,7 +240,7 @@ pub trait ItemStore: Drop {
             let e = F.device flash.new in
             DeleteEnds d e (on contents d area) (on contents e area) id result }
         ensures at_most { let d = F.device flash.old in
-            SpendsAtMost d (F.device flash.new) (most_units (geometry_of d (mounted_on self.old))) }
+            SpendsAtMost d (F.device flash.new) (item_units (geometry_of d (mounted_on self.old))) }
         ensures written { StaysWritten (F.device flash.old) (F.device flash.new)
             (mounted_on self.old) }
         ensures removal { let d = F.device flash.old in
@@ -259,7 +265,7 @@ pub trait ItemStore: Drop {
         ensures known { IfSome result is_id };
 
     /// The least id behind this one that has a value, or the least of all, as `next_id` gives it,
-    /// by what the index tells.
+    /// by what the index says.
     fn next_by<F: Flash, L: Ledger>(
         &self,
         flash: &F,
@@ -269,7 +275,8 @@ pub trait ItemStore: Drop {
     ) -> Option<u32>
         requires lawful { IsLawfulFor (F.device flash.now).banks (mounted_on self.now) }
         requires stands { StandsOn mounted_on stands (F.device flash.now) self.now }
-        requires tells { HoldsOn (tells index.now) (F.device flash.now) (mounted_on self.now) }
+        requires describes { HoldsOn (describes index.now) (F.device flash.now)
+            (mounted_on self.now) }
         ensures next { IsNextId (on contents (F.device flash.now) (mounted_on self.now)) after
             result }
         ensures known { IfSome result is_id };

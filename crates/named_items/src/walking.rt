@@ -4,11 +4,11 @@ ghost use Rattle.std.specs.FinMap as finite;
 ghost use Rattle.flash_map.specs.Lawful.{IsLawfulFor};
 ghost use Rattle.flash_map.specs.On.{on, HoldsOn, StandsOn};
 ghost use Rattle.backend_api.specs.Map.{next_name as next_name_of};
-ghost use Rattle.named_items.specs.Pairs.{settings_in, HasNoStrays};
+ghost use Rattle.named_items.specs.Pairs.{settings_in, HasNoOrphans};
 ghost use Rattle.named_items.specs.Looking.{HasIds};
 ghost use Rattle.named_items.specs.Walking.{IsNameIn};
 
-use crate::numbers::Numbers;
+use crate::numbering::IdLayout;
 use crate::store::ItemStore;
 use flash_sim::{Flash, Steps};
 use setting_name::Name;
@@ -24,7 +24,8 @@ pub fn name_in<S: ItemStore, F: Flash, L: Ledger>(
 ) -> Option<Name>
     requires lawful { IsLawfulFor (F.device flash.now).banks (S.mounted_on store.now) }
     requires stands { StandsOn S.mounted_on S.stands (F.device flash.now) store.now }
-    requires tells { HoldsOn (S.tells index.now) (F.device flash.now) (S.mounted_on store.now) }
+    requires describes { HoldsOn (S.describes index.now) (F.device flash.now)
+        (S.mounted_on store.now) }
     requires known { S.is_id id }
     ensures { let items = on S.contents (F.device flash.now) (S.mounted_on store.now) in
         IsNameIn (finite.get items id) result }
@@ -38,9 +39,9 @@ pub fn name_in<S: ItemStore, F: Flash, L: Ledger>(
     }
 }
 
-/// The least name of a setting that is greater than this one, or the least of all. No item may be a
-/// stray. It is one walk over the store's entries, and makes no index.
-pub fn next_name<N: Numbers, S: ItemStore, F: Flash, L: Ledger>(
+/// The least name of a setting that is greater than this one, or the least of all. No item may be an
+/// orphan. It is one walk over the store's entries, and makes no index.
+pub fn next_name<N: IdLayout, S: ItemStore, F: Flash, L: Ledger>(
     store: &S,
     flash: &F,
     after: Option<&Name>,
@@ -50,13 +51,13 @@ pub fn next_name<N: Numbers, S: ItemStore, F: Flash, L: Ledger>(
     requires lawful { IsLawfulFor (F.device flash.now).banks (S.mounted_on store.now) }
     requires stands { StandsOn S.mounted_on S.stands (F.device flash.now) store.now }
     requires clean { let area = S.mounted_on store.now in
-        HasNoStrays (N.numbers area) (on S.contents (F.device flash.now) area) }
+        HasNoOrphans (N.numbering area) (on S.contents (F.device flash.now) area) }
     ensures { let area = S.mounted_on store.now in
         result
-        ≡ next_name_of (settings_in (N.numbers area) (on S.contents (F.device flash.now) area))
+        ≡ next_name_of (settings_in (N.numbering area) (on S.contents (F.device flash.now) area))
         (option_map (λ name. name.now) after.entry) }
 {
-    let ids = N::all_homes();
+    let ids = N::all_candidates();
     let after = after.map(|name| name.bytes());
     match Name::read(store.next_of(flash, ids.least, ids.most, after, steps)?) {
         Ok(name) => Some(name),

@@ -7,15 +7,15 @@ ghost use Rattle.flash_map.specs.Lawful.{IsLawfulFor};
 ghost use Rattle.flash_map.specs.Spending.{SpendsAtMost};
 ghost use Rattle.flash_map.specs.Touches.{Touches};
 ghost use Rattle.flash_map.specs.On.{on, StandsOn};
-ghost use Rattle.backend_api.specs.Room.{most_units};
+ghost use Rattle.backend_api.specs.Room.{command_units};
 ghost use Rattle.named_items.specs.StoreEnds as items;
 ghost use Rattle.named_items.specs.Ends.{DeletesPair, PutsPair};
 ghost use Rattle.named_items.specs.Looking.{HasIds};
 ghost use Rattle.named_items.specs.Mounted.{IsMounted, StaysMounted};
 ghost use Rattle.named_items.specs.Putting.{AltersOnlySetting, DeleteLeavesOn};
 
-use crate::lookup::standing_place;
-use crate::numbers::Numbers;
+use crate::lookup::id_of_name;
+use crate::numbering::IdLayout;
 use crate::store::ItemStore;
 use flash_map::WriteFault;
 use flash_sim::{Flash, PowerLost, Steps};
@@ -49,7 +49,8 @@ pub fn delete_pair<S: ItemStore, F: Flash, L: Ledger>(
         DeletesPair (on S.contents (F.device flash.old) area)
         (on S.contents (F.device flash.new) area) first second result }
     ensures at_most { let d = F.device flash.old in
-        SpendsAtMost d (F.device flash.new) (most_units (geometry_of d (S.mounted_on store.old))) }
+        SpendsAtMost d (F.device flash.new)
+        (command_units (geometry_of d (S.mounted_on store.old))) }
 {
     store.delete(flash, first, steps)?;
     store.delete(flash, second, steps)
@@ -59,29 +60,30 @@ pub fn delete_pair<S: ItemStore, F: Flash, L: Ledger>(
 ///
 /// # Errors
 /// `PowerLost`: the settings are as before, or without the name.
-pub fn delete_name<N: Numbers, S: ItemStore, F: Flash, L: Ledger>(
+pub fn delete_name<N: IdLayout, S: ItemStore, F: Flash, L: Ledger>(
     store: &mut S,
     flash: &mut F,
     name: &Name,
     steps: &mut Steps<L>,
 ) -> Result<(), PowerLost>
     requires ids { HasIds N.top S.is_id }
-    requires here { IsMounted S.mounted_on S.stands S.contents N.numbers (F.device flash.old)
+    requires here { IsMounted S.mounted_on S.stands S.contents N.numbering (F.device flash.old)
         store.old }
 
     ensures touches { Touches (S.mounted_on store.old ∷ []) (F.device flash.old)
         (F.device flash.new) (is_err result) }
     ensures store { StaysMounted S.mounted_on S.stands S.runs S.damage (F.device flash.new)
         store.old store.new (is_err result) }
-    ensures ends { DeleteLeavesOn N.numbers S.contents (F.device flash.old) (F.device flash.new)
+    ensures ends { DeleteLeavesOn N.numbering S.contents (F.device flash.old) (F.device flash.new)
         (S.mounted_on store.old) name.now result }
     ensures others { let area = S.mounted_on store.old in
-        AltersOnlySetting (N.numbers area) (on S.contents (F.device flash.old) area)
+        AltersOnlySetting (N.numbering area) (on S.contents (F.device flash.old) area)
         (on S.contents (F.device flash.new) area) name.now }
     ensures at_most { let d = F.device flash.old in
-        SpendsAtMost d (F.device flash.new) (most_units (geometry_of d (S.mounted_on store.old))) }
+        SpendsAtMost d (F.device flash.new)
+        (command_units (geometry_of d (S.mounted_on store.old))) }
 {
-    match standing_place::<N, S, F, L>(store, flash, name, steps) {
+    match id_of_name::<N, S, F, L>(store, flash, name, steps) {
         Some(place) => delete_pair(store, flash, place, place + N::step(), steps),
         None => Ok(()),
     }
@@ -92,7 +94,7 @@ pub fn delete_name<N: Numbers, S: ItemStore, F: Flash, L: Ledger>(
 ///
 /// # Errors
 /// `TooLong`: one of the two and its entry cost more than a sector has for them. `NoSpace`: the items cost too much for one
-/// of the writes, whose need it tells. After both the items are as before. `PowerLost`: neither is written, or
+/// of the writes, whose need it gives. After both the items are as before. `PowerLost`: neither is written, or
 /// the value alone, or both.
 #[tactic(auto, using(flash_map::proofs::Touches::then))]
 pub fn put_pair<S: ItemStore, F: Flash, L: Ledger>(
@@ -122,7 +124,7 @@ pub fn put_pair<S: ItemStore, F: Flash, L: Ledger>(
         (on S.contents (F.device flash.new) area) first second name.now value.now result }
     ensures at_most { let d = F.device flash.old in
         SpendsAtMost d (F.device flash.new)
-        (3 * items.most_units (geometry_of d (S.mounted_on store.old))) }
+        (3 * items.item_units (geometry_of d (S.mounted_on store.old))) }
 {
     match store.write(flash, second, value, steps) {
         Ok(()) => {}

@@ -3,7 +3,7 @@ ghost use Rattle.std.specs.Prelude.{◌≡◌, ◌<◌};
 ghost use Rattle.flash_map.specs.declared.area.Role.TheVariants.{Zms as ZmsRole};
 ghost use Rattle.named_items.specs.Blank.{zms-undamaged, zms-empty};
 ghost use Rattle.named_items.specs.Few.{zms-few};
-ghost use Rattle.named_items.specs.ZmsStore.{zms_damage, zms_items, zms_rests, zms_price, zms_cap, zms_tells, ZmsStands, zms-rested, zms-fits};
+ghost use Rattle.named_items.specs.ZmsStore.{zms_damage, zms_items, zms_rests, zms_price, zms_cap, zms_describes, ZmsStands, zms-rested, zms-fits};
 
 use crate::store::ItemStore;
 use flash_map::{Area, MountFault, WriteFault};
@@ -37,7 +37,7 @@ impl ItemStore for Zms {
 
     ghost runs = { λ store. store.store.up };
 
-    ghost tells = { λ last area geometry sectors. zms_tells last geometry sectors };
+    ghost describes = { λ last area geometry sectors. zms_describes last geometry sectors };
 
     ghost stands_up = { λ store geometry sectors stands. stands.up };
 
@@ -81,8 +81,13 @@ impl ItemStore for Zms {
         LastSlots::new()
     }
 
-    fn tell<F: Flash, L: Ledger>(&self, flash: &F, index: &mut LastSlots, steps: &mut Steps<L>) {
-        Zms::tell_last_slots(self, flash, index, steps)
+    fn fill_index<F: Flash, L: Ledger>(
+        &self,
+        flash: &F,
+        index: &mut LastSlots,
+        steps: &mut Steps<L>,
+    ) {
+        Zms::fill_last_slots(self, flash, index, steps)
     }
 
     fn get_by<'a, F: Flash, L: Ledger>(

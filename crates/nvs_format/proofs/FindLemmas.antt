@@ -12,7 +12,7 @@ use Rattle.item_laws.specs.Live.{last_in}
 use Rattle.item_laws.specs.Slots.{Slot}
 use Rattle.item_laws.proofs.LiveLemmas.{option_cases, some_none}
 use Rattle.item_store.specs.declared.entry.Entry.{Entry}
-use Rattle.item_store.specs.Kind.{placed_at, slots, entries as kind_entries}
+use Rattle.item_store.specs.SectorFormat.{placed_at, slots, entries as format_entries}
 use Rattle.item_store.specs.Lasts.{in_range, IsOther, AreOthers}
 use Rattle.item_store.proofs.ReadLemmas as own
 use Rattle.nvs_store.specs.declared.entry.Entry.{Entry as NvsEntry}
@@ -26,17 +26,17 @@ use Rattle.nvs_store.proofs.EntryBytes.{decoded_cases, counting_entry-is}
 use Rattle.nvs_store.proofs.NvsEntries.{are_nvs}
 use Rattle.nvs_store.proofs.SlotReads.{slot_widths, slot_at-parts}
 use Rattle.nvs_store.proofs.WantedSlots.{counting_cases}
-use Rattle.nvs_format.specs.Kinds.{entry_of, placed_of, found_bytes, kind_in}
-use Rattle.nvs_format.proofs.KindLemmas.{slot_is}
+use Rattle.nvs_format.specs.Formats.{entry_of, placed_of, found_bytes, format_in}
+use Rattle.nvs_format.proofs.FormatLemmas.{slot_is}
 
 pub last_same : (unit : ℕ) (b : List ℕ) (place id n : ℕ) → length b ≤ n
-    → option_map placed_of (option_map (nvs_placed_at place) (last_found (Some id) (entries_within unit b n))) ≡ option_map (placed_at place) (last_in (slots (kind_in unit)) place id (kind_entries (kind_in unit) b))
+    → option_map placed_of (option_map (nvs_placed_at place) (last_found (Some id) (entries_within unit b n))) ≡ option_map (placed_at place) (last_in (slots (format_in unit)) place id (format_entries (format_in unit) b))
 last_same unit b place id n enough =
     let few = few_slots unit b in
     ap (λ (ss : List Slot). option_map placed_of (option_map (nvs_placed_at place) (last_found (Some id) (filter_map (counting_entry unit) ss)))) (take_all n (used_slots unit b) (omega arith))
     ∙ both_ways (last_found (Some id) (entries unit b))
     ∙ ap (option_map (placed_at place)) (sym (own.last_read (λ n. counting_entry unit (slot_at unit b n)) entry_of (found_bytes b) (slot_is unit b) id (entries unit b) None)
-    ∙ ap (λ es. last_in (slots (kind_in unit)) place id es) (ap (map entry_of) ((are_nvs unit).listed b) ∙ sym (own.entries_read (λ n. counting_entry unit (slot_at unit b n)) entry_of (found_bytes b) (slot_is unit b) (range_with_len 1 (length (used_slots unit b))))))
+    ∙ ap (λ es. last_in (slots (format_in unit)) place id es) (ap (map entry_of) ((are_nvs unit).listed b) ∙ sym (own.entries_read (λ n. counting_entry unit (slot_at unit b n)) entry_of (found_bytes b) (slot_is unit b) (range_with_len 1 (length (used_slots unit b))))))
   where
     both_ways : (o : Option SlotEntry) → option_map placed_of (option_map (nvs_placed_at place) o) ≡ option_map (placed_at place) (option_map entry_of o)
     both_ways None = refl
@@ -82,7 +82,7 @@ module _ (unit : ℕ) (b : List ℕ) (is-unit : IsUnit unit) (small : (k : ℕ) 
       some_same x y e = cc
 
   module _ (place id : ℕ) (large : 2 ^ 16 ≤ id) where
-    none_among : (ns : List ℕ) → last_in (slots (kind_in unit)) place id (filter_map (λ n. option_map entry_of (counting_entry unit (slot_at unit b n))) ns) ≡ None
+    none_among : (ns : List ℕ) → last_in (slots (format_in unit)) place id (filter_map (λ n. option_map entry_of (counting_entry unit (slot_at unit b n))) ns) ≡ None
     none_among [] = refl
     none_among (n ∷ ns) =
         elim (option_cases (counting_entry unit (slot_at unit b n))) [
@@ -94,7 +94,7 @@ module _ (unit : ℕ) (b : List ℕ) (is-unit : IsUnit unit) (small : (k : ℕ) 
         ]
 
     -- no entry has an id of more than two bytes
-    pub none-large : last_in (slots (kind_in unit)) place id (kind_entries (kind_in unit) b) ≡ None
+    pub none-large : last_in (slots (format_in unit)) place id (format_entries (format_in unit) b) ≡ None
     none-large = none_among (range_with_len 1 (length (used_slots unit b)))
 
 -- ---- the id that a slot names
@@ -120,7 +120,7 @@ named_from unit b n start is-unit at =
     ids xs ys low high = omega (arith, low, high)
 
 -- an entry has the id that its slot names
-pub named : (unit : ℕ) (b : List ℕ) (slot id : ℕ) → id ≡ (entry_from (slot_at unit b slot).bytes).id → IfSome ((kind_in unit).in_slot b slot) (λ e. e.id ≡ id)
+pub named : (unit : ℕ) (b : List ℕ) (slot id : ℕ) → id ≡ (entry_from (slot_at unit b slot).bytes).id → IfSome ((format_in unit).in_slot b slot) (λ e. e.id ≡ id)
 named unit b slot id is =
     elim (counting_cases unit (slot_at unit b slot)) [
       | inl none ↦ subst (λ (o : Option SlotEntry). IfSome (option_map entry_of o) (λ e. e.id ≡ id)) (sym none) tt
@@ -128,7 +128,7 @@ named unit b slot id is =
     ]
 
 -- so a slot that names an id out of a range has no entry of that range
-pub other_named : (unit : ℕ) (b : List ℕ) (least most slot id : ℕ) → id ≡ (entry_from (slot_at unit b slot).bytes).id → in_range least most id ≡ false → IsOther least most ((kind_in unit).in_slot b slot)
+pub other_named : (unit : ℕ) (b : List ℕ) (least most slot id : ℕ) → id ≡ (entry_from (slot_at unit b slot).bytes).id → in_range least most id ≡ false → IsOther least most ((format_in unit).in_slot b slot)
 other_named unit b least most slot id is other =
     elim (counting_cases unit (slot_at unit b slot)) [
       | inl none ↦ subst (λ (o : Option SlotEntry). IsOther least most (option_map entry_of o)) (sym none) tt
@@ -143,9 +143,9 @@ out_of_range least most id (inl (_, past)) = and_right (leb least id) (leb id mo
 out_of_range least most id (inr before) = and_left (leb least id) (leb id most) (lt-leb least id before)
 
 -- one slot more
-pub others_more : (unit : ℕ) (b : List ℕ) (least most left slots : ℕ) → 0 < left → IsOther least most ((kind_in unit).in_slot b left) → AreOthers (kind_in unit) b left slots least most → AreOthers (kind_in unit) b (left - 1) slots least most
+pub others_more : (unit : ℕ) (b : List ℕ) (least most left slots : ℕ) → 0 < left → IsOther least most ((format_in unit).in_slot b left) → AreOthers (format_in unit) b left slots least most → AreOthers (format_in unit) b (left - 1) slots least most
 others_more unit b least most left slots some one others slot low high =
     elim (cases_lt left slot) [
       | inl lt ↦ others slot (omega arith) high
-      | inr ge ↦ let same : left ≡ slot = omega arith in subst (λ (n : ℕ). IsOther least most ((kind_in unit).in_slot b n)) same one
+      | inr ge ↦ let same : left ≡ slot = omega arith in subst (λ (n : ℕ). IsOther least most ((format_in unit).in_slot b n)) same one
     ]

@@ -1,4 +1,4 @@
 pub mod FindLemmas
-pub mod KindLemmas
+pub mod FormatLemmas
 pub mod StepLemmas
 mod UnitRows

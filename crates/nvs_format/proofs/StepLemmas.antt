@@ -15,7 +15,7 @@ use Rattle.item_laws.proofs.Collects.{done-not_blank}
 use Rattle.item_laws.proofs.LiveLemmas.{option_cases, some_none}
 use Rattle.item_store.specs.declared.entry.Entry.{Entry}
 use Rattle.item_store.specs.declared.entry.Placed.{Placed}
-use Rattle.item_store.specs.Kind.{placed_at, fits, entries as kind_entries}
+use Rattle.item_store.specs.SectorFormat.{placed_at, fits, entries as format_entries}
 use Rattle.item_store.specs.Steps.{new_entry, Keeps, KeepsMarks, Adds, Marks, Closes, StopsClearing}
 use Rattle.item_store.proofs.ReadLemmas as own
 use Rattle.nvs_store.specs.declared.scan.SlotEntry.{SlotEntry}
@@ -28,13 +28,13 @@ use Rattle.nvs_store.proofs.Appending.{open_after}
 use Rattle.nvs_store.proofs.Blank.{reads-blank}
 use Rattle.nvs_store.proofs.NvsEntries.{bytes_len, are_nvs}
 use Rattle.nvs_store.proofs.Sound.{adds-used, close-sound}
-use Rattle.nvs_format.specs.Kinds.{entry_of, found_bytes, ReadsAs, kind_in}
-use Rattle.nvs_format.proofs.KindLemmas.{slot_is}
+use Rattle.nvs_format.specs.Formats.{entry_of, found_bytes, ReadsAs, format_in}
+use Rattle.nvs_format.proofs.FormatLemmas.{slot_is}
 
--- the entries of a sector, as a store of items tells them
-entries_are : (unit : ℕ) (b : List ℕ) → kind_entries (kind_in unit) b ≡ map entry_of (entries unit b)
+-- the entries of a sector, as a store of items reports them
+entries_are : (unit : ℕ) (b : List ℕ) → format_entries (format_in unit) b ≡ map entry_of (entries unit b)
 entries_are unit b =
-    own.entries_read (λ n. counting_entry unit (slot_at unit b n)) entry_of (found_bytes b) (slot_is unit b) (range_with_len 1 ((kind_in unit).count b))
+    own.entries_read (λ n. counting_entry unit (slot_at unit b n)) entry_of (found_bytes b) (slot_is unit b) (range_with_len 1 ((format_in unit).count b))
     ∙ ap (map entry_of) (sym ((are_nvs unit).listed b))
 
 -- an entry, by what it says
@@ -46,26 +46,26 @@ entry_by e slot id len at named long =
 
 module _ (unit : ℕ) (b e : List ℕ) where
   -- one entry more
-  adds_entry : (id : ℕ) (bytes : List ℕ) → AddsPair unit b e id bytes → kind_entries (kind_in unit) e ≡ kind_entries (kind_in unit) b ++ new_entry (1 + length (used_slots unit b)) id (length bytes) ∷ []
+  adds_entry : (id : ℕ) (bytes : List ℕ) → AddsPair unit b e id bytes → format_entries (format_in unit) e ≡ format_entries (format_in unit) b ++ new_entry (1 + length (used_slots unit b)) id (length bytes) ∷ []
   adds_entry id bytes h =
       let slot = h.slot in
       entries_are unit e ∙ ap (map entry_of) h.more ∙ map_push entry_of (entries unit b) h.found
       ∙ ap (λ (es : List Entry). es ++ entry_of h.found ∷ []) (sym (entries_are unit b))
-      ∙ ap (λ (x : Entry). kind_entries (kind_in unit) b ++ x ∷ []) (entry_by (entry_of h.found) (1 + length (used_slots unit b)) id (length bytes) (omega arith) h.entry_id h.entry_len)
+      ∙ ap (λ (x : Entry). format_entries (format_in unit) b ++ x ∷ []) (entry_by (entry_of h.found) (1 + length (used_slots unit b)) id (length bytes) (omega arith) h.entry_id h.entry_len)
 
-  pub adds : (id : ℕ) (bytes : List ℕ) → cost unit (length bytes) ≤ low unit b - data_end unit b → AddsPair unit b e id bytes → Adds (kind_in unit) b e id bytes
+  pub adds : (id : ℕ) (bytes : List ℕ) → cost unit (length bytes) ≤ low unit b - data_end unit b → AddsPair unit b e id bytes → Adds (format_in unit) b e id bytes
   adds id bytes room h =
       let lower = h.lower in
       let grown = h.grown in
       record { list = record { list = h.list; gc_done = h.gc_done; closed = h.closed }; long = h.long; entry = adds_entry id bytes h; count = h.count; ready = refl; free = omega arith }
 
-  pub marks : slot_size unit ≤ low unit b - data_end unit b → (pairs_cost unit (pairs unit b) ≤ capacity unit (length b) → is_sound unit e ≡ true) → MarksDone unit b e → Marks (kind_in unit) b e
+  pub marks : slot_size unit ≤ low unit b - data_end unit b → (pairs_cost unit (pairs unit b) ≤ capacity unit (length b) → is_sound unit e ≡ true) → MarksDone unit b e → Marks (format_in unit) b e
   marks room sound h =
       let lower = h.lower in
       let same_end = h.same_end in
       record { list = record { list = h.list; gc_done = h.gc_done; closed = h.closed }; long = h.long; free = omega arith; sound = sound }
 
-  pub closes : is_erased b ≡ false → nvs_closes unit b e → Closes (kind_in unit) b e
+  pub closes : is_erased b ≡ false → nvs_closes unit b e → Closes (format_in unit) b e
   closes used h = record {
     list = record { list = h.list; gc_done = h.gc_done; closed = h.closed };
     same_entries = entries_are unit e ∙ ap (λ (xs : List Slot). map entry_of (filter_map (counting_entry unit) xs)) h.same_slots ∙ sym (entries_are unit b);
@@ -73,34 +73,34 @@ module _ (unit : ℕ) (b e : List ℕ) where
     sound = λ sound. close-sound unit b e used sound h;
   }
 
-  pub keeps_same : e ≡ b → Keeps (kind_in unit) b e
+  pub keeps_same : e ≡ b → Keeps (format_in unit) b e
   keeps_same same = record {
-    list = record { list = ap (pairs unit) same; gc_done = ap (kind_in unit).reading.has_gc_done same; closed = ap (is_closed unit) same };
+    list = record { list = ap (pairs unit) same; gc_done = ap (format_in unit).reading.has_gc_done same; closed = ap (is_closed unit) same };
     long = ap length same;
     used = λ used. ap is_erased same ∙ used;
     sound = λ sound. ap (is_sound unit) same ∙ sound;
   }
 
-  keeps : (is_sound unit b ≡ true → is_sound unit e ≡ true) → KeepsList unit b e → Keeps (kind_in unit) b e
+  keeps : (is_sound unit b ≡ true → is_sound unit e ≡ true) → KeepsList unit b e → Keeps (format_in unit) b e
   keeps sound h = record { list = record { list = h.list; gc_done = h.gc_done; closed = h.closed }; long = h.long; used = h.used; sound = sound }
 
   -- a put that was cut
-  pub stops : (id : ℕ) (bytes : List ℕ) → cost unit (length bytes) ≤ low unit b - data_end unit b → (is_sound unit b ≡ true → is_sound unit e ≡ true) → StopsAdding unit b e id bytes → Keeps (kind_in unit) b e ⊎ Adds (kind_in unit) b e id bytes
+  pub stops : (id : ℕ) (bytes : List ℕ) → cost unit (length bytes) ≤ low unit b - data_end unit b → (is_sound unit b ≡ true → is_sound unit e ≡ true) → StopsAdding unit b e id bytes → Keeps (format_in unit) b e ⊎ Adds (format_in unit) b e id bytes
   stops id bytes room sound h = elim h.list [ inl kept ↦ inl (keeps sound kept) | inr added ↦ inr (adds id bytes room added) ]
 
   -- a copy that was cut, and a gc-done
-  pub stops_marks : (id : ℕ) (bytes : List ℕ) → StopsAdding unit b e id bytes → KeepsMarks (kind_in unit) b e
+  pub stops_marks : (id : ℕ) (bytes : List ℕ) → StopsAdding unit b e id bytes → KeepsMarks (format_in unit) b e
   stops_marks id bytes h = elim h.list [ inl kept ↦ record { closed = kept.closed; gc_done = kept.gc_done } | inr added ↦ record { closed = added.closed; gc_done = added.gc_done } ]
 
   -- an erase that was cut
-  pub stops_clearing : e ≡ b → StopsClearing (kind_in unit) b e
-  stops_clearing same = record { either = inl (record { closed = ap (is_closed unit) same; gc_done = ap (kind_in unit).reading.has_gc_done same }); opens = λ opens. inl same }
+  pub stops_clearing : e ≡ b → StopsClearing (format_in unit) b e
+  stops_clearing same = record { either = inl (record { closed = ap (is_closed unit) same; gc_done = ap (format_in unit).reading.has_gc_done same }); opens = λ opens. inl same }
 
-  pub keeps_marks : KeepsList unit b e → KeepsMarks (kind_in unit) b e
+  pub keeps_marks : KeepsList unit b e → KeepsMarks (format_in unit) b e
   keeps_marks h = record { closed = h.closed; gc_done = h.gc_done }
 
 -- what fits has its cost free, and two slots
-pub fits_cost : (unit : ℕ) (b : List ℕ) (len : ℕ) → IsUnit unit → fits (kind_in unit) b len ≡ true → cost unit len + slot_size unit ≤ low unit b - data_end unit b
+pub fits_cost : (unit : ℕ) (b : List ℕ) (len : ℕ) → IsUnit unit → fits (format_in unit) b len ≡ true → cost unit len + slot_size unit ≤ low unit b - data_end unit b
 fits_cost unit b len is-unit fitting =
     let room : ℕ = low unit b - data_end unit b in
     elim (cases_eq len 0) [
@@ -155,12 +155,12 @@ reads_as unit sectors p f read is =
     some_same x y e = cc
 
 pub adds_copy : (unit : ℕ) (b e : List ℕ) (sectors : List (List ℕ)) (p : Placed) (f : Found) → ReadsAs unit sectors p f → cost unit p.len + 3 * slot_size unit ≤ low unit b - data_end unit b
-    → AddsPair unit b e f.entry.id (placed_bytes sectors f) → Adds (kind_in unit) b e p.id ((kind_in unit).bytes (sector_at sectors p.sector) p.slot)
+    → AddsPair unit b e f.entry.id (placed_bytes sectors f) → Adds (format_in unit) b e p.id ((format_in unit).bytes (sector_at sectors p.sector) p.slot)
 adds_copy unit b e sectors p f same room h =
     let from : List ℕ = sector_at sectors p.sector in
     let x : SlotEntry = record { slot = f.slot; entry = f.entry } in
-    let own : found_bytes from x ≡ (kind_in unit).bytes from p.slot = sym (ap (λ (o : Option SlotEntry). option_map_or (found_bytes from) o []) same.read) in
+    let own : found_bytes from x ≡ (format_in unit).bytes from p.slot = sym (ap (λ (o : Option SlotEntry). option_map_or (found_bytes from) o []) same.read) in
     let there : placed_bytes sectors f ≡ found_bytes from x = ap (λ (place : ℕ). slice_range (sector_at sectors place) f.entry.offset (f.entry.offset + f.entry.len)) same.sector in
     let own_len : cost unit (length (placed_bytes sectors f)) ≡ cost unit p.len = ap (cost unit) (ap length there ∙ bytes_len unit from p.slot x same.read ∙ same.len) in
-    subst (λ (bs : List ℕ). Adds (kind_in unit) b e p.id bs) (there ∙ own)
-    (subst (λ (i : ℕ). Adds (kind_in unit) b e i (placed_bytes sectors f)) same.id (adds unit b e f.entry.id (placed_bytes sectors f) (omega arith) h))
+    subst (λ (bs : List ℕ). Adds (format_in unit) b e p.id bs) (there ∙ own)
+    (subst (λ (i : ℕ). Adds (format_in unit) b e i (placed_bytes sectors f)) same.id (adds unit b e f.entry.id (placed_bytes sectors f) (omega arith) h))

@@ -8,14 +8,14 @@ use Rattle.flash_map.proofs.Rounding.{padding}
 use Rattle.item_laws.specs.PairRounds.{copies_cost}
 use Rattle.item_laws.specs.Area.{next, is_blank_at}
 use Rattle.item_laws.specs.Forms.{to_copy}
-use Rattle.item_store.specs.Kind.{Range}
+use Rattle.item_store.specs.SectorFormat.{Range}
 use Rattle.item_store.specs.Spending.{none, both, collect_units, again_units, has_victim, round_units}
 use Rattle.item_store.specs.Standing.{SpendsIn}
 use Rattle.nvs_store.specs.Geometry.{slot_size, cost}
 use Rattle.nvs_store.specs.Scans.{reading}
 use Rattle.nvs_store.proofs.SlotReads.{slot_widths}
-use Rattle.nvs_format.specs.Kinds.{just, kind_in}
-use Rattle.nvs_format.proofs.KindLemmas.{whole, copies_whole}
+use Rattle.nvs_format.specs.Formats.{just, format_in}
+use Rattle.nvs_format.proofs.FormatLemmas.{whole, copies_whole}
 
 -- just so many
 pub spends-just : (old new : Device) (units : ℕ) → SpendsIn old new (just units) → Spends old new units
@@ -47,13 +47,13 @@ module _ (unit : ℕ) (is-unit : IsUnit unit) where
     abbrev copied : ℕ
     copied = copies_cost (cost unit) (to_copy (reading unit) sectors place)
 
-    collect-sum : collect_units (kind_in unit) sectors place ≡ just (copies_cost (λ len. cost unit len / unit) (to_copy (reading unit) sectors place) + (slot_size unit / unit + 1))
+    collect-sum : collect_units (format_in unit) sectors place ≡ just (copies_cost (λ len. cost unit len / unit) (to_copy (reading unit) sectors place) + (slot_size unit / unit + 1))
     collect-sum =
         let n : ℕ = copies_cost (λ len. cost unit len / unit) (to_copy (reading unit) sectors place) in
         ap (λ (r : Range). both (just n) r) (both-just (slot_size unit / unit) 1) ∙ both-just n (slot_size unit / unit + 1)
 
     -- the copies, gc-done and an erase
-    pub collect-exact : collect_units (kind_in unit) sectors place ≡ just ((copies_cost (cost unit) (to_copy (reading unit) sectors place) + slot_size unit) / unit + 1)
+    pub collect-exact : collect_units (format_in unit) sectors place ≡ just ((copies_cost (cost unit) (to_copy (reading unit) sectors place) + slot_size unit) / unit + 1)
     collect-exact = collect-sum ∙ (let row = copies_in (to_copy (reading unit) sectors place) in ap just (omega arith))
 
     first_erase : (t : Bool) (n : ℕ) → both (cond t (just 0) (just 1)) (just n) ≡ just (n + cond t 0 1)
@@ -61,7 +61,7 @@ module _ (unit : ℕ) (is-unit : IsUnit unit) where
     first_erase false n = both-just 1 n ∙ ap just (omega arith)
 
     -- the open sector is erased before, unless it is blank
-    pub again-exact : again_units (kind_in unit) sectors place ≡ just ((copies_cost (cost unit) (to_copy (reading unit) sectors place) + slot_size unit) / unit + 1 + cond (is_blank_at (reading unit) sectors place) 0 1)
+    pub again-exact : again_units (format_in unit) sectors place ≡ just ((copies_cost (cost unit) (to_copy (reading unit) sectors place) + slot_size unit) / unit + 1 + cond (is_blank_at (reading unit) sectors place) 0 1)
     again-exact =
         ap (both (cond (is_blank_at (reading unit) sectors place) (just 0) (just 1))) collect-exact
         ∙ first_erase (is_blank_at (reading unit) sectors place) ((copied + slot_size unit) / unit + 1)
@@ -77,10 +77,10 @@ module _ (unit : ℕ) (is-unit : IsUnit unit) where
       omega arith
 
   -- the close alone where there is no victim; the sector that becomes the open one is erased before, unless it is blank
-  pub round-exact : (sectors : List (List ℕ)) (place : ℕ) → round_units (kind_in unit) sectors place
-      ≡ just (cond (has_victim (kind_in unit) sectors place) ((2 * slot_size unit + copies_cost (cost unit) (to_copy (reading unit) sectors (next sectors place))) / unit + 1 + cond (is_blank_at (reading unit) sectors (next sectors place)) 0 1) (slot_size unit / unit))
+  pub round-exact : (sectors : List (List ℕ)) (place : ℕ) → round_units (format_in unit) sectors place
+      ≡ just (cond (has_victim (format_in unit) sectors place) ((2 * slot_size unit + copies_cost (cost unit) (to_copy (reading unit) sectors (next sectors place))) / unit + 1 + cond (is_blank_at (reading unit) sectors (next sectors place)) 0 1) (slot_size unit / unit))
   round-exact sectors place =
-      let victim = has_victim (kind_in unit) sectors place in
+      let victim = has_victim (format_in unit) sectors place in
       let pairs = to_copy (reading unit) sectors (next sectors place) in
       let copies : ℕ = copies_cost (λ len. cost unit len / unit) pairs in
       let rest : ℕ = copies + slot_size unit / unit in

@@ -11,17 +11,17 @@ use Rattle.item_laws.specs.Items.{Items}
 use Rattle.item_laws.specs.PairRounds.{live_cost}
 use Rattle.nvs_store.specs.Geometry.{cost}
 use Rattle.nvs_store.specs.Sector.{low, data_end, has_gc_done}
-use Rattle.nvs_format.specs.Kinds.{kind}
+use Rattle.nvs_format.specs.Formats.{format_of}
 use Rattle.nvs_gc.specs.declared.sectors.NvsOpen.{NvsOpen}
-use Rattle.item_store.specs.Kind.{Kind}
+use Rattle.item_store.specs.SectorFormat.{SectorFormat}
 use Rattle.item_store.specs.Listed as listed
 use Rattle.item_store.specs.Standing as ring
 use Rattle.item_store.specs.Stands as stands
 use Rattle.nvs_gc.specs.declared.nvs.Nvs.{Nvs}
 
 -- how its sectors read
-abbrev pub kind_on : Device → Area → Kind
-kind_on d area = kind (geometry_of d area)
+abbrev pub format_on : Device → Area → SectorFormat
+format_on d area = format_of (geometry_of d area)
 
 -- what is kept of the open sector, by its bytes
 abbrev pub kept : Geometry → List ℕ → NvsOpen
@@ -38,23 +38,23 @@ IsNvsArea banks area = ring.IsStoreArea NvsRole banks area
 
 -- ids with their bytes, from the oldest to the newest
 abbrev pub list_on : Device → Area → List (ℕ × List ℕ)
-list_on d area = listed.list_on kind d area
+list_on d area = listed.list_on format_of d area
 
 -- the map of ids to bytes that the area holds
 abbrev pub items_on : Device → Area → Items
-items_on d area = listed.items_on kind d area
+items_on d area = listed.items_on format_of d area
 
 -- what all items cost, in bytes: the bytes of each, padded, and its entry
 abbrev pub live_cost_on : Device → Area → ℕ
 live_cost_on d area = live_cost (cost (unit_of d area)) (list_on d area)
 
 abbrev pub IsUndamaged : Device → Area → Type 0
-IsUndamaged d area = ring.IsUndamagedAt (kind_on d area) d area
+IsUndamaged d area = ring.IsUndamagedAt (format_on d area) d area
 
 -- The store is up: the area is not damaged and at rest, and the store knows its open sector.
 abbrev pub StandsOn : Device → Nvs → Type 0
-StandsOn d nvs = stands.StandsOn NvsRole kind kept d nvs.store
+StandsOn d nvs = stands.StandsOn NvsRole format_of kept d nvs.store
 
 -- the area holds the same items, the newest versions of each stay, and it is not damaged
 abbrev pub KeepsItems : Device → Device → Area → Type 0
-KeepsItems old new area = ring.KeepsItems (kind_on old area) (sectors_of old area) (sectors_of new area)
+KeepsItems old new area = ring.KeepsItems (format_on old area) (sectors_of old area) (sectors_of new area)

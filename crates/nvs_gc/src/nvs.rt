@@ -9,13 +9,13 @@ ghost use Rattle.flash_map.specs.Touches.{Touches};
 ghost use Rattle.flash_map.specs.Area.{sectors_of};
 ghost use Rattle.item_laws.specs.Bytes.{IsIdOf, IsNextOf};
 ghost use Rattle.item_laws.specs.NextIds.{IsNextId};
-ghost use Rattle.nvs_format.specs.Kinds.{kind};
+ghost use Rattle.nvs_format.specs.Formats.{format_of};
 ghost use Rattle.item_store.specs.Cached.{latest_on};
-ghost use Rattle.item_store.specs.Latest.{IsTold, TellsOn};
+ghost use Rattle.item_store.specs.Latest.{IsKnown, KnowsOn};
 ghost use Rattle.item_store.specs.Listed.{entries_on, IsPlacedOn};
 ghost use Rattle.item_store.specs.Older.{IsNextOlder, newest_before};
 ghost use Rattle.nvs_gc.specs.Ends.{MountEnds, RoundEnds, WriteEnds, DeleteEnds, KeepsWritten, SameOrWritten, sector_units};
-ghost use Rattle.nvs_gc.specs.Standing.{IsNvsArea, StandsOn, kind_on, KeepsItems, IsUndamaged, items_on, live_cost_on};
+ghost use Rattle.nvs_gc.specs.Standing.{IsNvsArea, StandsOn, format_on, KeepsItems, IsUndamaged, items_on, live_cost_on};
 
 use crate::sectors::NvsOpen;
 use flash_map::{Area, MountFault, WriteFault};
@@ -145,9 +145,9 @@ impl Nvs {
         ensures value { option_map (λ bytes. bytes.now) result
             ≡ map.get (items_on (F.device flash.now) self.now.store.area) id }
         ensures none { let d = F.device flash.now in
-            latest_on kind d self.now.store.area id ≡ None → steps.new ≡ steps.old }
+            latest_on format_of d self.now.store.area id ≡ None → steps.new ≡ steps.old }
         ensures few { let d = F.device flash.now in
-            IfSome (latest_on kind d self.now.store.area id)
+            IfSome (latest_on format_of d self.now.store.area id)
             (λ p. p.id ≡ id → steps.new ≤ steps.old + 2) }
     {
         self.store.get(flash, id as u32, steps)
@@ -157,7 +157,7 @@ impl Nvs {
     /// same slot of the cache. Else the id has none. It looks at the cache alone.
     pub fn may_hold(&self, id: u16) -> bool
         ensures exactly { (d : Device) → StandsOn d self.now
-            → result ≡ is_some (latest_on kind d self.now.store.area id) }
+            → result ≡ is_some (latest_on format_of d self.now.store.area id) }
         ensures none { (d : Device) → IsLawful d.banks d.bytes → StandsOn d self.now
             → result ≡ false → map.get (items_on d self.now.store.area) id ≡ None }
     {
@@ -165,21 +165,21 @@ impl Nvs {
     }
 
     /// Makes a table of the last entries of ids, by one walk over the list: of 800 ids at most, the
-    /// least that have bytes. It tells of each id where no more than 800 ids ever had bytes in the
+    /// least that have bytes. It knows each id where no more than 800 ids ever had bytes in the
     /// list. It does so as long as the area stays as it is.
-    pub fn tell_last_slots<F: Flash, L: Ledger>(
+    pub fn fill_last_slots<F: Flash, L: Ledger>(
         &self,
         flash: &F,
         last: &mut LastSlots,
         steps: &mut Steps<L>,
     )
         requires { StandsOn (F.device flash.now) self.now }
-        ensures { TellsOn kind (F.device flash.now) self.now.store.area last.new }
+        ensures { KnowsOn format_of (F.device flash.now) self.now.store.area last.new }
     {
-        self.store.tell_last_slots(flash, last, steps)
+        self.store.fill_last_slots(flash, last, steps)
     }
 
-    /// The bytes of an item, as `get` gives them, by a table of last entries. Where the table tells
+    /// The bytes of an item, as `get` gives them, by a table of last entries. Where the table knows
     /// of the id, it is one step at most; else it is what `get` does.
     pub fn get_by<'a, F: Flash, L: Ledger>(
         &self,
@@ -189,10 +189,10 @@ impl Nvs {
         steps: &mut Steps<L>,
     ) -> Option<&'a [u8]>
         requires stands { StandsOn (F.device flash.now) self.now }
-        requires last { TellsOn kind (F.device flash.now) self.now.store.area last.now }
+        requires last { KnowsOn format_of (F.device flash.now) self.now.store.area last.now }
         ensures value { option_map (λ bytes. bytes.now) result
             ≡ map.get (items_on (F.device flash.now) self.now.store.area) id }
-        ensures few { IsTold last.now.bound id → steps.new ≤ steps.old + 1 }
+        ensures few { IsKnown last.now.bound id → steps.new ≤ steps.old + 1 }
     {
         self.store.get_by(flash, last, id as u32, steps)
     }
@@ -212,7 +212,7 @@ impl Nvs {
     }
 
     /// The least id behind this one that has a value, or the least of all, as `next_id` gives it,
-    /// by a table of last entries. Where the table has one, or tells of all ids, nothing is looked
+    /// by a table of last entries. Where the table has one, or knows all ids, nothing is looked
     /// at; else the list is searched.
     pub fn next_by<F: Flash, L: Ledger>(
         &self,
@@ -222,18 +222,18 @@ impl Nvs {
         steps: &mut Steps<L>,
     ) -> Option<u16>
         requires stands { StandsOn (F.device flash.now) self.now }
-        requires last { TellsOn kind (F.device flash.now) self.now.store.area last.now }
+        requires last { KnowsOn format_of (F.device flash.now) self.now.store.area last.now }
         ensures next { IsNextId (items_on (F.device flash.now) self.now.store.area) after result }
         ensures known { IfSome result (λ id. id < 0xFFFF) }
-        ensures told { IfSome result (λ id. IsTold last.now.bound id → steps.new ≡ steps.old) }
+        ensures covered { IfSome result (λ id. IsKnown last.now.bound id → steps.new ≡ steps.old) }
         ensures all { last.now.bound ≡ None → steps.new ≡ steps.old }
     {
         narrowed(self.store.next_by(flash, last, widened(after), steps))
     }
 
     /// The next older entry of the list: the one before the entry in this sector and slot, or the
-    /// newest one where no place is given. Deletes are among them. `None` comes exactly at the
-    /// front of the list.
+    /// newest one where no place is given. Deletes are among them. `None` comes exactly
+    /// at the oldest entry of the list.
     pub fn walk<F: Flash, L: Ledger>(
         &self,
         flash: &F,
@@ -243,12 +243,12 @@ impl Nvs {
         requires stands { StandsOn (F.device flash.now) self.now }
         requires inside { IfSome after (λ place. place.0 < self.now.store.area.sectors) }
         ensures older { let d = F.device flash.now in
-            IsNextOlder (entries_on kind d self.now.store.area) after result }
+            IsNextOlder (entries_on format_of d self.now.store.area) after result }
         ensures before { let d = F.device flash.now in let area = self.now.store.area in
             IfSome after
-            (λ place. result ≡ newest_before (kind_on d area) (sectors_of d area) place) }
+            (λ place. result ≡ newest_before (format_on d area) (sectors_of d area) place) }
         ensures placed { let d = F.device flash.now in let store = self.now.store in
-            IfSome result (IsPlacedOn kind d store.area store.current) }
+            IfSome result (IsPlacedOn format_of d store.area store.current) }
     {
         self.store.walk(flash, after, steps)
     }

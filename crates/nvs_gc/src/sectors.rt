@@ -9,9 +9,9 @@ ghost use Rattle.nvs_store.specs.Entries.{entry_of as fields_of};
 ghost use Rattle.nvs_store.specs.Geometry.{slot_size};
 ghost use Rattle.nvs_store.specs.Sector.{low, data_end, has_gc_done};
 ghost use Rattle.nvs_store.specs.Scans.{IsInArea};
-ghost use Rattle.nvs_format.specs.Kinds.{placed_of, ReadsAs, kind_in, kind};
-ghost use Rattle.nvs_format.proofs.KindLemmas.{nvs_is_kind};
-ghost use Rattle.item_store.specs.Kind.{placed_at, slots};
+ghost use Rattle.nvs_format.specs.Formats.{placed_of, ReadsAs, format_in, format_of};
+ghost use Rattle.nvs_format.proofs.FormatLemmas.{nvs_is_format};
+ghost use Rattle.item_store.specs.SectorFormat.{placed_at, slots};
 ghost use Rattle.item_store.specs.Lasts.{AreOthers};
 ghost use Rattle.item_store.specs.Standing.{IsStoreArea};
 
@@ -61,10 +61,10 @@ fn read_again<F: Flash, L: Ledger>(
     requires listed { let d = F.device flash.now in
         (1 ≤ at.now.slot)
         × (at.now.slot
-        < 1 + (kind (geometry_of d area.now)).count (sector_bytes d area.now at.now.sector)) }
+        < 1 + (format_of (geometry_of d area.now)).count (sector_bytes d area.now at.now.sector)) }
     requires there { let d = F.device flash.now in
         option_map (placed_at at.now.sector)
-        ((kind (geometry_of d area.now)).in_slot (sector_bytes d area.now at.now.sector)
+        ((format_of (geometry_of d area.now)).in_slot (sector_bytes d area.now at.now.sector)
         at.now.slot) ≡ Some at.now }
     ensures own { let d = F.device flash.now in
         ReadsAs (unit_of d area.now) (sectors_of d area.now) at.now result }
@@ -83,7 +83,7 @@ fn last_of(bytes: &[u8], unit: u32, place: u32, id: u32) -> Option<Placed>
     requires unit { IsUnit unit }
     requires long { 16 ≤ length bytes.now }
     requires short { length bytes.now ≤ 2 ^ 15 }
-    ensures { let s = slots (kind_in unit) in
+    ensures { let s = slots (format_in unit) in
         result ≡ option_map (placed_at place) (last_in s place id (s.entries bytes.now)) }
 {
     if id > 0xFFFF {
@@ -100,7 +100,7 @@ fn bytes_in(bytes: &[u8], unit: u32, slot: u32) -> &[u8]
     requires unit { IsUnit unit }
     requires short { length bytes.now ≤ 2 ^ 15 }
     requires inside { (slot + 1) * slot_size unit ≤ length bytes.now }
-    ensures { result.now ≡ (kind_in unit).bytes bytes.now slot }
+    ensures { result.now ≡ (format_in unit).bytes bytes.now slot }
 {
     match counting_entry(bytes, unit, slot) {
         Some(found) => {
@@ -126,7 +126,7 @@ fn named_id(bytes: &[u8], unit: u32, slot: u32) -> u32
     requires unit { IsUnit unit }
     requires short { length bytes.now ≤ 2 ^ 15 }
     requires inside { (slot + 1) * slot_size unit ≤ length bytes.now }
-    ensures named { IfSome ((kind_in unit).in_slot bytes.now slot) (λ e. e.id ≡ result) }
+    ensures named { IfSome ((format_in unit).in_slot bytes.now slot) (λ e. e.id ≡ result) }
     ensures small { result < 2 ^ 16 }
 {
     let size = slot_size(unit);
@@ -140,7 +140,7 @@ fn reach_in(bytes: &[u8], unit: u32, slots: u32, least: u32, most: u32) -> u32
     requires short { length bytes.now ≤ 2 ^ 15 }
     requires inside { (slots + 1) * slot_size unit ≤ length bytes.now }
     ensures few { result ≤ slots }
-    ensures others { AreOthers (kind_in unit) bytes.now result slots least most }
+    ensures others { AreOthers (format_in unit) bytes.now result slots least most }
 {
     let size = slot_size(unit);
     let mut start = bytes.len() - ((slots + 1) * size) as usize;
@@ -159,7 +159,7 @@ fn reach_in(bytes: &[u8], unit: u32, slots: u32, least: u32, most: u32) -> u32
 impl SlotSectors for NvsOpen {
     ghost role = { nvs_role };
 
-    ghost kind = { kind };
+    ghost format_of = { format_of };
 
     ghost kept = { λ geometry b. record { low = low geometry.unit b; data_end = data_end geometry.unit b; gc_done = has_gc_done geometry.unit b } };
 
@@ -443,5 +443,5 @@ impl SlotSectors for NvsOpen {
         }
     }
 
-    ghost lawful = { λ geometry unit. nvs_is_kind geometry.unit unit };
+    ghost lawful = { λ geometry unit. nvs_is_format geometry.unit unit };
 }

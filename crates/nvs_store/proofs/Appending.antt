@@ -69,7 +69,7 @@ module _ (unit : ℕ) (old new : List (List ℕ)) (place : ℕ) (within : place 
   -- where each sector counts, its pairs stand last
   pub list_after : (more : List (ℕ × List ℕ)) → is_closed_at (reading unit) old (next old place) ≡ false → pairs unit (sector_at new place) ≡ pairs unit (sector_at old place) ++ more → list_of unit new ≡ list_of unit old ++ more
   list_after more free list =
-      let front = flat_map (pairs_at (reading unit) old) (others (length old) place) in
+      let prefix = flat_map (pairs_at (reading unit) old) (others (length old) place) in
       ap (area_pairs (reading unit) new) open_after
       ∙ ap (λ (ss : List (List ℕ)). area_pairs (reading unit) ss place) only
       ∙ list_put (reading unit) old place (sector_at new place) within same free

@@ -44,10 +44,10 @@ half : (b : List ℕ) (e : Entry) (bytes : List ℕ) (units : ℕ) → HasRoom 4
     → StopsAdding 4 b (with_slot 4 b (data_image 4 bytes) (take (units * 4) (entry_image 4 e))) e.id bytes
 half b e bytes units h next one =
     let eight = length-encoded e in
-    let front : take (units * 4) (entry_image 4 e) ≡ take 4 (encoded e) =
+    let prefix : take (units * 4) (entry_image 4 e) ≡ take 4 (encoded e) =
     ap (λ (n : ℕ). take (n * 4) (entry_image 4 e)) one ∙ take-append-le 4 (encoded e) (replicate (slot_size 4 - 8) 0xFF) (omega arith) in
     let cut = put_cut_entry b e bytes h next in
-    subst (λ (upper : List ℕ). StopsAdding 4 b (with_slot 4 b (data_image 4 bytes) upper) e.id bytes) (sym front) (record { list = inl cut.0; lower = cut.0.lower; grown = cut.1 })
+    subst (λ (upper : List ℕ). StopsAdding 4 b (with_slot 4 b (data_image 4 bytes) upper) e.id bytes) (sym prefix) (record { list = inl cut.0; lower = cut.0.lower; grown = cut.1 })
 
 pub put_units : (unit : ℕ) → IsUnit unit → AnyUnits unit
 put_units =

@@ -6,7 +6,7 @@ mod CallFacts
 mod Cuts
 pub mod EntryBytes
 mod Examples
-mod HiddenSectors
+mod IgnoredSectors
 pub mod InArea
 pub mod LastLemmas
 pub mod Lookups

@@ -59,9 +59,9 @@ mark_units = by_unit MarkUnits
       | inr some ↦
           let one : units ≡ 1 = omega (arith, sizes.0) in
           let eight = length-encoded (special_entry (data_end 4 b)) in
-          let front : take (units * 4) (entry_image 4 (special_entry (data_end 4 b))) ≡ take 4 (encoded (special_entry (data_end 4 b))) =
+          let prefix : take (units * 4) (entry_image 4 (special_entry (data_end 4 b))) ≡ take 4 (encoded (special_entry (data_end 4 b))) =
           ap (λ (n : ℕ). take (n * 4) (entry_image 4 (special_entry (data_end 4 b)))) one ∙ take-append-le 4 (encoded (special_entry (data_end 4 b))) (replicate (slot_size 4 - 8) 0xFF) (omega arith) in
-          subst (λ (upper : List ℕ). KeepsList 4 b (with_mark 4 b upper)) (sym front) (put_cut_done b h)
+          subst (λ (upper : List ℕ). KeepsList 4 b (with_mark 4 b upper)) (sym prefix) (put_cut_done b h)
     ])
     (λ b units h less. keeps-same 8 b _ (nothing 8 (low 8 b - slot_size 8) b (entry_image 8 (special_entry (data_end 8 b))) units (omega (arith, sizes.1))))
     (λ b units h less. keeps-same 16 b _ (nothing 16 (low 16 b - slot_size 16) b (entry_image 16 (special_entry (data_end 16 b))) units (omega (arith, sizes.2))))

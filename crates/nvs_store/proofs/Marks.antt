@@ -214,11 +214,11 @@ put_close_units unit place b units is-unit inside small positive =
     let start : length new - (0 + 1) * slot_size unit ≡ length b - slot_size unit = omega (arith, long) in
     let bytes : (slot_at unit new 0).bytes ≡ slice_range new (length b - slot_size unit) (length b - slot_size unit + slot_size unit) =
     parts.1 ∙ ap (λ (m : ℕ). slice_range new m (m + slot_size unit)) start in
-    let front : slice_range new (length b - slot_size unit) (length b - slot_size unit + length upper) ≡ take (length upper) upper = range_at b (length b - slot_size unit) upper (length upper) (omega arith) (omega arith) in
+    let prefix : slice_range new (length b - slot_size unit) (length b - slot_size unit + length upper) ≡ take (length upper) upper = range_at b (length b - slot_size unit) upper (length upper) (omega arith) (omega arith) in
     let fourth : get_or (slice_range new (length b - slot_size unit) (length b - slot_size unit + slot_size unit)) 3 0 ≡ place / 256 % 256 =
     get_or-between new (length b - slot_size unit) (length b - slot_size unit + slot_size unit) 3 0 (omega arith)
     ∙ sym (get_or-between new (length b - slot_size unit) (length b - slot_size unit + length upper) 3 0 (omega arith))
-    ∙ ap (λ (xs : List ℕ). get_or xs 3 0) front ∙ get_or-take (length upper) upper 3 0 (omega arith) ∙ get_or-take (units * unit) image 3 0 (omega arith)
+    ∙ ap (λ (xs : List ℕ). get_or xs 3 0) prefix ∙ get_or-take (length upper) upper 3 0 (omega arith) ∙ get_or-take (units * unit) image 3 0 (omega arith)
     ∙ fourth_byte place (replicate (slot_size unit - 8) 0xFF) in
     let slot-long : length (slice_range new (length b - slot_size unit) (length b - slot_size unit + slot_size unit)) ≡ length b - slot_size unit + slot_size unit - (length b - slot_size unit) = length-between new _ _ (omega (arith, long)) in
     let not_erased : is_erased (slice_range new (length b - slot_size unit) (length b - slot_size unit + slot_size unit)) ≡ false =

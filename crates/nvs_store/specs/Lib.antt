@@ -4,5 +4,5 @@ pub mod Images
 pub mod On
 pub mod Scans
 pub mod Sector
-pub mod Sought
+pub mod Lookup
 pub mod Searches

@@ -10,7 +10,7 @@ ghost use Rattle.item_laws.specs.RoundParts.{places_before};
 ghost use Rattle.nvs_store.specs.Scans.{counted_within, last_wanted, placed_up_to, IsInArea, IsNextOlder};
 ghost use Rattle.nvs_store.specs.On.{bytes_on, counted_on, placed_on, last_placed_on, list_on, scan_on};
 
-use crate::scan::{Found, Scan, is_hidden};
+use crate::scan::{Found, Scan, is_ignored};
 use crate::sector::find_in;
 use flash_map::{Area, geometry, sector_view};
 use flash_sim::{Flash, Steps};
@@ -42,7 +42,7 @@ fn find_at<F: Flash, L: Ledger>(
         2 ^ 15 ≤ slots
         → result ≡ last_wanted wanted (counted_on d area.now scan.now.current place) }
 {
-    if is_hidden(area, scan, place) {
+    if is_ignored(area, scan, place) {
         None
     } else {
         let unit = geometry(flash, area).unit;
@@ -177,7 +177,7 @@ fn newest_up_to<F: Flash, L: Ledger>(
 }
 
 /// The next older entry of the list: the one before the entry in this sector and slot, or the
-/// newest one where no place is given. `None` comes exactly at the front of the list.
+/// newest one where no place is given. `None` comes exactly at the oldest entry of the list.
 pub fn walk<F: Flash, L: Ledger>(
     flash: &F,
     area: &Area,

@@ -8,7 +8,7 @@ ghost use Rattle.std.specs.List.{slice_get};
 ghost use Rattle.nvs_store.specs.Scans.{reading};
 ghost use Rattle.nvs_store.specs.On.{IsUndamaged, damage_on, open_on, redo_on, scan_on};
 
-use crate::places::{Sought, first, has_gc_done, is_closed};
+use crate::places::{Lookup, first, has_gc_done, is_closed};
 use crate::scan::{Redo, Scan};
 use crate::sector::scan_sector;
 use flash_map::{Area, Damaged, Why, geometry, sector_view};
@@ -23,10 +23,10 @@ fn open_sector<F: Flash, L: Ledger>(flash: &F, area: &Area, steps: &mut Steps<L>
     ensures value { result ≡ open_on (F.device flash.now) area.now }
     ensures within { result < area.now.sectors }
 {
-    if let Some(place) = first(flash, area, Sought::Opening, 0, steps) {
+    if let Some(place) = first(flash, area, Lookup::Opening, 0, steps) {
         return place;
     }
-    first(flash, area, Sought::NotBlank, 0, steps).unwrap_or(0)
+    first(flash, area, Lookup::NotBlank, 0, steps).unwrap_or(0)
 }
 
 /// The second sector that is not closed after a closed one.
@@ -36,8 +36,8 @@ fn second_opening<F: Flash, L: Ledger>(flash: &F, area: &Area, steps: &mut Steps
     ensures { let d = F.device flash.now in
         result ≡ slice_get (openings (reading (unit_of d area.now)) (sectors_of d area.now)) 1 }
 {
-    let opening = first(flash, area, Sought::Opening, 0, steps)?;
-    first(flash, area, Sought::Opening, opening + 1, steps)
+    let opening = first(flash, area, Lookup::Opening, 0, steps)?;
+    first(flash, area, Lookup::Opening, opening + 1, steps)
 }
 
 /// The first sector of the first kind of damage, with this sector open.
@@ -53,7 +53,7 @@ fn damage<F: Flash, L: Ledger>(
     requires within { current < area.now.sectors }
     ensures { result ≡ damage_on (F.device flash.now) area.now }
 {
-    let Some(_) = first(flash, area, Sought::NotClosed, 0, steps) else {
+    let Some(_) = first(flash, area, Lookup::NotClosed, 0, steps) else {
         return Some(Damaged {
             sector: 0,
             why: Why::AllClosed,
@@ -65,19 +65,19 @@ fn damage<F: Flash, L: Ledger>(
             why: Why::TwoOpen,
         });
     }
-    if let Some(sector) = first(flash, area, Sought::Dirty(current), 0, steps) {
+    if let Some(sector) = first(flash, area, Lookup::Dirty(current), 0, steps) {
         return Some(Damaged {
             sector,
             why: Why::Dirty,
         });
     }
-    if let Some(sector) = first(flash, area, Sought::Unfenced(current), 0, steps) {
+    if let Some(sector) = first(flash, area, Lookup::Unfenced(current), 0, steps) {
         return Some(Damaged {
             sector,
             why: Why::NoFence,
         });
     }
-    let sector = first(flash, area, Sought::Full(current), 0, steps)?;
+    let sector = first(flash, area, Lookup::Full(current), 0, steps)?;
     Some(Damaged {
         sector,
         why: Why::Overfull,

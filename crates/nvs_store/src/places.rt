@@ -5,7 +5,7 @@ ghost use Rattle.flash_map.specs.declared.area.Role.TheVariants.{Nvs};
 ghost use Rattle.flash_map.specs.Area.{unit_of, sectors_of, sector_bytes};
 ghost use Rattle.flash_map.specs.Lawful.{IsLawfulFor};
 ghost use Rattle.nvs_store.specs.Sector.{has_gc_done};
-ghost use Rattle.nvs_store.specs.Sought.{named, is_sought};
+ghost use Rattle.nvs_store.specs.Lookup.{named, is_match};
 ghost use Rattle.nvs_store.specs.On.{counts_on, is_blank_on, is_closed_on};
 
 use crate::sector;
@@ -15,7 +15,7 @@ use std::sync::ledger::Ledger;
 
 /// What is looked for from sector to sector. Where a sector is named, it is the open one.
 #[derive(Clone, Copy, Debug, PartialEq, Eq)]
-pub enum Sought {
+pub enum Lookup {
     NotClosed,
     /// Not closed, after a closed one.
     Opening,
@@ -90,49 +90,49 @@ pub fn counts<F: Flash, L: Ledger>(
 {
     let after = area.next(current);
     if is_closed(flash, area, after, steps) {
-        let hidden = if has_gc_done(flash, area, current, steps) {
+        let ignored = if has_gc_done(flash, area, current, steps) {
             after
         } else {
             current
         };
-        place != hidden
+        place != ignored
     } else {
         true
     }
 }
 
 /// Whether a sector is what is looked for.
-fn is_sought<F: Flash, L: Ledger>(
+fn is_match<F: Flash, L: Ledger>(
     flash: &F,
     area: &Area,
-    sought: Sought,
+    lookup: Lookup,
     place: u32,
     steps: &mut Steps<L>,
 ) -> bool
     requires lawful { IsLawfulFor (F.device flash.now).banks area.now }
     requires role { area.now.role ≡ Nvs }
-    requires named { IfSome (named sought) (λ current. current < area.now.sectors) }
+    requires named { IfSome (named lookup) (λ current. current < area.now.sectors) }
     requires inside { place < area.now.sectors }
     ensures { let d = F.device flash.now in
-        result ≡ is_sought sought (unit_of d area.now) (sectors_of d area.now) place }
+        result ≡ is_match lookup (unit_of d area.now) (sectors_of d area.now) place }
 {
     let unit = geometry(flash, area).unit;
     let bytes = sector_view(flash, area, place, steps);
-    match sought {
-        Sought::NotClosed => !sector::is_closed(bytes, unit),
-        Sought::Opening => {
+    match lookup {
+        Lookup::NotClosed => !sector::is_closed(bytes, unit),
+        Lookup::Opening => {
             !sector::is_closed(bytes, unit) && is_closed(flash, area, area.previous(place), steps)
         }
-        Sought::NotBlank => !is_erased(bytes),
-        Sought::Dirty(current) => {
+        Lookup::NotBlank => !is_erased(bytes),
+        Lookup::Dirty(current) => {
             !sector::is_closed(bytes, unit) && place != current && !is_erased(bytes)
         }
-        Sought::Unfenced(current) => {
+        Lookup::Unfenced(current) => {
             counts(flash, area, current, place, steps)
                 && !is_erased(bytes)
                 && !sector::has_fence(bytes, unit)
         }
-        Sought::Full(current) => {
+        Lookup::Full(current) => {
             counts(flash, area, current, place, steps)
                 && !is_erased(bytes)
                 && sector::is_overfull(bytes, unit)
@@ -144,21 +144,21 @@ fn is_sought<F: Flash, L: Ledger>(
 pub fn first<F: Flash, L: Ledger>(
     flash: &F,
     area: &Area,
-    sought: Sought,
+    lookup: Lookup,
     from: u32,
     steps: &mut Steps<L>,
 ) -> Option<u32>
     requires lawful { IsLawfulFor (F.device flash.now).banks area.now }
     requires role { area.now.role ≡ Nvs }
-    requires named { IfSome (named sought) (λ current. current < area.now.sectors) }
+    requires named { IfSome (named lookup) (λ current. current < area.now.sectors) }
     ensures value { let d = F.device flash.now in
         result
-        ≡ find (is_sought sought (unit_of d area.now) (sectors_of d area.now))
+        ≡ find (is_match lookup (unit_of d area.now) (sectors_of d area.now))
         (range_with_len from (area.now.sectors - from)) }
     ensures within { IfSome result (λ place. place < area.now.sectors) }
 {
     for place in from..area.sectors {
-        if is_sought(flash, area, sought, place, steps) {
+        if is_match(flash, area, lookup, place, steps) {
             return Some(place);
         }
     }

@@ -71,8 +71,8 @@ pub struct Scan {
     pub redo: Redo,
 }
 
-/// Whether a sector counts for nothing: while a collection is not done, one sector does.
-pub fn is_hidden(area: &Area, scan: &Scan, place: u32) -> bool
+/// Whether a sector is ignored: while a collection is not done, one sector does.
+pub fn is_ignored(area: &Area, scan: &Scan, place: u32) -> bool
     requires { scan.now.current < area.now.sectors }
     ensures { (unit : ℕ) (sectors : List (List ℕ)) → length sectors ≡ area.now.sectors
         → scan.now ≡ scan_of unit sectors

@@ -8,7 +8,7 @@ use Rattle.record_settings.specs.Settings.{settings_of}
 use Rattle.record_settings.specs.Live.{is_live, live_bodies}
 use Rattle.record_settings.specs.Numbers.{cost_by, put_cost, room}
 use Rattle.record_settings.specs.Rounds.{bodies_cost}
-use Rattle.record_settings.proofs.FrontLemmas.{settings-cost}
+use Rattle.record_settings.proofs.PrefixLemmas.{settings-cost}
 use Rattle.record_settings.proofs.LiveLemmas.{live-says}
 
 -- a live record costs what a put of its body does

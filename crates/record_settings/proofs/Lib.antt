@@ -1,7 +1,7 @@
 pub mod BodyLemmas
 pub mod Coded
 pub mod CopyCost
-pub mod FrontLemmas
+pub mod PrefixLemmas
 pub mod LastLemmas
 pub mod LiveLemmas
 pub mod NextLemmas

@@ -24,8 +24,8 @@ live-none limit body later none = ap (λ setting. is_live_by limit setting later
 pub live-setting : (limit : ℕ) (body : List ℕ) (later : List (List ℕ)) (name value : List ℕ) → setting_of limit body ≡ Some (name, value) → is_live limit body later ≡ (not (length value == 0) && not (names limit name later))
 live-setting limit body later name value is = ap (λ setting. is_live_by limit setting later) is
 
-pub live-hidden : (limit : ℕ) (body : List ℕ) (later : List (List ℕ)) (name value : List ℕ) → setting_of limit body ≡ Some (name, value) → names limit name later ≡ true → is_live limit body later ≡ false
-live-hidden limit body later name value is named =
+pub live-ignored : (limit : ℕ) (body : List ℕ) (later : List (List ℕ)) (name value : List ℕ) → setting_of limit body ≡ Some (name, value) → names limit name later ≡ true → is_live limit body later ≡ false
+live-ignored limit body later name value is named =
     live-setting limit body later name value is ∙ ap (λ t. not (length value == 0) && not t) named ∙ never (not (length value == 0))
   where
     never : (t : Bool) → (t && false) ≡ false
@@ -63,7 +63,7 @@ pub copies-none : (limit : ℕ) (others : List (List ℕ)) → live_bodies limit
 unfolding live_bodies
 copies-none limit others = refl
 
-pub copies-split : (limit : ℕ) (front back tail : List (List ℕ)) → live_bodies limit (front ++ back) tail ≡ live_bodies limit front (back ++ tail) ++ live_bodies limit back tail
+pub copies-split : (limit : ℕ) (prefix back tail : List (List ℕ)) → live_bodies limit (prefix ++ back) tail ≡ live_bodies limit prefix (back ++ tail) ++ live_bodies limit back tail
 unfolding live_bodies
 copies-split limit [] back tail = refl
 copies-split limit (body ∷ rest) back tail =

@@ -10,7 +10,7 @@ use Rattle.record_settings.specs.Settings.{setting_of, settings_of}
 use Rattle.backend_api.specs.Least.{is_before, IsLeast}
 use Rattle.record_settings.specs.Live.{has_name, names, is_live, live_bodies}
 use Rattle.record_settings.proofs.BodyLemmas.{settings-none}
-use Rattle.record_settings.proofs.FrontLemmas.{settings-dead, settings-live, live-front}
+use Rattle.record_settings.proofs.PrefixLemmas.{settings-dead, settings-live, live-prefix}
 use Rattle.record_settings.proofs.LastLemmas.{tie}
 use Rattle.record_settings.proofs.LiveLemmas.{live-says}
 
@@ -45,10 +45,10 @@ settings-keys limit (body ∷ rest) q =
           ∙ live-key (settings_of limit rest) says.name says.value q
           ∙ ap (λ t. bytes_eq says.name q || t) (settings-keys limit rest q)
           ∙ sym (ap (λ setting. has_name q setting || names limit q (live_bodies limit rest [])) says.says)
-          ∙ sym (ap (names limit q) (live-front limit body rest ∙ cond-true (is_live limit body rest) (body ∷ live_bodies limit rest []) (live_bodies limit rest []) live))
+          ∙ sym (ap (names limit q) (live-prefix limit body rest ∙ cond-true (is_live limit body rest) (body ∷ live_bodies limit rest []) (live_bodies limit rest []) live))
       | inr dead ↦
           ap (λ (m : Map). maps.contains_key m q) (settings-dead limit body rest dead) ∙ settings-keys limit rest q
-          ∙ sym (ap (names limit q) (live-front limit body rest ∙ cond-false (is_live limit body rest) (body ∷ live_bodies limit rest []) (live_bodies limit rest []) dead))
+          ∙ sym (ap (names limit q) (live-prefix limit body rest ∙ cond-false (is_live limit body rest) (body ∷ live_bodies limit rest []) (live_bodies limit rest []) dead))
     ]
 
 -- ---- the least name of records

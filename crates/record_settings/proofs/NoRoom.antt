@@ -28,18 +28,18 @@ module _ (limit : ℕ) (bodies : List (List ℕ)) (live : live_bodies limit bodi
   bodies-all : bodies_in (pairs_of limit bodies) ≡ bodies
   bodies-all = ap bodies_in (sym pairs-all) ∙ ap (λ ps. bodies_in (live_pairs (pairs_of limit bodies) ps)) (sym (pairs-none limit)) ∙ sym (bodies-live limit bodies []) ∙ live
 
-copies-again : (limit : ℕ) (victim front back : List (List ℕ)) → live_bodies limit back [] ≡ back → live_bodies limit (back ++ live_bodies limit victim (front ++ back)) [] ≡ back ++ live_bodies limit victim (front ++ back)
-copies-again limit victim front back live =
-    let copied : pairs_of limit (live_bodies limit victim (front ++ back)) ≡ live_pairs (pairs_of limit victim) (pairs_of limit front ++ pairs_of limit back) = pairs-live limit victim (front ++ back) ∙ ap (live_pairs (pairs_of limit victim)) (pairs-append limit front back) in
-    let all : pairs_of limit (back ++ live_bodies limit victim (front ++ back)) ≡ pairs_of limit back ++ live_pairs (pairs_of limit victim) (pairs_of limit front ++ pairs_of limit back) = pairs-append limit back (live_bodies limit victim (front ++ back)) ∙ ap (λ ps. pairs_of limit back ++ ps) copied in
-    let same : bodies_in (live_pairs (pairs_of limit victim) (pairs_of limit front ++ pairs_of limit back)) ≡ live_bodies limit victim (front ++ back) =
-    ap (λ ps. bodies_in (live_pairs (pairs_of limit victim) ps)) (sym (pairs-append limit front back)) ∙ sym (bodies-live limit victim (front ++ back)) in
-    bodies-live limit (back ++ live_bodies limit victim (front ++ back)) []
-    ∙ ap (λ ps. bodies_in (live_pairs (pairs_of limit (back ++ live_bodies limit victim (front ++ back))) ps)) (pairs-none limit)
+copies-again : (limit : ℕ) (victim prefix back : List (List ℕ)) → live_bodies limit back [] ≡ back → live_bodies limit (back ++ live_bodies limit victim (prefix ++ back)) [] ≡ back ++ live_bodies limit victim (prefix ++ back)
+copies-again limit victim prefix back live =
+    let copied : pairs_of limit (live_bodies limit victim (prefix ++ back)) ≡ live_pairs (pairs_of limit victim) (pairs_of limit prefix ++ pairs_of limit back) = pairs-live limit victim (prefix ++ back) ∙ ap (live_pairs (pairs_of limit victim)) (pairs-append limit prefix back) in
+    let all : pairs_of limit (back ++ live_bodies limit victim (prefix ++ back)) ≡ pairs_of limit back ++ live_pairs (pairs_of limit victim) (pairs_of limit prefix ++ pairs_of limit back) = pairs-append limit back (live_bodies limit victim (prefix ++ back)) ∙ ap (λ ps. pairs_of limit back ++ ps) copied in
+    let same : bodies_in (live_pairs (pairs_of limit victim) (pairs_of limit prefix ++ pairs_of limit back)) ≡ live_bodies limit victim (prefix ++ back) =
+    ap (λ ps. bodies_in (live_pairs (pairs_of limit victim) ps)) (sym (pairs-append limit prefix back)) ∙ sym (bodies-live limit victim (prefix ++ back)) in
+    bodies-live limit (back ++ live_bodies limit victim (prefix ++ back)) []
+    ∙ ap (λ ps. bodies_in (live_pairs (pairs_of limit (back ++ live_bodies limit victim (prefix ++ back))) ps)) (pairs-none limit)
     ∙ ap (λ ps. bodies_in (live_pairs ps [])) all
-    ∙ ap bodies_in (live-again (pairs_of limit victim) (pairs_of limit front) (pairs_of limit back) (pairs-all limit back live))
-    ∙ map-append (λ (pair : ℕ × List ℕ). pair.1) (pairs_of limit back) (live_pairs (pairs_of limit victim) (pairs_of limit front ++ pairs_of limit back))
-    ∙ ap (λ bodies. bodies ++ bodies_in (live_pairs (pairs_of limit victim) (pairs_of limit front ++ pairs_of limit back))) (bodies-all limit back live)
+    ∙ ap bodies_in (live-again (pairs_of limit victim) (pairs_of limit prefix) (pairs_of limit back) (pairs-all limit back live))
+    ∙ map-append (λ (pair : ℕ × List ℕ). pair.1) (pairs_of limit back) (live_pairs (pairs_of limit victim) (pairs_of limit prefix ++ pairs_of limit back))
+    ∙ ap (λ bodies. bodies ++ bodies_in (live_pairs (pairs_of limit victim) (pairs_of limit prefix ++ pairs_of limit back))) (bodies-all limit back live)
     ∙ ap (λ bodies. back ++ bodies) same
 
 -- so collections of settings are rounds

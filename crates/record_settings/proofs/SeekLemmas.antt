@@ -9,7 +9,7 @@ use Rattle.backend_api.proofs.LeastLemmas.{cmp, next-least, greater, behind-late
 use Rattle.record_settings.specs.Settings.{setting_of, settings_of}
 use Rattle.backend_api.specs.Least.{IsLeast}
 use Rattle.record_settings.specs.Live.{has_name, names, is_live, live_bodies}
-use Rattle.record_settings.proofs.FrontLemmas.{live-front}
+use Rattle.record_settings.proofs.PrefixLemmas.{live-prefix}
 use Rattle.record_settings.proofs.NextLemmas.{least_of, settings-keys, keys-least, next-found}
 
 -- ---- a name with a value is one of a record
@@ -17,7 +17,7 @@ use Rattle.record_settings.proofs.NextLemmas.{least_of, settings-keys, keys-leas
 live-named : (limit : ℕ) (bodies : List (List ℕ)) (q : List ℕ) → names limit q (live_bodies limit bodies []) ≡ true → names limit q bodies ≡ true
 unfolding live_bodies
 live-named limit [] q named = absurd (false≢true named)
-live-named limit (body ∷ rest) q named = at (is_live limit body rest) (live-named limit rest q) (sym (ap (names limit q) (live-front limit body rest)) ∙ named)
+live-named limit (body ∷ rest) q named = at (is_live limit body rest) (live-named limit rest q) (sym (ap (names limit q) (live-prefix limit body rest)) ∙ named)
   where
     at : (t : Bool) → (names limit q (live_bodies limit rest []) ≡ true → names limit q rest ≡ true) → names limit q (cond t (body ∷ live_bodies limit rest []) (live_bodies limit rest [])) ≡ true → names limit q (body ∷ rest) ≡ true
     at true later h =

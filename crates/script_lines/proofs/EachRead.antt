@@ -29,8 +29,8 @@ use Rattle.script_lines.proofs.ScriptLaws.{stands_all}
 
 -- One word.
 
-abbrev Told : ℕ → Field → List ℕ → Type 0
-Told limit field word = ((said : Said) × SaysField limit field word said) ⊎ ((why : LineWhy) × HasFault limit field word why)
+abbrev Reported : ℕ → Field → List ℕ → Type 0
+Reported limit field word = ((said : Said) × SaysField limit field word said) ⊎ ((why : LineWhy) × HasFault limit field word why)
 
 equal : (a b : List ℕ) → bytes_eq a b ≡ true → a ≡ b
 equal a b is = (bytes_eq-Decides a b).0 is
@@ -38,26 +38,26 @@ equal a b is = (bytes_eq-Decides a b).0 is
 differs : (a b : List ℕ) → bytes_eq a b ≡ false → a ≢ b
 differs a b is same = let yes : bytes_eq a b ≡ true = (bytes_eq-Decides a b).1 same in cc
 
-name_told : (limit : ℕ) (word : List ℕ) (b : Bool) → is_name word ≡ b → Told limit a_name word
-name_told limit word true is = inl (name word, (refl, is_name-sound word is))
-name_told limit word false is = inr (Name, λ lawful. let yes : is_name word ≡ true = is_name-complete word lawful in cc)
+name_reported : (limit : ℕ) (word : List ℕ) (b : Bool) → is_name word ≡ b → Reported limit a_name word
+name_reported limit word true is = inl (name word, (refl, is_name-sound word is))
+name_reported limit word false is = inr (Name, λ lawful. let yes : is_name word ≡ true = is_name-complete word lawful in cc)
 
-label_told : (limit : ℕ) (word : List ℕ) → (0 < length word) ⊎ (length word ≤ 0) → (8 < length word) ⊎ (length word ≤ 8) → (each : Bool) → list_all is_label_byte word ≡ each → Told limit a_label word
-label_told limit word (inr none) long each is = inr (Name, λ lawful. let some = lawful.some in omega arith)
-label_told limit word (inl some) (inl long) each is = inr (Name, λ lawful. let few = lawful.few in omega arith)
-label_told limit word (inl some) (inr few) true is = inl (label word, (refl, record { some = omega arith; few = few; each = is }))
-label_told limit word (inl some) (inr few) false is = inr (Name, λ lawful. let yes = lawful.each in cc)
+label_reported : (limit : ℕ) (word : List ℕ) → (0 < length word) ⊎ (length word ≤ 0) → (8 < length word) ⊎ (length word ≤ 8) → (each : Bool) → list_all is_label_byte word ≡ each → Reported limit a_label word
+label_reported limit word (inr none) long each is = inr (Name, λ lawful. let some = lawful.some in omega arith)
+label_reported limit word (inl some) (inl long) each is = inr (Name, λ lawful. let few = lawful.few in omega arith)
+label_reported limit word (inl some) (inr few) true is = inl (label word, (refl, record { some = omega arith; few = few; each = is }))
+label_reported limit word (inl some) (inr few) false is = inr (Name, λ lawful. let yes = lawful.each in cc)
 
 no_kind : (word : List ℕ) → word ≢ codes "table" → word ≢ codes "counter" → word ≢ codes "level" → IsNoKind word
 no_kind word table counter level Table = table
 no_kind word table counter level Counter = counter
 no_kind word table counter level Level = level
 
-kind_told : (limit : ℕ) (word : List ℕ) (a b c : Bool) → bytes_eq word (codes "table") ≡ a → bytes_eq word (codes "counter") ≡ b → bytes_eq word (codes "level") ≡ c → Told limit a_kind word
-kind_told limit word true b c x y z = inl (kind Table, equal word (codes "table") x)
-kind_told limit word false true c x y z = inl (kind Counter, equal word (codes "counter") y)
-kind_told limit word false false true x y z = inl (kind Level, equal word (codes "level") z)
-kind_told limit word false false false x y z = inr (Kind, no_kind word (differs word (codes "table") x) (differs word (codes "counter") y) (differs word (codes "level") z))
+kind_reported : (limit : ℕ) (word : List ℕ) (a b c : Bool) → bytes_eq word (codes "table") ≡ a → bytes_eq word (codes "counter") ≡ b → bytes_eq word (codes "level") ≡ c → Reported limit a_kind word
+kind_reported limit word true b c x y z = inl (kind Table, equal word (codes "table") x)
+kind_reported limit word false true c x y z = inl (kind Counter, equal word (codes "counter") y)
+kind_reported limit word false false true x y z = inl (kind Level, equal word (codes "level") z)
+kind_reported limit word false false false x y z = inr (Kind, no_kind word (differs word (codes "table") x) (differs word (codes "counter") y) (differs word (codes "level") z))
 
 none_hex : (word : List ℕ) → decode_of word ≡ Ok [] → IsNoHex word
 none_hex word is value hex = let e : Ok [] ≡ Ok value = sym is ∙ hex.0 in let same : [] ≡ value = cc in omega (arith, ap length same)
@@ -65,16 +65,16 @@ none_hex word is value hex = let e : Ok [] ≡ Ok value = sym is ∙ hex.0 in le
 err_hex : (word : List ℕ) (e : FromHexError) → decode_of word ≡ Err e → IsNoHex word
 err_hex word e is value hex = let both = sym is ∙ hex.0 in cc
 
-value_told : (limit : ℕ) (word value : List ℕ) → IsHex word value → (limit < length value) ⊎ (length value ≤ limit) → Told limit some_bytes word
-value_told limit word value hex (inl long) = inr (Long, (value, hex, long))
-value_told limit word value hex (inr short) = inl (bytes value, (hex, short))
+value_reported : (limit : ℕ) (word value : List ℕ) → IsHex word value → (limit < length value) ⊎ (length value ≤ limit) → Reported limit some_bytes word
+value_reported limit word value hex (inl long) = inr (Long, (value, hex, long))
+value_reported limit word value hex (inr short) = inl (bytes value, (hex, short))
 
-some_told : (limit : ℕ) (word : List ℕ) (r : Result (List ℕ) FromHexError) → decode_of word ≡ r → Told limit some_bytes word
-some_told limit word (Err e) is = inr (Hex, err_hex word e is)
-some_told limit word (Ok []) is = inr (Hex, none_hex word is)
-some_told limit word (Ok (b ∷ value)) is = value_told limit word (b ∷ value) (is, omega arith) (cases_lt limit (length (b ∷ value)))
+some_reported : (limit : ℕ) (word : List ℕ) (r : Result (List ℕ) FromHexError) → decode_of word ≡ r → Reported limit some_bytes word
+some_reported limit word (Err e) is = inr (Hex, err_hex word e is)
+some_reported limit word (Ok []) is = inr (Hex, none_hex word is)
+some_reported limit word (Ok (b ∷ value)) is = value_reported limit word (b ∷ value) (is, omega arith) (cases_lt limit (length (b ∷ value)))
 
-any_of_some : (limit : ℕ) (word : List ℕ) → word ≢ codes "-" → Told limit some_bytes word → Told limit any_bytes word
+any_of_some : (limit : ℕ) (word : List ℕ) → word ≢ codes "-" → Reported limit some_bytes word → Reported limit any_bytes word
 any_of_some limit word other (inl (name t, says)) = absurd says
 any_of_some limit word other (inl (label t, says)) = absurd says
 any_of_some limit word other (inl (kind k, says)) = absurd says
@@ -88,9 +88,9 @@ any_of_some limit word other (inr (Hex, fault)) = inr (Hex, (other, fault))
 any_of_some limit word other (inr (Long, fault)) = inr (Long, fault)
 any_of_some limit word other (inr (Number, fault)) = absurd fault
 
-any_told : (limit : ℕ) (word : List ℕ) (b : Bool) → bytes_eq word (codes "-") ≡ b → Told limit any_bytes word
-any_told limit word true is = inl (bytes [], inl (equal word (codes "-") is, refl))
-any_told limit word false is = any_of_some limit word (differs word (codes "-") is) (some_told limit word (decode_of word) refl)
+any_reported : (limit : ℕ) (word : List ℕ) (b : Bool) → bytes_eq word (codes "-") ≡ b → Reported limit any_bytes word
+any_reported limit word true is = inl (bytes [], inl (equal word (codes "-") is, refl))
+any_reported limit word false is = any_of_some limit word (differs word (codes "-") is) (some_reported limit word (decode_of word) refl)
 
 value_is : (end : ℕ) (word : List ℕ) (n : ℕ) → end ≤ 2 ^ 64 → n < end → word ≡ decimal n → digits_value 10 word ≡ n
 value_is end word n fits small is = ap (digits_value 10) is ∙ (decimal_is_IsNumeral n (omega arith)).1
@@ -101,18 +101,18 @@ no_number end word fits is n small same = differs word (decimal (digits_value 10
 too_large : (end : ℕ) (word : List ℕ) → end ≤ 2 ^ 64 → end ≤ digits_value 10 word → IsNoNumber end word
 too_large end word fits large n small same = let e = value_is end word n fits small same in omega arith
 
-number_told : (limit end : ℕ) (word : List ℕ) (b : Bool) → end ≤ 2 ^ 64 → (digits_value 10 word < end) ⊎ (end ≤ digits_value 10 word) → bytes_eq word (decimal (digits_value 10 word)) ≡ b → Told limit (below end) word
-number_told limit end word b fits (inr large) is = inr (Number, too_large end word fits large)
-number_told limit end word true fits (inl small) is = inl (number (digits_value 10 word), (equal word (decimal (digits_value 10 word)) is, small, omega arith))
-number_told limit end word false fits (inl small) is = inr (Number, no_number end word fits is)
+number_reported : (limit end : ℕ) (word : List ℕ) (b : Bool) → end ≤ 2 ^ 64 → (digits_value 10 word < end) ⊎ (end ≤ digits_value 10 word) → bytes_eq word (decimal (digits_value 10 word)) ≡ b → Reported limit (below end) word
+number_reported limit end word b fits (inr large) is = inr (Number, too_large end word fits large)
+number_reported limit end word true fits (inl small) is = inl (number (digits_value 10 word), (equal word (decimal (digits_value 10 word)) is, small, omega arith))
+number_reported limit end word false fits (inl small) is = inr (Number, no_number end word fits is)
 
-told : (limit : ℕ) (field : Field) (word : List ℕ) → FieldFits field → Told limit field word
-told limit a_name word fits = name_told limit word (is_name word) refl
-told limit a_label word fits = label_told limit word (cases_lt 0 (length word)) (cases_lt 8 (length word)) (list_all is_label_byte word) refl
-told limit a_kind word fits = kind_told limit word (bytes_eq word (codes "table")) (bytes_eq word (codes "counter")) (bytes_eq word (codes "level")) refl refl refl
-told limit some_bytes word fits = some_told limit word (decode_of word) refl
-told limit any_bytes word fits = any_told limit word (bytes_eq word (codes "-")) refl
-told limit (below end) word fits = number_told limit end word (bytes_eq word (decimal (digits_value 10 word))) fits (cases_lt (digits_value 10 word) end) refl
+spoken : (limit : ℕ) (field : Field) (word : List ℕ) → FieldFits field → Reported limit field word
+spoken limit a_name word fits = name_reported limit word (is_name word) refl
+spoken limit a_label word fits = label_reported limit word (cases_lt 0 (length word)) (cases_lt 8 (length word)) (list_all is_label_byte word) refl
+spoken limit a_kind word fits = kind_reported limit word (bytes_eq word (codes "table")) (bytes_eq word (codes "counter")) (bytes_eq word (codes "level")) refl refl refl
+spoken limit some_bytes word fits = some_reported limit word (decode_of word) refl
+spoken limit any_bytes word fits = any_reported limit word (bytes_eq word (codes "-")) refl
+spoken limit (below end) word fits = number_reported limit end word (bytes_eq word (decimal (digits_value 10 word))) fits (cases_lt (digits_value 10 word) end) refl
 
 -- Words in a row.
 
@@ -141,7 +141,7 @@ least limit field fields word words one other fault first (inl less) =
 least limit field fields word words one other fault first (inr more) =
     inr (one, record { here = inl fault; none_before = λ earlier before found. both_before limit field fields word words one other earlier fault first before (omega arith) found })
 
-one_more : (limit : ℕ) (field : Field) (fields : List Field) (word : List ℕ) (words : List (List ℕ)) → Told limit field word → FirstOf limit fields words → FirstOf limit (field ∷ fields) (word ∷ words)
+one_more : (limit : ℕ) (field : Field) (fields : List Field) (word : List ℕ) (words : List (List ℕ)) → Reported limit field word → FirstOf limit fields words → FirstOf limit (field ∷ fields) (word ∷ words)
 one_more limit field fields word words (inl says) (inl rest) = inl (says.0 ∷ rest.0, (says.1, rest.1))
 one_more limit field fields word words (inl says) (inr first) =
     inr (first.0, record { here = inr first.1.here; none_before = λ earlier less found. behind_one limit field fields word words says.0 first.0 earlier says.1 first.1 less found })
@@ -154,7 +154,7 @@ first_of limit [] [] fits count = inl ([], tt)
 first_of limit [] (word ∷ words) fits count = absurd (omega arith)
 first_of limit (field ∷ fields) [] fits count = absurd (omega arith)
 first_of limit (field ∷ fields) (word ∷ words) fits count =
-    one_more limit field fields word words (told limit field word (All-head FieldFits field fields fits)) (first_of limit fields words (All-tail FieldFits field fields fits) (omega arith))
+    one_more limit field fields word words (spoken limit field word (All-head FieldFits field fields fits)) (first_of limit fields words (All-tail FieldFits field fields fits) (omega arith))
 
 some_late : (limit : ℕ) (fields : List Field) (words : List (List ℕ)) (why : LineWhy) → SomeFault limit fields words why → 2 ≤ rank why
 some_late limit [] words why fault = absurd fault

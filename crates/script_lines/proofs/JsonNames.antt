@@ -11,7 +11,7 @@ use Rattle.serde_json.specs.Written.{compact_text, members_text}
 use Rattle.script_lines.specs.declared.lists.Pair.{Pair}
 use Rattle.image_file.specs.Lawful.{IsLabel}
 use Rattle.script_lines.specs.Answer.{names_members, names_object}
-use Rattle.script_lines.specs.Transcript.{IsWord, IsToldPair}
+use Rattle.script_lines.specs.Transcript.{IsWord, IsReportedPair}
 use Rattle.script_lines.proofs.Tokens.{not_byte}
 use Rattle.script_lines.proofs.WordTexts.{literal, hex_word, name_word, label_word}
 
@@ -90,27 +90,27 @@ both_more p q ps qs first rest = cc
 abbrev member_text : Pair → List Pair → List ℕ
 member_text p ps = quoted p.name ++ 58 ∷ (quoted (encode_lower p.value) ++ members_text true (names_members ps))
 
-same_first : (p q : Pair) (ps qs : List Pair) (r u : List ℕ) → All IsToldPair (p ∷ ps) → All IsToldPair (q ∷ qs) → member_text p ps ++ r ≡ member_text q qs ++ u
+same_first : (p q : Pair) (ps qs : List Pair) (r u : List ℕ) → All IsReportedPair (p ∷ ps) → All IsReportedPair (q ∷ qs) → member_text p ps ++ r ≡ member_text q qs ++ u
     → (members_text true (names_members ps) ++ r ≡ members_text true (names_members qs) ++ u → ps ≡ qs) → p ∷ ps ≡ q ∷ qs
 same_first p q ps qs r u one other same next =
-    let a = All-head IsToldPair p ps one in
-    let b = All-head IsToldPair q qs other in
+    let a = All-head IsReportedPair p ps one in
+    let b = All-head IsReportedPair q qs other in
     let first = quoted_prefix p.name q.name _ _ (name_word p.name a.name) (name_word q.name b.name) (sym (append_assoc (quoted p.name) _ r) ∙ same ∙ append_assoc (quoted q.name) _ u) in
     let second = quoted_prefix (encode_lower p.value) (encode_lower q.value) _ _ (hex_word p.value a.value) (hex_word q.value b.value)
     (sym (append_assoc (quoted (encode_lower p.value)) _ r) ∙ behind _ _ _ _ first.1 ∙ append_assoc (quoted (encode_lower q.value)) _ u) in
     both_more p q ps qs (same_pair p q first.0 (same_hex p.value q.value a.value b.value second.0)) (next second.1)
 
 -- the members behind an opening brace, or behind others
-same_members : (later : Bool) (ps qs : List Pair) (r u : List ℕ) → All IsToldPair ps → All IsToldPair qs → members_text later (names_members ps) ++ r ≡ members_text later (names_members qs) ++ u → ps ≡ qs
+same_members : (later : Bool) (ps qs : List Pair) (r u : List ℕ) → All IsReportedPair ps → All IsReportedPair qs → members_text later (names_members ps) ++ r ≡ members_text later (names_members qs) ++ u → ps ≡ qs
 same_members later [] [] r u one other same = refl
 same_members true [] (q ∷ qs) r u one other same = cc
 same_members false [] (q ∷ qs) r u one other same = cc
 same_members true (p ∷ ps) [] r u one other same = cc
 same_members false (p ∷ ps) [] r u one other same = cc
-same_members true (p ∷ ps) (q ∷ qs) r u one other same = same_first p q ps qs r u one other (behind _ _ _ _ same) (λ rest. same_members true ps qs r u (All-tail IsToldPair p ps one) (All-tail IsToldPair q qs other) rest)
-same_members false (p ∷ ps) (q ∷ qs) r u one other same = same_first p q ps qs r u one other same (λ rest. same_members true ps qs r u (All-tail IsToldPair p ps one) (All-tail IsToldPair q qs other) rest)
+same_members true (p ∷ ps) (q ∷ qs) r u one other same = same_first p q ps qs r u one other (behind _ _ _ _ same) (λ rest. same_members true ps qs r u (All-tail IsReportedPair p ps one) (All-tail IsReportedPair q qs other) rest)
+same_members false (p ∷ ps) (q ∷ qs) r u one other same = same_first p q ps qs r u one other same (λ rest. same_members true ps qs r u (All-tail IsReportedPair p ps one) (All-tail IsReportedPair q qs other) rest)
 
-pub same_object : (l m : List ℕ) (ps qs : List Pair) → IsLabel l → IsLabel m → All IsToldPair ps → All IsToldPair qs → compact_text (names_object l ps) ≡ compact_text (names_object m qs) → (l ≡ m) × (ps ≡ qs)
+pub same_object : (l m : List ℕ) (ps qs : List Pair) → IsLabel l → IsLabel m → All IsReportedPair ps → All IsReportedPair qs → compact_text (names_object l ps) ≡ compact_text (names_object m qs) → (l ≡ m) × (ps ≡ qs)
 same_object l m ps qs one other are be same =
     let active : IsWord (codes "active") = literal (codes "active") refl in
     let names : IsWord (codes "names") = literal (codes "names") refl in
@@ -136,8 +136,8 @@ quoted_word text is = All-cons (λ b. 32 < b) 34 (escape text ++ 34 ∷ []) (ome
 record IsText (text : List ℕ) : Type 0 where
   word : IsWord text
 
-text : (front back : List ℕ) → IsWord front → IsText back → IsText (front ++ back)
-text front back is are = record { word = All-append (λ b. 32 < b) front back is are.word }
+text : (prefix back : List ℕ) → IsWord prefix → IsText back → IsText (prefix ++ back)
+text prefix back is are = record { word = All-append (λ b. 32 < b) prefix back is are.word }
 
 byte : (b : ℕ) (back : List ℕ) → 32 < b → IsText back → IsText (b ∷ back)
 byte b back above are = record { word = All-cons (λ b. 32 < b) b back above are.word }
@@ -145,16 +145,16 @@ byte b back above are = record { word = All-cons (λ b. 32 < b) b back above are
 end : (word : List ℕ) → IsWord word → IsText word
 end word is = record { word = is }
 
-member_word : (p : Pair) (ps : List Pair) → IsToldPair p → IsText (members_text true (names_members ps)) → IsText (member_text p ps)
+member_word : (p : Pair) (ps : List Pair) → IsReportedPair p → IsText (members_text true (names_members ps)) → IsText (member_text p ps)
 member_word p ps is rest =
     text (quoted p.name) _ (quoted_word p.name (name_word p.name is.name)) (byte 58 _ (omega arith) (text (quoted (encode_lower p.value)) _ (quoted_word (encode_lower p.value) (hex_word p.value is.value)) rest))
 
-members_word : (later : Bool) (ps : List Pair) → All IsToldPair ps → IsText (members_text later (names_members ps))
+members_word : (later : Bool) (ps : List Pair) → All IsReportedPair ps → IsText (members_text later (names_members ps))
 members_word later [] are = end (125 ∷ []) (literal (125 ∷ []) refl)
-members_word true (p ∷ ps) are = byte 44 _ (omega arith) (member_word p ps (All-head IsToldPair p ps are) (members_word true ps (All-tail IsToldPair p ps are)))
-members_word false (p ∷ ps) are = member_word p ps (All-head IsToldPair p ps are) (members_word true ps (All-tail IsToldPair p ps are))
+members_word true (p ∷ ps) are = byte 44 _ (omega arith) (member_word p ps (All-head IsReportedPair p ps are) (members_word true ps (All-tail IsReportedPair p ps are)))
+members_word false (p ∷ ps) are = member_word p ps (All-head IsReportedPair p ps are) (members_word true ps (All-tail IsReportedPair p ps are))
 
-pub object_word : (l : List ℕ) (ps : List Pair) → IsLabel l → All IsToldPair ps → IsWord (compact_text (names_object l ps))
+pub object_word : (l : List ℕ) (ps : List Pair) → IsLabel l → All IsReportedPair ps → IsWord (compact_text (names_object l ps))
 object_word l ps is are = whole.word where
   active : IsWord (quoted (codes "active"))
   active = quoted_word (codes "active") (literal (codes "active") refl)

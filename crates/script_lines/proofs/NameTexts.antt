@@ -90,10 +90,10 @@ pub whole_object : (active label : List ℕ) (pairs : List Pair) (names one two 
 whole_object active label pairs names one two named labels are named_is first second =
     second ∙ ap (λ (d : Data). put (codes "names") d one) (named_is ∙ ap object are) ∙ ap (put (codes "names") (object (names_members pairs))) (first ∙ ap (λ (text : List ℕ). put (codes "active") (string text) no_members) labels)
 
-pub told_object : {E : Type 0} (active : List ℕ) (pairs : List Pair) (members : Members) (r : Result (String Global) E) → members ≡ member (codes "active") (string active) (member (codes "names") (object (names_members pairs)) no_members)
+pub reported_object : {E : Type 0} (active : List ℕ) (pairs : List Pair) (members : Members) (r : Result (String Global) E) → members ≡ member (codes "active") (string active) (member (codes "names") (object (names_members pairs)) no_members)
     → IfOk r (λ text. members_have_float members ≡ false → string_bytes text ≡ compact_text (object members)) → IfOk r (λ text. string_bytes text ≡ compact_text (names_object active pairs))
-told_object active pairs ms (Ok text) are told =
-    told (ap members_have_float are ∙ no_float_within active pairs) ∙ ap (λ (m : Members). compact_text (object m)) are where
+reported_object active pairs ms (Ok text) are spoken =
+    spoken (ap members_have_float are ∙ no_float_within active pairs) ∙ ap (λ (m : Members). compact_text (object m)) are where
       no_float_within : (active : List ℕ) (pairs : List Pair) → members_have_float (member (codes "active") (string active) (member (codes "names") (object (names_members pairs)) no_members)) ≡ false
       no_float_within active pairs = rw (no_float pairs)
-told_object active pairs ms (Err e) are told = tt
+reported_object active pairs ms (Err e) are spoken = tt

@@ -11,8 +11,8 @@ use Rattle.script_lines.specs.Plan.Replan.{keeps, drops, plans}
 pub in_parts : PlannedInParts
 in_parts plan [] back [] second planned more = more
 in_parts plan [] back (answer ∷ first) second planned more = absurd planned
-in_parts plan (line ∷ front) back [] second planned more = absurd planned
-in_parts plan (line ∷ front) back (answer ∷ first) second planned more = (planned.0, in_parts (plan_after plan line answer) front back first second planned.1 more)
+in_parts plan (line ∷ prefix) back [] second planned more = absurd planned
+in_parts plan (line ∷ prefix) back (answer ∷ first) second planned more = (planned.0, in_parts (plan_after plan line answer) prefix back first second planned.1 more)
 
 none_lost : (lost : Bool) (units : ℕ) → MatchBool lost (LostAfter Never units) (Lasts Never units) → lost ≡ false
 none_lost true units allows = absurd allows

@@ -17,7 +17,7 @@ use Rattle.script_lines.specs.Forms.{Field, Form, Said, Row, IsHex, IsDash, kind
 use Rattle.script_lines.specs.Forms.Field.{a_name, a_label, a_kind, some_bytes, any_bytes, below}
 use Rattle.script_lines.specs.Forms.Said.{name, label, kind, bytes, number}
 use Rattle.script_lines.specs.Line.{row_of, one_name}
-use Rattle.script_lines.specs.Script.{is_skipped, SpellsAll, told, FirstRefused, IsFine, IsRefused}
+use Rattle.script_lines.specs.Script.{is_skipped, SpellsAll, spoken, FirstRefused, IsFine, IsRefused}
 use Rattle.script_lines.specs.Laws.{OneLine, OneCause, OneScript, OneRefusal, OneMeaning}
 use Rattle.script_lines.proofs.FieldLemmas.{stands}
 
@@ -250,21 +250,21 @@ same_lines table limit (text ∷ texts) (a ∷ xs) [] one other = absurd other
 same_lines table limit (text ∷ texts) (a ∷ xs) (b ∷ ys) one other =
     joined b a ys xs (one_row table limit (parts 32 text) a b one.0 other.0) (same_lines table limit texts xs ys one.1 other.1)
 
-by_skip : (table : List Form) (limit : ℕ) (text : List ℕ) (texts : List (List ℕ)) (rows : List Row) (n : ℕ) (why : LineWhy) (skip : Bool) → is_skipped text ≡ skip → SpellsAll table limit (cond (not skip) (text ∷ told texts) (told texts)) rows
-    → FirstRefused table limit (text ∷ texts) n why → ((rows : List Row) (n : ℕ) (why : LineWhy) → SpellsAll table limit (told texts) rows → FirstRefused table limit texts n why → ⊥) → ⊥
+by_skip : (table : List Form) (limit : ℕ) (text : List ℕ) (texts : List (List ℕ)) (rows : List Row) (n : ℕ) (why : LineWhy) (skip : Bool) → is_skipped text ≡ skip → SpellsAll table limit (cond (not skip) (text ∷ spoken texts) (spoken texts)) rows
+    → FirstRefused table limit (text ∷ texts) n why → ((rows : List Row) (n : ℕ) (why : LineWhy) → SpellsAll table limit (spoken texts) rows → FirstRefused table limit texts n why → ⊥) → ⊥
 by_skip table limit text texts rows n why true skip spells (inl bad) next = contrary (is_skipped text) skip bad.1.0
 by_skip table limit text texts rows n why true skip spells (inr bad) next = next rows bad.1.0 why spells bad.1.2
 by_skip table limit text texts [] n why false skip spells refused next = absurd spells
 by_skip table limit text texts (row ∷ rows) n why false skip spells (inl bad) next = no_cause table limit (parts 32 text) row why spells.0 bad.1.1
 by_skip table limit text texts (row ∷ rows) n why false skip spells (inr bad) next = next rows bad.1.0 why spells.1 bad.1.2
 
-not_refused : (table : List Form) (limit : ℕ) (texts : List (List ℕ)) (rows : List Row) (n : ℕ) (why : LineWhy) → SpellsAll table limit (told texts) rows → FirstRefused table limit texts n why → ⊥
+not_refused : (table : List Form) (limit : ℕ) (texts : List (List ℕ)) (rows : List Row) (n : ℕ) (why : LineWhy) → SpellsAll table limit (spoken texts) rows → FirstRefused table limit texts n why → ⊥
 not_refused table limit [] rows n why spells refused = absurd refused
 not_refused table limit (text ∷ texts) rows n why spells refused =
     by_skip table limit text texts rows n why (is_skipped text) refl spells refused (λ rows n why spells refused. not_refused table limit texts rows n why spells refused)
 
 pub one_script : OneScript
-one_script table limit text rows is = (λ other spells. same_lines table limit (told (parts 10 text)) rows other is spells, λ n why refused. not_refused table limit (parts 10 text) rows n why is refused)
+one_script table limit text rows is = (λ other spells. same_lines table limit (spoken (parts 10 text)) rows other is spells, λ n why refused. not_refused table limit (parts 10 text) rows n why is refused)
 
 -- what is fine is not refused
 fine_stands : (table : List Form) (limit : ℕ) (text : List ℕ) (why : LineWhy) → IsFine table limit text → IsRefused table limit text why → ⊥

@@ -5,7 +5,7 @@ use Rattle.script_lines.specs.Forms.{Form, Row}
 use Rattle.text_parts.specs.Parts.{parts}
 use Rattle.script_lines.specs.declared.grammar.ScriptFault.{ScriptFault}
 use Rattle.script_lines.specs.declared.grammar.ScriptFault.TheVariants.{BadLine, NoMemory}
-use Rattle.script_lines.specs.Script.{SpellsAll, told, IsFine, FirstRefused, Takes, TakesText, ReadsLines}
+use Rattle.script_lines.specs.Script.{SpellsAll, spoken, IsFine, FirstRefused, Takes, TakesText, ReadsLines}
 
 -- how much is left
 abbrev pub left : Option (Bor (List ℕ)) → ℕ
@@ -16,11 +16,11 @@ pub fine : (table : List Form) (limit : ℕ) (text : List ℕ) (old new : List R
 fine table limit text old new (inl skips) = inl skips.0
 fine table limit text old new (inr takes) = inr (takes.1, takes.2)
 
-pub found_step : (table : List Form) (limit : ℕ) (all : List (List ℕ)) (text : List ℕ) (rest : List (List ℕ)) (old new : List Row) → Takes table limit text old new → ((more : List Row) → SpellsAll table limit (told (text ∷ rest)) more → SpellsAll table limit all (old ++ more)) → (more : List Row) → SpellsAll table limit (told rest) more → SpellsAll table limit all (new ++ more)
+pub found_step : (table : List Form) (limit : ℕ) (all : List (List ℕ)) (text : List ℕ) (rest : List (List ℕ)) (old new : List Row) → Takes table limit text old new → ((more : List Row) → SpellsAll table limit (spoken (text ∷ rest)) more → SpellsAll table limit all (old ++ more)) → (more : List Row) → SpellsAll table limit (spoken rest) more → SpellsAll table limit all (new ++ more)
 found_step table limit all text rest old new (inl skips) so_far more spells =
-    rw skips.1 (so_far more (subst (λ (b : Bool). SpellsAll table limit (cond (not b) (text ∷ told rest) (told rest)) more) (sym skips.0) spells))
+    rw skips.1 (so_far more (subst (λ (b : Bool). SpellsAll table limit (cond (not b) (text ∷ spoken rest) (spoken rest)) more) (sym skips.0) spells))
 found_step table limit all text rest old new (inr takes) so_far more spells =
-    let whole = so_far (takes.1 ∷ more) (subst (λ (b : Bool). SpellsAll table limit (cond (not b) (text ∷ told rest) (told rest)) (takes.1 ∷ more)) (sym takes.0) (takes.2, spells)) in
+    let whole = so_far (takes.1 ∷ more) (subst (λ (b : Bool). SpellsAll table limit (cond (not b) (text ∷ spoken rest) (spoken rest)) (takes.1 ∷ more)) (sym takes.0) (takes.2, spells)) in
     subst (λ (rows : List Row). SpellsAll table limit all rows) (sym (ap (λ (rows : List Row). rows ++ more) takes.3 ∙ append_assoc old (takes.1 ∷ []) more)) whole
 
 pub refused_step : (table : List Form) (limit : ℕ) (all : List (List ℕ)) (text : List ℕ) (rest : List (List ℕ)) (number : ℕ) → IsFine table limit text → ((k : ℕ) (why : LineWhy) → FirstRefused table limit (text ∷ rest) k why → FirstRefused table limit all (number + k) why) → (k : ℕ) (why : LineWhy) → FirstRefused table limit rest k why → FirstRefused table limit all (number + 1 + k) why

@@ -5,9 +5,9 @@ use Rattle.std.proofs.lemmas.List.{map_more, length-take}
 use Rattle.std.proofs.Math.Seq.{take-length}
 use Rattle.script_lines.specs.Answer.{lines_text}
 
-pub lines_text-append : (front back : List (List (List ℕ))) → lines_text (front ++ back) ≡ lines_text front ++ lines_text back
+pub lines_text-append : (prefix back : List (List (List ℕ))) → lines_text (prefix ++ back) ≡ lines_text prefix ++ lines_text back
 lines_text-append [] back = refl
-lines_text-append (words ∷ front) back = rw (lines_text-append front back) (sym (append_assoc (join_with_byte 32 words) (10 ∷ lines_text front) (lines_text back)))
+lines_text-append (words ∷ prefix) back = rw (lines_text-append prefix back) (sym (append_assoc (join_with_byte 32 words) (10 ∷ lines_text prefix) (lines_text back)))
 
 -- one line more
 pub lines_more : {A : Type 0} (f : A → List (List ℕ)) (xs : List A) (i : ℕ) (x : A) (old new : List ℕ) → i < length xs → x ≡ get_or xs i x → old ≡ lines_text (map f (take i xs)) → new ≡ old ++ lines_text (f x ∷ []) → new ≡ lines_text (map f (take (i + 1) xs))
@@ -21,5 +21,5 @@ lines_whole f xs i text past within so_far =
     let e : i ≡ length xs = omega arith in
     so_far ∙ ap (λ (n : ℕ). lines_text (map f (take n xs))) e ∙ ap (λ ys. lines_text (map f ys)) (take-length xs)
 
-pub lines_joined : (front back : List (List (List ℕ))) (old added new : List ℕ) → new ≡ old ++ added → old ≡ lines_text front → added ≡ lines_text back → new ≡ lines_text (front ++ back)
-lines_joined front back old added new joins first then = joins ∙ ap (λ (text : List ℕ). text ++ added) first ∙ ap (λ (text : List ℕ). lines_text front ++ text) then ∙ sym (lines_text-append front back)
+pub lines_joined : (prefix back : List (List (List ℕ))) (old added new : List ℕ) → new ≡ old ++ added → old ≡ lines_text prefix → added ≡ lines_text back → new ≡ lines_text (prefix ++ back)
+lines_joined prefix back old added new joins first then = joins ∙ ap (λ (text : List ℕ). text ++ added) first ∙ ap (λ (text : List ℕ). lines_text prefix ++ text) then ∙ sym (lines_text-append prefix back)

@@ -69,9 +69,9 @@ PlansNoLoss line = (units : ℕ) → replan line ≢ plans units
 
 -- what holds of lines and of those behind them holds of all
 abbrev pub PlannedInParts : Type 0
-PlannedInParts = (plan : Plan) (front back : List Line) (first second : List Answer)
-    → Planned plan front first → Planned (plan_through plan front first) back second
-    → Planned plan (front ++ back) (first ++ second)
+PlannedInParts = (plan : Plan) (prefix back : List Line) (first second : List Answer)
+    → Planned plan prefix first → Planned (plan_through plan prefix first) back second
+    → Planned plan (prefix ++ back) (first ++ second)
 
 -- with no plan, power is lost only where a line plans it
 abbrev pub NoLossUnplanned : Type 0

@@ -15,8 +15,8 @@ is_skipped [] = true
 is_skipped (c ∷ cs) = c == 35
 
 -- those that are not skipped
-abbrev pub told : List (List ℕ) → List (List ℕ)
-told texts = filter (λ text. not (is_skipped text)) texts
+abbrev pub spoken : List (List ℕ) → List (List ℕ)
+spoken texts = filter (λ text. not (is_skipped text)) texts
 
 -- each text is the line at its place
 abbrev pub SpellsAll : List Form → ℕ → List (List ℕ) → List Row → Type 0
@@ -27,7 +27,7 @@ SpellsAll table limit (text ∷ texts) (row ∷ rows) =
     Spells table limit (parts 32 text) row × SpellsAll table limit texts rows
 
 abbrev pub IsScript : List Form → ℕ → List ℕ → List Row → Type 0
-IsScript table limit text rows = SpellsAll table limit (told (parts 10 text)) rows
+IsScript table limit text rows = SpellsAll table limit (spoken (parts 10 text)) rows
 
 -- skipped, or a line
 abbrev pub IsFine : List Form → ℕ → List ℕ → Type 0

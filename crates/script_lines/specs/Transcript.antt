@@ -20,33 +20,33 @@ transcript (answer ∷ answers) = text_of answer ++ transcript answers
 abbrev pub IsWord : List ℕ → Type 0
 IsWord word = All (λ b. 32 < b) word
 
-pub record IsToldPair (pair : Pair) : Type 0 where
+pub record IsReportedPair (pair : Pair) : Type 0 where
   pub name : IsName pair.name
   pub value : IsBytes pair.value
 
 -- the rest is what is left of a name
-pub record IsToldGive (give : Give) : Type 0 where
+pub record IsReportedGive (give : Give) : Type 0 where
   pub subtree : IsName give.subtree
   pub rest : IsWord give.rest
   pub value : IsBytes give.value
 
 -- numbers are of 64 bits, values are bytes, and names are names
-abbrev pub IsTold : Answer → Type 0
-IsTold (Done units) = units < 2 ^ 64
-IsTold (Value value) = IsBytes value
-IsTold (Lost units chance) = units < 2 ^ 64
-IsTold (NoSpace units need live) = units < 2 ^ 64
-IsTold (TooMany units) = units < 2 ^ 64
-IsTold (Loaded gives taken rejected passed) =
-    All IsToldGive gives × (taken < 2 ^ 64) × (rejected < 2 ^ 64) × (passed < 2 ^ 64)
-IsTold (Direct pairs) = All IsToldPair pairs × (length pairs < 2 ^ 64)
-IsTold (Saved pairs units end) = (pairs < 2 ^ 64) × (units < 2 ^ 64)
-IsTold (Names active pairs) = IsLabel active × All IsToldPair pairs
-IsTold _ = ⊤
+abbrev pub IsReported : Answer → Type 0
+IsReported (Done units) = units < 2 ^ 64
+IsReported (Value value) = IsBytes value
+IsReported (Lost units chance) = units < 2 ^ 64
+IsReported (NoSpace units need live) = units < 2 ^ 64
+IsReported (TooMany units) = units < 2 ^ 64
+IsReported (Loaded gives taken rejected passed) =
+    All IsReportedGive gives × (taken < 2 ^ 64) × (rejected < 2 ^ 64) × (passed < 2 ^ 64)
+IsReported (Direct pairs) = All IsReportedPair pairs × (length pairs < 2 ^ 64)
+IsReported (Saved pairs units end) = (pairs < 2 ^ 64) × (units < 2 ^ 64)
+IsReported (Names active pairs) = IsLabel active × All IsReportedPair pairs
+IsReported _ = ⊤
 
--- The lines of a transcript, answer by answer, are told by its bytes.
+-- The lines of a transcript, answer by answer, follow from its bytes.
 abbrev pub OneListOfLines : Type 0
-OneListOfLines = (some others : List Answer) → All IsTold some → All IsTold others
+OneListOfLines = (some others : List Answer) → All IsReported some → All IsReported others
     → transcript some ≡ transcript others → map lines_of some ≡ map lines_of others
 
 -- An empty rest is shown as `-`, as a rest that is `-` is.
@@ -65,5 +65,5 @@ shown answer = answer
 
 -- A transcript has one reading, but for what answers do not show.
 abbrev pub OneTranscript : Type 0
-OneTranscript = (some others : List Answer) → All IsTold some → All IsTold others
+OneTranscript = (some others : List Answer) → All IsReported some → All IsReported others
     → transcript some ≡ transcript others → map shown some ≡ map shown others

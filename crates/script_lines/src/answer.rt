@@ -4,7 +4,7 @@ ghost use Rattle.std.specs.String.{string_bytes};
 ghost use Rattle.hex.specs.Hex.{encode_lower};
 ghost use Rattle.serde_json.specs.View.{members_view};
 ghost use Rattle.image_file.specs.Lawful.{IsLabel};
-ghost use Rattle.script_lines.specs.Answer.{lines_text, lines_of, give_line, have_line, names_members, names_json, IsObjectText, dashed, taken_word, text_of, Rise, CanTell};
+ghost use Rattle.script_lines.specs.Answer.{lines_text, lines_of, give_line, have_line, names_members, names_json, IsObjectText, dashed, taken_word, text_of, Rise, CanReport};
 ghost use Rattle.script_lines.specs.Transcript.{OneListOfLines, OneTranscript};
 
 use crate::bytes::Bytes;
@@ -274,7 +274,7 @@ fn value_text(alloc: Global, value: &[u8]) -> Result<String, AllocError>
 }
 
 fn written(alloc: Global, answer: &Answer) -> Result<Vec<u8>, AllocError>
-    requires { CanTell answer.now }
+    requires { CanReport answer.now }
     ensures { IfOk result (λ text. text.items ≡ text_of answer.now) }
 {
     let text = match answer {
@@ -312,7 +312,7 @@ fn written(alloc: Global, answer: &Answer) -> Result<Vec<u8>, AllocError>
 /// # Errors
 /// Want of memory alone.
 pub fn answer_text(alloc: Global, answer: &Answer) -> Result<Vec<u8>, NoMemory>
-    requires { CanTell answer.now }
+    requires { CanReport answer.now }
     ensures { IfOk result (λ text. text.items ≡ text_of answer.now) }
 {
     match written(alloc, answer) {

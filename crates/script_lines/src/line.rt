@@ -19,7 +19,7 @@ pub enum Line {
     Register { subtree: Name, kind: HandlerKind },
     /// Gives the stored settings to their handlers: all, or those of a subtree.
     Load { subtree: Option<Name> },
-    /// Tells the stored settings: all, or those of a subtree.
+    /// Lists the stored settings: all, or those of a subtree.
     Direct { subtree: Option<Name> },
     /// Stores what the handlers hold: all of them, or those of a subtree.
     Save { subtree: Option<Name> },

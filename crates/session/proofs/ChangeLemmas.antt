@@ -13,7 +13,7 @@ use Rattle.backend_api.specs.Commands.{Command, applied, all_applied, CutMap}
 use Rattle.backend_api.specs.Ends.{SpendsSome}
 use Rattle.backend_api.specs.Map.{Map}
 use Rattle.flash_map.specs.On.{on}
-use Rattle.backend_api.specs.Room.{Room, most_units}
+use Rattle.backend_api.specs.Room.{Room, command_units}
 use Rattle.settings_core.specs.Carrying.{is_idle, due, AreFree, SplitsAt, Carries, MeetsTooMany, MeetsNoRoom, MeetsLoss}
 use Rattle.script_lines.specs.declared.answer.Answer.TheVariants.{Done, Lost, NoSpace, TooMany}
 use Rattle.session_table.specs.Commands.{StartsFree, StopsForPower}
@@ -34,10 +34,10 @@ starts_free : (room : Room) (before : Map) (done : List Command) (at : Command) 
 starts_free room before [] at left free = (first_free room before at [] free).0
 starts_free room before (command ∷ done) at left free = (first_free room before command (done ++ at ∷ []) free).0
 
-front_free : (room : Room) (before : Map) (done : List Command) (at : Command) → AreFree room before (done ++ at ∷ []) → AreFree room before done
+prefix_free : (room : Room) (before : Map) (done : List Command) (at : Command) → AreFree room before (done ++ at ∷ []) → AreFree room before done
 unfolding AreFree
-front_free room before [] at free = tt
-front_free room before (command ∷ done) at free = (free.0, front_free room (applied before command) done at free.1)
+prefix_free room before [] at free = tt
+prefix_free room before (command ∷ done) at free = (free.0, prefix_free room (applied before command) done at free.1)
 
 pub one_more : (settings : Map) (done : List Command) (at : Command) → all_applied settings (done ++ at ∷ []) ≡ applied (all_applied settings done) at
 unfolding all_applied
@@ -89,7 +89,7 @@ module _ (contents : Area → Geometry → List (List ℕ) → Map) (room : Area
   pub state_is : (settings : Map) (power : Bool) → new.is_on ≡ power → on contents new (active_area areas old) ≡ settings → state new ≡ record (state old) { settings = settings; is_on = power }
   state_is settings power is_on is = ap (λ (b : Bool). record (state new) { is_on = b }) is_on ∙ ap (λ (m : Map). record (state old) { settings = m; is_on = power }) is
 
-  most : SpendsAtMost old new (most_units (geometry_of old (active_area areas old))) → new.spent - old.spent ≤ most_units (geometry_of old (active_area areas old))
+  most : SpendsAtMost old new (command_units (geometry_of old (active_area areas old))) → new.spent - old.spent ≤ command_units (geometry_of old (active_area areas old))
   most spends = let few = spends.1 in let spent = spends.2 in omega arith
 
   none_spent : new ≡ old → new.spent - old.spent ≡ 0
@@ -108,7 +108,7 @@ module _ (contents : Area → Geometry → List (List ℕ) → Map) (room : Area
     state = state_is (all_applied (on contents old (active_area areas old)) commands) old.is_on power carries.settings;
   }
 
-  pub change_done : (command : Command) (last : ℕ) → new.spent ≤ last → new.is_on ≡ old.is_on → SpendsAtMost old new (most_units (geometry_of old (active_area areas old)))
+  pub change_done : (command : Command) (last : ℕ) → new.spent ≤ last → new.is_on ≡ old.is_on → SpendsAtMost old new (command_units (geometry_of old (active_area areas old)))
       → Carries (room (active_area areas old) (geometry_of old (active_area areas old))) old new (on contents old (active_area areas old)) (on contents new (active_area areas old)) (due (on contents old (active_area areas old)) (command ∷ []))
       → Changes (rules_of (meanings contents room chance tears) areas old.banks last) (due (on contents old (active_area areas old)) (command ∷ [])) (Done (new.spent - old.spent)) (state old) (state new)
   change_done command last within power at_most carries = (most at_most, commands_done (due (on contents old (active_area areas old)) (command ∷ [])) last within power carries)
@@ -129,7 +129,7 @@ module _ (contents : Area → Geometry → List (List ℕ) → Map) (room : Area
         ap state same,
       )
 
-  pub change_full : (command : Command) (count need live last : ℕ) → new.spent ≤ last → new.is_on ≡ old.is_on → SpendsAtMost old new (most_units (geometry_of old (active_area areas old)))
+  pub change_full : (command : Command) (count need live last : ℕ) → new.spent ≤ last → new.is_on ≡ old.is_on → SpendsAtMost old new (command_units (geometry_of old (active_area areas old)))
       → MeetsNoRoom (room (active_area areas old) (geometry_of old (active_area areas old))) (active_area areas old).sectors (on contents old (active_area areas old)) (on contents new (active_area areas old)) (due (on contents old (active_area areas old)) (command ∷ [])) count need live
       → Changes (rules_of (meanings contents room chance tears) areas old.banks last) (due (on contents old (active_area areas old)) (command ∷ [])) (NoSpace (new.spent - old.spent) need live) (state old) (state new)
   change_full command count need live last within power at_most meets =
@@ -146,37 +146,37 @@ module _ (contents : Area → Geometry → List (List ℕ) → Map) (room : Area
       → StopsForPower (room (active_area areas old) (geometry_of old (active_area areas old))) commands (on contents old (active_area areas old)) (on contents new (active_area areas old))
   lost_whole commands count split free (inl before) = record {
     starts = subst (λ (cs : List Command). StartsFree (room (active_area areas old) (geometry_of old (active_area areas old))) (on contents old (active_area areas old)) cs) (sym split.is) (starts_free (room (active_area areas old) (geometry_of old (active_area areas old))) (on contents old (active_area areas old)) split.done split.at split.left free);
-    front = split.done;
+    prefix = split.done;
     rest = split.at ∷ split.left;
     are = split.is;
-    free = front_free (room (active_area areas old) (geometry_of old (active_area areas old))) (on contents old (active_area areas old)) split.done split.at free;
+    free = prefix_free (room (active_area areas old) (geometry_of old (active_area areas old))) (on contents old (active_area areas old)) split.done split.at free;
     settings = before;
   }
   lost_whole commands count split free (inr after) = record {
     starts = subst (λ (cs : List Command). StartsFree (room (active_area areas old) (geometry_of old (active_area areas old))) (on contents old (active_area areas old)) cs) (sym split.is) (starts_free (room (active_area areas old) (geometry_of old (active_area areas old))) (on contents old (active_area areas old)) split.done split.at split.left free);
-    front = split.done ++ split.at ∷ [];
+    prefix = split.done ++ split.at ∷ [];
     rest = split.left;
     are = split.is ∙ regroup split.done split.at split.left;
     free = free;
     settings = after ∙ sym (one_more (on contents old (active_area areas old)) split.done split.at);
   }
 
-  pub commands_lost : (commands : List Command) (count last : ℕ) (told : Bool) (loss : Loss) → new.is_on ≡ false → (split : SplitsAt commands count)
+  pub commands_lost : (commands : List Command) (count last : ℕ) (reported : Bool) (loss : Loss) → new.is_on ≡ false → (split : SplitsAt commands count)
       → AreFree (room (active_area areas old) (geometry_of old (active_area areas old))) (on contents old (active_area areas old)) (split.done ++ split.at ∷ [])
-      → CutMap told (tears (active_area areas old) (geometry_of old (active_area areas old)) split.at loss.done) split.at (all_applied (on contents old (active_area areas old)) split.done) (on contents new (active_area areas old))
-      → CommandsLost (rules_of (meanings contents room chance tears) areas old.banks last) commands told (state old) (state new)
+      → CutMap reported (tears (active_area areas old) (geometry_of old (active_area areas old)) split.at loss.done) split.at (all_applied (on contents old (active_area areas old)) split.done) (on contents new (active_area areas old))
+      → CommandsLost (rules_of (meanings contents room chance tears) areas old.banks last) commands reported (state old) (state new)
   commands_lost commands count last true loss off split free torn =
       (record { count = count; split = split; free = free; units = loss.done; torn = torn }, state_is (on contents new (active_area areas old)) false off refl)
   commands_lost commands count last false loss off split free whole = (lost_whole commands count split free whole, state_is (on contents new (active_area areas old)) false off refl)
 
-  pub change_lost : (command : Command) (count last : ℕ) (told : Bool) → old.is_on ≡ true → new.is_on ≡ false → ((loss : Loss) → new.last_loss ≡ Some loss → told ≡ on chance new (active_area areas old) loss)
-      → SpendsAtMost old new (most_units (geometry_of old (active_area areas old)))
+  pub change_lost : (command : Command) (count last : ℕ) (reported : Bool) → old.is_on ≡ true → new.is_on ≡ false → ((loss : Loss) → new.last_loss ≡ Some loss → reported ≡ on chance new (active_area areas old) loss)
+      → SpendsAtMost old new (command_units (geometry_of old (active_area areas old)))
       → MeetsLoss (room (active_area areas old) (geometry_of old (active_area areas old))) (on chance new (active_area areas old)) (tears (active_area areas old) (geometry_of old (active_area areas old))) old new (on contents old (active_area areas old)) (on contents new (active_area areas old)) (due (on contents old (active_area areas old)) (command ∷ [])) count
-      → Changes (rules_of (meanings contents room chance tears) areas old.banks last) (due (on contents old (active_area areas old)) (command ∷ [])) (Lost (new.spent - old.spent) told) (state old) (state new)
-  change_lost command count last told was off tells at_most meets =
+      → Changes (rules_of (meanings contents room chance tears) areas old.banks last) (due (on contents old (active_area areas old)) (command ∷ [])) (Lost (new.spent - old.spent) reported) (state old) (state new)
+  change_lost command count last reported was off reports at_most meets =
       let stops = meets.stops was in (
         most at_most,
-        commands_lost (due (on contents old (active_area areas old)) (command ∷ [])) count last told stops.loss off meets.split meets.free
+        commands_lost (due (on contents old (active_area areas old)) (command ∷ [])) count last reported stops.loss off meets.split meets.free
             (subst (λ (b : Bool). CutMap b (tears (active_area areas old) (geometry_of old (active_area areas old)) meets.split.at stops.loss.done) meets.split.at (all_applied (on contents old (active_area areas old)) meets.split.done) (on contents new (active_area areas old)))
-            (sym (tells stops.loss stops.last)) stops.settings),
+            (sym (reports stops.loss stops.last)) stops.settings),
       )

@@ -42,7 +42,7 @@ module _ (m : Meanings) (damage : Area → Geometry → List (List ℕ) → Opti
   pub one_more : (lines : List Line) (i : ℕ) (line : Line) (answers : List Answer) (answer : Answer) (first mid new : Moment) → i < length lines → line ≡ get_or lines i line → RanTo lines i answers first mid
       → LineCarried m damage areas line answer mid new → RanTo lines (i + 1) (answers ++ answer ∷ []) first new
   one_more lines i line answers answer first mid new below is so_far done =
-      subst (λ (front : List Line). Follows (LineCarried m damage areas) (Mount ∷ front) (answers ++ answer ∷ []) first new) (sym (lines_on lines i line below is))
+      subst (λ (prefix : List Line). Follows (LineCarried m damage areas) (Mount ∷ prefix) (answers ++ answer ∷ []) first new) (sym (lines_on lines i line below is))
       (last (LineCarried m damage areas) (Mount ∷ take i lines) line answers answer first mid new so_far done)
 
   -- what a run is as a whole
@@ -55,7 +55,7 @@ module _ (m : Meanings) (damage : Area → Geometry → List (List ℕ) → Opti
   pub ran : (lines : List Line) (i : ℕ) (answers : List Answer) (first : Moment) (now : Device) (registry : List Registered) (left : List HandlerKind) → length lines ≤ i → RanTo lines i answers first (moment now registry left)
       → RunEnds m damage areas (Mount ∷ lines) first now registry (Ok answers)
   ran lines i answers first now registry left all so_far =
-      (left, whole (Mount ∷ lines) answers first (moment now registry left) (subst (λ (front : List Line). Follows (LineCarried m damage areas) (Mount ∷ front) answers first (moment now registry left)) (take_all i lines all) so_far))
+      (left, whole (Mount ∷ lines) answers first (moment now registry left) (subst (λ (prefix : List Line). Follows (LineCarried m damage areas) (Mount ∷ prefix) answers first (moment now registry left)) (take_all i lines all) so_far))
 
   -- where nothing showed damage at first nothing does
   pub undamaged : (lines : List Line) (i : ℕ) (answers : List Answer) (first now : Moment) → RanTo lines i answers first now → damage_in damage areas first.device ≡ None → damage_in damage areas now.device ≡ None
@@ -66,7 +66,7 @@ module _ (m : Meanings) (damage : Area → Geometry → List (List ℕ) → Opti
   -- the mount that opens the map was not carried out
   pub stops_first : (lines : List Line) (first : Moment) (new : Device) (registry : List Registered) (fault : SessionFault) → LineStops damage areas Mount first.device new fault → RunEnds m damage areas (Mount ∷ lines) first new registry (Err fault)
   stops_first lines first new registry fault stops = record {
-    front = [];
+    prefix = [];
     rest = Mount ∷ lines;
     are = refl;
     answers = [];
@@ -79,7 +79,7 @@ module _ (m : Meanings) (damage : Area → Geometry → List (List ℕ) → Opti
   pub stops_at : (lines : List Line) (i : ℕ) (line : Line) (answers : List Answer) (first mid : Moment) (new : Device) (registry : List Registered) (fault : SessionFault) → i < length lines → line ≡ get_or lines i line → RanTo lines i answers first mid
       → LineStops damage areas line mid.device new fault → RunEnds m damage areas (Mount ∷ lines) first new registry (Err fault)
   stops_at lines i line answers first mid new registry fault below is so_far stops = record {
-    front = Mount ∷ take i lines;
+    prefix = Mount ∷ take i lines;
     rest = line ∷ drop (i + 1) lines;
     are = ap (λ (rest : List Line). Mount ∷ rest) (lines_at lines i line below is);
     answers = answers;
@@ -88,17 +88,17 @@ module _ (m : Meanings) (damage : Area → Geometry → List (List ℕ) → Opti
     stops = inr stops;
   }
 
-  lacks : (front : List Line) (now : Device) → LacksAnswer (Mount ∷ front) now now NoMemory
-  lacks front now = (omega arith, refl, refl)
+  lacks : (prefix : List Line) (now : Device) → LacksAnswer (Mount ∷ prefix) now now NoMemory
+  lacks prefix now = (omega arith, refl, refl)
 
-  unchanged : (front rest : List Line) (now : Device) → StopsAt damage areas (Mount ∷ front) rest now now NoMemory
-  unchanged front [] now = lacks front now
-  unchanged front (line ∷ lines) now = inl (lacks front now)
+  unchanged : (prefix rest : List Line) (now : Device) → StopsAt damage areas (Mount ∷ prefix) rest now now NoMemory
+  unchanged prefix [] now = lacks prefix now
+  unchanged prefix (line ∷ lines) now = inl (lacks prefix now)
 
   -- there was no memory for the last answer
   pub stops_behind : (lines : List Line) (i : ℕ) (answers : List Answer) (first now : Moment) (registry : List Registered) → RanTo lines i answers first now → RunEnds m damage areas (Mount ∷ lines) first now.device registry (Err NoMemory)
   stops_behind lines i answers first now registry so_far = record {
-    front = Mount ∷ take i lines;
+    prefix = Mount ∷ take i lines;
     rest = drop i lines;
     are = ap (λ (rest : List Line). Mount ∷ rest) (sym (take-append-drop i lines));
     answers = answers;

@@ -17,7 +17,7 @@ use Rattle.settings_core.specs.Deliveries as deliveries
 use Rattle.settings_core.specs.Deliveries.{Delivery, delivery, delivered, deliver, deliver_all, is_taken, settings_under}
 use Rattle.settings_core.specs.Loading.{Gives}
 use Rattle.settings_core.specs.Runtime.{held_at}
-use Rattle.settings_core.specs.Told.{told_more}
+use Rattle.settings_core.specs.Reported.{reported_more}
 use Rattle.settings_core.specs.declared.loading.Loaded.{Loaded as Counts}
 use Rattle.script_lines.specs.declared.lists.Give.{Give}
 use Rattle.script_lines.specs.declared.line.Line.{Line}
@@ -26,7 +26,7 @@ use Rattle.script_lines.specs.declared.answer.Answer.{Answer}
 use Rattle.script_lines.specs.declared.answer.Answer.TheVariants.{Done, Value, Absent, Exists, NoKind, Rejected, NoHandler, Loaded}
 use Rattle.script_lines.specs.Plan.{units_of, is_lost, replan}
 use Rattle.script_lines.specs.Plan.Replan.{keeps}
-use Rattle.session_table.specs.Bench.{Meanings, Keeps, TellsChance, area_at, is_selector, places_of, rules_of, state_of, worked_on}
+use Rattle.session_table.specs.Bench.{Meanings, Keeps, ReportsChance, area_at, is_selector, places_of, rules_of, state_of, worked_on}
 use Rattle.session_table.specs.State.{State}
 use Rattle.session_table.specs.Step.{Step, Registers, Loads, Commits, Offers, Asks, give, held_for}
 use Rattle.migrator.specs.Active.{active_on}
@@ -49,14 +49,14 @@ none-spent units spent is = omega (arith, is)
 module _ (m : Meanings) (areas : List Area) (d : Device) (powered : d.is_on ≡ true) (registry others : List Registered) (pool left : List HandlerKind) where
   quiet : (line : Line) (answer : Answer) → ((last : ℕ) → Step (rules_of m areas d.banks last) line answer (state_of m areas (moment d registry pool)) (state_of m areas (moment d others left)))
       → powered_for line d ≡ d → replan line ≡ keeps → is_lost answer ≡ false → units_of answer ≡ 0
-      → worked_on (rules_of m areas d.banks 0) (places_of is_selector areas) line answer (active_on areas d ∷ []) ≡ [] → TellsChance m areas line answer d
+      → worked_on (rules_of m areas d.banks 0) (places_of is_selector areas) line answer (active_on areas d ∷ []) ≡ [] → ReportsChance m areas line answer d
       → DoneWithin m areas line answer (moment d registry pool) (moment d others left)
-  quiet line answer step same stays lasts units none told = record {
+  quiet line answer step same stays lasts units none reported = record {
     done = record {
       step = λ last within. step last;
       accounts = kept [] line answer d d (untouched [] d) stays lasts (none-spent (units_of answer) d.spent units);
       keeps = subst (λ (places : List ℕ). Keeps (map (area_at areas) places) d d) (sym none) (none-kept d);
-      chance = told;
+      chance = reported;
     };
     touches = λ plain. untouched_at (areas_worked_on m areas line answer d) d (powered_for line d) (is_lost answer) same lasts;
     most = none_within m areas line answer (moment d registry pool) units;
@@ -97,22 +97,22 @@ module _ (m : Meanings) (areas : List Area) (d : Device) (powered : d.is_on ≡ 
 
 -- ---- what a load gave
 
-abbrev as-told : deliveries.Give → Give
-as-told given = record { subtree = given.subtree; rest = given.rest; value = given.value; taken = given.taken }
+abbrev as-reported : deliveries.Give → Give
+as-reported given = record { subtree = given.subtree; rest = given.rest; value = given.value; taken = given.taken }
 
-gives-back : (gives : List Give) → map as-told (map as_given gives) ≡ gives
+gives-back : (gives : List Give) → map as-reported (map as_given gives) ≡ gives
 gives-back [] = refl
 gives-back (first ∷ gives) = ap (λ (rest : List Give). first ∷ rest) (gives-back gives)
 
-as-answered : (registry : List Registered) (ds : List Delivery) → map as-told (map (deliveries.give registry) ds) ≡ map (give registry) ds
+as-answered : (registry : List Registered) (ds : List Delivery) → map as-reported (map (deliveries.give registry) ds) ≡ map (give registry) ds
 as-answered registry [] = refl
 as-answered registry (d ∷ ds) = ap (λ (rest : List Give). give registry d ∷ rest) (as-answered registry ds)
 
-pub told-gives : (registry : List Registered) (ds : List Delivery) (before gives : List Give) → before ≡ [] → Some (map as_given gives) ≡ told_more (Some (map as_given before)) (map (deliveries.give registry) ds)
+pub reported-gives : (registry : List Registered) (ds : List Delivery) (before gives : List Give) → before ≡ [] → Some (map as_given gives) ≡ reported_more (Some (map as_given before)) (map (deliveries.give registry) ds)
     → gives ≡ map (give registry) ds
-told-gives registry ds before gives none is =
+reported-gives registry ds before gives none is =
     sym (gives-back gives)
-    ∙ ap (λ (told : Option (List deliveries.Give)). map as-told (unwrap_or told [])) (is ∙ ap (λ (first : List Give). Some (map as_given first ++ map (deliveries.give registry) ds)) none)
+    ∙ ap (λ (reported : Option (List deliveries.Give)). map as-reported (unwrap_or reported [])) (is ∙ ap (λ (first : List Give). Some (map as_given first ++ map (deliveries.give registry) ds)) none)
     ∙ as-answered registry ds
 
 pub load-done : (registry full others : List Registered) (before gives : List Give) (subtree : Option (List ℕ)) (settings : Map) (counts : Counts) (s : State) → before ≡ [] → s.settings ≡ settings
@@ -120,7 +120,7 @@ pub load-done : (registry full others : List Registered) (before gives : List Gi
     → Loads subtree (Loaded gives counts.taken counts.rejected counts.passed) (beside s registry s.pool) (beside s others s.pool)
 load-done registry full others before gives subtree settings counts s none here given committed =
     subst (λ (settings : Map). Loads subtree (Loaded gives counts.taken counts.rejected counts.passed) (beside (record s { settings = settings }) registry s.pool) (beside (record s { settings = settings }) others s.pool)) (sym here) (
-      told-gives registry (delivered (subtrees registry) subtree (entries settings)) before gives none given.told,
+      reported-gives registry (delivered (subtrees registry) subtree (entries settings)) before gives none given.reported,
       given.taken,
       given.rejected,
       given.passed,

@@ -17,4 +17,4 @@ mod PutLemmas
 mod QuietLemmas
 mod ReadyLemmas
 mod SaveLemmas
-mod TellLemmas
+mod ReportLemmas

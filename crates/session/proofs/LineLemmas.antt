@@ -11,7 +11,7 @@ use Rattle.flash_map.specs.Touches.{Touches}
 use Rattle.backend_api.specs.Commands.{Command, Del}
 use Rattle.backend_api.specs.Map.{Map}
 use Rattle.flash_map.specs.On.{on}
-use Rattle.backend_api.specs.Room.{Room, most_units}
+use Rattle.backend_api.specs.Room.{Room, command_units}
 use Rattle.settings_core.specs.Carrying.{command_of, due, Carries, MeetsTooMany, MeetsNoRoom, MeetsLoss, CarryEndsOn, save_lost}
 use Rattle.settings_core.specs.declared.writing.SaveFault.{SaveFault}
 use Rattle.settings_core.specs.declared.writing.SaveFault.TheVariants.{NoSpace as SaveFull, TooManyNames, PowerLost}
@@ -40,17 +40,17 @@ CarriedAt contents room chance tears registry pool areas line answer old new = D
 pub keeps : (area : Area) (old new : Device) (cut : Bool) → Touches (area ∷ []) old new cut → Keeps (area ∷ []) old new
 keeps area old new cut touches = record { banks = touches.banks; loads = touches.loads; outside = touches.outside }
 
--- what is told of a loss in one area is told of the other, which is the same
-pub told_at : (chance : Area → Geometry → List (List ℕ) → Loss → Bool) (new : Device) (area other : Area) (told : Bool) → area ≡ other → ((loss : Loss) → new.last_loss ≡ Some loss → told ≡ on chance new area loss)
-    → (loss : Loss) → new.last_loss ≡ Some loss → told ≡ on chance new other loss
-told_at chance new area other told same tells loss last = tells loss last ∙ ap (λ (a : Area). on chance new a loss) same
+-- what is said of a loss in one area is said of the other, which is the same
+pub reported_at : (chance : Area → Geometry → List (List ℕ) → Loss → Bool) (new : Device) (area other : Area) (reported : Bool) → area ≡ other → ((loss : Loss) → new.last_loss ≡ Some loss → reported ≡ on chance new area loss)
+    → (loss : Loss) → new.last_loss ≡ Some loss → reported ≡ on chance new other loss
+reported_at chance new area other reported same reports loss last = reports loss last ∙ ap (λ (a : Area). on chance new a loss) same
 
 some_loss : (area : Area) (old new : Device) → old.is_on ≡ true → Touches (area ∷ []) old new true → (loss : Loss) × (new.last_loss ≡ Some loss)
 some_loss area old new on touches = let cut = touches.ends on in (cut.loss, cut.last_loss)
 
 module _ (contents : Area → Geometry → List (List ℕ) → Map) (room : Area → Geometry → Room) (chance : Area → Geometry → List (List ℕ) → Loss → Bool) (tears : Area → Geometry → Command → ℕ → Map → Map → Type 0)
     (registry : List Registered) (pool : List HandlerKind) (areas : List Area) (name value : List ℕ) (old new : Device) (powered : old.is_on ≡ true) (stays : active_on areas new ≡ active_on areas old) where
-  pub set_done : Touches (active_area areas old ∷ []) old new false → SpendsAtMost old new (most_units (geometry_of old (active_area areas old)))
+  pub set_done : Touches (active_area areas old ∷ []) old new false → SpendsAtMost old new (command_units (geometry_of old (active_area areas old)))
       → Carries (room (active_area areas old) (geometry_of old (active_area areas old))) old new (on contents old (active_area areas old)) (on contents new (active_area areas old)) (due (on contents old (active_area areas old)) (command_of name value ∷ []))
       → CarriedAt contents room chance tears registry pool areas (Set name value) (Done (new.spent - old.spent)) old new
   set_done touches at_most carries = record {
@@ -78,7 +78,7 @@ module _ (contents : Area → Geometry → List (List ℕ) → Map) (room : Area
     most = tt;
   }
 
-  pub set_full : (count need live : ℕ) → Touches (active_area areas old ∷ []) old new false → SpendsAtMost old new (most_units (geometry_of old (active_area areas old)))
+  pub set_full : (count need live : ℕ) → Touches (active_area areas old ∷ []) old new false → SpendsAtMost old new (command_units (geometry_of old (active_area areas old)))
       → MeetsNoRoom (room (active_area areas old) (geometry_of old (active_area areas old))) (active_area areas old).sectors (on contents old (active_area areas old)) (on contents new (active_area areas old)) (due (on contents old (active_area areas old)) (command_of name value ∷ [])) count need live
       → CarriedAt contents room chance tears registry pool areas (Set name value) (NoSpace (new.spent - old.spent) need live) old new
   set_full count need live touches at_most meets = record {
@@ -92,17 +92,17 @@ module _ (contents : Area → Geometry → List (List ℕ) → Map) (room : Area
     most = tt;
   }
 
-  pub set_lost : (count : ℕ) (told : Bool) → Touches (active_area areas old ∷ []) old new true → SpendsAtMost old new (most_units (geometry_of old (active_area areas old))) → ((loss : Loss) → new.last_loss ≡ Some loss → told ≡ on chance new (active_area areas old) loss)
+  pub set_lost : (count : ℕ) (reported : Bool) → Touches (active_area areas old ∷ []) old new true → SpendsAtMost old new (command_units (geometry_of old (active_area areas old))) → ((loss : Loss) → new.last_loss ≡ Some loss → reported ≡ on chance new (active_area areas old) loss)
       → MeetsLoss (room (active_area areas old) (geometry_of old (active_area areas old))) (on chance new (active_area areas old)) (tears (active_area areas old) (geometry_of old (active_area areas old))) old new (on contents old (active_area areas old)) (on contents new (active_area areas old)) (due (on contents old (active_area areas old)) (command_of name value ∷ [])) count
-      → CarriedAt contents room chance tears registry pool areas (Set name value) (Lost (new.spent - old.spent) told) old new
-  set_lost count told touches at_most tells meets =
+      → CarriedAt contents room chance tears registry pool areas (Set name value) (Lost (new.spent - old.spent) reported) old new
+  set_lost count reported touches at_most reports meets =
       let cut = touches.ends powered in
       record {
         done = record {
-          step = λ last within. step_seen contents room chance tears registry pool areas old new stays (Set name value) (Lost (new.spent - old.spent) told) last (λ needs. powered, change_lost contents room chance tears registry pool areas old new (command_of name value) count last told powered cut.off tells at_most meets);
-          accounts = lost (active_area areas old ∷ []) (Set name value) (Lost (new.spent - old.spent) told) old new powered touches refl refl refl;
+          step = λ last within. step_seen contents room chance tears registry pool areas old new stays (Set name value) (Lost (new.spent - old.spent) reported) last (λ needs. powered, change_lost contents room chance tears registry pool areas old new (command_of name value) count last reported powered cut.off reports at_most meets);
+          accounts = lost (active_area areas old ∷ []) (Set name value) (Lost (new.spent - old.spent) reported) old new powered touches refl refl refl;
           keeps = keeps (active_area areas old) old new true touches;
-          chance = record { loss = cut.loss; last = cut.last_loss; is = tells cut.loss cut.last_loss ∙ ap (λ (place : ℕ). on chance new (area_at areas place) cut.loss) (sym stays) };
+          chance = record { loss = cut.loss; last = cut.last_loss; is = reports cut.loss cut.last_loss ∙ ap (λ (place : ℕ). on chance new (area_at areas place) cut.loss) (sym stays) };
         };
         touches = λ plain. touches;
         most = tt;
@@ -114,7 +114,7 @@ module _ (contents : Area → Geometry → List (List ℕ) → Map) (room : Area
     (old new : Device) (commands : List Command) where
   pub record Ended (up : Bool) (area : Area) (result : Result (Unit {0}) SaveFault) : Type 0 where
     pub touches : Touches (area ∷ []) old new (save_lost result)
-    pub at_most : SpendsAtMost old new (most_units (geometry_of old area))
+    pub at_most : SpendsAtMost old new (command_units (geometry_of old area))
     pub count : ℕ
     pub ends : CarryEndsOn room contents chance tears up area old new commands count result
 
@@ -137,16 +137,16 @@ module _ (contents : Area → Geometry → List (List ℕ) → Map) (room : Area
   set_by_full need live e =
       subst (λ (n : ℕ). CarriedAt contents room chance tears registry pool areas (Set name value) (NoSpace n need live) old new) units (set_full contents room chance tears registry pool areas name value old new powered stays e.count need live e.touches e.at_most e.ends.1)
 
-  pub set_by_lost : (told : Bool) → ((loss : Loss) → new.last_loss ≡ Some loss → told ≡ on chance new (active_area areas old) loss) → Ended contents room chance tears old new (command_of name value ∷ []) up (active_area areas old) (Err PowerLost)
-      → CarriedAt contents room chance tears registry pool areas (Set name value) (Lost (after - before) told) old new
-  set_by_lost told tells e =
-      subst (λ (n : ℕ). CarriedAt contents room chance tears registry pool areas (Set name value) (Lost n told) old new) units (set_lost contents room chance tears registry pool areas name value old new powered stays e.count told e.touches e.at_most tells e.ends.1)
+  pub set_by_lost : (reported : Bool) → ((loss : Loss) → new.last_loss ≡ Some loss → reported ≡ on chance new (active_area areas old) loss) → Ended contents room chance tears old new (command_of name value ∷ []) up (active_area areas old) (Err PowerLost)
+      → CarriedAt contents room chance tears registry pool areas (Set name value) (Lost (after - before) reported) old new
+  set_by_lost reported reports e =
+      subst (λ (n : ℕ). CarriedAt contents room chance tears registry pool areas (Set name value) (Lost n reported) old new) units (set_lost contents room chance tears registry pool areas name value old new powered stays e.count reported e.touches e.at_most reports e.ends.1)
 
 -- ---- deleting
 
 module _ (contents : Area → Geometry → List (List ℕ) → Map) (room : Area → Geometry → Room) (chance : Area → Geometry → List (List ℕ) → Loss → Bool) (tears : Area → Geometry → Command → ℕ → Map → Map → Type 0)
     (registry : List Registered) (pool : List HandlerKind) (areas : List Area) (name : List ℕ) (old new : Device) (powered : old.is_on ≡ true) (stays : active_on areas new ≡ active_on areas old) where
-  pub delete_done : Touches (active_area areas old ∷ []) old new false → SpendsAtMost old new (most_units (geometry_of old (active_area areas old)))
+  pub delete_done : Touches (active_area areas old ∷ []) old new false → SpendsAtMost old new (command_units (geometry_of old (active_area areas old)))
       → Carries (room (active_area areas old) (geometry_of old (active_area areas old))) old new (on contents old (active_area areas old)) (on contents new (active_area areas old)) (due (on contents old (active_area areas old)) (Del name ∷ []))
       → CarriedAt contents room chance tears registry pool areas (Delete name) (Done (new.spent - old.spent)) old new
   delete_done touches at_most carries = record {
@@ -160,17 +160,17 @@ module _ (contents : Area → Geometry → List (List ℕ) → Map) (room : Area
     most = tt;
   }
 
-  pub delete_lost : (count : ℕ) (told : Bool) → Touches (active_area areas old ∷ []) old new true → SpendsAtMost old new (most_units (geometry_of old (active_area areas old))) → ((loss : Loss) → new.last_loss ≡ Some loss → told ≡ on chance new (active_area areas old) loss)
+  pub delete_lost : (count : ℕ) (reported : Bool) → Touches (active_area areas old ∷ []) old new true → SpendsAtMost old new (command_units (geometry_of old (active_area areas old))) → ((loss : Loss) → new.last_loss ≡ Some loss → reported ≡ on chance new (active_area areas old) loss)
       → MeetsLoss (room (active_area areas old) (geometry_of old (active_area areas old))) (on chance new (active_area areas old)) (tears (active_area areas old) (geometry_of old (active_area areas old))) old new (on contents old (active_area areas old)) (on contents new (active_area areas old)) (due (on contents old (active_area areas old)) (Del name ∷ [])) count
-      → CarriedAt contents room chance tears registry pool areas (Delete name) (Lost (new.spent - old.spent) told) old new
-  delete_lost count told touches at_most tells meets =
+      → CarriedAt contents room chance tears registry pool areas (Delete name) (Lost (new.spent - old.spent) reported) old new
+  delete_lost count reported touches at_most reports meets =
       let cut = touches.ends powered in
       record {
         done = record {
-          step = λ last within. step_seen contents room chance tears registry pool areas old new stays (Delete name) (Lost (new.spent - old.spent) told) last (λ needs. powered, change_lost contents room chance tears registry pool areas old new (Del name) count last told powered cut.off tells at_most meets);
-          accounts = lost (active_area areas old ∷ []) (Delete name) (Lost (new.spent - old.spent) told) old new powered touches refl refl refl;
+          step = λ last within. step_seen contents room chance tears registry pool areas old new stays (Delete name) (Lost (new.spent - old.spent) reported) last (λ needs. powered, change_lost contents room chance tears registry pool areas old new (Del name) count last reported powered cut.off reports at_most meets);
+          accounts = lost (active_area areas old ∷ []) (Delete name) (Lost (new.spent - old.spent) reported) old new powered touches refl refl refl;
           keeps = keeps (active_area areas old) old new true touches;
-          chance = record { loss = cut.loss; last = cut.last_loss; is = tells cut.loss cut.last_loss ∙ ap (λ (place : ℕ). on chance new (area_at areas place) cut.loss) (sym stays) };
+          chance = record { loss = cut.loss; last = cut.last_loss; is = reports cut.loss cut.last_loss ∙ ap (λ (place : ℕ). on chance new (area_at areas place) cut.loss) (sym stays) };
         };
         touches = λ plain. touches;
         most = tt;
@@ -184,10 +184,10 @@ module _ (contents : Area → Geometry → List (List ℕ) → Map) (room : Area
   pub delete_by_ok : (x : Unit {0}) → Ended contents room chance tears old new (Del name ∷ []) up (active_area areas old) (Ok x) → CarriedAt contents room chance tears registry pool areas (Delete name) (Done (after - before)) old new
   delete_by_ok x e = subst (λ (n : ℕ). CarriedAt contents room chance tears registry pool areas (Delete name) (Done n) old new) units_left (delete_done contents room chance tears registry pool areas name old new powered stays e.touches e.at_most e.ends.2)
 
-  pub delete_by_lost : (told : Bool) → ((loss : Loss) → new.last_loss ≡ Some loss → told ≡ on chance new (active_area areas old) loss) → Ended contents room chance tears old new (Del name ∷ []) up (active_area areas old) (Err PowerLost)
-      → CarriedAt contents room chance tears registry pool areas (Delete name) (Lost (after - before) told) old new
-  delete_by_lost told tells e =
-      subst (λ (n : ℕ). CarriedAt contents room chance tears registry pool areas (Delete name) (Lost n told) old new) units_left (delete_lost contents room chance tears registry pool areas name old new powered stays e.count told e.touches e.at_most tells e.ends.1)
+  pub delete_by_lost : (reported : Bool) → ((loss : Loss) → new.last_loss ≡ Some loss → reported ≡ on chance new (active_area areas old) loss) → Ended contents room chance tears old new (Del name ∷ []) up (active_area areas old) (Err PowerLost)
+      → CarriedAt contents room chance tears registry pool areas (Delete name) (Lost (after - before) reported) old new
+  delete_by_lost reported reports e =
+      subst (λ (n : ℕ). CarriedAt contents room chance tears registry pool areas (Delete name) (Lost n reported) old new) units_left (delete_lost contents room chance tears registry pool areas name old new powered stays e.count reported e.touches e.at_most reports e.ends.1)
 
 -- ---- lines that spend nothing
 

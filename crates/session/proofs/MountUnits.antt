@@ -61,7 +61,7 @@ map_most areas d mid e area banks active is first second =
 bound_powered : (areas : List Area) (d : Device) → mount_bound areas (turned_on d) ≡ mount_bound areas d
 bound_powered areas d = ap (λ (place : ℕ). selector_erases areas d + mount_units (geometry_of d (area_at areas place))) (active_powered areas d)
 
--- as the answer tells it
+-- as the answer reports it
 pub few_by : (areas : List Area) (old e : Device) (before after : ℕ) → before ≡ old.spent → after ≡ e.spent → SpendsAtMost (turned_on old) e (mount_bound areas (turned_on old)) → after - before ≤ mount_bound areas old
 few_by areas old e before after from to spent =
     let same = bound_powered areas old in

@@ -45,7 +45,7 @@ use Rattle.session.proofs.BoundLemmas.{spent_most}
 use Rattle.session.proofs.ActiveAreas.{area_there, image, selector_listed}
 use Rattle.session.proofs.DamageLemmas.{damage_none}
 use Rattle.session.proofs.PutLemmas.{all_free, stops_for_names, meets_no_room}
-use Rattle.session.proofs.TellLemmas.{no_target}
+use Rattle.session.proofs.ReportLemmas.{no_target}
 
 some_same : {X : Type 0} (x y : X) → Some x ≡ Some y → x ≡ y
 some_same x y e = cc

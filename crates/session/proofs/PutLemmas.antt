@@ -1,4 +1,4 @@
--- Puts of all settings of a map, one by one in the order of names, as a migration tells of them.
+-- Puts of all settings of a map, one by one in the order of names, as a migration says of them.
 use Rattle.std.proofs.Common.{◌≡◌, ◌⊎◌, ℕ, zero, suc, ◌+◌, ◌<◌, true, false, T, is_lt, List, [], ◌∷◌, ◌++◌, length, take, drop, Some, None, refl, sym, ap, subst, ◌∙◌, inl, inr, arith}
 use Rattle.std.specs.List.{slice_get}
 use Rattle.std.specs.FinMap as maps
@@ -83,13 +83,13 @@ stored_place m name value stored = place_in (maps.entries m) name value (sym (ma
 
 -- ---- lists cut at a place
 
-take_front : (front rest : List Pair) → take (length front) (front ++ rest) ≡ front
-take_front [] rest = refl
-take_front (x ∷ front) rest = ap (λ (xs : List Pair). x ∷ xs) (take_front front rest)
+take_prefix : (prefix rest : List Pair) → take (length prefix) (prefix ++ rest) ≡ prefix
+take_prefix [] rest = refl
+take_prefix (x ∷ prefix) rest = ap (λ (xs : List Pair). x ∷ xs) (take_prefix prefix rest)
 
-at_front : (front rest : List Pair) (k : ℕ) → slice_get (front ++ rest) (length front + k) ≡ slice_get rest k
-at_front [] rest k = let e : 0 + k ≡ k = omega arith in ap (slice_get rest) e
-at_front (x ∷ front) rest k = let e : suc (length front) + k ≡ suc (length front + k) = omega arith in ap (slice_get (x ∷ front ++ rest)) e ∙ at_front front rest k
+at_prefix : (prefix rest : List Pair) (k : ℕ) → slice_get (prefix ++ rest) (length prefix + k) ≡ slice_get rest k
+at_prefix [] rest k = let e : 0 + k ≡ k = omega arith in ap (slice_get rest) e
+at_prefix (x ∷ prefix) rest k = let e : suc (length prefix) + k ≡ suc (length prefix + k) = omega arith in ap (slice_get (x ∷ prefix ++ rest)) e ∙ at_prefix prefix rest k
 
 in_take : (es : List Pair) (n k : ℕ) (x : Pair) → slice_get (take n es) k ≡ Some x → (k < n) × (slice_get es k ≡ Some x)
 in_take [] zero k x at = absurd (none-some x at)
@@ -114,9 +114,9 @@ taken [] (suc n) = refl
 taken (e ∷ es) zero = refl
 taken (e ∷ es) (suc n) = ap (λ (ys : List Pair). e ∷ ys) (taken es n)
 
-shifted : (front rest more : List Pair) (x : Pair) → front ++ ((x ∷ rest) ++ more) ≡ (front ++ x ∷ []) ++ (rest ++ more)
+shifted : (prefix rest more : List Pair) (x : Pair) → prefix ++ ((x ∷ rest) ++ more) ≡ (prefix ++ x ∷ []) ++ (rest ++ more)
 shifted [] rest more x = refl
-shifted (y ∷ front) rest more x = ap (λ (ys : List Pair). y ∷ ys) (shifted front rest more x)
+shifted (y ∷ prefix) rest more x = ap (λ (ys : List Pair). y ∷ ys) (shifted prefix rest more x)
 
 none_left : (es : List Pair) → es ++ [] ≡ es
 none_left [] = refl
@@ -137,21 +137,21 @@ unfolding AreFree
 free_one room settings command commands first rest = (first, rest)
 
 module _ (room : Room) (m : Map) where
-  turn : (front rest : List Pair) (x : Pair) → maps.entries m ≡ front ++ x ∷ rest → all_applied maps.empty (puts_of front) ≡ before m (Some x.0)
-  turn front rest x is =
-      let zero_more : length front + 0 ≡ length front = omega arith in
-      let there : slice_get (maps.entries m) (length front) ≡ Some x = ap (λ (es : List Pair). slice_get es (length front)) is ∙ ap (slice_get (front ++ x ∷ rest)) (sym zero_more) ∙ at_front front (x ∷ rest) 0 in
-      ap (λ (es : List Pair). all_applied maps.empty (puts_of es)) (sym (ap (take (length front)) is ∙ take_front front (x ∷ rest)))
-      ∙ puts-in-order m (length front) x.0 x.1 there
+  turn : (prefix rest : List Pair) (x : Pair) → maps.entries m ≡ prefix ++ x ∷ rest → all_applied maps.empty (puts_of prefix) ≡ before m (Some x.0)
+  turn prefix rest x is =
+      let zero_more : length prefix + 0 ≡ length prefix = omega arith in
+      let there : slice_get (maps.entries m) (length prefix) ≡ Some x = ap (λ (es : List Pair). slice_get es (length prefix)) is ∙ ap (slice_get (prefix ++ x ∷ rest)) (sym zero_more) ∙ at_prefix prefix (x ∷ rest) 0 in
+      ap (λ (es : List Pair). all_applied maps.empty (puts_of es)) (sym (ap (take (length prefix)) is ∙ take_prefix prefix (x ∷ rest)))
+      ∙ puts-in-order m (length prefix) x.0 x.1 there
 
-  free_from : (front rest more : List Pair) → maps.entries m ≡ front ++ (rest ++ more) → ((k : ℕ) (x : Pair) → slice_get rest k ≡ Some x → room.too_many (before m (Some x.0)) x.0 ≡ false) → AreFree room (all_applied maps.empty (puts_of front)) (puts_of rest)
-  free_from front [] more is each = free_none room (all_applied maps.empty (puts_of front))
-  free_from front (x ∷ rest) more is each =
-      let now = turn front (rest ++ more) x is in
-      let next : all_applied maps.empty (puts_of (front ++ x ∷ [])) ≡ applied (all_applied maps.empty (puts_of front)) (put_of x) =
-      ap (all_applied maps.empty) (map-append put_of front (x ∷ [])) ∙ one_more maps.empty (puts_of front) (put_of x) in
-      free_one room (all_applied maps.empty (puts_of front)) (put_of x) (puts_of rest) (ap (λ (s : Map). room.too_many s x.0) now ∙ each 0 x refl)
-      (subst (λ (s : Map). AreFree room s (puts_of rest)) next (free_from (front ++ x ∷ []) rest more (is ∙ shifted front rest more x) (λ k y at. each (suc k) y at)))
+  free_from : (prefix rest more : List Pair) → maps.entries m ≡ prefix ++ (rest ++ more) → ((k : ℕ) (x : Pair) → slice_get rest k ≡ Some x → room.too_many (before m (Some x.0)) x.0 ≡ false) → AreFree room (all_applied maps.empty (puts_of prefix)) (puts_of rest)
+  free_from prefix [] more is each = free_none room (all_applied maps.empty (puts_of prefix))
+  free_from prefix (x ∷ rest) more is each =
+      let now = turn prefix (rest ++ more) x is in
+      let next : all_applied maps.empty (puts_of (prefix ++ x ∷ [])) ≡ applied (all_applied maps.empty (puts_of prefix)) (put_of x) =
+      ap (all_applied maps.empty) (map-append put_of prefix (x ∷ [])) ∙ one_more maps.empty (puts_of prefix) (put_of x) in
+      free_one room (all_applied maps.empty (puts_of prefix)) (put_of x) (puts_of rest) (ap (λ (s : Map). room.too_many s x.0) now ∙ each 0 x refl)
+      (subst (λ (s : Map). AreFree room s (puts_of rest)) next (free_from (prefix ++ x ∷ []) rest more (is ∙ shifted prefix rest more x) (λ k y at. each (suc k) y at)))
 
   from_empty : (rest more : List Pair) → maps.entries m ≡ rest ++ more → ((k : ℕ) (x : Pair) → slice_get rest k ≡ Some x → room.too_many (before m (Some x.0)) x.0 ≡ false) → AreFree room maps.empty (puts_of rest)
   from_empty rest more is each = subst (λ (s : Map). AreFree room s (puts_of rest)) nothing_applied (free_from [] rest more is each)
@@ -171,13 +171,13 @@ module _ (room : Room) (m : Map) where
   pub stops_for_names : HasOneTooMany room m → (done : ℕ) × (now : Map) × StopsForNames room (all_puts m) done maps.empty now
   stops_for_names has =
       let place = stored_place m has.name has.value has.stored in
-      let front : List Pair = take place.0 (maps.entries m) in (
-        length (puts_of front),
+      let prefix : List Pair = take place.0 (maps.entries m) in (
+        length (puts_of prefix),
         before m (Some has.name),
         record {
-          split = record { done = puts_of front; at = Put has.name has.value; left = puts_of (drop (suc place.0) (maps.entries m)); is = puts_at place.0 (has.name, has.value) place.1; count_is = refl };
+          split = record { done = puts_of prefix; at = Put has.name has.value; left = puts_of (drop (suc place.0) (maps.entries m)); is = puts_at place.0 (has.name, has.value) place.1; count_is = refl };
           settings = sym (puts-in-order m place.0 has.name has.value place.1);
-          free = from_empty front (drop place.0 (maps.entries m)) (taken (maps.entries m) place.0) (each_before place.0 has.name has.value place.1 has.earlier);
+          free = from_empty prefix (drop place.0 (maps.entries m)) (taken (maps.entries m) place.0) (each_before place.0 has.name has.value place.1 has.earlier);
           many = has.many;
         },
       )
@@ -194,16 +194,16 @@ module _ (room : Room) (m : Map) where
   pub meets_no_room : (sectors need live : ℕ) → HasOneWithoutRoom room sectors m need live → (done : ℕ) × (now : Map) × MeetsNoRoom room sectors maps.empty now (all_puts m) done need live
   meets_no_room sectors need live has =
       let place = stored_place m has.name has.value has.stored in
-      let front : List Pair = take place.0 (maps.entries m) in
-      let longer : take (suc place.0) (maps.entries m) ≡ front ++ (has.name, has.value) ∷ [] = one_longer (maps.entries m) place.0 (has.name, has.value) place.1 in
+      let prefix : List Pair = take place.0 (maps.entries m) in
+      let longer : take (suc place.0) (maps.entries m) ≡ prefix ++ (has.name, has.value) ∷ [] = one_longer (maps.entries m) place.0 (has.name, has.value) place.1 in
       let each : (k : ℕ) (x : Pair) → slice_get (take (suc place.0) (maps.entries m)) k ≡ Some x → room.too_many (before m (Some x.0)) x.0 ≡ false = λ k x there. each_to place.0 sectors need live has k x place.1 (in_take (maps.entries m) (suc place.0) k x there) in
       let free = from_empty (take (suc place.0) (maps.entries m)) (drop (suc place.0) (maps.entries m)) (taken (maps.entries m) (suc place.0)) each in (
-        length (puts_of front),
+        length (puts_of prefix),
         before m (Some has.name),
         record {
-          split = record { done = puts_of front; at = Put has.name has.value; left = puts_of (drop (suc place.0) (maps.entries m)); is = puts_at place.0 (has.name, has.value) place.1; count_is = refl };
+          split = record { done = puts_of prefix; at = Put has.name has.value; left = puts_of (drop (suc place.0) (maps.entries m)); is = puts_at place.0 (has.name, has.value) place.1; count_is = refl };
           settings = sym (puts-in-order m place.0 has.name has.value place.1);
-          free = subst (λ (cs : List Command). AreFree room maps.empty cs) (ap puts_of longer ∙ map-append put_of front ((has.name, has.value) ∷ [])) free;
+          free = subst (λ (cs : List Command). AreFree room maps.empty cs) (ap puts_of longer ∙ map-append put_of prefix ((has.name, has.value) ∷ [])) free;
           lacks = (has.full, has.needs, has.lives);
         },
       )

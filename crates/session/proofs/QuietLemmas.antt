@@ -18,7 +18,7 @@ use Rattle.script_lines.specs.declared.answer.Answer.{Answer}
 use Rattle.script_lines.specs.declared.answer.Answer.TheVariants.{Off}
 use Rattle.script_lines.specs.Plan.{units_of, is_lost, replan}
 use Rattle.script_lines.specs.Plan.Replan.{keeps}
-use Rattle.session_table.specs.Bench.{Keeps, TellsChance, area_at, is_selector, places_of, rules_of, state_of, worked_on}
+use Rattle.session_table.specs.Bench.{Keeps, ReportsChance, area_at, is_selector, places_of, rules_of, state_of, worked_on}
 use Rattle.session_table.specs.Step.{Step, needs_power}
 use Rattle.migrator.specs.Active.{active_on}
 use Rattle.session.specs.OnMap.{DoneBeside, DoneWithin, areas_worked_on, meanings, moment, powered_for}
@@ -42,22 +42,22 @@ module _ (contents : Area → Geometry → List (List ℕ) → Map) (room : Area
       → ((last : ℕ) → Step (rules_of (meanings contents room chance tears) areas d.banks last) line answer (state_of (meanings contents room chance tears) areas (moment d registry pool)) (state_of (meanings contents room chance tears) areas (moment d others left)))
       → powered_for line d ≡ d → replan line ≡ keeps → is_lost answer ≡ false → units_of answer ≡ 0
       → worked_on (rules_of (meanings contents room chance tears) areas d.banks 0) (places_of is_selector areas) line answer (active_on areas d ∷ []) ≡ []
-      → TellsChance (meanings contents room chance tears) areas line answer d
+      → ReportsChance (meanings contents room chance tears) areas line answer d
       → DoneWithin (meanings contents room chance tears) areas line answer (moment d registry pool) (moment d others left)
-  quiet line answer registry others pool left step same stays lasts units none told = record {
+  quiet line answer registry others pool left step same stays lasts units none reported = record {
     done = record {
       step = λ last within. step last;
       accounts = kept [] line answer d d (untouched [] d) stays lasts (none_spent (units_of answer) d.spent units);
       keeps = subst (λ (places : List ℕ). Keeps (map (area_at areas) places) d d) (sym none) (none_kept d);
-      chance = told;
+      chance = reported;
     };
     touches = λ plain. untouched_at (areas_worked_on (meanings contents room chance tears) areas line answer d) d (powered_for line d) (is_lost answer) same lasts;
     most = none_within (meanings contents room chance tears) areas line answer (moment d registry pool) units;
   }
 
   -- with power off
-  off_line : (line : Line) → d.is_on ≡ false → needs_power line ≡ true → powered_for line d ≡ d → replan line ≡ keeps → TellsChance (meanings contents room chance tears) areas line Off d → DoneBeside (meanings contents room chance tears) areas line Off d d
-  off_line line dark needs same stays told registry pool = quiet line Off registry registry pool pool (λ last. (needs, dark, refl)) same stays refl refl refl told
+  off_line : (line : Line) → d.is_on ≡ false → needs_power line ≡ true → powered_for line d ≡ d → replan line ≡ keeps → ReportsChance (meanings contents room chance tears) areas line Off d → DoneBeside (meanings contents room chance tears) areas line Off d d
+  off_line line dark needs same stays reported registry pool = quiet line Off registry registry pool pool (λ last. (needs, dark, refl)) same stays refl refl refl reported
 
   pub off : (line : Line) → d.is_on ≡ false → needs_power line ≡ true → DoneBeside (meanings contents room chance tears) areas line Off d d
   off (Set name value) dark needs = off_line (Set name value) dark needs refl refl tt

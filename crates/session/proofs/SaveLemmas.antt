@@ -40,10 +40,10 @@ starts-free : (room : Room) (before : Map) (done : List Command) (at : Command) 
 starts-free room before [] at left free = (first_free room before at [] free).0
 starts-free room before (command ∷ done) at left free = (first_free room before command (done ++ at ∷ []) free).0
 
-front-free : (room : Room) (before : Map) (done : List Command) (at : Command) → AreFree room before (done ++ at ∷ []) → AreFree room before done
+prefix-free : (room : Room) (before : Map) (done : List Command) (at : Command) → AreFree room before (done ++ at ∷ []) → AreFree room before done
 unfolding AreFree
-front-free room before [] at free = tt
-front-free room before (command ∷ done) at free = (free.0, front-free room (applied before command) done at free.1)
+prefix-free room before [] at free = tt
+prefix-free room before (command ∷ done) at free = (free.0, prefix-free room (applied before command) done at free.1)
 
 one-more : (settings : Map) (done : List Command) (at : Command) → all_applied settings (done ++ at ∷ []) ≡ applied (all_applied settings done) at
 unfolding all_applied
@@ -58,15 +58,15 @@ pub stops-whole : (room : Room) (before now : Map) (commands : List Command) (co
     → (now ≡ all_applied before split.done) ⊎ (now ≡ applied (all_applied before split.done) split.at) → StopsForPower room commands before now
 stops-whole room before now commands count split free (inl whole) = record {
   starts = subst (λ (cs : List Command). StartsFree room before cs) (sym split.is) (starts-free room before split.done split.at split.left free);
-  front = split.done;
+  prefix = split.done;
   rest = split.at ∷ split.left;
   are = split.is;
-  free = front-free room before split.done split.at free;
+  free = prefix-free room before split.done split.at free;
   settings = whole;
 }
 stops-whole room before now commands count split free (inr one) = record {
   starts = subst (λ (cs : List Command). StartsFree room before cs) (sym split.is) (starts-free room before split.done split.at split.left free);
-  front = split.done ++ split.at ∷ [];
+  prefix = split.done ++ split.at ∷ [];
   rest = split.left;
   are = split.is ∙ regroup split.done split.at split.left;
   free = free;
@@ -195,10 +195,10 @@ module _ (contents : Area → Geometry → List (List ℕ) → Map) (room : Area
     most = bounded e;
   }
 
-  cut-short : (count last : ℕ) (told : Bool) (loss : Loss) → new.is_on ≡ false → (split : SplitsAt commands count)
+  cut-short : (count last : ℕ) (reported : Bool) (loss : Loss) → new.is_on ≡ false → (split : SplitsAt commands count)
       → AreFree (room (active_area areas old) (geometry_of old (active_area areas old))) (on contents old (active_area areas old)) (split.done ++ split.at ∷ [])
-      → CutMap told (tears (active_area areas old) (geometry_of old (active_area areas old)) split.at loss.done) split.at (all_applied (on contents old (active_area areas old)) split.done) (on contents new (active_area areas new))
-      → CommandsLost (rules_of (meanings contents room chance tears) areas old.banks last) commands told (state old) (state new)
+      → CutMap reported (tears (active_area areas old) (geometry_of old (active_area areas old)) split.at loss.done) split.at (all_applied (on contents old (active_area areas old)) split.done) (on contents new (active_area areas new))
+      → CommandsLost (rules_of (meanings contents room chance tears) areas old.banks last) commands reported (state old) (state new)
   cut-short count last true loss off split free torn =
       (record { count = count; split = split; free = free; units = loss.done; torn = torn }, state-is (on contents new (active_area areas new)) false off refl)
   cut-short count last false loss off split free whole = (
@@ -206,8 +206,8 @@ module _ (contents : Area → Geometry → List (List ℕ) → Map) (room : Area
     state-is (on contents new (active_area areas new)) false off refl,
   )
 
-  pub saved-lost : (told : Bool) → ((loss : Loss) → new.last_loss ≡ Some loss → told ≡ on chance new (active_area areas old) loss) → Ends (Err PowerLost) → IsDone (Lost units told)
-  saved-lost told tells e =
+  pub saved-lost : (reported : Bool) → ((loss : Loss) → new.last_loss ≡ Some loss → reported ≡ on chance new (active_area areas old) loss) → Ends (Err PowerLost) → IsDone (Lost units reported)
+  saved-lost reported reports e =
       let cut = e.touches.ends powered in
       let meets = e.ends.1 in
       let stops = meets.stops powered in
@@ -215,14 +215,14 @@ module _ (contents : Area → Geometry → List (List ℕ) → Map) (room : Area
         done = record {
           step = λ last within. (
             λ needs. powered,
-            cut-short e.count last told stops.loss cut.off meets.split meets.free
-                (subst (λ (now : Map). CutMap told (tears (active_area areas old) (geometry_of old (active_area areas old)) meets.split.at stops.loss.done) meets.split.at (all_applied (on contents old (active_area areas old)) meets.split.done) now) same
+            cut-short e.count last reported stops.loss cut.off meets.split meets.free
+                (subst (λ (now : Map). CutMap reported (tears (active_area areas old) (geometry_of old (active_area areas old)) meets.split.at stops.loss.done) meets.split.at (all_applied (on contents old (active_area areas old)) meets.split.done) now) same
                 (subst (λ (b : Bool). CutMap b (tears (active_area areas old) (geometry_of old (active_area areas old)) meets.split.at stops.loss.done) meets.split.at (all_applied (on contents old (active_area areas old)) meets.split.done) (on contents new (active_area areas old)))
-                (sym (tells stops.loss stops.last)) stops.settings)),
+                (sym (reports stops.loss stops.last)) stops.settings)),
           );
-          accounts = lost (active_area areas old ∷ []) (Save subtree) (Lost units told) old new powered e.touches refl refl spent;
+          accounts = lost (active_area areas old ∷ []) (Save subtree) (Lost units reported) old new powered e.touches refl refl spent;
           keeps = keeps true e.touches;
-          chance = record { loss = cut.loss; last = cut.last_loss; is = tells cut.loss cut.last_loss ∙ ap (λ (place : ℕ). on chance new (area_at areas place) cut.loss) (sym stays) };
+          chance = record { loss = cut.loss; last = cut.last_loss; is = reports cut.loss cut.last_loss ∙ ap (λ (place : ℕ). on chance new (area_at areas place) cut.loss) (sym stays) };
         };
         touches = λ plain. e.touches;
         most = bounded e;

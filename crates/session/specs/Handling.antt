@@ -14,7 +14,7 @@ use Rattle.session.specs.OnMap.{kinds, IsFresh}
 abbrev pub beside : State → List Registered → List HandlerKind → State
 beside s registry pool = record s { registry = registry; pool = pool }
 
--- what a load gave, as it was told
+-- what a load gave, as it was reported
 abbrev pub as_given : Give → deliveries.Give
 as_given give = record { subtree = give.subtree; rest = give.rest; value = give.value; taken = give.taken }
 

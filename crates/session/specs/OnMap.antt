@@ -342,27 +342,27 @@ pub record Ran (m : Meanings) (damage : Area → Geometry → List (List ℕ) �
 
 -- lines were carried out, and memory was wanting to keep the answer to the last of them
 abbrev pub LacksAnswer : List Line → Device → Device → SessionFault → Type 0
-LacksAnswer front old new fault = (1 ≤ length front) × (fault ≡ NoMemory) × (new ≡ old)
+LacksAnswer prefix old new fault = (1 ≤ length prefix) × (fault ≡ NoMemory) × (new ≡ old)
 
--- Behind the lines of the front the next one stopped; or memory was wanting for the answer to the line
+-- Behind the first lines the next one stopped; or memory was wanting for the answer to the line
 -- before.
 abbrev pub StopsAt : (Area → Geometry → List (List ℕ) → Option Damaged)
     → List Area → List Line → List Line → Device → Device → SessionFault → Type 0
-StopsAt damage areas front [] old new fault = LacksAnswer front old new fault
-StopsAt damage areas front (line ∷ lines) old new fault =
-    LacksAnswer front old new fault ⊎ LineStops damage areas line old new fault
+StopsAt damage areas prefix [] old new fault = LacksAnswer prefix old new fault
+StopsAt damage areas prefix (line ∷ lines) old new fault =
+    LacksAnswer prefix old new fault ⊎ LineStops damage areas line old new fault
 
 -- The first lines were carried out, and then a line stopped.
 pub record RunStops (m : Meanings) (damage : Area → Geometry → List (List ℕ) → Option Damaged)
     (areas : List Area) (lines : List Line) (old : Moment) (new : Device) (fault : SessionFault) :
     Type 0 where
-  pub front : List Line
+  pub prefix : List Line
   pub rest : List Line
-  pub are : lines ≡ front ++ rest
+  pub are : lines ≡ prefix ++ rest
   pub answers : List Answer
   pub mid : Moment
-  pub runs : Ran m damage areas front answers old mid
-  pub stops : StopsAt damage areas front rest mid.device new fault
+  pub runs : Ran m damage areas prefix answers old mid
+  pub stops : StopsAt damage areas prefix rest mid.device new fault
 
 -- How lines end: all were carried out, with these answers, on this bench and these handlers; or one stopped.
 abbrev pub RunEnds : Meanings → (Area → Geometry → List (List ℕ) → Option Damaged) → List Area → List Line

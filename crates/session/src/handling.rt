@@ -15,7 +15,7 @@ ghost use Rattle.session.specs.Handling.{beside, FirstAt, TakeEnds};
 ghost use Rattle.session.specs.OnMap.{meanings, moment, kinds, DoneWithin, IsFresh, IsServedMap, IsServed, is_handled, limit_of, StandsOnActive, StaysOnArea, HandlersFit, StopsUnchanged};
 
 use crate::changing::spells_another;
-use crate::telling::copied;
+use crate::reporting::copied;
 use backend_api::Backend;
 use flash_map::{Area, FlashMap};
 use flash_sim::{Bench, Flash, NoMemory, Steps};

@@ -11,9 +11,9 @@ mod handling;
 mod mounting;
 mod moving;
 mod planning;
+mod reporting;
 mod running;
 mod session;
-mod telling;
 
 pub use answers::Answers;
 pub use fault::SessionFault;

@@ -15,7 +15,7 @@ use crate::handling::with_handlers;
 use crate::mounting::{answered, mount_map};
 use crate::moving::move_settings;
 use crate::planning::{drop_plan, plan_loss};
-use crate::telling::{get_setting, tell_all, tell_settings};
+use crate::reporting::{get_setting, report_all, report_settings};
 use backend_api::Backend;
 use flash_map::{Area, FlashMap};
 use flash_sim::{Bench, Flash, NoMemory, Steps};
@@ -367,10 +367,10 @@ fn with_power<K: Backend, B: Bench, L: Ledger>(
         )),
         Line::Del { name } => Ok(delete_setting(bench, settings, map, area, name, steps)),
         Line::Get { name } => get_setting(alloc, bench, settings, map, area, name, steps),
-        Line::Direct { subtree } => tell_settings(
+        Line::Direct { subtree } => report_settings(
             alloc, bench, settings, map, area, subtree, steps,
         ),
-        Line::Names => tell_all(alloc, bench, settings, map, area, steps),
+        Line::Names => report_all(alloc, bench, settings, map, area, steps),
         Line::Register { .. }
         | Line::Load { .. }
         | Line::Save { .. }

@@ -7,7 +7,7 @@ use Rattle.image_file.specs.Lawful.{IsImage}
 use Rattle.image_jobs.specs.Held.{held}
 use Rattle.image_jobs.proofs.MapLemmas.{maps_are_lawful}
 use Rattle.session_jobs.specs.ItemInputs.{IsItemArea}
-use Rattle.session_jobs.specs.ItemPlays.{ServesItems}
+use Rattle.session_jobs.specs.ItemJobs.{ServesItems}
 
 -- a store may stand on it
 pub serves_items : (areas : List Area) (area : Area) (d : Device) → IsImage (held areas d) → IsItemArea areas area → ServesItems d area

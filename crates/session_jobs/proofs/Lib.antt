@@ -8,5 +8,5 @@ mod MirrorAreaLemmas
 mod MirrorEndings
 mod MirrorInputLemmas
 mod SoundLemmas
-mod TellLemmas
+mod ReportLemmas
 mod WholeLemmas

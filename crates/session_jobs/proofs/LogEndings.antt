@@ -1,4 +1,4 @@
--- How a play on a log ends, from how its lines ended on a bench that was just loaded.
+-- How a job on a log ends, from how its lines ended on a bench that was just loaded.
 use Rattle.std.proofs.Common.{◌≡◌, ◌⊎◌, ℕ, true, List, [], ◌∷◌, map, Option, Some, None, Err, inl, inr, refl, sym, ap, subst, ◌∙◌}
 use Rattle.flash_sim.specs.Device.{Device}
 use Rattle.flash_sim.specs.declared.flash.Bank.{Bank}
@@ -11,7 +11,7 @@ use Rattle.image_jobs.specs.Held.{held}
 use Rattle.image_jobs.specs.declared.stops.Stop.{Stop}
 use Rattle.image_jobs.specs.declared.stops.Stop.TheVariants.{NoMemory}
 use Rattle.image_jobs.specs.Images.{HasAreas, begun, left}
-use Rattle.image_jobs.specs.Plays.{File, WritesLeft}
+use Rattle.image_jobs.specs.Jobs.{File, WritesLeft}
 use Rattle.image_jobs.specs.Reading.{HasImage}
 use Rattle.log_session.specs.declared.line.Line.{Line}
 use Rattle.log_session.specs.declared.line.Line.TheVariants.{Mount}
@@ -22,7 +22,7 @@ use Rattle.log_session.specs.LineDone.{state_of}
 use Rattle.log_session.specs.Running.{Ran, RunEnds, RunStops}
 use Rattle.log_session.proofs.HistoryLemmas.{holds_acknowledged}
 use Rattle.session_jobs.specs.LogInputs.{HasLines, IsLogArea}
-use Rattle.session_jobs.specs.LogPlays.{HasBegunLog, IsStop, LogPlayEnds, PlaysLog, SetsLog, damage_in, log_in, texts}
+use Rattle.session_jobs.specs.LogJobs.{HasBegunLog, IsStop, LogJobEnds, LogJobDoes, SetsLog, damage_in, log_in, texts}
 
 -- an image with the banks and bytes of a bench, whatever its version and areas
 abbrev of_bench : ℕ → List Area → Device → Plain
@@ -36,16 +36,16 @@ damage_same version areas d area = refl
 
 module _ (name script out : List ℕ) (outside : Outside) (banks : List Bank) (bytes : List (List ℕ)) (areas : List Area) (area : Area) (log : IsLogArea areas area) (lines : List Line)
     (bench bench' : Device) where
-  -- the image of the play
+  -- the image of the job
   abbrev pub image : Plain
   image = record { version = version_of areas; banks = banks; areas = map plain_area areas; bytes = bytes }
 
-  module _ (has : HasImage outside name image) (plays : HasLines (value_limit area) outside script lines) where
+  module _ (has : HasImage outside name image) (gives : HasLines (value_limit area) outside script lines) where
     has_areas : HasAreas image (area ∷ [])
     has_areas = record { version = ap version_of (sym log.only); are = ap (map plain_area) (sym log.only) }
 
     sets : SetsLog name script outside image area lines
-    sets = record { opens = record { has = has; area_is = has_areas; role = log.role }; plays = plays }
+    sets = record { opens = record { has = has; area_is = has_areas; role = log.role }; gives = gives }
 
     done : (answers : List Answer) (text : List ℕ) (file : Option File)
         → ring_damage (begun image bench) area ≡ None → Ran area (Mount ∷ lines) answers (begun image bench) bench'
@@ -53,7 +53,7 @@ module _ (name script out : List ℕ) (outside : Outside) (banks : List Bank) (b
         → (bench'.is_on ≡ true → erases_on bench' area ≡ 0)
         → text ≡ texts answers
         → WritesLeft (Some out) (held areas bench') file
-        → PlaysLog name script out outside bench bench' text file
+        → LogJobDoes name script out outside bench bench' text file
     done answers text file sound ran undamaged rests prints writes =
         let same : held areas bench' ≡ left image bench' =
         ap (λ (banks : List Bank). record { version = version_of areas; banks = banks; areas = map plain_area areas; bytes = bench'.bytes }) ran.whole.keeps.banks in
@@ -81,30 +81,30 @@ module _ (name script out : List ℕ) (outside : Outside) (banks : List Bank) (b
     began went = record { image = image; area = area; lines = lines; sets = sets; went = went }
 
     stopped_at : (fault : SessionFault) → RunEnds area (Mount ∷ lines) (begun image bench) bench' (Err fault) → (stop : Stop) → IsStop area fault stop
-        → LogPlayEnds name script out outside outside bench bench' (Err stop)
+        → LogJobEnds name script out outside outside bench bench' (Err stop)
     stopped_at (IsDamaged damaged) shows stop is =
-        subst (λ (s : Stop). LogPlayEnds name script out outside outside bench bench' (Err s)) (sym is)
+        subst (λ (s : Stop). LogJobEnds name script out outside outside bench bench' (Err s)) (sym is)
         (inr (inr (inr (record { image = image; area = area; lines = lines; sets = sets; damage = damaged; is = refl; shows = shows.0; loaded = shows.1 }))), refl)
     stopped_at WantsMemory stops stop is =
-        subst (λ (s : Stop). LogPlayEnds name script out outside outside bench bench' (Err s)) (sym is) (inr (began (inl stops.1)), refl)
+        subst (λ (s : Stop). LogJobEnds name script out outside outside bench bench' (Err s)) (sym is) (inr (began (inl stops.1)), refl)
 
     -- the same from the flash as it was when the lines began
     module _ (first : Device) (loaded : first ≡ begun image bench) where
       pub stopped : (fault : SessionFault) (stop : Stop) → RunEnds area (Mount ∷ lines) first bench' (Err fault) → IsStop area fault stop
-          → LogPlayEnds name script out outside outside bench bench' (Err stop)
+          → LogJobEnds name script out outside outside bench bench' (Err stop)
       stopped fault stop stops is =
           stopped_at fault (subst (λ (d : Device). RunEnds area (Mount ∷ lines) d bench' (Err fault)) loaded stops) stop is
 
-      pub wanted : (answers : List Answer) → Ran area (Mount ∷ lines) answers first bench' → LogPlayEnds name script out outside outside bench bench' (Err NoMemory)
+      pub wanted : (answers : List Answer) → Ran area (Mount ∷ lines) answers first bench' → LogJobEnds name script out outside outside bench bench' (Err NoMemory)
       wanted answers ran = (inr (began (inr (answers, subst (λ (d : Device). Ran area (Mount ∷ lines) answers d bench') loaded ran))), refl)
 
-      pub played : (answers : List Answer) (text : List ℕ) (file : Option File)
+      pub job_done : (answers : List Answer) (text : List ℕ) (file : Option File)
           → ring_damage first area ≡ None → Ran area (Mount ∷ lines) answers first bench'
           → (ring_damage first area ≡ None → ring_damage bench' area ≡ None)
           → (bench'.is_on ≡ true → erases_on bench' area ≡ 0)
           → text ≡ texts answers
           → WritesLeft (Some out) (held areas bench') file
-          → PlaysLog name script out outside bench bench' text file
-      played answers text file sound ran undamaged rests prints writes =
+          → LogJobDoes name script out outside bench bench' text file
+      job_done answers text file sound ran undamaged rests prints writes =
           done answers text file (subst (λ (d : Device). ring_damage d area ≡ None) loaded sound)
           (subst (λ (d : Device). Ran area (Mount ∷ lines) answers d bench') loaded ran) (undamaged sound) rests prints writes

@@ -25,7 +25,7 @@ use Rattle.session_jobs.specs.MirrorInputs.{AreMirrored, may_mirror}
 count_more : (p : Area → Bool) (area : Area) (areas : List Area) → count_by p (area ∷ areas) ≡ cond (p area) 1 0 + count_by p areas
 count_more p area areas = sum_by-cons (λ a. cond (p a) 1 0) area areas
 
--- the unused room of labels counts for nothing
+-- the unused room of labels is ignored
 pub same_count : (p : Role → Bool) (areas : List Area) → count_by (λ area. p area.role) (map plain_area areas) ≡ count_by (λ area. p area.role) areas
 same_count p [] = refl
 same_count p (area ∷ areas) =

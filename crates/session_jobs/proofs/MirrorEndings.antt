@@ -1,4 +1,4 @@
--- How a play on a mirror ends, from how its lines ended on a bench that was just loaded.
+-- How a job on a mirror ends, from how its lines ended on a bench that was just loaded.
 use Rattle.std.proofs.Common.{◌≡◌, ◌⊎◌, ◌+◌, ℕ, Bool, false, List, ◌∷◌, map, Option, Some, None, Err, inl, inr, refl, sym, ap, subst, ◌∙◌}
 use Rattle.std.specs.Global.{Vec}
 use Rattle.std.proofs.lemmas.Bool.{false≢true}
@@ -23,7 +23,7 @@ use Rattle.image_jobs.specs.declared.stops.Refusal.{Refusal}
 use Rattle.image_jobs.specs.declared.stops.Stop.{Stop}
 use Rattle.image_jobs.specs.declared.stops.Stop.TheVariants.{Refused, HostFailed, NoMemory}
 use Rattle.image_jobs.specs.Images.{begun, flash_of, left}
-use Rattle.image_jobs.specs.Plays.{File, WritesLeft}
+use Rattle.image_jobs.specs.Jobs.{File, WritesLeft}
 use Rattle.image_jobs.specs.Reading.{HasImage, ReadsOr}
 use Rattle.mirror_session.specs.declared.line.Line.{Line}
 use Rattle.mirror_session.specs.declared.line.Line.TheVariants.{Mount}
@@ -39,7 +39,7 @@ use Rattle.mirror_session.proofs.PowerLemmas.{stays_mirrored}
 use Rattle.mirror_session.proofs.PrefixLemmas.{holds_acknowledged}
 use Rattle.session_jobs.specs.MirrorInputs.{AreMirrored, HasLines, LacksLines}
 use Rattle.session_jobs.proofs.SoundLemmas.{stays_sound, stops_sound}
-use Rattle.session_jobs.specs.MirrorPlays.{HasBegunMirror, IsStop, MirrorPlayEnds, OpensMirror, PlaysMirror, SetsMirror, any_meanings, closing, damage_in, opening, other_settings_in, settings_in, texts}
+use Rattle.session_jobs.specs.MirrorJobs.{HasBegunMirror, IsStop, MirrorJobEnds, OpensMirror, MirrorJobDoes, SetsMirror, any_meanings, closing, damage_in, opening, other_settings_in, settings_in, texts}
 
 -- ---- an image with the banks and bytes of a bench reads as that bench
 
@@ -94,7 +94,7 @@ module _ (version : ℕ) (plain_areas areas : List Area) (d : Device) where
 
 without_lines : (name script out : List ℕ) (host host' : Outside) (image : Plain) (areas : List Area) (bench : Device) → OpensMirror name host image areas → (stop : Stop)
     → ReadsOr {X = Vec Line} (λ lines. HasLines (limit_of areas) host script lines.items) (LacksLines (limit_of areas) host script) host host' (Err stop)
-    → MirrorPlayEnds name script out host host' bench bench (Err stop)
+    → MirrorJobEnds name script out host host' bench bench (Err stop)
 without_lines name script out host host' image areas bench opens (Refused refusal) reads =
     (inr (inr (inl (record { image = image; areas = areas; opens = opens; lacks = reads.0 }, refl))), reads.1)
 without_lines name script out host host' image areas bench opens HostFailed reads = (refl, reads)
@@ -103,7 +103,7 @@ without_lines name script out host host' image areas bench opens NoMemory reads 
 -- the same from the host and the limit as they were then
 pub lacks_lines : (name script out : List ℕ) (host mid host' : Outside) (image : Plain) (areas : List Area) (bench : Device) (limit : ℕ) (stop : Stop) → OpensMirror name host image areas → mid ≡ host → limit ≡ limit_of areas
     → ReadsOr {X = Vec Line} (λ lines. HasLines limit mid script lines.items) (LacksLines limit mid script) mid host' (Err stop)
-    → MirrorPlayEnds name script out host host' bench bench (Err stop)
+    → MirrorJobEnds name script out host host' bench bench (Err stop)
 lacks_lines name script out host mid host' image areas bench limit stop opens stays is reads =
     without_lines name script out host host' image areas bench opens stop
     (subst (λ (n : ℕ). ReadsOr {X = Vec Line} (λ lines. HasLines n host script lines.items) (LacksLines n host script) host host' (Err stop)) is
@@ -112,20 +112,20 @@ lacks_lines name script out host mid host' image areas bench limit stop opens st
 -- ---- an image on a bench
 
 module _ (name script out : List ℕ) (outside : Outside) (banks : List Bank) (bytes : List (List ℕ)) (areas : List Area) (lines : List Line) (bench bench' : Device) where
-  -- the image of the play
+  -- the image of the job
   abbrev pub image : Plain
   image = record { version = version_of areas; banks = banks; areas = map plain_area areas; bytes = bytes }
 
-  module _ (mirrored : AreMirrored areas) (has : HasImage outside name image) (plays : HasLines (limit_of areas) outside script lines) where
+  module _ (mirrored : AreMirrored areas) (has : HasImage outside name image) (gives : HasLines (limit_of areas) outside script lines) where
     sets : SetsMirror name script outside image areas lines
-    sets = record { opens = record { has = has; are = record { version = refl; are = refl }; mirrored = mirrored }; plays = plays }
+    sets = record { opens = record { has = has; are = record { version = refl; are = refl }; mirrored = mirrored }; gives = gives }
 
     done : (answers : List Answer) (whole : Bool) (text : List ℕ) (file : Option File) (map_left : IsMirrorMap any_serves areas bench')
         → Ran any_meanings areas (Mount ∷ lines) answers (opening image bench) (closing bench' whole)
         → RestsNow any_rests any_meanings areas (closing bench' whole)
         → text ≡ texts answers
         → WritesLeft (Some out) (held areas bench') file
-        → PlaysMirror name script out outside bench bench' text file
+        → MirrorJobDoes name script out outside bench bench' text file
     done answers whole text file map_left ran still_rests prints writes =
         let same : held areas bench' ≡ left image bench' =
         ap (λ (banks : List Bank). record { version = version_of areas; banks = banks; areas = map plain_area areas; bytes = bench'.bytes }) ran.keeps.banks in
@@ -174,7 +174,7 @@ module _ (name script out : List ℕ) (outside : Outside) (banks : List Bank) (b
     began went = record { image = image; areas = areas; lines = lines; sets = sets; went = went }
 
     stops_at_mount : (fault : SessionFault) (refusal : Refusal) → RunStops any_meanings areas (Mount ∷ lines) (opening image bench) bench' fault → IsStop areas fault (Refused refusal)
-        → MirrorPlayEnds name script out outside outside bench bench' (Err (Refused refusal))
+        → MirrorJobEnds name script out outside outside bench bench' (Err (Refused refusal))
     stops_at_mount fault refusal stops is = (
       inr (inr (inr (record {
         image = image;
@@ -184,42 +184,42 @@ module _ (name script out : List ℕ) (outside : Outside) (banks : List Bank) (b
         fault = fault;
         is = is;
         stops = stops;
-        shows = λ none tells. stops_sound areas (Mount ∷ lines) (opening image bench) bench' fault stops
-            (sym (damage_same (version_of areas) (map plain_area areas) areas (begun image bench)) ∙ none) tells;
-        fits = λ fit tells. stops.fitting tells (record { settings = fit; other = λ now. absurd (false≢true now) });
+        shows = λ none reports. stops_sound areas (Mount ∷ lines) (opening image bench) bench' fault stops
+            (sym (damage_same (version_of areas) (map plain_area areas) areas (begun image bench)) ∙ none) reports;
+        fits = λ fit reports. stops.fitting reports (record { settings = fit; other = λ now. absurd (false≢true now) });
       }))),
       refl,
     )
 
     stopped_at : (fault : SessionFault) → RunStops any_meanings areas (Mount ∷ lines) (opening image bench) bench' fault → (stop : Stop) → IsStop areas fault stop
-        → MirrorPlayEnds name script out outside outside bench bench' (Err stop)
+        → MirrorJobEnds name script out outside outside bench bench' (Err stop)
     stopped_at (IsDamaged place damage) stops stop (label, named, is) =
-        subst (λ (s : Stop). MirrorPlayEnds name script out outside outside bench bench' (Err s)) (sym is)
+        subst (λ (s : Stop). MirrorJobEnds name script out outside outside bench bench' (Err s)) (sym is)
         (stops_at_mount (IsDamaged place damage) _ stops (label, named, refl))
     stopped_at (IsUnfit place) stops stop (label, named, is) =
-        subst (λ (s : Stop). MirrorPlayEnds name script out outside outside bench bench' (Err s)) (sym is)
+        subst (λ (s : Stop). MirrorJobEnds name script out outside outside bench bench' (Err s)) (sym is)
         (stops_at_mount (IsUnfit place) _ stops (label, named, refl))
     stopped_at WantsMemory stops stop is =
-        subst (λ (s : Stop). MirrorPlayEnds name script out outside outside bench bench' (Err s)) (sym is) (inr (began (inl stops)), refl)
+        subst (λ (s : Stop). MirrorJobEnds name script out outside outside bench bench' (Err s)) (sym is) (inr (began (inl stops)), refl)
 
     -- the same from the flash as it was when the lines began
     module _ (first : Device) (loaded : first ≡ begun image bench) where
       pub stopped : (fault : SessionFault) (stop : Stop) → RunStops any_meanings areas (Mount ∷ lines) (moment first false) bench' fault → IsStop areas fault stop
-          → MirrorPlayEnds name script out outside outside bench bench' (Err stop)
+          → MirrorJobEnds name script out outside outside bench bench' (Err stop)
       stopped fault stop stops is =
           stopped_at fault (subst (λ (d : Device). RunStops any_meanings areas (Mount ∷ lines) (moment d false) bench' fault) loaded stops) stop is
 
       pub wanted : (answers : List Answer) (whole : Bool) → Ran any_meanings areas (Mount ∷ lines) answers (moment first false) (moment bench' whole)
-          → MirrorPlayEnds name script out outside outside bench bench' (Err NoMemory)
+          → MirrorJobEnds name script out outside outside bench bench' (Err NoMemory)
       wanted answers whole ran =
           (inr (began (inr (answers, whole, subst (λ (d : Device). Ran any_meanings areas (Mount ∷ lines) answers (moment d false) (moment bench' whole)) loaded ran))), refl)
 
-      pub played : (answers : List Answer) (whole : Bool) (text : List ℕ) (file : Option File) → IsMirrorMap any_serves areas bench'
+      pub job_done : (answers : List Answer) (whole : Bool) (text : List ℕ) (file : Option File) → IsMirrorMap any_serves areas bench'
           → Ran any_meanings areas (Mount ∷ lines) answers (moment first false) (moment bench' whole)
           → RestsNow any_rests any_meanings areas (moment bench' whole)
           → text ≡ texts answers
           → WritesLeft (Some out) (held areas bench') file
-          → PlaysMirror name script out outside bench bench' text file
-      played answers whole text file map_left ran still_rests prints writes =
+          → MirrorJobDoes name script out outside bench bench' text file
+      job_done answers whole text file map_left ran still_rests prints writes =
           done answers whole text file map_left
           (subst (λ (d : Device). Ran any_meanings areas (Mount ∷ lines) answers (moment d false) (moment bench' whole)) loaded ran) still_rests prints writes

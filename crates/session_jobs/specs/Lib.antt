@@ -1,6 +1,6 @@
 pub mod ItemInputs
-pub mod ItemPlays
+pub mod ItemJobs
 pub mod LogInputs
-pub mod LogPlays
+pub mod LogJobs
 pub mod MirrorInputs
-pub mod MirrorPlays
+pub mod MirrorJobs

@@ -1,4 +1,4 @@
--- Which image a play on a log begins with and which lines it plays, or why there are none.
+-- Which image a job on a log begins with and which lines it carries out, or why there are none.
 use Rattle.std.specs.Prelude.{◌≡◌, ◌⊎◌, ℕ, List, [], ◌∷◌, map}
 use Rattle.zs_host.specs.Outside.{Outside}
 use Rattle.flash_map.specs.declared.area.Area.{Area}

@@ -4,13 +4,13 @@
 #![tactic(auto)]
 
 mod item_opening;
-mod item_playing;
+mod item_running;
 mod log_opening;
-mod log_playing;
+mod log_running;
 mod mirror_opening;
-mod mirror_playing;
-mod telling;
+mod mirror_running;
+mod report;
 
-pub use item_playing::play_items;
-pub use log_playing::play_log;
-pub use mirror_playing::play_mirror;
+pub use item_running::run_item_job;
+pub use log_running::run_log_job;
+pub use mirror_running::run_mirror_job;

@@ -6,14 +6,14 @@ use Rattle.std.proofs.lemmas.List.Elements.{Contains-append_left, Contains-appen
 use Rattle.script_lines.specs.declared.line.Line.{Line}
 use Rattle.script_lines.specs.declared.line.Line.TheVariants.{Set, Get, Del as Delete, Register, Load, Direct, Save, Commit, RunSet, RunGet, Names, Mount, Cut, Uncut, Migrate}
 use Rattle.script_lines.specs.declared.answer.Answer.{Answer}
-use Rattle.script_lines.specs.declared.answer.Answer.TheVariants.{Done, Value, Absent, Lost, Off, NoSpace, TooMany, Exists, NoKind, NoTarget, Rejected, NoHandler, Loaded, Direct as Told, Saved, Names as Named}
+use Rattle.script_lines.specs.declared.answer.Answer.TheVariants.{Done, Value, Absent, Lost, Off, NoSpace, TooMany, Exists, NoKind, NoTarget, Rejected, NoHandler, Loaded, Direct as Applied, Saved, Names as Named}
 use Rattle.script_lines.specs.declared.answer.SaveEnd.TheVariants.{Whole, NoSpace as NoRoom, TooMany as ManyNames}
 use Rattle.handlers.specs.declared.handler.HandlerKind.{HandlerKind}
 use Rattle.backend_api.specs.Commands.{Command}
 use Rattle.session_table.specs.Commands.{commands_of}
 use Rattle.session_table.specs.Rules.{Rules}
 use Rattle.session_table.specs.State.{State}
-use Rattle.session_table.specs.Step.{Step, Answers, CommandsLost, Changes, Saves, Gets, Tells, TellsAll, Registers, Loads, Commits, Offers, Asks, Mounts, Arms, MovesTo}
+use Rattle.session_table.specs.Step.{Step, Answers, CommandsLost, Changes, Saves, Gets, Reports, ReportsAll, Registers, Loads, Commits, Offers, Asks, Mounts, Arms, MovesTo}
 use Rattle.session_table.specs.Bench.{worked_on, actives_after}
 use Rattle.session_table.proofs.PlaceLemmas.{IsWithin, one_within, beside_within, given_of, given_within}
 
@@ -49,13 +49,13 @@ get_active name (Value value) old new is = active old new is.1
 get_active name Absent old new is = active old new is.1
 get_active name answer old new none = absurd none
 
-tell_active : (subtree : Option (List ℕ)) (answer : Answer) (old new : State) → Tells subtree answer old new → new.active ≡ old.active
-tell_active subtree (Told pairs) old new is = active old new is.1
-tell_active subtree answer old new none = absurd none
+report_active : (subtree : Option (List ℕ)) (answer : Answer) (old new : State) → Reports subtree answer old new → new.active ≡ old.active
+report_active subtree (Applied pairs) old new is = active old new is.1
+report_active subtree answer old new none = absurd none
 
-tell_all_active : (r : Rules) (answer : Answer) (old new : State) → TellsAll r answer old new → new.active ≡ old.active
-tell_all_active r (Named label pairs) old new is = active old new is.2
-tell_all_active r answer old new none = absurd none
+report_all_active : (r : Rules) (answer : Answer) (old new : State) → ReportsAll r answer old new → new.active ≡ old.active
+report_all_active r (Named label pairs) old new is = active old new is.2
+report_all_active r answer old new none = absurd none
 
 register_active : (subtree : List ℕ) (kind : HandlerKind) (answer : Answer) (old new : State) → Registers subtree kind answer old new → new.active ≡ old.active
 register_active subtree kind Exists old new is = active old new is.1
@@ -97,8 +97,8 @@ line_active r (Set name value) answer old new is other = change_active r (comman
 line_active r (Delete name) answer old new is other = change_active r (commands_of (Delete name) old) answer old new is
 line_active r (Save subtree) answer old new is other = save_active r (commands_of (Save subtree) old) answer old new is
 line_active r (Get name) answer old new is other = get_active name answer old new is
-line_active r (Direct subtree) answer old new is other = tell_active subtree answer old new is
-line_active r Names answer old new is other = tell_all_active r answer old new is
+line_active r (Direct subtree) answer old new is other = report_active subtree answer old new is
+line_active r Names answer old new is other = report_all_active r answer old new is
 line_active r (Register subtree kind) answer old new is other = register_active subtree kind answer old new is
 line_active r (Load subtree) answer old new is other = load_active subtree answer old new is
 line_active r Commit answer old new is other = commit_active answer old new is

@@ -34,14 +34,14 @@ count_all room settings (command ∷ commands) free =
     head ∙ omega (arith, rest)
 
 -- and else those before the first that does
-count_front : (room : Room) (settings : Map) (front : List Command) (at : Command) (left : List Command) → AreFree room settings front → is_too_many room (all_applied settings front) at ≡ true
-    → free_count room settings (front ++ at ∷ left) ≡ length front
-count_front room settings [] at left free many =
+count_prefix : (room : Room) (settings : Map) (prefix : List Command) (at : Command) (left : List Command) → AreFree room settings prefix → is_too_many room (all_applied settings prefix) at ≡ true
+    → free_count room settings (prefix ++ at ∷ left) ≡ length prefix
+count_prefix room settings [] at left free many =
     cond-true (is_too_many room settings at) 0 (free_count room (applied settings at) left + 1) (subst (λ (m : Map). is_too_many room m at ≡ true) (none_applied settings) many)
-count_front room settings (command ∷ front) at left free many =
-    let parts = first_free room settings command front free in
-    let rest = count_front room (applied settings command) front at left parts.1 (subst (λ (m : Map). is_too_many room m at ≡ true) (one_applied settings command front) many) in
-    let head = cond-false (is_too_many room settings command) 0 (free_count room (applied settings command) (front ++ at ∷ left) + 1) parts.0 in
+count_prefix room settings (command ∷ prefix) at left free many =
+    let parts = first_free room settings command prefix free in
+    let rest = count_prefix room (applied settings command) prefix at left parts.1 (subst (λ (m : Map). is_too_many room m at ≡ true) (one_applied settings command prefix) many) in
+    let head = cond-false (is_too_many room settings command) 0 (free_count room (applied settings command) (prefix ++ at ∷ left) + 1) parts.0 in
     head ∙ omega (arith, rest)
 
 pub all_are_free : (room : Room) (settings : Map) (commands : List Command) → AreFree room settings commands → all_free room settings commands ≡ true
@@ -50,7 +50,7 @@ all_are_free room settings commands free = eq-eqb (free_count room settings comm
 pub stops_at : (room : Room) (commands : List Command) (count : ℕ) (before now : Map) → (stops : StopsForNames room commands count before now) → free_count room before commands ≡ length stops.split.done
 stops_at room commands count before now stops =
     ap (free_count room before) stops.split.is
-    ∙ count_front room before stops.split.done stops.split.at stops.split.left stops.free (subst (λ (m : Map). is_too_many room m stops.split.at ≡ true) stops.settings stops.many)
+    ∙ count_prefix room before stops.split.done stops.split.at stops.split.left stops.free (subst (λ (m : Map). is_too_many room m stops.split.at ≡ true) stops.settings stops.many)
 
 pub not_all_free : (room : Room) (commands : List Command) (count : ℕ) (before now : Map) → StopsForNames room commands count before now → all_free room before commands ≡ false
 not_all_free room commands count before now stops =
@@ -59,9 +59,9 @@ not_all_free room commands count before now stops =
     ne_eqb (free_count room before commands) (length commands) (λ (e : free_count room before commands ≡ length commands). omega (arith, at, len, e))
 
 -- the commands before the one where it stopped
-pub front_is : (room : Room) (commands : List Command) (count : ℕ) (before now : Map) → (stops : StopsForNames room commands count before now)
+pub prefix_is : (room : Room) (commands : List Command) (count : ℕ) (before now : Map) → (stops : StopsForNames room commands count before now)
     → take (free_count room before commands) commands ≡ stops.split.done
-front_is room commands count before now stops =
+prefix_is room commands count before now stops =
     ap (λ (n : ℕ). take n commands) (stops_at room commands count before now stops)
     ∙ ap (take (length stops.split.done)) stops.split.is
     ∙ take-append_seam stops.split.done (stops.split.at ∷ stops.split.left)

@@ -29,7 +29,7 @@ module _ {Line Answer State : Type 0} (step : Line → Answer → State → Stat
 
   -- a run of some lines and others behind them is two runs
   pub split : (lines more : List Line) (answers : List Answer) (old new : State) → Follows step (lines ++ more) answers old new
-      → (front back : List Answer) × (mid : State) × (answers ≡ front ++ back) × Follows step lines front old mid × Follows step more back mid new
+      → (prefix back : List Answer) × (mid : State) × (answers ≡ prefix ++ back) × Follows step lines prefix old mid × Follows step more back mid new
   split [] more answers old new runs = ([], answers, old, refl, refl, runs)
   split (line ∷ lines) more [] old new none = absurd none
   split (line ∷ lines) more (answer ∷ answers) old new runs =
@@ -53,7 +53,7 @@ module _ {Line Answer State : Type 0} (step : Line → Answer → State → Stat
   kept Keeps same both each (line ∷ lines) (answer ∷ answers) old new runs =
       both old runs.0 new (each line answer old runs.0 runs.1) (kept Keeps same both each lines answers runs.0 new runs.2)
 
-  -- a count that each step raises by what its answer tells
+  -- a count that each step raises by what its answer reports
   pub summed : (count : State → ℕ) (of : Answer → ℕ) → ((line : Line) (answer : Answer) (old new : State) → step line answer old new → count old + of answer ≡ count new)
       → (lines : List Line) (answers : List Answer) (old new : State) → Follows step lines answers old new → count old + sum_by of answers ≡ count new
   summed count of each [] [] old new same = let e : count new ≡ count old = ap count same in omega (arith, e)

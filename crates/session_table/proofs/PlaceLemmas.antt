@@ -21,10 +21,10 @@ only a x has = only_at a x has.0 has.1 has.2
 pub one_within : (a : ℕ) (actives : List ℕ) → Contains actives a → IsWithin (a ∷ []) actives
 one_within a actives has x is = subst (λ (y : ℕ). Contains actives y) (only a x is) has
 
-pub beside_within : (front places more : List ℕ) → IsWithin places more → IsWithin (front ++ places) (front ++ more)
-beside_within front places more within x is = elim (Contains-append_cases front places x is) [
-  | inl has ↦ Contains-append_left front more x has
-  | inr has ↦ Contains-append_right front more x (within x has)
+pub beside_within : (prefix places more : List ℕ) → IsWithin places more → IsWithin (prefix ++ places) (prefix ++ more)
+beside_within prefix places more within x is = elim (Contains-append_cases prefix places x is) [
+  | inl has ↦ Contains-append_left prefix more x has
+  | inr has ↦ Contains-append_right prefix more x (within x has)
 ]
 
 later : (o : Option ℕ) (xs : List ℕ) (x : ℕ) → Contains xs x → Contains (cons_option o xs) x

@@ -8,7 +8,7 @@ use Rattle.std.proofs.lemmas.List.Elements.{All-head, All-tail}
 use Rattle.script_lines.specs.declared.line.Line.{Line}
 use Rattle.script_lines.specs.declared.line.Line.TheVariants.{Set, Get, Del as Delete, Register, Load, Direct, Save, Commit, RunSet, RunGet, Names, Mount, Cut, Uncut, Migrate}
 use Rattle.script_lines.specs.declared.answer.Answer.{Answer}
-use Rattle.script_lines.specs.declared.answer.Answer.TheVariants.{Done, Value, Absent, Lost, Off, NoSpace, TooMany, Exists, NoKind, NoTarget, Rejected, NoHandler, Loaded, Direct as Told, Saved, Names as Named}
+use Rattle.script_lines.specs.declared.answer.Answer.TheVariants.{Done, Value, Absent, Lost, Off, NoSpace, TooMany, Exists, NoKind, NoTarget, Rejected, NoHandler, Loaded, Direct as Applied, Saved, Names as Named}
 use Rattle.script_lines.specs.declared.answer.SaveEnd.{SaveEnd}
 use Rattle.script_lines.specs.declared.answer.SaveEnd.TheVariants.{Whole, NoSpace as NoRoom, TooMany as ManyNames}
 use Rattle.script_lines.specs.declared.lists.Give.{Give}
@@ -22,9 +22,9 @@ use Rattle.session_table.specs.Commands.{commands_of, all_puts, StopsForNames}
 use Rattle.session_table.specs.Follows.{Follows}
 use Rattle.session_table.specs.Rules.{Rules}
 use Rattle.session_table.specs.State.{State, IsOn}
-use Rattle.session_table.specs.Step.{Step, Answers, Changes, Saves, Gets, Tells, TellsAll, Registers, Loads, Commits, Offers, Asks, Mounts, Arms, Migrates, MovesTo, told, as_pair, deliveries_of, is_registered, without_first, held_for, needs_power}
+use Rattle.session_table.specs.Step.{Step, Answers, Changes, Saves, Gets, Reports, ReportsAll, Registers, Loads, Commits, Offers, Asks, Mounts, Arms, Migrates, MovesTo, reported, as_pair, deliveries_of, is_registered, without_first, held_for, needs_power}
 use Rattle.session_table.specs.Plain.{Outcome, ComesOut, without_units, is_plain, free_count, all_free, carried_out, plain_change, plain_save, plain_taking, plain_register, plain_load, plain_offer, plain_asked, plain_move, plain_on, plain as plain_of, plain_answers, plain_state, value_or_absent}
-use Rattle.session_table.proofs.CommandLemmas.{count_all, all_are_free, stops_at, not_all_free, front_is}
+use Rattle.session_table.proofs.CommandLemmas.{count_all, all_are_free, stops_at, not_all_free, prefix_is}
 
 -- an outcome by a test
 by_true : (test : Bool) (x y : Outcome) (answer : Answer) (new : State) → test ≡ true → ComesOut x answer new → ComesOut (cond test x y) answer new
@@ -38,14 +38,14 @@ module _ (r : Rules) where
   all_state : (commands : List Command) (old new : State) → free_count (r.room old.active) old.settings commands ≡ length commands
       → new ≡ record old { settings = all_applied old.settings commands } → new ≡ carried_out r commands old
   all_state commands old new count is =
-      let front : take (free_count (r.room old.active) old.settings commands) commands ≡ commands = take_all (free_count (r.room old.active) old.settings commands) commands (omega (arith, count)) in
-      is ∙ sym (ap (λ (cs : List Command). record old { settings = all_applied old.settings cs }) front)
+      let prefix : take (free_count (r.room old.active) old.settings commands) commands ≡ commands = take_all (free_count (r.room old.active) old.settings commands) commands (omega (arith, count)) in
+      is ∙ sym (ap (λ (cs : List Command). record old { settings = all_applied old.settings cs }) prefix)
 
-  front_state : (commands : List Command) (count : ℕ) (old new : State) → StopsForNames (r.room old.active) commands count old.settings new.settings
+  prefix_state : (commands : List Command) (count : ℕ) (old new : State) → StopsForNames (r.room old.active) commands count old.settings new.settings
       → new ≡ record old { settings = new.settings } → new ≡ carried_out r commands old
-  front_state commands count old new stops is =
+  prefix_state commands count old new stops is =
       is ∙ ap (λ (m : Map). record old { settings = m }) stops.settings
-      ∙ sym (ap (λ (cs : List Command). record old { settings = all_applied old.settings cs }) (front_is (r.room old.active) commands count old.settings new.settings stops))
+      ∙ sym (ap (λ (cs : List Command). record old { settings = all_applied old.settings cs }) (prefix_is (r.room old.active) commands count old.settings new.settings stops))
 
   change_plain : (commands : List Command) (answer : Answer) (old new : State) → Changes r commands answer old new → is_plain answer ≡ true → ComesOut (plain_change r commands old) answer new
   change_plain commands (Done units) old new is plain = (
@@ -54,7 +54,7 @@ module _ (r : Rules) where
   )
   change_plain commands (TooMany units) old new is plain = (
     sym (cond-false (all_free (r.room old.active) old.settings commands) (Done 0) (TooMany 0) (not_all_free (r.room old.active) commands 0 old.settings new.settings is.1)),
-    front_state commands 0 old new is.1 (is.2 ∙ ap (λ (m : Map). record old { settings = m }) (sym (ap (λ (s : State). s.settings) is.2))),
+    prefix_state commands 0 old new is.1 (is.2 ∙ ap (λ (m : Map). record old { settings = m }) (sym (ap (λ (s : State). s.settings) is.2))),
   )
   change_plain commands (NoSpace units need live) old new is plain = absurd (false≢true plain)
   change_plain commands (Lost units chance) old new is plain = absurd (false≢true plain)
@@ -63,17 +63,17 @@ module _ (r : Rules) where
   save_plain : (commands : List Command) (answer : Answer) (old new : State) → Saves r commands answer old new → is_plain answer ≡ true → ComesOut (plain_save r commands old) answer new
   save_plain commands (Saved pairs units Whole) old new is plain =
       let count = count_all (r.room old.active) old.settings commands is.1.free in (
-        ap (λ (n : ℕ). Saved n 0 Whole) (is.0 ∙ ap told (sym count))
-            ∙ ap (λ (e : SaveEnd). Saved (told (free_count (r.room old.active) old.settings commands)) 0 e)
+        ap (λ (n : ℕ). Saved n 0 Whole) (is.0 ∙ ap reported (sym count))
+            ∙ ap (λ (e : SaveEnd). Saved (reported (free_count (r.room old.active) old.settings commands)) 0 e)
             (sym (cond-true (all_free (r.room old.active) old.settings commands) Whole ManyNames (all_are_free (r.room old.active) old.settings commands is.1.free))),
         all_state commands old new count is.1.state,
       )
   save_plain commands (Saved pairs units ManyNames) old new is plain =
       let at = stops_at (r.room old.active) commands is.0 old.settings new.settings is.2 in (
-        ap (λ (n : ℕ). Saved n 0 ManyNames) (is.1 ∙ ap told (is.2.split.count_is ∙ sym at))
-            ∙ ap (λ (e : SaveEnd). Saved (told (free_count (r.room old.active) old.settings commands)) 0 e)
+        ap (λ (n : ℕ). Saved n 0 ManyNames) (is.1 ∙ ap reported (is.2.split.count_is ∙ sym at))
+            ∙ ap (λ (e : SaveEnd). Saved (reported (free_count (r.room old.active) old.settings commands)) 0 e)
             (sym (cond-false (all_free (r.room old.active) old.settings commands) Whole ManyNames (not_all_free (r.room old.active) commands is.0 old.settings new.settings is.2))),
-        front_state commands is.0 old new is.2 is.3,
+        prefix_state commands is.0 old new is.2 is.3,
       )
   save_plain commands (Saved pairs units (NoRoom need live)) old new is plain = absurd (false≢true plain)
   save_plain commands (Lost units chance) old new is plain = absurd (false≢true plain)
@@ -138,16 +138,16 @@ ask_plain name (Value value) old new is = (sym (ap plain_asked is.0), is.1)
 ask_plain name Absent old new is = (sym (ap plain_asked is.0), is.1)
 ask_plain name answer old new none = absurd none
 
-tell_plain : (subtree : Option (List ℕ)) (r : Rules) (answer : Answer) (old new : State) → Tells subtree answer old new → ComesOut (plain_on r (Direct subtree) old) answer new
-tell_plain subtree r (Told pairs) old new is = (ap Told is.0, is.1)
-tell_plain subtree r answer old new none = absurd none
+report_plain : (subtree : Option (List ℕ)) (r : Rules) (answer : Answer) (old new : State) → Reports subtree answer old new → ComesOut (plain_on r (Direct subtree) old) answer new
+report_plain subtree r (Applied pairs) old new is = (ap Applied is.0, is.1)
+report_plain subtree r answer old new none = absurd none
 
 named_same : (label label' : List ℕ) (pairs pairs' : List Pair) → label ≡ label' → pairs ≡ pairs' → Named label pairs ≡ Named label' pairs'
 named_same label label' pairs pairs' a b = cc
 
-tell_all_plain : (r : Rules) (answer : Answer) (old new : State) → TellsAll r answer old new → ComesOut (plain_on r Names old) answer new
-tell_all_plain r (Named active pairs) old new is = (named_same active (r.label old.active) pairs (map as_pair (entries old.settings)) is.0 is.1, is.2)
-tell_all_plain r answer old new none = absurd none
+report_all_plain : (r : Rules) (answer : Answer) (old new : State) → ReportsAll r answer old new → ComesOut (plain_on r Names old) answer new
+report_all_plain r (Named active pairs) old new is = (named_same active (r.label old.active) pairs (map as_pair (entries old.settings)) is.0 is.1, is.2)
+report_all_plain r answer old new none = absurd none
 
 commit_plain : (r : Rules) (answer : Answer) (old new : State) → Commits answer old new → ComesOut (plain_on r Commit old) answer new
 commit_plain r (Done units) old new is = (refl, is.1)
@@ -167,8 +167,8 @@ on_plain r (Set name value) answer old new is plain = change_plain r (commands_o
 on_plain r (Delete name) answer old new is plain = change_plain r (commands_of (Delete name) old) answer old new is plain
 on_plain r (Save subtree) answer old new is plain = save_plain r (commands_of (Save subtree) old) answer old new is plain
 on_plain r (Get name) answer old new is plain = get_plain name answer old new is
-on_plain r (Direct subtree) answer old new is plain = tell_plain subtree r answer old new is
-on_plain r Names answer old new is plain = tell_all_plain r answer old new is
+on_plain r (Direct subtree) answer old new is plain = report_plain subtree r answer old new is
+on_plain r Names answer old new is plain = report_all_plain r answer old new is
 on_plain r (Register subtree kind) answer old new is plain = register_plain subtree kind answer old new is
 on_plain r (Load subtree) answer old new is plain = load_plain subtree answer old new is
 on_plain r Commit answer old new is plain = commit_plain r answer old new is

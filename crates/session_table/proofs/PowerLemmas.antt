@@ -4,7 +4,7 @@ use Rattle.std.proofs.lemmas.Bool.{false≢true}
 use Rattle.script_lines.specs.declared.line.Line.{Line}
 use Rattle.script_lines.specs.declared.line.Line.TheVariants.{Set, Get, Del as Delete, Register, Load, Direct, Save, Commit, RunSet, RunGet, Names, Mount, Cut, Uncut, Migrate}
 use Rattle.script_lines.specs.declared.answer.Answer.{Answer}
-use Rattle.script_lines.specs.declared.answer.Answer.TheVariants.{Done, Value, Absent, Lost, Off, NoSpace, TooMany, Exists, NoKind, NoTarget, Rejected, NoHandler, Loaded, Direct as Told, Saved, Names as Named}
+use Rattle.script_lines.specs.declared.answer.Answer.TheVariants.{Done, Value, Absent, Lost, Off, NoSpace, TooMany, Exists, NoKind, NoTarget, Rejected, NoHandler, Loaded, Direct as Applied, Saved, Names as Named}
 use Rattle.script_lines.specs.declared.answer.SaveEnd.TheVariants.{Whole, NoSpace as NoRoom, TooMany as ManyNames}
 use Rattle.handlers.specs.declared.handler.HandlerKind.{HandlerKind}
 use Rattle.backend_api.specs.Commands.{Command}
@@ -14,7 +14,7 @@ use Rattle.session_table.specs.Follows.{Follows}
 use Rattle.session_table.specs.Prefix.{power_after, PowerStep}
 use Rattle.session_table.specs.Rules.{Rules}
 use Rattle.session_table.specs.State.{State}
-use Rattle.session_table.specs.Step.{Step, Answers, CommandsLost, Changes, Saves, Gets, Tells, TellsAll, Registers, Loads, Commits, Offers, Asks, Mounts, Arms, Migrates, MovesTo}
+use Rattle.session_table.specs.Step.{Step, Answers, CommandsLost, Changes, Saves, Gets, Reports, ReportsAll, Registers, Loads, Commits, Offers, Asks, Mounts, Arms, Migrates, MovesTo}
 use Rattle.session_table.proofs.FollowsLemmas.{seen}
 
 -- power stays but for a loss
@@ -60,13 +60,13 @@ get_power name (Value value) old new is = power old new is.1
 get_power name Absent old new is = power old new is.1
 get_power name answer old new none = absurd none
 
-tell_power : (subtree : Option (List ℕ)) (answer : Answer) (old new : State) → Tells subtree answer old new → StaysOn answer old new
-tell_power subtree (Told pairs) old new is = power old new is.1
-tell_power subtree answer old new none = absurd none
+report_power : (subtree : Option (List ℕ)) (answer : Answer) (old new : State) → Reports subtree answer old new → StaysOn answer old new
+report_power subtree (Applied pairs) old new is = power old new is.1
+report_power subtree answer old new none = absurd none
 
-tell_all_power : (r : Rules) (answer : Answer) (old new : State) → TellsAll r answer old new → StaysOn answer old new
-tell_all_power r (Named active pairs) old new is = power old new is.2
-tell_all_power r answer old new none = absurd none
+report_all_power : (r : Rules) (answer : Answer) (old new : State) → ReportsAll r answer old new → StaysOn answer old new
+report_all_power r (Named active pairs) old new is = power old new is.2
+report_all_power r answer old new none = absurd none
 
 register_power : (subtree : List ℕ) (kind : HandlerKind) (answer : Answer) (old new : State) → Registers subtree kind answer old new → StaysOn answer old new
 register_power subtree kind Exists old new is = power old new is.1
@@ -108,8 +108,8 @@ line_power r (Set name value) answer old new is = change_power r (commands_of (S
 line_power r (Delete name) answer old new is = change_power r (commands_of (Delete name) old) answer old new is
 line_power r (Save subtree) answer old new is = save_power r (commands_of (Save subtree) old) answer old new is
 line_power r (Get name) answer old new is = get_power name answer old new is
-line_power r (Direct subtree) answer old new is = tell_power subtree answer old new is
-line_power r Names answer old new is = tell_all_power r answer old new is
+line_power r (Direct subtree) answer old new is = report_power subtree answer old new is
+line_power r Names answer old new is = report_all_power r answer old new is
 line_power r (Register subtree kind) answer old new is = register_power subtree kind answer old new is
 line_power r (Load subtree) answer old new is = load_power subtree answer old new is
 line_power r Commit answer old new is = commit_power answer old new is

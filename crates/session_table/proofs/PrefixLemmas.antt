@@ -7,17 +7,17 @@ use Rattle.std.proofs.lemmas.List.Elements.{All-head, All-tail}
 use Rattle.script_lines.specs.declared.line.Line.{Line}
 use Rattle.script_lines.specs.declared.line.Line.TheVariants.{Set, Get, Del as Delete, Register, Load, Direct, Save, Commit, RunSet, RunGet, Names, Mount, Cut, Uncut, Migrate}
 use Rattle.script_lines.specs.declared.answer.Answer.{Answer}
-use Rattle.script_lines.specs.declared.answer.Answer.TheVariants.{Done, Value, Absent, Lost, Off, NoSpace, TooMany, Exists, NoKind, NoTarget, Rejected, NoHandler, Loaded, Direct as Told, Saved, Names as Named}
+use Rattle.script_lines.specs.declared.answer.Answer.TheVariants.{Done, Value, Absent, Lost, Off, NoSpace, TooMany, Exists, NoKind, NoTarget, Rejected, NoHandler, Loaded, Direct as Applied, Saved, Names as Named}
 use Rattle.script_lines.specs.declared.answer.SaveEnd.TheVariants.{Whole, NoSpace as NoRoom, TooMany as ManyNames}
 use Rattle.handlers.specs.declared.handler.HandlerKind.{HandlerKind}
 use Rattle.backend_api.specs.Commands.{Command, applied, all_applied}
 use Rattle.backend_api.specs.Map.{Map}
 use Rattle.session_table.specs.Commands.{commands_of}
 use Rattle.session_table.specs.Follows.{Follows}
-use Rattle.session_table.specs.Prefix.{IsFront, is_torn, Stand, LogStep, IsAfterPrefix}
+use Rattle.session_table.specs.Prefix.{IsPrefix, is_torn, Stand, LogStep, IsAfterPrefix}
 use Rattle.session_table.specs.Rules.{Rules}
 use Rattle.session_table.specs.State.{State}
-use Rattle.session_table.specs.Step.{Step, Answers, CommandsLost, Changes, Saves, Gets, Tells, TellsAll, Registers, Loads, Commits, Offers, Asks, Mounts, Arms, Migrates, MovesTo, told}
+use Rattle.session_table.specs.Step.{Step, Answers, CommandsLost, Changes, Saves, Gets, Reports, ReportsAll, Registers, Loads, Commits, Offers, Asks, Mounts, Arms, Migrates, MovesTo, reported}
 use Rattle.session_table.proofs.CommandLemmas.{none_applied}
 
 -- the settings are those after the commands of the line that stand
@@ -32,9 +32,9 @@ all_commands answer commands old new stand is = record { done = commands; stand 
 no_command : (answer : Answer) (commands : List Command) (old new : State) → Stand answer commands [] → new.settings ≡ old.settings → After commands answer old new
 no_command answer commands old new stand is = record { done = []; stand = stand; settings = is ∙ sym (none_applied old.settings) }
 
-some_commands : (answer : Answer) (commands front rest : List Command) (old new : State) → (IsFront front commands → Stand answer commands front) → commands ≡ front ++ rest
-    → new.settings ≡ all_applied old.settings front → After commands answer old new
-some_commands answer commands front rest old new stand are is = record { done = front; stand = stand (record { rest = rest; are = are }); settings = is }
+some_commands : (answer : Answer) (commands prefix rest : List Command) (old new : State) → (IsPrefix prefix commands → Stand answer commands prefix) → commands ≡ prefix ++ rest
+    → new.settings ≡ all_applied old.settings prefix → After commands answer old new
+some_commands answer commands prefix rest old new stand are is = record { done = prefix; stand = stand (record { rest = rest; are = are }); settings = is }
 
 same : (old new : State) → new ≡ old → new.settings ≡ old.settings
 same old new is = ap (λ (s : State). s.settings) is
@@ -42,7 +42,7 @@ same old new is = ap (λ (s : State). s.settings) is
 module _ (r : Rules) where
   lost_after : (commands : List Command) (units : ℕ) (chance : Bool) (old new : State) → CommandsLost r commands chance old new → chance ≡ false → After commands (Lost units chance) old new
   lost_after commands units true old new is torn = absurd (false≢true (sym torn))
-  lost_after commands units false old new is torn = some_commands (Lost units false) commands is.0.front is.0.rest old new (λ front. front) is.0.are is.0.settings
+  lost_after commands units false old new is torn = some_commands (Lost units false) commands is.0.prefix is.0.rest old new (λ prefix. prefix) is.0.are is.0.settings
 
   change_after : (commands : List Command) (answer : Answer) (old new : State) → Changes r commands answer old new → is_torn answer ≡ false → After commands answer old new
   change_after commands (Done units) old new is torn = all_commands (Done units) commands old new refl (ap (λ (s : State). s.settings) is.1.state)
@@ -54,9 +54,9 @@ module _ (r : Rules) where
   save_after : (commands : List Command) (answer : Answer) (old new : State) → Saves r commands answer old new → is_torn answer ≡ false → After commands answer old new
   save_after commands (Saved pairs units Whole) old new is torn = all_commands (Saved pairs units Whole) commands old new refl (ap (λ (s : State). s.settings) is.1.state)
   save_after commands (Saved pairs units ManyNames) old new is torn =
-      some_commands (Saved pairs units ManyNames) commands is.2.split.done (is.2.split.at ∷ is.2.split.left) old new (λ front. (front, is.1 ∙ ap told is.2.split.count_is)) is.2.split.is is.2.settings
+      some_commands (Saved pairs units ManyNames) commands is.2.split.done (is.2.split.at ∷ is.2.split.left) old new (λ prefix. (prefix, is.1 ∙ ap reported is.2.split.count_is)) is.2.split.is is.2.settings
   save_after commands (Saved pairs units (NoRoom need live)) old new is torn =
-      some_commands (Saved pairs units (NoRoom need live)) commands is.2.split.done (is.2.split.at ∷ is.2.split.left) old new (λ front. (front, is.1 ∙ ap told is.2.split.count_is)) is.2.split.is is.2.settings
+      some_commands (Saved pairs units (NoRoom need live)) commands is.2.split.done (is.2.split.at ∷ is.2.split.left) old new (λ prefix. (prefix, is.1 ∙ ap reported is.2.split.count_is)) is.2.split.is is.2.settings
   save_after commands (Lost units chance) old new is torn = lost_after commands units chance old new is torn
   save_after commands answer old new none torn = absurd none
 
@@ -77,13 +77,13 @@ get_after name (Value value) old new is = no_command (Value value) [] old new re
 get_after name Absent old new is = no_command Absent [] old new refl (same old new is.1)
 get_after name answer old new none = absurd none
 
-tell_after : (subtree : Option (List ℕ)) (answer : Answer) (old new : State) → Tells subtree answer old new → After [] answer old new
-tell_after subtree (Told pairs) old new is = no_command (Told pairs) [] old new refl (same old new is.1)
-tell_after subtree answer old new none = absurd none
+report_after : (subtree : Option (List ℕ)) (answer : Answer) (old new : State) → Reports subtree answer old new → After [] answer old new
+report_after subtree (Applied pairs) old new is = no_command (Applied pairs) [] old new refl (same old new is.1)
+report_after subtree answer old new none = absurd none
 
-tell_all_after : (r : Rules) (answer : Answer) (old new : State) → TellsAll r answer old new → After [] answer old new
-tell_all_after r (Named active pairs) old new is = no_command (Named active pairs) [] old new refl (same old new is.2)
-tell_all_after r answer old new none = absurd none
+report_all_after : (r : Rules) (answer : Answer) (old new : State) → ReportsAll r answer old new → After [] answer old new
+report_all_after r (Named active pairs) old new is = no_command (Named active pairs) [] old new refl (same old new is.2)
+report_all_after r answer old new none = absurd none
 
 register_after : (subtree : List ℕ) (kind : HandlerKind) (answer : Answer) (old new : State) → Registers subtree kind answer old new → After [] answer old new
 register_after subtree kind Exists old new is = no_command Exists [] old new refl (same old new is.1)
@@ -125,8 +125,8 @@ line_after r (Set name value) answer old new is torn = change_after r (commands_
 line_after r (Delete name) answer old new is torn = change_after r (commands_of (Delete name) old) answer old new is torn
 line_after r (Save subtree) answer old new is torn = save_after r (commands_of (Save subtree) old) answer old new is torn
 line_after r (Get name) answer old new is torn = get_after name answer old new is
-line_after r (Direct subtree) answer old new is torn = tell_after subtree answer old new is
-line_after r Names answer old new is torn = tell_all_after r answer old new is
+line_after r (Direct subtree) answer old new is torn = report_after subtree answer old new is
+line_after r Names answer old new is torn = report_all_after r answer old new is
 line_after r (Register subtree kind) answer old new is torn = register_after subtree kind answer old new is
 line_after r (Load subtree) answer old new is torn = load_after subtree answer old new is
 line_after r Commit answer old new is torn = commit_after answer old new is

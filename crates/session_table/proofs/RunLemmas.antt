@@ -12,7 +12,7 @@ use Rattle.migrator.specs.Active.{active_on}
 use Rattle.script_lines.specs.declared.line.Line.{Line}
 use Rattle.script_lines.specs.declared.answer.Answer.{Answer}
 use Rattle.script_lines.specs.Plan.{units_of, is_lost, losses_in, Planned, plan_through, PlansNoLoss}
-use Rattle.session_table.specs.Bench.{Meanings, Moment, LineDone, Runs, Keeps, StaysUnplanned, TellsChance, TellsLastChance, area_at, rules_of, state_of, worked_on, actives_after, all_worked_on, places_of, is_selector}
+use Rattle.session_table.specs.Bench.{Meanings, Moment, LineDone, Runs, Keeps, StaysUnplanned, ReportsChance, ReportsLastChance, area_at, rules_of, state_of, worked_on, actives_after, all_worked_on, places_of, is_selector}
 use Rattle.session_table.specs.Follows.{Follows}
 use Rattle.session_table.specs.Rules.{Rules, IsCounted}
 use Rattle.session_table.specs.Step.{Step}
@@ -98,17 +98,17 @@ module _ (m : Meanings) (areas : List Area) where
       let sel : List ℕ = places_of is_selector areas in
       let active : ℕ = active_on areas old.device in
       let next : List ℕ = actives_after r line answer actives in
-      let front : List ℕ = worked_on r sel line answer actives in
+      let prefix : List ℕ = worked_on r sel line answer actives in
       let back : List ℕ = all_worked_on r sel lines answers next in
       let last : ℕ = mid.device.spent in
       let one = subst (λ (b : List Bank). Keeps (map (area_at areas) (worked_on (rules_of m areas b 0) sel line answer (active ∷ []))) old.device mid.device) is runs.1.keeps in
-      let head = keeps_within (area_at areas) (worked_on r sel line answer (active ∷ [])) front old.device mid.device (works_within r sel line answer active actives has) one in
+      let head = keeps_within (area_at areas) (worked_on r sel line answer (active ∷ [])) prefix old.device mid.device (works_within r sel line answer active actives has) one in
       let goes = subst (λ (b : List Bank). Contains (actives_after (rules_of m areas b last) line answer actives) (active_on areas mid.device)) is
       (goes_on (rules_of m areas old.device.banks last) line answer (state_of m areas old) (state_of m areas mid) actives (runs.1.step last (omega arith)) has) in
       let tail = keeps_of banks lines answers next mid new (runs.1.keeps.banks ∙ is) goes runs.2 in
-      keeps_both (map (area_at areas) (front ++ back)) old.device mid.device new.device
-      (keeps_within (area_at areas) front (front ++ back) old.device mid.device (λ x. Contains-append_left front back x) head)
-      (keeps_within (area_at areas) back (front ++ back) mid.device new.device (λ x. Contains-append_right front back x) tail)
+      keeps_both (map (area_at areas) (prefix ++ back)) old.device mid.device new.device
+      (keeps_within (area_at areas) prefix (prefix ++ back) old.device mid.device (λ x. Contains-append_left prefix back x) head)
+      (keeps_within (area_at areas) back (prefix ++ back) mid.device new.device (λ x. Contains-append_right prefix back x) tail)
 
   unplanned_of : (lines : List Line) (answers : List Answer) (old new : Moment) → Follows (LineDone m areas) lines answers old new → All PlansNoLoss lines → StaysUnplanned old.device new.device
   unplanned_of [] [] old new same free never = (ap (λ (s : Moment). s.device.plan) same ∙ never, ap (λ (s : Moment). s.device.losses) same)
@@ -119,11 +119,11 @@ module _ (m : Meanings) (areas : List Area) where
       let tail = unplanned_of lines answers runs.0 new runs.2 (All-tail PlansNoLoss line lines free) head.0 in
       (tail.0, tail.1 ∙ head.1)
 
-  chance_of : (lines : List Line) (answers : List Answer) (old new : Moment) → Follows (LineDone m areas) lines answers old new → TellsLastChance m areas lines answers new.device
+  chance_of : (lines : List Line) (answers : List Answer) (old new : Moment) → Follows (LineDone m areas) lines answers old new → ReportsLastChance m areas lines answers new.device
   chance_of [] [] old new same = tt
   chance_of [] (answer ∷ answers) old new none = absurd none
   chance_of (line ∷ lines) [] old new none = absurd none
-  chance_of (line ∷ []) (answer ∷ []) old new runs = subst (λ (s : Moment). TellsChance m areas line answer s.device) (sym runs.2) runs.1.chance
+  chance_of (line ∷ []) (answer ∷ []) old new runs = subst (λ (s : Moment). ReportsChance m areas line answer s.device) (sym runs.2) runs.1.chance
   chance_of (line ∷ []) (answer ∷ also ∷ answers) old new runs = absurd runs.2
   chance_of (line ∷ next ∷ lines) (answer ∷ []) old new runs = absurd runs.2
   chance_of (line ∷ next ∷ lines) (answer ∷ also ∷ answers) old new runs = chance_of (next ∷ lines) (also ∷ answers) runs.0 new runs.2

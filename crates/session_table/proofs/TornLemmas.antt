@@ -12,7 +12,7 @@ use Rattle.session_table.specs.Prefix.{Stand}
 use Rattle.session_table.specs.Rules.{Rules}
 use Rattle.session_table.specs.State.{State}
 use Rattle.session_table.specs.Step.{Step, CommandsLost}
-use Rattle.session_table.specs.Torn.{Deed, Does, DoAll, TornAt, BecomeOf, Told, DeedStep, IsAfterDeeds}
+use Rattle.session_table.specs.Torn.{Deed, Does, DoAll, TornAt, BecomeOf, Applied, DeedStep, IsAfterDeeds}
 use Rattle.session_table.specs.Torn.Deed.{did, tore}
 use Rattle.session_table.proofs.CommandLemmas.{none_applied, one_applied}
 use Rattle.session_table.proofs.PrefixLemmas.{After, step_after}
@@ -36,7 +36,7 @@ module _ (r : Rules) where
   torn_became : (units : ℕ) (commands : List Command) (old new : State) → CommandsLost r commands true old new → Became old.active (Lost units true) commands old.settings new.settings
   torn_became units commands old new is = let torn = is.0 in record {
     deeds = map did torn.split.done ++ tore old.active torn.split.at torn.units ∷ [];
-    become = record { front = torn.split.done; at = torn.split.at; rest = torn.split.left; units = torn.units; are = torn.split.is; deeds_are = refl };
+    become = record { prefix = torn.split.done; at = torn.split.at; rest = torn.split.left; units = torn.units; are = torn.split.is; deeds_are = refl };
     made = do_then (map did torn.split.done) (tore old.active torn.split.at torn.units ∷ []) old.settings (all_applied old.settings torn.split.done) new.settings (did_all old.settings torn.split.done)
         (new.settings, torn.torn, refl);
   }

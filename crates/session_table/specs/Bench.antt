@@ -128,7 +128,7 @@ pub record Keeps (areas : List Area) (old new : Device) : Type 0 where
 
 -- ---- one line
 
--- on a flash that tells that no loss is planned none comes, and none is planned afterwards
+-- on a flash that is known to have no loss planned none comes, and none is planned afterwards
 abbrev pub StaysUnplanned : Device → Device → Type 0
 StaysUnplanned old new = old.plan ≡ Never → (new.plan ≡ Never) × (new.losses ≡ old.losses)
 
@@ -147,11 +147,11 @@ pub record ShowsChance (m : Meanings) (area : Area) (chance : Bool) (d : Device)
   pub is : chance ≡ on m.chance d area loss
 
 -- at a command's loss alone
-abbrev pub TellsChance : Meanings → List Area → Line → Answer → Device → Type 0
-TellsChance m areas Mount answer d = ⊤
-TellsChance m areas Migrate answer d = ⊤
-TellsChance m areas line (Lost units chance) d = ShowsChance m (area_at areas (active_on areas d)) chance d
-TellsChance m areas line answer d = ⊤
+abbrev pub ReportsChance : Meanings → List Area → Line → Answer → Device → Type 0
+ReportsChance m areas Mount answer d = ⊤
+ReportsChance m areas Migrate answer d = ⊤
+ReportsChance m areas line (Lost units chance) d = ShowsChance m (area_at areas (active_on areas d)) chance d
+ReportsChance m areas line answer d = ⊤
 
 pub record LineDone (m : Meanings) (areas : List Area) (line : Line) (answer : Answer) (old new : Moment) :
     Type 0 where
@@ -163,16 +163,16 @@ pub record LineDone (m : Meanings) (areas : List Area) (line : Line) (answer : A
       (map (area_at areas)
       (worked_on (rules_of m areas old.device.banks 0) (places_of is_selector areas) line answer
       (active_on areas old.device ∷ []))) old.device new.device
-  pub chance : TellsChance m areas line answer new.device
+  pub chance : ReportsChance m areas line answer new.device
 
 -- ---- a run
 
 -- at the loss of the last line
-abbrev pub TellsLastChance : Meanings → List Area → List Line → List Answer → Device → Type 0
-TellsLastChance m areas [] answers d = ⊤
-TellsLastChance m areas (line ∷ lines) [] d = ⊤
-TellsLastChance m areas (line ∷ []) (answer ∷ []) d = TellsChance m areas line answer d
-TellsLastChance m areas (line ∷ lines) (answer ∷ answers) d = TellsLastChance m areas lines answers d
+abbrev pub ReportsLastChance : Meanings → List Area → List Line → List Answer → Device → Type 0
+ReportsLastChance m areas [] answers d = ⊤
+ReportsLastChance m areas (line ∷ lines) [] d = ⊤
+ReportsLastChance m areas (line ∷ []) (answer ∷ []) d = ReportsChance m areas line answer d
+ReportsLastChance m areas (line ∷ lines) (answer ∷ answers) d = ReportsLastChance m areas lines answers d
 
 pub record Runs (m : Meanings) (areas : List Area) (lines : List Line) (answers : List Answer)
     (old new : Moment) : Type 0 where
@@ -187,4 +187,4 @@ pub record Runs (m : Meanings) (areas : List Area) (lines : List Line) (answers 
       (all_worked_on (rules_of m areas old.device.banks 0) (places_of is_selector areas) lines answers
       (active_on areas old.device ∷ []))) old.device new.device
   pub unplanned : All PlansNoLoss lines → StaysUnplanned old.device new.device
-  pub chance : TellsLastChance m areas lines answers new.device
+  pub chance : ReportsLastChance m areas lines answers new.device

@@ -38,11 +38,11 @@ pub record StopsForNames (room : Room) (commands : List Command) (count : ℕ) (
 -- a name too many.
 pub record StopsForPower (room : Room) (commands : List Command) (before now : Map) : Type 0 where
   pub starts : StartsFree room before commands
-  pub front : List Command
+  pub prefix : List Command
   pub rest : List Command
-  pub are : commands ≡ front ++ rest
-  pub free : AreFree room before front
-  pub settings : now ≡ all_applied before front
+  pub are : commands ≡ prefix ++ rest
+  pub free : AreFree room before prefix
+  pub settings : now ≡ all_applied before prefix
 
 -- Power was lost in one of the commands, and so many units of it spell another record.
 pub record StopsTorn (room : Room) (tears : Command → ℕ → Map → Map → Type 0) (commands : List Command)

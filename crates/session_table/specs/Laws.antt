@@ -29,10 +29,11 @@ HoldsAcknowledged r =
     → IsAfterPrefix r lines answers old new
 
 -- Wherever power is lost, the settings are those after what became of the commands: all of a line that was
--- done were carried out; of a save that was refused, the first ones, as many as it tells; of a line in which
--- power was lost, the first so many, and the one behind them may have been torn by chance.
-abbrev pub TellsDeeds : Rules → Type 0
-TellsDeeds r =
+-- done were carried out; of a save that was refused, the first ones, as many as it reports; of a
+-- line in which power was lost, the first so many, and the one behind them may have been torn by
+-- chance.
+abbrev pub ReportsDeeds : Rules → Type 0
+ReportsDeeds r =
     (lines : List Line) (answers : List Answer) (old new : State) → Follows (Step r) lines answers old new
     → IsAfterDeeds r lines answers old new
 

@@ -5,7 +5,7 @@ use Rattle.std.specs.FinMap.{get, entries, empty}
 use Rattle.script_lines.specs.declared.line.Line.{Line}
 use Rattle.script_lines.specs.declared.line.Line.TheVariants.{Set, Get, Del as Delete, Register, Load, Direct, Save, Commit, RunSet, RunGet, Names, Mount, Cut, Uncut, Migrate}
 use Rattle.script_lines.specs.declared.answer.Answer.{Answer}
-use Rattle.script_lines.specs.declared.answer.Answer.TheVariants.{Done, Value, Absent, Lost, Off, NoSpace, TooMany, Exists, NoKind, NoTarget, Rejected, NoHandler, Loaded, Direct as Told, Saved, Names as Named}
+use Rattle.script_lines.specs.declared.answer.Answer.TheVariants.{Done, Value, Absent, Lost, Off, NoSpace, TooMany, Exists, NoKind, NoTarget, Rejected, NoHandler, Loaded, Direct as Applied, Saved, Names as Named}
 use Rattle.script_lines.specs.declared.answer.SaveEnd.TheVariants.{Whole, NoSpace as NoRoom, TooMany as ManyNames}
 use Rattle.handlers.specs.declared.handler.HandlerKind.{HandlerKind}
 use Rattle.handlers.specs.Held.{fresh}
@@ -19,7 +19,7 @@ use Rattle.settings_core.specs.Deliveries.{Delivery, delivery, deliver, deliver_
 use Rattle.session_table.specs.Commands.{commands_of, all_puts}
 use Rattle.session_table.specs.Rules.{Rules}
 use Rattle.session_table.specs.State.{State}
-use Rattle.session_table.specs.Step.{told, as_pair, is_registered, without_first, deliveries_of, give, held_for, needs_power}
+use Rattle.session_table.specs.Step.{reported, as_pair, is_registered, without_first, deliveries_of, give, held_for, needs_power}
 
 -- an answer but for its units
 abbrev pub without_units : Answer → Answer
@@ -75,7 +75,7 @@ plain_change r commands s =
 abbrev pub plain_save : Rules → List Command → State → Outcome
 plain_save r commands s = record {
   answer =
-      Saved (told (free_count (r.room s.active) s.settings commands)) 0
+      Saved (reported (free_count (r.room s.active) s.settings commands)) 0
       (if all_free (r.room s.active) s.settings commands then Whole else ManyNames);
   state = carried_out r commands s;
 }
@@ -142,7 +142,7 @@ plain_on r (Delete name) s = plain_change r (commands_of (Delete name) s) s
 plain_on r (Save subtree) s = plain_save r (commands_of (Save subtree) s) s
 plain_on r (Get name) s = record { answer = value_or_absent (get s.settings name); state = s }
 plain_on r (Direct subtree) s =
-    record { answer = Told (map as_pair (settings_under subtree (entries s.settings))); state = s }
+    record { answer = Applied (map as_pair (settings_under subtree (entries s.settings))); state = s }
 plain_on r Names s =
     record { answer = Named (r.label s.active) (map as_pair (entries s.settings)); state = s }
 plain_on r (Register subtree kind) s = plain_register subtree kind s

@@ -1,5 +1,5 @@
--- Which commands of a run stand: those of the lines that were done, as many as a refused save tells, and the
--- first so many of each line in which power was lost.
+-- Which commands of a run stand: those of the lines that were done, as many as a refused save
+-- reports, and the first so many of each line in which power was lost.
 use Rattle.std.specs.Prelude.{◌≡◌, Bool, true, false, List, [], ◌++◌, length, if◌then◌else◌}
 use Rattle.script_lines.specs.declared.line.Line.{Line}
 use Rattle.script_lines.specs.declared.line.Line.TheVariants.{Mount}
@@ -12,7 +12,7 @@ use Rattle.session_table.specs.Commands.{commands_of}
 use Rattle.session_table.specs.Follows.{Follows}
 use Rattle.session_table.specs.Rules.{Rules}
 use Rattle.session_table.specs.State.{State}
-use Rattle.session_table.specs.Step.{Step, told}
+use Rattle.session_table.specs.Step.{Step, reported}
 
 -- whether power was lost in a record whose units spell another one
 abbrev pub is_torn : Answer → Bool
@@ -20,17 +20,17 @@ is_torn (Lost units chance) = chance
 is_torn answer = false
 
 -- the first ones of these
-pub record IsFront (front commands : List Command) : Type 0 where
+pub record IsPrefix (prefix commands : List Command) : Type 0 where
   pub rest : List Command
-  pub are : commands ≡ front ++ rest
+  pub are : commands ≡ prefix ++ rest
 
--- Of a line's commands these stand: all, where it answered `ok`; as many as it tells, where a save was
+-- Of a line's commands these stand: all, where it answered `ok`; as many as it reports, where a save was
 -- refused; the first so many, where power was lost; else none.
 abbrev pub Stand : Answer → List Command → List Command → Type 0
 Stand (Done units) commands done = done ≡ commands
 Stand (Saved pairs units Whole) commands done = done ≡ commands
-Stand (Saved pairs units end) commands done = IsFront done commands × (pairs ≡ told (length done))
-Stand (Lost units chance) commands done = IsFront done commands
+Stand (Saved pairs units end) commands done = IsPrefix done commands × (pairs ≡ reported (length done))
+Stand (Lost units chance) commands done = IsPrefix done commands
 Stand answer commands done = done ≡ []
 
 -- a state, and the commands that stand so far

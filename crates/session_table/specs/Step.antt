@@ -9,7 +9,7 @@ use Rattle.std.specs.FinMap.{get, entries, empty}
 use Rattle.script_lines.specs.declared.line.Line.{Line}
 use Rattle.script_lines.specs.declared.line.Line.TheVariants.{Set, Get, Del as Delete, Register, Load, Direct, Save, Commit, RunSet, RunGet, Names, Mount, Cut, Uncut, Migrate}
 use Rattle.script_lines.specs.declared.answer.Answer.{Answer}
-use Rattle.script_lines.specs.declared.answer.Answer.TheVariants.{Done, Value, Absent, Lost, Off, NoSpace, TooMany, Exists, NoKind, NoTarget, Rejected, NoHandler, Loaded, Direct as Told, Saved, Names as Named}
+use Rattle.script_lines.specs.declared.answer.Answer.TheVariants.{Done, Value, Absent, Lost, Off, NoSpace, TooMany, Exists, NoKind, NoTarget, Rejected, NoHandler, Loaded, Direct as Applied, Saved, Names as Named}
 use Rattle.script_lines.specs.declared.answer.SaveEnd.TheVariants.{Whole, NoSpace as NoRoom, TooMany as ManyNames}
 use Rattle.script_lines.specs.declared.lists.Give.{Give}
 use Rattle.script_lines.specs.declared.lists.Pair.{Pair}
@@ -19,7 +19,7 @@ use Rattle.handlers.specs.Held.{fresh}
 use Rattle.handlers.specs.Registry.{Registered, subtrees, state_at}
 use Rattle.backend_api.specs.Commands.{Command, all_applied}
 use Rattle.backend_api.specs.Map.{Map, IsStored, IsAbsent}
-use Rattle.backend_api.specs.Room.{most_units}
+use Rattle.backend_api.specs.Room.{command_units}
 use Rattle.settings_core.specs.Carrying.{AreFree, MeetsNoRoom}
 use Rattle.settings_core.specs.Committing.{commit_all}
 use Rattle.settings_core.specs.Saving.{more_pairs}
@@ -51,31 +51,31 @@ CommandsLost r commands true old new =
 -- a set or a delete, which stands for one command or none
 abbrev pub Changes : Rules → List Command → Answer → State → State → Type 0
 Changes r commands (Done units) old new =
-    (units ≤ most_units (r.geometry old.active)) × CommandsDone r commands units old new
+    (units ≤ command_units (r.geometry old.active)) × CommandsDone r commands units old new
 Changes r commands (TooMany units) old new =
     (units ≡ 0) × StopsForNames (r.room old.active) commands 0 old.settings new.settings × (new ≡ old)
 Changes r commands (NoSpace units need live) old new =
-    (units ≤ most_units (r.geometry old.active))
+    (units ≤ command_units (r.geometry old.active))
     × MeetsNoRoom (r.room old.active) (r.geometry old.active).sectors old.settings new.settings commands 0
     need live × (new ≡ old)
 Changes r commands (Lost units chance) old new =
-    (units ≤ most_units (r.geometry old.active)) × CommandsLost r commands chance old new
+    (units ≤ command_units (r.geometry old.active)) × CommandsLost r commands chance old new
 Changes r commands answer old new = ⊥
 
 -- a count stands still at 2^32 - 1
-abbrev pub told : ℕ → ℕ
-told count = more_pairs 0 count
+abbrev pub reported : ℕ → ℕ
+reported count = more_pairs 0 count
 
 -- a save, which stands for any number of commands
 abbrev pub Saves : Rules → List Command → Answer → State → State → Type 0
 Saves r commands (Saved pairs units Whole) old new =
-    (pairs ≡ told (length commands)) × CommandsDone r commands units old new
+    (pairs ≡ reported (length commands)) × CommandsDone r commands units old new
 Saves r commands (Saved pairs units ManyNames) old new =
-    (done : ℕ) × (pairs ≡ told done)
+    (done : ℕ) × (pairs ≡ reported done)
     × StopsForNames (r.room old.active) commands done old.settings new.settings
     × (new ≡ record old { settings = new.settings })
 Saves r commands (Saved pairs units (NoRoom need live)) old new =
-    (done : ℕ) × (pairs ≡ told done)
+    (done : ℕ) × (pairs ≡ reported done)
     × MeetsNoRoom (r.room old.active) (r.geometry old.active).sectors old.settings new.settings commands
     done need live × (new ≡ record old { settings = new.settings })
 Saves r commands (Lost units chance) old new = CommandsLost r commands chance old new
@@ -88,20 +88,20 @@ Gets name (Value value) old new = IsStored old.settings name value × (new ≡ o
 Gets name Absent old new = IsAbsent old.settings name × (new ≡ old)
 Gets name answer old new = ⊥
 
--- a setting as it is told
+-- a setting as it is reported
 abbrev pub as_pair : List ℕ × List ℕ → Pair
 as_pair setting = record { name = setting.0; value = setting.1 }
 
 -- those of a subtree
-abbrev pub Tells : Option (List ℕ) → Answer → State → State → Type 0
-Tells subtree (Told pairs) old new =
+abbrev pub Reports : Option (List ℕ) → Answer → State → State → Type 0
+Reports subtree (Applied pairs) old new =
     (pairs ≡ map as_pair (settings_under subtree (entries old.settings))) × (new ≡ old)
-Tells subtree answer old new = ⊥
+Reports subtree answer old new = ⊥
 
-abbrev pub TellsAll : Rules → Answer → State → State → Type 0
-TellsAll r (Named active pairs) old new =
+abbrev pub ReportsAll : Rules → Answer → State → State → Type 0
+ReportsAll r (Named active pairs) old new =
     (active ≡ r.label old.active) × (pairs ≡ map as_pair (entries old.settings)) × (new ≡ old)
-TellsAll r answer old new = ⊥
+ReportsAll r answer old new = ⊥
 
 -- ---- handlers
 
@@ -138,7 +138,7 @@ Registers subtree kind answer old new = ⊥
 abbrev pub deliveries_of : Option (List ℕ) → State → List Delivery
 deliveries_of subtree s = delivered (subtrees s.registry) subtree (entries s.settings)
 
--- a delivery as it is told
+-- a delivery as it is reported
 abbrev pub give : List Registered → Delivery → Give
 give handlers d =
     let given = deliveries.give handlers d in
@@ -230,8 +230,8 @@ Answers r (Set name value) answer old new = Changes r (commands_of (Set name val
 Answers r (Delete name) answer old new = Changes r (commands_of (Delete name) old) answer old new
 Answers r (Save subtree) answer old new = Saves r (commands_of (Save subtree) old) answer old new
 Answers r (Get name) answer old new = Gets name answer old new
-Answers r (Direct subtree) answer old new = Tells subtree answer old new
-Answers r Names answer old new = TellsAll r answer old new
+Answers r (Direct subtree) answer old new = Reports subtree answer old new
+Answers r Names answer old new = ReportsAll r answer old new
 Answers r (Register subtree kind) answer old new = Registers subtree kind answer old new
 Answers r (Load subtree) answer old new = Loads subtree answer old new
 Answers r Commit answer old new = Commits answer old new

@@ -28,12 +28,12 @@ DoAll r (deed ∷ deeds) old new = (mid : Map) × Does r deed old mid × DoAll r
 
 -- the first so many of the commands were carried out, and the next one was torn
 pub record TornAt (place : ℕ) (commands : List Command) (deeds : List Deed) : Type 0 where
-  pub front : List Command
+  pub prefix : List Command
   pub at : Command
   pub rest : List Command
   pub units : ℕ
-  pub are : commands ≡ front ++ at ∷ rest
-  pub deeds_are : deeds ≡ map did front ++ tore place at units ∷ []
+  pub are : commands ≡ prefix ++ at ∷ rest
+  pub deeds_are : deeds ≡ map did prefix ++ tore place at units ∷ []
 
 -- what became of a line's commands: those that stand were carried out, and by chance the one behind them was
 -- torn
@@ -43,11 +43,11 @@ BecomeOf place answer commands deeds =
     (done : List Command) × Stand answer commands done × (deeds ≡ map did done)
 
 -- a state, and what became of the commands so far
-pub record Told : Type 0 where
+pub record Applied : Type 0 where
   pub state : State
   pub deeds : List Deed
 
-abbrev pub DeedStep : Rules → Line → Answer → Told → Told → Type 0
+abbrev pub DeedStep : Rules → Line → Answer → Applied → Applied → Type 0
 DeedStep r line answer old new =
     Step r line answer old.state new.state
     × ((deeds : List Deed) × BecomeOf old.state.active answer (commands_of line old.state) deeds

@@ -5,7 +5,7 @@ ghost use Rattle.flash_sim.specs.Device.{Device};
 ghost use Rattle.flash_sim.specs.declared.flash.Bank.{Bank};
 ghost use Rattle.flash_map.specs.declared.area.Area.{Area};
 ghost use Rattle.session_table.specs.Bench.{rules_of};
-ghost use Rattle.session_table.specs.Laws.{LeavesUnitsOpen, HoldsAcknowledged, TellsDeeds, LosesPower, RunsInRow, LinesMakeRuns};
+ghost use Rattle.session_table.specs.Laws.{LeavesUnitsOpen, HoldsAcknowledged, ReportsDeeds, LosesPower, RunsInRow, LinesMakeRuns};
 
 use backend_api::Backend;
 
@@ -20,8 +20,8 @@ pub fn units_are_open<K: Backend>()
 {}
 
 /// Wherever power is lost, the settings are those after commands of the lines in their order: all
-/// of each line that was done, as many as a refused save tells, and the first so many of each line
-/// in which power was lost; but where units spelt another record by chance.
+/// of each line that was done, as many as a refused save reports, and the first so many of each
+/// line in which power was lost; but where units spelt another record by chance.
 pub fn acknowledged_commands_stand<K: Backend>()
     ensures { (areas : List Area) (banks : List Bank) (last : ℕ)
         → HoldsAcknowledged
@@ -31,11 +31,11 @@ pub fn acknowledged_commands_stand<K: Backend>()
 {}
 
 /// Wherever power is lost, the settings are those after what became of the commands of the lines,
-/// in their order: all of each line that was done, as many as a refused save tells, and the first
+/// in their order: all of each line that was done, as many as a refused save reports, and the first
 /// so many of each line in which power was lost; by chance the one behind these was torn.
-pub fn torn_commands_tell<K: Backend>()
+pub fn torn_commands_report<K: Backend>()
     ensures { (areas : List Area) (banks : List Bank) (last : ℕ)
-        → TellsDeeds
+        → ReportsDeeds
         (rules_of
         (record { contents = K.contents; room = K.room; chance = K.chance; tears = K.tears }) areas
         banks last) }

@@ -72,7 +72,7 @@ fn load_zms<B: Bench>(alloc: Global, bench: &mut B, size: usize) -> Result<(), F
 
 // ---- runs
 
-fn told(alloc: Global, answers: &[Answer]) -> Result<String, Fail> {
+fn reported(alloc: Global, answers: &[Answer]) -> Result<String, Fail> {
     let mut all = Vec::new(alloc);
     for answer in answers {
         let text = answer_text(alloc, answer).map_err(|_| "no memory")?;
@@ -91,8 +91,8 @@ fn transcript<T: SlotSectors, B: Bench, L: Ledger>(
     steps: &mut Steps<L>,
 ) -> Result<String, Fail>
     requires area { IsStoreArea T.role (B.device bench.old).banks area.now }
-    requires values { TakesValues T.kind (B.device bench.old) area.now }
-    requires ids { ids_end ids ≡ (T.kind (geometry_of (B.device bench.old) area.now)).ids }
+    requires values { TakesValues T.format_of (B.device bench.old) area.now }
+    requires ids { ids_end ids ≡ (T.format_of (geometry_of (B.device bench.old) area.now)).ids }
 {
     let limit = area.value_limit() as usize;
     let lines = match read_script(alloc, script.as_bytes(), ids, limit) {
@@ -100,7 +100,7 @@ fn transcript<T: SlotSectors, B: Bench, L: Ledger>(
         Err(_) => return Err("refused")?,
     };
     match run_lines::<T, B, L>(alloc, lines.as_slice(), bench, area, steps) {
-        Ok(answers) => told(alloc, answers.as_slice()),
+        Ok(answers) => reported(alloc, answers.as_slice()),
         Err(SessionFault::Damaged(_)) => Err("damaged")?,
         Err(SessionFault::NoMemory) => Err("no memory")?,
     }

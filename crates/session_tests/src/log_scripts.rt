@@ -90,7 +90,7 @@ fn nine_answers(alloc: Global, others: &str, log: &[&str], count: &str) -> Resul
 
 // ---- runs
 
-fn told(alloc: Global, answers: &[Answer]) -> Result<String, Fail> {
+fn reported(alloc: Global, answers: &[Answer]) -> Result<String, Fail> {
     let mut all = Vec::new(alloc);
     for answer in answers {
         let text = answer_text(alloc, answer).map_err(|_| "no memory")?;
@@ -119,7 +119,7 @@ fn transcript<B: Bench, L: Ledger>(
         Err(ScriptFault::NoMemory) => return Err("no memory")?,
     };
     match run_lines(alloc, lines.as_slice(), bench, &area, steps) {
-        Ok(answers) => told(alloc, answers.as_slice()),
+        Ok(answers) => reported(alloc, answers.as_slice()),
         Err(SessionFault::Damaged(_)) => Err("damaged")?,
         Err(SessionFault::NoMemory) => Err("no memory")?,
     }
@@ -128,7 +128,7 @@ fn transcript<B: Bench, L: Ledger>(
 // ---- the rows
 
 // What stands before the ninth record, and behind it; the answers to these and to it; the records
-// that are told, and how many.
+// that are reported, and how many.
 const PUTS: [(&str, &str, &str, (usize, usize), &str); 4] = [
     ("", "all\n", "ok 30 4\n", (4, 9), "log 5\n"),
     (

@@ -29,7 +29,7 @@ fn read(alloc: Global, script: &[u8]) -> Result<Vec<Line>, Fail>
 }
 
 // The label of the active area, and each name with the bytes of its value.
-fn tell_names(text: &mut Vec<u8>, active: &[u8], pairs: &[Pair]) -> Result<(), Fail> {
+fn report_names(text: &mut Vec<u8>, active: &[u8], pairs: &[Pair]) -> Result<(), Fail> {
     text.extend_from_slice(b"names ")?;
     text.extend_from_slice(active)?;
     for pair in pairs {
@@ -41,9 +41,9 @@ fn tell_names(text: &mut Vec<u8>, active: &[u8], pairs: &[Pair]) -> Result<(), F
     Ok(text.push(b'\n')?)
 }
 
-fn tell(alloc: Global, text: &mut Vec<u8>, answer: &Answer) -> Result<(), Fail> {
+fn report(alloc: Global, text: &mut Vec<u8>, answer: &Answer) -> Result<(), Fail> {
     match answer {
-        Answer::Names { active, pairs } => tell_names(text, active.as_slice(), pairs.as_slice()),
+        Answer::Names { active, pairs } => report_names(text, active.as_slice(), pairs.as_slice()),
         other => {
             let more = answer_text(alloc, other)?;
             Ok(text.extend_from_slice(more.as_slice())?)
@@ -77,7 +77,7 @@ fn answer_to<K: Backend, B: Bench, L: Ledger>(
 }
 
 // One line after the other.
-fn told_in_turn<K: Backend, B: Bench, L: Ledger>(
+fn reported_in_turn<K: Backend, B: Bench, L: Ledger>(
     alloc: Global,
     lines: &[Line],
     bench: &mut B,
@@ -89,10 +89,10 @@ fn told_in_turn<K: Backend, B: Bench, L: Ledger>(
 {
     let mut text = Vec::new(alloc);
     let (mut session, opened) = Session::<K>::open(alloc, bench, map, steps)?;
-    tell(alloc, &mut text, &opened)?;
+    report(alloc, &mut text, &opened)?;
     for line in lines {
         let answer = answer_to(alloc, &mut session, line, bench, map, steps)?;
-        tell(alloc, &mut text, &answer)?;
+        report(alloc, &mut text, &answer)?;
     }
     Ok(text)
 }
@@ -111,7 +111,7 @@ fn answers_in_turn<B: Bench, L: Ledger, R: Abort>(
 {
     let lines = read(alloc, script)?;
     load(alloc, bench)?;
-    let text = told_in_turn::<AnyBackend, B, L>(alloc, lines.as_slice(), bench, map, steps)?;
+    let text = reported_in_turn::<AnyBackend, B, L>(alloc, lines.as_slice(), bench, map, steps)?;
     assert!(rt; text.as_slice() == expected);
     Ok(())
 }

@@ -1,6 +1,6 @@
 // Lines against the grammar's table.
 ghost use Rattle.std.specs.Prelude.{IfOk};
-ghost use Rattle.script_lines.specs.Answer.{CanTell};
+ghost use Rattle.script_lines.specs.Answer.{CanReport};
 
 use handlers::HandlerKind;
 use script_lines::LineWhy::{Hex, Kind, Long, Number, Unknown, Words};
@@ -152,8 +152,8 @@ fn refused_lines(rt: HostRuntime) {
 }
 
 // The text of an answer is this.
-fn tells<R: Abort>(rt: &R, alloc: Global, answer: Answer, expected: &str) -> Result<(), Fail>
-    requires { CanTell answer }
+fn reports<R: Abort>(rt: &R, alloc: Global, answer: Answer, expected: &str) -> Result<(), Fail>
+    requires { CanReport answer }
 {
     let text = answer_text(alloc, &answer).map_err(|_| "no memory")?;
     assert!(rt; text.as_slice() == expected.as_bytes());
@@ -166,7 +166,7 @@ fn bytes_of(alloc: Global, items: &[u8]) -> Result<Bytes, AllocError> {
 
 // The names of an area with one setting.
 fn names_of(alloc: Global, name: &[u8]) -> Result<Answer, Fail>
-    ensures { IfOk result CanTell }
+    ensures { IfOk result CanReport }
 {
     let Ok(active) = read_label(alloc, b"main") else {
         return Err(Fail::new("main"));
@@ -191,10 +191,10 @@ fn texts(rt: HostRuntime) -> Result<(), Fail> {
         end,
     };
     let full = SaveEnd::NoSpace { need: 1, live: 2 };
-    tells(&rt, alloc, saved(full), "saved 2 nospace 7\n")?;
-    tells(&rt, alloc, saved(SaveEnd::TooMany), "saved 2 toomany 7\n")?;
-    tells(&rt, alloc, Answer::TooMany { units: 3 }, "toomany 3\n")?;
-    tells(
+    reports(&rt, alloc, saved(full), "saved 2 nospace 7\n")?;
+    reports(&rt, alloc, saved(SaveEnd::TooMany), "saved 2 toomany 7\n")?;
+    reports(&rt, alloc, Answer::TooMany { units: 3 }, "toomany 3\n")?;
+    reports(
         &rt,
         alloc,
         names_of(alloc, b"a\"b/c\\d")?,

@@ -17,19 +17,19 @@ more_parts x true parts others some = refl
 more_parts x false parts others some = onto_first-append x parts others some
 
 -- the parts of both, one after the other
-pub parts_of-joined : (front back : List ℕ) → parts_of (front ++ 0x2F ∷ back) ≡ parts_of front ++ parts_of back
+pub parts_of-joined : (prefix back : List ℕ) → parts_of (prefix ++ 0x2F ∷ back) ≡ parts_of prefix ++ parts_of back
 parts_of-joined [] back = refl
-parts_of-joined (x ∷ front) back =
-    ap (λ parts. cond (eqb x 0x2F) ([] ∷ parts) (onto_first x parts)) (parts_of-joined front back)
-    ∙ more_parts x (eqb x 0x2F) (parts_of front) (parts_of back) (length-parts_of front)
+parts_of-joined (x ∷ prefix) back =
+    ap (λ parts. cond (eqb x 0x2F) ([] ∷ parts) (onto_first x parts)) (parts_of-joined prefix back)
+    ∙ more_parts x (eqb x 0x2F) (parts_of prefix) (parts_of back) (length-parts_of prefix)
 
-pub join_with_byte-append : (fronts : List (List ℕ)) (part : List ℕ) (parts : List (List ℕ)) → 1 ≤ length fronts
-    → join_with_byte 0x2F (fronts ++ part ∷ parts) ≡ join_with_byte 0x2F fronts ++ 0x2F ∷ join_with_byte 0x2F (part ∷ parts)
+pub join_with_byte-append : (prefixes : List (List ℕ)) (part : List ℕ) (parts : List (List ℕ)) → 1 ≤ length prefixes
+    → join_with_byte 0x2F (prefixes ++ part ∷ parts) ≡ join_with_byte 0x2F prefixes ++ 0x2F ∷ join_with_byte 0x2F (part ∷ parts)
 join_with_byte-append [] part parts some = absurd (omega arith)
 join_with_byte-append (x ∷ []) part parts some = refl
-join_with_byte-append (x ∷ y ∷ fronts) part parts some =
-    ap (λ text. x ++ 0x2F ∷ text) (join_with_byte-append (y ∷ fronts) part parts (omega arith))
-    ∙ sym (append_assoc x (0x2F ∷ join_with_byte 0x2F (y ∷ fronts)) (0x2F ∷ join_with_byte 0x2F (part ∷ parts)))
+join_with_byte-append (x ∷ y ∷ prefixes) part parts some =
+    ap (λ text. x ++ 0x2F ∷ text) (join_with_byte-append (y ∷ prefixes) part parts (omega arith))
+    ∙ sym (append_assoc x (0x2F ∷ join_with_byte 0x2F (y ∷ prefixes)) (0x2F ∷ join_with_byte 0x2F (part ∷ parts)))
 
 pub join-parts_of : (text : List ℕ) → join_with_byte 0x2F (parts_of text) ≡ text
 join-parts_of text = join_with_byte-slice_split 0x2F text

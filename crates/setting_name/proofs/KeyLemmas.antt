@@ -13,9 +13,9 @@ use Rattle.setting_name.proofs.MatchLemmas.{Matches-matched_rest, text_of_parts}
 nested : (name key other : List (List ℕ)) (rest left : List (List ℕ)) → name ≡ key ++ rest → name ≡ other ++ left → length key ≤ length other
     → other ≡ key ++ drop (length key) other
 nested name key other rest left first second fewer =
-    let front : take (length key) other ≡ key =
+    let prefix : take (length key) other ≡ key =
     sym (take-append-le (length key) other left fewer) ∙ ap (take (length key)) (sym second ∙ first) ∙ take-append_seam key rest in
-    sym (take-append-drop (length key) other) ∙ ap (λ parts. parts ++ drop (length key) other) front
+    sym (take-append-drop (length key) other) ∙ ap (λ parts. parts ++ drop (length key) other) prefix
 
 shorter_text : (key other : List ℕ) (others : List (List ℕ)) → length (parts_of other) ≡ length (parts_of key) + length others
     → ((other ≡ key) × (others ≡ [])) ⊎ (other ≡ key ++ 0x2F ∷ join_with_byte 0x2F others) → length (parts_of key) < length (parts_of other) → length key < length other

@@ -84,9 +84,9 @@ other_byte key left byte other =
     let m = Matches-matched_rest (key ++ byte ∷ left) key rest found in
     other_text key left byte (join_with_byte 0x2F m.others) other (text_of_parts (key ++ byte ∷ left) key m.others m.parts))
 
-pub matched_rest-front : (key left : List ℕ) → matched_rest (key ++ left) key ≡ rest_behind left
-matched_rest-front key [] = ap (λ name. matched_rest name key) (append-nil key) ∙ matched_rest-same key
-matched_rest-front key (byte ∷ left) = at_byte (is_slash byte) refl
+pub matched_rest-prefix : (key left : List ℕ) → matched_rest (key ++ left) key ≡ rest_behind left
+matched_rest-prefix key [] = ap (λ name. matched_rest name key) (append-nil key) ∙ matched_rest-same key
+matched_rest-prefix key (byte ∷ left) = at_byte (is_slash byte) refl
   where
     at_byte : (b : Bool) → is_slash byte ≡ b → matched_rest (key ++ byte ∷ left) key ≡ cond b (Some left) None
     at_byte true is = ap (λ x. matched_rest (key ++ x ∷ left) key) (eqb-true byte 0x2F is) ∙ matched_rest-joined key left

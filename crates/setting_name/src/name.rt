@@ -190,12 +190,12 @@ fn first_lack(text: &[u8]) -> Option<usize>
     if due { Some(text.len()) } else { None }
 }
 
-// What is left of a text that begins with the front.
-fn left_behind<'a>(text: &'a [u8], front: &[u8]) -> Option<&'a [u8]>
-    ensures { MatchOption result ((left : List ℕ) → text.now ≢ front.now ++ left)
-        (λ left. text.now ≡ front.now ++ left.now) }
+// What is left of a text that begins with the prefix.
+fn left_behind<'a>(text: &'a [u8], prefix: &[u8]) -> Option<&'a [u8]>
+    ensures { MatchOption result ((left : List ℕ) → text.now ≢ prefix.now ++ left)
+        (λ left. text.now ≡ prefix.now ++ left.now) }
 {
-    text.strip_prefix(front)
+    text.strip_prefix(prefix)
 }
 
 // What stands behind a slash that comes first; nothing behind no byte at all.

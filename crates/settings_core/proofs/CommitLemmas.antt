@@ -23,40 +23,40 @@ module _ {X : Type 0} where
   set_middle [] y ys z = refl
   set_middle (x ∷ xs) y ys z = ap (λ l. x ∷ l) (set_middle xs y ys z)
 
-front : Option (List ℕ) → List Registered → ℕ → List Registered
-front subtree before i = map (commit_one subtree) (take i before)
+prefix : Option (List ℕ) → List Registered → ℕ → List Registered
+prefix subtree before i = map (commit_one subtree) (take i before)
 
-length-front : (subtree : Option (List ℕ)) (before : List Registered) (i : ℕ) → i ≤ length before → length (front subtree before i) ≡ i
-unfolding front
-length-front subtree before i le = omega (arith, length-map (take i before) (commit_one subtree), length-take i before)
+length-prefix : (subtree : Option (List ℕ)) (before : List Registered) (i : ℕ) → i ≤ length before → length (prefix subtree before i) ≡ i
+unfolding prefix
+length-prefix subtree before i le = omega (arith, length-map (take i before) (commit_one subtree), length-take i before)
 
 length-committed : (subtree : Option (List ℕ)) (i : ℕ) (before now : List Registered) → CommittedBelow subtree i before now → length now ≡ length before
-unfolding front
+unfolding prefix
 length-committed subtree i before now so_far =
-    ap length so_far.now_is ∙ omega (arith, length-append (front subtree before i) (drop i before), length-front subtree before i so_far.within, length-drop i before, so_far.within)
+    ap length so_far.now_is ∙ omega (arith, length-append (prefix subtree before i) (drop i before), length-prefix subtree before i so_far.within, length-drop i before, so_far.within)
 
 pub all_committed : (subtree : Option (List ℕ)) (i : ℕ) (before now : List Registered) → length now ≤ i → CommittedBelow subtree i before now → now ≡ commit_all subtree before
 all_committed subtree i before now past so_far =
     let whole : length before ≤ i = omega (arith, past, length-committed subtree i before now so_far) in
     so_far.now_is ∙ ap (λ l. commit_all subtree l ++ drop i before) (take_all i before whole) ∙ ap (λ l. commit_all subtree before ++ l) (drop_all i before whole) ∙ append-nil (commit_all subtree before)
 
-split : (subtree : Option (List ℕ)) (i : ℕ) (before now : List Registered) → i < length before → CommittedBelow subtree i before now → now ≡ front subtree before i ++ get_or before i nobody ∷ drop (i + 1) before
-unfolding front
-split subtree i before now lt so_far = so_far.now_is ∙ ap (λ l. front subtree before i ++ l) (drop_more before i nobody lt)
+split : (subtree : Option (List ℕ)) (i : ℕ) (before now : List Registered) → i < length before → CommittedBelow subtree i before now → now ≡ prefix subtree before i ++ get_or before i nobody ∷ drop (i + 1) before
+unfolding prefix
+split subtree i before now lt so_far = so_far.now_is ∙ ap (λ l. prefix subtree before i ++ l) (drop_more before i nobody lt)
 
 here : (subtree : Option (List ℕ)) (i : ℕ) (before now : List Registered) → i < length before → CommittedBelow subtree i before now → get_or now i nobody ≡ get_or before i nobody
 here subtree i before now lt so_far =
-    let n = length-front subtree before i so_far.within in
+    let n = length-prefix subtree before i so_far.within in
     ap (λ l. get_or l i nobody) (split subtree i before now lt so_far)
-    ∙ ap (λ k. get_or (front subtree before i ++ get_or before i nobody ∷ drop (i + 1) before) k nobody) (sym n)
-    ∙ get_middle (front subtree before i) (get_or before i nobody) (drop (i + 1) before) nobody
+    ∙ ap (λ k. get_or (prefix subtree before i ++ get_or before i nobody ∷ drop (i + 1) before) k nobody) (sym n)
+    ∙ get_middle (prefix subtree before i) (get_or before i nobody) (drop (i + 1) before) nobody
 
 -- the list with the handler at the place done
 done : (subtree : Option (List ℕ)) (i : ℕ) (before : List Registered) → i < length before
-    → front subtree before i ++ commit_one subtree (get_or before i nobody) ∷ drop (i + 1) before ≡ commit_all subtree (take (i + 1) before) ++ drop (i + 1) before
-unfolding front
+    → prefix subtree before i ++ commit_one subtree (get_or before i nobody) ∷ drop (i + 1) before ≡ commit_all subtree (take (i + 1) before) ++ drop (i + 1) before
+unfolding prefix
 done subtree i before lt =
-    sym (append_assoc (front subtree before i) (commit_one subtree (get_or before i nobody) ∷ []) (drop (i + 1) before))
+    sym (append_assoc (prefix subtree before i) (commit_one subtree (get_or before i nobody) ∷ []) (drop (i + 1) before))
     ∙ ap (λ l. l ++ drop (i + 1) before) (sym (ap (map (commit_one subtree)) (take_more before i nobody lt) ∙ map-append (commit_one subtree) (take i before) (get_or before i nobody ∷ [])))
 
 pub one_committed : (subtree : Option (List ℕ)) (i : ℕ) (before now : List Registered) → i < length now → is_under subtree (get_or now i nobody).subtree ≡ true → CommittedBelow subtree i before now → CommittedBelow subtree (i + 1) before (commit_at now i)
@@ -64,16 +64,16 @@ one_committed subtree i before now lt is so_far =
     let lt' : i < length before = omega (arith, lt, length-committed subtree i before now so_far) in
     let x = get_or before i nobody in
     let at = here subtree i before now lt' so_far in
-    let n = length-front subtree before i so_far.within in
+    let n = length-prefix subtree before i so_far.within in
     let moved : commit_at now i ≡ set now i (record x { state = committed x.state }) = ap (λ (h : Registered). set now i (record h { state = committed h.state })) at in
     record {
       within = omega (arith, lt');
       now_is =
           moved
           ∙ ap (λ l. set l i (record x { state = committed x.state })) (split subtree i before now lt' so_far)
-          ∙ ap (λ k. set (front subtree before i ++ x ∷ drop (i + 1) before) k (record x { state = committed x.state })) (sym n)
-          ∙ set_middle (front subtree before i) x (drop (i + 1) before) (record x { state = committed x.state })
-          ∙ ap (λ h. front subtree before i ++ h ∷ drop (i + 1) before) (sym (cond-true _ (record x { state = committed x.state }) x (ap (λ (h : Registered). is_under subtree h.subtree) (sym at) ∙ is)))
+          ∙ ap (λ k. set (prefix subtree before i ++ x ∷ drop (i + 1) before) k (record x { state = committed x.state })) (sym n)
+          ∙ set_middle (prefix subtree before i) x (drop (i + 1) before) (record x { state = committed x.state })
+          ∙ ap (λ h. prefix subtree before i ++ h ∷ drop (i + 1) before) (sym (cond-true _ (record x { state = committed x.state }) x (ap (λ (h : Registered). is_under subtree h.subtree) (sym at) ∙ is)))
           ∙ done subtree i before lt';
     }
 
@@ -86,7 +86,7 @@ one_passed subtree i before now lt isnt so_far =
       within = omega (arith, lt');
       now_is =
           split subtree i before now lt' so_far
-          ∙ ap (λ h. front subtree before i ++ h ∷ drop (i + 1) before) (sym (cond-false _ (record x { state = committed x.state }) x (ap (λ (h : Registered). is_under subtree h.subtree) (sym at) ∙ isnt)))
+          ∙ ap (λ h. prefix subtree before i ++ h ∷ drop (i + 1) before) (sym (cond-false _ (record x { state = committed x.state }) x (ap (λ (h : Registered). is_under subtree h.subtree) (sym at) ∙ isnt)))
           ∙ done subtree i before lt';
     }
 

@@ -11,8 +11,8 @@ use Rattle.settings_core.specs.declared.loading.Loaded.{Loaded}
 use Rattle.settings_core.specs.declared.offering.Offered.{Offered}
 use Rattle.settings_core.specs.declared.offering.Offered.TheVariants.{Taken, Rejected, Passed}
 use Rattle.settings_core.specs.Committing.{is_under}
-use Rattle.settings_core.specs.Told.{told_more}
-use Rattle.settings_core.proofs.ToldLemmas.{told_then}
+use Rattle.settings_core.specs.Reported.{reported_more}
+use Rattle.settings_core.proofs.ReportedLemmas.{reported_then}
 use Rattle.settings_core.specs.Deliveries.{Delivery, delivery, deliver, deliver_all, delivered, settings_under, Give, give, is_taken, Delivers, OfferEnds}
 use Rattle.settings_core.specs.Loading.{Gives, counted}
 use Rattle.settings_core.proofs.SeatLemmas.{seat, deliver_all-seats, subtrees-same, give-same, taken-same}
@@ -50,7 +50,7 @@ module _ (before : List Registered) (subtree : Option (List ℕ)) where
   pub gives_beside : (now : List Registered) (old new : Option (List Give)) (xs : List Setting) (e : Setting) (loaded : Loaded) → is_under subtree e.0 ≡ false → Gives before now old new subtree xs loaded → Gives before now old new subtree (xs ++ e ∷ []) loaded
   gives_beside now old new xs e loaded isnt so_far = record {
     handlers = so_far.handlers ∙ ap (deliver_all before) (sym (given_no xs e isnt));
-    told = so_far.told ∙ ap (λ ds. told_more old (map (give before) ds)) (sym (given_no xs e isnt));
+    reported = so_far.reported ∙ ap (λ ds. reported_more old (map (give before) ds)) (sym (given_no xs e isnt));
     taken = so_far.taken ∙ ap (count_by (is_taken before)) (sym (given_no xs e isnt));
     rejected = so_far.rejected ∙ ap (count_by (λ d. not (is_taken before d))) (sym (given_no xs e isnt));
     passed = ap (λ ds. loaded.passed + length ds) (given_no xs e isnt) ∙ so_far.passed ∙ ap length (sym (under_no xs e isnt));
@@ -62,7 +62,7 @@ module _ (before : List Registered) (subtree : Option (List ℕ)) where
       let same = given_none xs e is none in
       record {
         handlers = so_far.handlers ∙ ap (deliver_all before) (sym same);
-        told = so_far.told ∙ ap (λ ds. told_more old (map (give before) ds)) (sym same);
+        reported = so_far.reported ∙ ap (λ ds. reported_more old (map (give before) ds)) (sym same);
         taken = so_far.taken ∙ ap (count_by (is_taken before)) (sym same);
         rejected = so_far.rejected ∙ ap (count_by (λ d. not (is_taken before d))) (sym same);
         passed = omega (arith, so_far.passed, ap length same, ap length (under_yes xs e is), length-append (settings_under subtree xs) (e ∷ []));
@@ -71,19 +71,19 @@ module _ (before : List Registered) (subtree : Option (List ℕ)) where
   seats_now : (now : List Registered) (xs : List Setting) → now ≡ deliver_all before (given_of xs) → map seat now ≡ map seat before
   seats_now now xs is = ap (map seat) is ∙ deliver_all-seats (given_of xs) before
 
-  gives_one : (now next : List Registered) (old told new : Option (List Give)) (xs : List Setting) (e : Setting) (loaded : Loaded) (answer : Bool) (o : Offered)
+  gives_one : (now next : List Registered) (old reported new : Option (List Give)) (xs : List Setting) (e : Setting) (loaded : Loaded) (answer : Bool) (o : Offered)
       → (counted loaded o).taken ≡ loaded.taken + cond answer 1 0 → (counted loaded o).rejected ≡ loaded.rejected + cond (not answer) 1 0 → (counted loaded o).passed ≡ loaded.passed
-      → is_under subtree e.0 ≡ true → Delivers now next told new e answer → Gives before now old told subtree xs loaded
+      → is_under subtree e.0 ≡ true → Delivers now next reported new e answer → Gives before now old reported subtree xs loaded
       → Gives before next old new subtree (xs ++ e ∷ []) (counted loaded o)
-  gives_one now next old told new xs e loaded answer o taken rejected passed is one so_far =
+  gives_one now next old reported new xs e loaded answer o taken rejected passed is one so_far =
       let seats = seats_now now xs so_far.handlers in
       let more = given_one xs e one.d is (ap (λ to. delivery to e) (sym (subtrees-same now before seats)) ∙ one.is) in
       let take_is : is_taken before one.d ≡ answer = sym (taken-same now before one.d seats) ∙ one.answer in
       record {
         handlers = one.after_is ∙ ap (λ l. deliver l one.d) so_far.handlers ∙ sym (fold_push deliver before (given_of xs) one.d) ∙ ap (deliver_all before) (sym more);
-        told =
-            one.told ∙ ap (λ g. told_more told (g ∷ [])) (give-same now before one.d seats) ∙ ap (λ l. told_more l (give before one.d ∷ [])) so_far.told
-            ∙ told_then old (map (give before) (given_of xs)) (give before one.d ∷ []) ∙ ap (told_more old) (sym (map-append (give before) (given_of xs) (one.d ∷ [])) ∙ ap (map (give before)) (sym more));
+        reported =
+            one.reported ∙ ap (λ g. reported_more reported (g ∷ [])) (give-same now before one.d seats) ∙ ap (λ l. reported_more l (give before one.d ∷ [])) so_far.reported
+            ∙ reported_then old (map (give before) (given_of xs)) (give before one.d ∷ []) ∙ ap (reported_more old) (sym (map-append (give before) (given_of xs) (one.d ∷ [])) ∙ ap (map (give before)) (sym more));
         taken =
             taken ∙ ap (λ n. n + cond answer 1 0) so_far.taken ∙ ap (λ b. count_by (is_taken before) (given_of xs) + cond b 1 0) (sym take_is)
             ∙ sym (count_push (is_taken before) (given_of xs) one.d) ∙ ap (count_by (is_taken before)) (sym more);
@@ -96,17 +96,17 @@ module _ (before : List Registered) (subtree : Option (List ℕ)) where
   zero_more : (n : ℕ) → n ≡ n + 0
   zero_more n = omega arith
 
-  pub gives_offered : (now next : List Registered) (old told new : Option (List Give)) (xs : List Setting) (e : Setting) (loaded : Loaded) (o : Offered) → is_under subtree e.0 ≡ true → OfferEnds now next told new e (Ok o)
-      → Gives before now old told subtree xs loaded → Gives before next old new subtree (xs ++ e ∷ []) (counted loaded o)
-  gives_offered now next old told new xs e loaded Taken is ends so_far = gives_one now next old told new xs e loaded true Taken refl (zero_more loaded.rejected) refl is ends so_far
-  gives_offered now next old told new xs e loaded Rejected is ends so_far = gives_one now next old told new xs e loaded false Rejected (zero_more loaded.taken) refl refl is ends so_far
-  gives_offered now next old told new xs e loaded Passed is ends so_far =
+  pub gives_offered : (now next : List Registered) (old reported new : Option (List Give)) (xs : List Setting) (e : Setting) (loaded : Loaded) (o : Offered) → is_under subtree e.0 ≡ true → OfferEnds now next reported new e (Ok o)
+      → Gives before now old reported subtree xs loaded → Gives before next old new subtree (xs ++ e ∷ []) (counted loaded o)
+  gives_offered now next old reported new xs e loaded Taken is ends so_far = gives_one now next old reported new xs e loaded true Taken refl (zero_more loaded.rejected) refl is ends so_far
+  gives_offered now next old reported new xs e loaded Rejected is ends so_far = gives_one now next old reported new xs e loaded false Rejected (zero_more loaded.taken) refl refl is ends so_far
+  gives_offered now next old reported new xs e loaded Passed is ends so_far =
       let seats = seats_now now xs so_far.handlers in
       let none : delivery (subtrees before) e ≡ None = ap (λ to. delivery to e) (sym (subtrees-same now before seats)) ∙ ends.0 in
       subst (λ l. Gives before l old new subtree (xs ++ e ∷ []) (counted loaded Passed)) (sym ends.1)
-      (subst (λ l. Gives before now old l subtree (xs ++ e ∷ []) (counted loaded Passed)) (sym ends.2) (gives_passed now old told xs e loaded is none so_far))
+      (subst (λ l. Gives before now old l subtree (xs ++ e ∷ []) (counted loaded Passed)) (sym ends.2) (gives_passed now old reported xs e loaded is none so_far))
 
-  -- the same of a delivery that was not told
+  -- the same of a delivery that was not reported
   pub given_more : (now : List Registered) (xs : List Setting) (e : Setting) (d : Delivery) → now ≡ deliver_all before (given_of xs) → is_under subtree e.0 ≡ true → delivery (subtrees now) e ≡ Some d
       → deliver now d ≡ deliver_all before (given_of (xs ++ e ∷ []))
   given_more now xs e d so_far is one =

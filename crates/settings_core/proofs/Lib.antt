@@ -9,7 +9,7 @@ mod GiveLemmas
 mod LoadLemmas
 mod SequenceLemmas
 mod SaveLemmas
-mod ToldLemmas
+mod ReportedLemmas
 mod DirectLemmas
 mod LawLemmas
 pub mod LawfulLemmas

@@ -12,7 +12,7 @@ use Rattle.flash_sim.specs.declared.flash.NoMemory.{NoMemory as Lack}
 use Rattle.handlers.specs.Registry.{Registered, subtrees}
 use Rattle.settings_core.specs.declared.loading.Loaded.{Loaded}
 use Rattle.settings_core.specs.Committing.{is_under}
-use Rattle.settings_core.proofs.ToldLemmas.{told_none}
+use Rattle.settings_core.proofs.ReportedLemmas.{reported_none}
 use Rattle.settings_core.specs.Deliveries.{Give, Delivery, delivery, deliver, deliver_all, delivered, is_taken}
 use Rattle.settings_core.specs.Loading.{Gives, GivesSome, LoadNameEnds, beside, under}
 use Rattle.settings_core.proofs.GiveLemmas.{gives_beside, gives_offered, given_more}
@@ -30,7 +30,7 @@ none_so_far before old subtree settings = record {
   count = 0;
   within = omega arith;
   place = refl;
-  gives = record { handlers = refl; told = sym (told_none old); taken = refl; rejected = refl; passed = refl };
+  gives = record { handlers = refl; reported = sym (reported_none old); taken = refl; rejected = refl; passed = refl };
 }
 
 -- the next name is that of the setting there
@@ -65,8 +65,8 @@ next_is settings count name le next = elim (cases_lt count (length (maps.entries
 abbrev stands_at : (settings : Map) (at : Option (List ℕ)) (count : ℕ) (name : List ℕ) → Type 0
 stands_at settings at count name = (count < length (maps.entries settings)) × (get_or (maps.entries settings) count ([], []) ≡ (name, unwrap_or (maps.get settings name) []))
 
-module _ (before now : List Registered) (old told : Option (List Give)) (subtree : Option (List ℕ)) (settings : Map) (at : Option (List ℕ)) (was : Loaded) where
-  stands : (name : List ℕ) → next_name settings at ≡ Some name → (so_far : SoFar before now old told subtree settings at was) → stands_at settings at so_far.count name
+module _ (before now : List Registered) (old reported : Option (List Give)) (subtree : Option (List ℕ)) (settings : Map) (at : Option (List ℕ)) (was : Loaded) where
+  stands : (name : List ℕ) → next_name settings at ≡ Some name → (so_far : SoFar before now old reported subtree settings at was) → stands_at settings at so_far.count name
   stands name next so_far = next_is settings so_far.count name so_far.within (ap (next_name settings) (sym so_far.place) ∙ next)
 
   one_longer : (name : List ℕ) (count : ℕ) → stands_at settings at count name → take (count + 1) (maps.entries settings) ≡ take count (maps.entries settings) ++ (name, unwrap_or (maps.get settings name) []) ∷ []
@@ -75,7 +75,7 @@ module _ (before now : List Registered) (old told : Option (List Give)) (subtree
   more_is : (n : ℕ) → suc n ≡ n + 1
   more_is n = omega arith
 
-  advanced : (next : List Registered) (new : Option (List Give)) (loaded : Loaded) (name : List ℕ) → next_name settings at ≡ Some name → (so_far : SoFar before now old told subtree settings at was)
+  advanced : (next : List Registered) (new : Option (List Give)) (loaded : Loaded) (name : List ℕ) → next_name settings at ≡ Some name → (so_far : SoFar before now old reported subtree settings at was)
       → Gives before next old new subtree (take so_far.count (maps.entries settings) ++ (name, unwrap_or (maps.get settings name) []) ∷ []) loaded → SoFar before next old new subtree settings (Some name) loaded
   advanced next new loaded name next_one so_far gives =
       let there = stands name next_one so_far in
@@ -86,20 +86,20 @@ module _ (before now : List Registered) (old told : Option (List Give)) (subtree
         gives = subst (λ es. Gives before next old new subtree es loaded) (sym (ap (λ n. take n (maps.entries settings)) (more_is so_far.count) ∙ one_longer name so_far.count there)) gives;
       }
 
-  pub next_so_far : (next : List Registered) (new : Option (List Give)) (loaded : Loaded) (name : List ℕ) → next_name settings at ≡ Some name → LoadNameEnds now next told new subtree (name, unwrap_or (maps.get settings name) []) was loaded (Ok tt)
-      → SoFar before now old told subtree settings at was → SoFar before next old new subtree settings (Some name) loaded
+  pub next_so_far : (next : List Registered) (new : Option (List Give)) (loaded : Loaded) (name : List ℕ) → next_name settings at ≡ Some name → LoadNameEnds now next reported new subtree (name, unwrap_or (maps.get settings name) []) was loaded (Ok tt)
+      → SoFar before now old reported subtree settings at was → SoFar before next old new subtree settings (Some name) loaded
   next_so_far next new loaded name next_one (beside isnt after_is new_is loaded_is ok) so_far =
       advanced next new loaded name next_one so_far
       (subst (λ l. Gives before l old new subtree (take so_far.count (maps.entries settings) ++ (name, unwrap_or (maps.get settings name) []) ∷ []) loaded) (sym after_is)
       (subst (λ l. Gives before now old l subtree (take so_far.count (maps.entries settings) ++ (name, unwrap_or (maps.get settings name) []) ∷ []) loaded) (sym new_is)
-      (subst (λ l. Gives before now old told subtree (take so_far.count (maps.entries settings) ++ (name, unwrap_or (maps.get settings name) []) ∷ []) l) (sym loaded_is)
-      (gives_beside before subtree now old told (take so_far.count (maps.entries settings)) (name, unwrap_or (maps.get settings name) []) was isnt so_far.gives))))
+      (subst (λ l. Gives before now old reported subtree (take so_far.count (maps.entries settings) ++ (name, unwrap_or (maps.get settings name) []) ∷ []) l) (sym loaded_is)
+      (gives_beside before subtree now old reported (take so_far.count (maps.entries settings)) (name, unwrap_or (maps.get settings name) []) was isnt so_far.gives))))
   next_so_far next new loaded name next_one (under is (o, ends, counts)) so_far =
       advanced next new loaded name next_one so_far
       (subst (λ l. Gives before next old new subtree (take so_far.count (maps.entries settings) ++ (name, unwrap_or (maps.get settings name) []) ∷ []) l) (sym counts)
-      (gives_offered before subtree now next old told new (take so_far.count (maps.entries settings)) (name, unwrap_or (maps.get settings name) []) was o is ends so_far.gives))
+      (gives_offered before subtree now next old reported new (take so_far.count (maps.entries settings)) (name, unwrap_or (maps.get settings name) []) was o is ends so_far.gives))
 
-  registered_end : (next : List Registered) (name : List ℕ) → is_under subtree name ≡ true → next_name settings at ≡ Some name → (so_far : SoFar before now old told subtree settings at was)
+  registered_end : (next : List Registered) (name : List ℕ) → is_under subtree name ≡ true → next_name settings at ≡ Some name → (so_far : SoFar before now old reported subtree settings at was)
       → (next ≡ now) ⊎ ((d : Delivery) × (delivery (subtrees now) (name, unwrap_or (maps.get settings name) []) ≡ Some d) × (next ≡ deliver now d))
       → (next ≡ deliver_all before (delivered (subtrees before) subtree (take so_far.count (maps.entries settings)))) ⊎ (next ≡ deliver_all before (delivered (subtrees before) subtree (take (so_far.count + 1) (maps.entries settings))))
   registered_end next name is next_one so_far (inl same) = inl (same ∙ so_far.gives.handlers)
@@ -108,25 +108,25 @@ module _ (before now : List Registered) (old told : Option (List Give)) (subtree
       ∙ ap (λ es. deliver_all before (delivered (subtrees before) subtree es)) (sym (one_longer name so_far.count (stands name next_one so_far))))
 
   pub some_so_far : (next : List Registered) (new : Option (List Give)) (loaded : Loaded) (name : List ℕ) (lack : Lack) → next_name settings at ≡ Some name
-      → LoadNameEnds now next told new subtree (name, unwrap_or (maps.get settings name) []) was loaded (Err lack) → SoFar before now old told subtree settings at was → GivesSome before next old new subtree (maps.entries settings)
+      → LoadNameEnds now next reported new subtree (name, unwrap_or (maps.get settings name) []) was loaded (Err lack) → SoFar before now old reported subtree settings at was → GivesSome before next old new subtree (maps.entries settings)
   some_so_far next new loaded name lack next_one (beside isnt after_is new_is loaded_is ok) so_far = absurd (cc)
   some_so_far next new loaded name lack next_one (under is ends) so_far = record {
     count = so_far.count;
     within = so_far.within;
-    told = ends.0 ∙ so_far.gives.told;
+    reported = ends.0 ∙ so_far.gives.reported;
     handlers = registered_end next name is next_one so_far ends.1;
   }
 
-  pub all_so_far : next_name settings at ≡ None → SoFar before now old told subtree settings at was → Gives before now old told subtree (maps.entries settings) was
+  pub all_so_far : next_name settings at ≡ None → SoFar before now old reported subtree settings at was → Gives before now old reported subtree (maps.entries settings) was
   all_so_far none so_far = elim (cases_lt so_far.count (length (maps.entries settings))) [
     | inl lt ↦ absurd (some_none (get_or (maps.entries settings) so_far.count ([], [])).0 (sym (ap (option_map (λ e. e.0)) (slice_get-within (maps.entries settings) so_far.count ([], []) lt)) ∙ sym (walk_on settings so_far.count so_far.within) ∙ ap (next_name settings) (sym so_far.place) ∙ none))
-    | inr past ↦ subst (λ es. Gives before now old told subtree es was) (take_all so_far.count (maps.entries settings) past) so_far.gives
+    | inr past ↦ subst (λ es. Gives before now old reported subtree es was) (take_all so_far.count (maps.entries settings) past) so_far.gives
   ]
     where
       some_none : (name : List ℕ) → Some name ≡ None → ⊥
       some_none name is = cc
 
-  pub room_so_far : (name : List ℕ) → next_name settings at ≡ Some name → maps.len settings < 2 ^ 32 → SoFar before now old told subtree settings at was → was.taken + was.rejected + was.passed < 2 ^ 32 - 1
+  pub room_so_far : (name : List ℕ) → next_name settings at ≡ Some name → maps.len settings < 2 ^ 32 → SoFar before now old reported subtree settings at was → was.taken + was.rejected + was.passed < 2 ^ 32 - 1
   room_so_far name next_one few so_far =
       let there = stands name next_one so_far in
       let ds = delivered (subtrees before) subtree (take so_far.count (maps.entries settings)) in
@@ -138,7 +138,7 @@ module _ (before now : List Registered) (old told : Option (List Give)) (subtree
       let all : maps.len settings ≡ length (maps.entries settings) = maps.len-entries settings in
       omega (arith, there.0, both, taken, rejected, under, least, all, few, so_far.gives.taken, so_far.gives.rejected, so_far.gives.passed, length-take so_far.count (maps.entries settings))
 
-  pub fewer_so_far : (name : List ℕ) → next_name settings at ≡ Some name → SoFar before now old told subtree settings at was
+  pub fewer_so_far : (name : List ℕ) → next_name settings at ≡ Some name → SoFar before now old reported subtree settings at was
       → length (filter (is_behind (Some name)) (maps.keys settings)) < length (filter (is_behind at) (maps.keys settings))
   fewer_so_far name next_one so_far =
       let there = stands name next_one so_far in

@@ -6,7 +6,7 @@ use Rattle.std.specs.Option.{unwrap_or}
 use Rattle.setting_name.specs.Match.{matched_rest}
 use Rattle.handlers.specs.Best.{best}
 use Rattle.handlers.specs.Registry.{Registered, subtrees, nobody, state_at, with_state}
-use Rattle.settings_core.specs.Told.{told_more}
+use Rattle.settings_core.specs.Reported.{reported_more}
 use Rattle.std.proofs.lemmas.Bool.{cond-false}
 use Rattle.std.proofs.lemmas.List.{set-get_or}
 use Rattle.handlers.specs.Held.{given}
@@ -22,15 +22,15 @@ delivery-best before name value rest subtree place is own left =
 
 pub delivers : (before after : List Registered) (old new : Option (List Give)) (name value rest subtree : List ℕ) (place : ℕ) (taken answer : Bool) → best (subtrees before) name ≡ Some place → subtree ≡ (get_or before place nobody).subtree
     → rest ≡ unwrap_or (matched_rest name subtree) [] → (taken ≡ is_taken before (record { place = place; rest = rest; value = value })) × (after ≡ deliver before (record { place = place; rest = rest; value = value }))
-    → new ≡ told_more old (record { subtree = subtree; rest = rest; value = value; taken = taken } ∷ []) → taken ≡ answer → Delivers before after old new (name, value) answer
-delivers before after old new name value rest subtree place taken answer is own left done told same = record {
+    → new ≡ reported_more old (record { subtree = subtree; rest = rest; value = value; taken = taken } ∷ []) → taken ≡ answer → Delivers before after old new (name, value) answer
+delivers before after old new name value rest subtree place taken answer is own left done reported same = record {
   d = record { place = place; rest = rest; value = value };
   is = delivery-best before name value rest subtree place is own left;
   answer = sym done.0 ∙ same;
   after_is = done.1;
-  told =
-      told ∙ ap (λ text. told_more old (record { subtree = text; rest = rest; value = value; taken = taken } ∷ [])) own
-      ∙ ap (λ b. told_more old (record { subtree = (get_or before place nobody).subtree; rest = rest; value = value; taken = b } ∷ [])) done.0;
+  reported =
+      reported ∙ ap (λ text. reported_more old (record { subtree = text; rest = rest; value = value; taken = taken } ∷ [])) own
+      ∙ ap (λ b. reported_more old (record { subtree = (get_or before place nobody).subtree; rest = rest; value = value; taken = b } ∷ [])) done.0;
 }
 
 -- ---- at run time

@@ -6,23 +6,23 @@ use Rattle.flash_map.specs.Spending.{SpendsAtMost}
 use Rattle.flash_map.proofs.SpendingLemmas.{most_weaker, spends_then}
 use Rattle.backend_api.specs.Commands.{Command, all_applied}
 use Rattle.backend_api.specs.Map.{Map}
-use Rattle.backend_api.specs.Room.{most_units}
+use Rattle.backend_api.specs.Room.{command_units}
 use Rattle.settings_core.specs.Carrying.{is_idle, due, due_units}
 use Rattle.settings_core.proofs.CarryLemmas.{due_one, due-append}
 
 -- one that is due
-pub one_due : (old new : Device) (g : Geometry) (settings : Map) (c : Command) → is_idle settings c ≡ false → SpendsAtMost old new (most_units g) → SpendsAtMost old new (due_units g settings (c ∷ []))
+pub one_due : (old new : Device) (g : Geometry) (settings : Map) (c : Command) → is_idle settings c ≡ false → SpendsAtMost old new (command_units g) → SpendsAtMost old new (due_units g settings (c ∷ []))
 one_due old new g settings c isnt spent =
-    subst (λ (l : List Command). SpendsAtMost old new (length l * most_units g)) (sym (due_one settings c isnt)) (most_weaker old new (most_units g) (1 * most_units g) (omega arith) spent)
+    subst (λ (l : List Command). SpendsAtMost old new (length l * command_units g)) (sym (due_one settings c isnt)) (most_weaker old new (command_units g) (1 * command_units g) (omega arith) spent)
 
 both : (first second most : ℕ) → first * most + second * most ≡ (first + second) * most
 both first second most = grind arith
 
 units_append : (g : Geometry) (settings : Map) (xs ys : List Command) → due_units g settings xs + due_units g (all_applied settings xs) ys ≡ due_units g settings (xs ++ ys)
 units_append g settings xs ys =
-    both (length (due settings xs)) (length (due (all_applied settings xs) ys)) (most_units g)
-    ∙ ap (λ (n : ℕ). n * most_units g) (sym (length-append (due settings xs) (due (all_applied settings xs) ys)))
-    ∙ ap (λ (l : List Command). length l * most_units g) (sym (due-append settings xs ys))
+    both (length (due settings xs)) (length (due (all_applied settings xs) ys)) (command_units g)
+    ∙ ap (λ (n : ℕ). n * command_units g) (sym (length-append (due settings xs) (due (all_applied settings xs) ys)))
+    ∙ ap (λ (l : List Command). length l * command_units g) (sym (due-append settings xs ys))
 
 -- some, and then others
 pub due_then : (old mid new : Device) (g then_g : Geometry) (settings now : Map) (xs ys : List Command) → then_g ≡ g → now ≡ all_applied settings xs → SpendsAtMost old mid (due_units g settings xs) → SpendsAtMost mid new (due_units then_g now ys)

@@ -15,7 +15,7 @@ use Rattle.backend_api.specs.Map.{Map}
 use Rattle.backend_api.specs.declared.backend.SetFault.{SetFault}
 use Rattle.backend_api.specs.declared.backend.SetFault.TheVariants.{NoSpace as SetNoSpace, TooManyNames as SetTooMany, PowerLost as SetLost}
 use Rattle.flash_map.specs.On.{on}
-use Rattle.backend_api.specs.Room.{Room, HasNoRoom, most_units}
+use Rattle.backend_api.specs.Room.{Room, HasNoRoom, command_units}
 use Rattle.settings_core.specs.declared.writing.SaveFault.{SaveFault}
 use Rattle.settings_core.specs.declared.writing.SaveFault.TheVariants.{Off, NoSpace, TooManyNames, PowerLost}
 use Rattle.settings_core.specs.declared.writing.DeleteFault.{DeleteFault}
@@ -39,7 +39,7 @@ due settings (c ∷ commands) =
 
 -- The most units and erases of carrying them out, whole or cut: those of one command for each of them.
 abbrev pub due_units : Geometry → Map → List Command → ℕ
-due_units geometry settings commands = length (due settings commands) * most_units geometry
+due_units geometry settings commands = length (due settings commands) * command_units geometry
 
 -- the name would be one too many
 abbrev pub is_too_many : Room → Map → Command → Bool

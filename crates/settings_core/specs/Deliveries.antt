@@ -10,7 +10,7 @@ use Rattle.handlers.specs.Best.{best}
 use Rattle.handlers.specs.Held.{HandlerState, accepts, given}
 use Rattle.handlers.specs.Registry.{Registered, subtrees, nobody, state_at, with_state}
 use Rattle.settings_core.specs.Committing.{is_under}
-use Rattle.settings_core.specs.Told.{told_more}
+use Rattle.settings_core.specs.Reported.{reported_more}
 
 -- a stored value for the handler at a place
 pub record Delivery : Type 0 where
@@ -48,7 +48,7 @@ deliver handlers d = with_state handlers d.place (offered (state_at handlers d.p
 abbrev pub deliver_all : List Registered → List Delivery → List Registered
 deliver_all handlers deliveries = fold deliver handlers deliveries
 
--- a delivery as it is told
+-- a delivery as it is reported
 pub record Give : Type 0 where
   pub subtree : List ℕ
   pub rest : List ℕ
@@ -74,14 +74,14 @@ abbrev pub DeliverEnds : List Registered → List Registered → Delivery → Re
 DeliverEnds before after d (Ok taken) = (taken ≡ is_taken before d) × (after ≡ deliver before d)
 DeliverEnds before after d (Err lack) = (is_taken before d ≡ true) × (after ≡ before)
 
--- the setting went to its best handler, and that was told
+-- the setting went to its best handler, and that was reported
 pub record Delivers (before after : List Registered) (old new : Option (List Give))
     (setting : List ℕ × List ℕ) (taken : Bool) : Type 0 where
   pub d : Delivery
   pub is : delivery (subtrees before) setting ≡ Some d
   pub answer : is_taken before d ≡ taken
   pub after_is : after ≡ deliver before d
-  pub told : new ≡ told_more old (give before d ∷ [])
+  pub reported : new ≡ reported_more old (give before d ∷ [])
 
 -- how offering a setting to the handlers ends
 abbrev pub OfferEnds : List Registered → List Registered → Option (List Give) → Option (List Give)

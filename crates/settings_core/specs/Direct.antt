@@ -4,28 +4,28 @@ use Rattle.flash_sim.specs.declared.flash.NoMemory.{NoMemory as Lack}
 use Rattle.settings_core.specs.declared.loading.LoadFault.{LoadFault}
 use Rattle.settings_core.specs.declared.loading.LoadFault.TheVariants.{Off, NoMemory}
 use Rattle.settings_core.specs.Deliveries.{settings_under}
-use Rattle.settings_core.specs.Told.{told_more}
+use Rattle.settings_core.specs.Reported.{reported_more}
 
--- memory was wanting after the first so many settings, and those of them that match were told
-pub record TellsSome (old new : Option (List (List ℕ × List ℕ))) (subtree : Option (List ℕ))
+-- memory was wanting after the first so many settings, and those of them that match were reported
+pub record ReportsSome (old new : Option (List (List ℕ × List ℕ))) (subtree : Option (List ℕ))
     (settings : List (List ℕ × List ℕ)) : Type 0 where
   pub count : ℕ
   pub within : count ≤ length settings
-  pub told : new ≡ told_more old (settings_under subtree (take count settings))
+  pub reported : new ≡ reported_more old (settings_under subtree (take count settings))
 
 -- by whether the backend is up
 abbrev pub DirectEnds : Bool → Option (List (List ℕ × List ℕ)) → Option (List (List ℕ × List ℕ))
     → Option (List ℕ) → List (List ℕ × List ℕ) → Result ℕ LoadFault → Type 0
 DirectEnds up old new subtree settings (Ok count) =
     (up ≡ true) × (count ≡ length (settings_under subtree settings))
-    × (new ≡ told_more old (settings_under subtree settings))
+    × (new ≡ reported_more old (settings_under subtree settings))
 DirectEnds up old new subtree settings (Err Off) = (up ≡ false) × (new ≡ old)
-DirectEnds up old new subtree settings (Err NoMemory) = (up ≡ true) × TellsSome old new subtree settings
+DirectEnds up old new subtree settings (Err NoMemory) = (up ≡ true) × ReportsSome old new subtree settings
 
 -- one setting
-abbrev pub TellEnds : Option (List (List ℕ × List ℕ)) → Option (List (List ℕ × List ℕ)) → Option (List ℕ)
+abbrev pub ReportEnds : Option (List (List ℕ × List ℕ)) → Option (List (List ℕ × List ℕ)) → Option (List ℕ)
     → List ℕ × List ℕ → ℕ → ℕ → Result (Unit {0}) Lack → Type 0
-TellEnds old new subtree setting was count (Ok x) =
-    (new ≡ told_more old (settings_under subtree (setting ∷ [])))
+ReportEnds old new subtree setting was count (Ok x) =
+    (new ≡ reported_more old (settings_under subtree (setting ∷ [])))
     × (count ≡ was + length (settings_under subtree (setting ∷ [])))
-TellEnds old new subtree setting was count (Err lack) = new ≡ old
+ReportEnds old new subtree setting was count (Err lack) = new ≡ old

@@ -81,7 +81,7 @@ HoldsStored limit handlers settings place =
     (state_at (deliver_all handlers (delivered (subtrees handlers) None (entries settings))) place).held
     rest ≡ Some value ↔ IsFor handlers settings place rest value
 
--- no loss of which the device tells spells another record by chance
+-- no loss that the device reports spells another record by chance
 abbrev pub HasNoChance : (Loss → Bool) → Device → Type 0
 HasNoChance chance d = (loss : Loss) → d.last_loss ≡ Some loss → chance loss ≡ false
 

@@ -7,4 +7,4 @@ pub mod Loading
 pub mod Reading
 pub mod Runtime
 pub mod Saving
-pub mod Told
+pub mod Reported

@@ -8,28 +8,28 @@ use Rattle.settings_core.specs.declared.loading.Loaded.{Loaded}
 use Rattle.settings_core.specs.declared.loading.LoadFault.{LoadFault}
 use Rattle.settings_core.specs.declared.loading.LoadFault.TheVariants.{Off, NoMemory}
 use Rattle.settings_core.specs.Committing.{is_under, commit_all}
-use Rattle.settings_core.specs.Told.{told_more}
+use Rattle.settings_core.specs.Reported.{reported_more}
 use Rattle.settings_core.specs.Deliveries.{Give, give, delivered, deliver_all, is_taken, settings_under, OfferEnds}
 
--- these settings were given to their handlers, told and counted
+-- these settings were given to their handlers, reported and counted
 pub record Gives (before after : List Registered) (old new : Option (List Give)) (subtree : Option (List ℕ))
     (settings : List (List ℕ × List ℕ)) (loaded : Loaded) : Type 0 where
   pub handlers : after ≡ deliver_all before (delivered (subtrees before) subtree settings)
-  pub told : new ≡ told_more old (map (give before) (delivered (subtrees before) subtree settings))
+  pub reported : new ≡ reported_more old (map (give before) (delivered (subtrees before) subtree settings))
   pub taken : loaded.taken ≡ count_by (is_taken before) (delivered (subtrees before) subtree settings)
   pub rejected : loaded.rejected
       ≡ count_by (λ d. not (is_taken before d)) (delivered (subtrees before) subtree settings)
   pub passed : loaded.passed + length (delivered (subtrees before) subtree settings)
       ≡ length (settings_under subtree settings)
 
--- Memory was wanting after the first so many settings: these were given and told. The next one may have been
--- given, and was not told.
+-- Memory was wanting after the first so many settings: these were given and reported. The next one
+-- may have been given, and was not reported.
 pub record GivesSome (before after : List Registered) (old new : Option (List Give))
     (subtree : Option (List ℕ)) (settings : List (List ℕ × List ℕ)) : Type 0 where
   pub count : ℕ
   pub within : count ≤ length settings
-  pub told : new
-      ≡ told_more old (map (give before) (delivered (subtrees before) subtree (take count settings)))
+  pub reported : new
+      ≡ reported_more old (map (give before) (delivered (subtrees before) subtree (take count settings)))
   pub handlers : (after ≡ deliver_all before (delivered (subtrees before) subtree (take count settings)))
       ⊎ (after ≡ deliver_all before (delivered (subtrees before) subtree (take (count + 1) settings)))
 

@@ -3,8 +3,8 @@ ghost use Rattle.std.specs.Prelude.{◌≡◌, ℕ, ◌+◌, ◌-◌, ◌^◌, �
 ghost use Rattle.std.specs.FinMap as finite;
 ghost use Rattle.flash_map.specs.Lawful.{IsLawfulFor};
 ghost use Rattle.flash_map.specs.On.{on, StandsOn};
-ghost use Rattle.settings_core.specs.Direct.{DirectEnds, TellEnds};
-ghost use Rattle.settings_core.specs.Told.{told_more};
+ghost use Rattle.settings_core.specs.Direct.{DirectEnds, ReportEnds};
+ghost use Rattle.settings_core.specs.Reported.{reported_more};
 
 use crate::committing::is_under;
 use crate::loading::{LoadFault, stored};
@@ -16,20 +16,20 @@ use setting_name::Name;
 use std::alloc::Global;
 use std::sync::ledger::Ledger;
 
-/// Is told each setting of a load without handlers.
+/// Is given each setting of a load without handlers.
 pub trait Each {
-    /// What it was told, in order, where it says so.
+    /// What it was given, in order, where it says so.
     ghost had: { Self → Option (List (List ℕ × List ℕ)) };
 
     /// A name has a value.
     fn have(&mut self, alloc: Global, name: &Name, value: ValueView<'_>) -> Result<(), NoMemory>
         ensures ok { OnOk result
-            (had self.new ≡ told_more (had self.old) ((name.now, value.entry.bytes.now) ∷ [])) }
+            (had self.new ≡ reported_more (had self.old) ((name.now, value.entry.bytes.now) ∷ [])) }
         ensures err { OnErr result (had self.new ≡ had self.old) };
 }
 
 impl<K: Backend> Settings<K> {
-    /// Tells each name that matches the subtree with its value, in byte order of the names, and how
+    /// Gives each name that matches the subtree with its value, in byte order of the names, and how
     /// many they are.
     ///
     /// # Errors
@@ -56,7 +56,7 @@ impl<K: Backend> Settings<K> {
         let mut count = 0;
         let mut after: Option<Name> = None;
         while let Some(name) = self.backend.next_name(flash, after.as_ref(), steps) {
-            let told = tell(
+            let reported = report_name(
                 alloc,
                 &self.backend,
                 flash,
@@ -66,7 +66,7 @@ impl<K: Backend> Settings<K> {
                 &name,
                 steps,
             );
-            match told {
+            match reported {
                 Ok(()) => after = Some(name),
                 Err(_) => return Err(LoadFault::NoMemory),
             }
@@ -75,8 +75,8 @@ impl<K: Backend> Settings<K> {
     }
 }
 
-// Tells one name, if it matches, and counts it.
-fn tell<K: Backend, F: Flash, L: Ledger, E: Each>(
+// Gives one name, if it matches, and counts it.
+fn report_name<K: Backend, F: Flash, L: Ledger, E: Each>(
     alloc: Global,
     backend: &K,
     flash: &F,
@@ -90,7 +90,7 @@ fn tell<K: Backend, F: Flash, L: Ledger, E: Each>(
     requires stands { StandsOn K.mounted_on K.stands (F.device flash.now) backend.now }
     requires room { count.old < 2 ^ 32 - 1 }
     ensures { let area = K.mounted_on backend.now in let d = F.device flash.now in
-        TellEnds (E.had each.old) (E.had each.new) (option_map (λ name. name.now) subtree.entry)
+        ReportEnds (E.had each.old) (E.had each.new) (option_map (λ name. name.now) subtree.entry)
         (name.now, unwrap_or (finite.get (on K.contents d area) name.now) []) count.old count.new
         result }
 {

@@ -21,7 +21,7 @@ pub(crate) enum Offered {
     Passed,
 }
 
-// Gives a stored value to the best handler for its name, and tells it.
+// Gives a stored value to the best handler for its name, and reports it.
 pub(crate) fn offer<R: Report>(
     alloc: Global,
     registry: &mut Registry,

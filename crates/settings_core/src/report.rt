@@ -1,16 +1,16 @@
-// What is told of a load.
+// What is said of a load.
 ghost use Rattle.std.specs.Prelude.{◌≡◌, List, [], ◌∷◌, Option, OnOk, OnErr};
 ghost use Rattle.settings_core.specs.Deliveries.{Give};
-ghost use Rattle.settings_core.specs.Told.{told_more};
+ghost use Rattle.settings_core.specs.Reported.{reported_more};
 
 use flash_sim::NoMemory;
 use handlers::ValueView;
 use setting_name::Name;
 use std::alloc::Global;
 
-/// Is told each value that a load gives to a handler.
+/// Is given each value that a load gives to a handler.
 pub trait Report {
-    /// What it was told, in order, where it says so.
+    /// What it was given, in order, where it says so.
     ghost gives: { Self → Option (List Give) };
 
     /// A value was given to the handler of the subtree.
@@ -24,7 +24,7 @@ pub trait Report {
     ) -> Result<(), NoMemory>
         ensures ok { OnOk result
             (gives self.new
-            ≡ told_more (gives self.old)
+            ≡ reported_more (gives self.old)
             (record
             { subtree = subtree.now; rest = rest.now; value = value.entry.bytes.now; taken = taken }
             ∷ [])) }

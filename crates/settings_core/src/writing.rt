@@ -6,7 +6,7 @@ ghost use Rattle.flash_map.specs.Spending.{SpendsAtMost};
 ghost use Rattle.flash_map.specs.Touches.{Touches};
 ghost use Rattle.backend_api.specs.Commands.Command.{Put, Del};
 ghost use Rattle.flash_map.specs.On.{on, StandsOn};
-ghost use Rattle.backend_api.specs.Room.{most_units};
+ghost use Rattle.backend_api.specs.Room.{command_units};
 ghost use Rattle.settings_core.specs.Carrying.{command_of, is_idle, due_units, CarryEndsOn, save_lost, as_save, fault_of, lost_as_save, put_count};
 
 use crate::settings::Settings;
@@ -64,7 +64,7 @@ impl<K: Backend> Settings<K> {
             (command_of name.now value.now ∷ []) count result }
         ensures at_most { let d = F.device flash.old in
             SpendsAtMost d (F.device flash.new)
-            (most_units (geometry_of d (K.mounted_on self.old.backend))) }
+            (command_units (geometry_of d (K.mounted_on self.old.backend))) }
         ensures sound { K.runs self.old.backend ≡ true
             → on K.damage (F.device flash.new) (K.mounted_on self.old.backend) ≡ None }
         ensures stands { K.runs self.new.backend ≡ true
@@ -108,7 +108,7 @@ impl<K: Backend> Settings<K> {
             (Del name.now ∷ []) count (as_save result) }
         ensures at_most { let d = F.device flash.old in
             SpendsAtMost d (F.device flash.new)
-            (most_units (geometry_of d (K.mounted_on self.old.backend))) }
+            (command_units (geometry_of d (K.mounted_on self.old.backend))) }
         ensures sound { K.runs self.old.backend ≡ true
             → on K.damage (F.device flash.new) (K.mounted_on self.old.backend) ≡ None }
         ensures stands { K.runs self.new.backend ≡ true
@@ -149,7 +149,7 @@ fn store<K: Backend, F: Flash, L: Ledger>(
         (F.device flash.old) (F.device flash.new) (Put name.now value.now ∷ []) count result }
     ensures at_most { let d = F.device flash.old in
         SpendsAtMost d (F.device flash.new)
-        (most_units (geometry_of d (K.mounted_on backend.old))) }
+        (command_units (geometry_of d (K.mounted_on backend.old))) }
     ensures sound { on K.damage (F.device flash.new) (K.mounted_on backend.old) ≡ None }
     ensures stands { save_lost result ≡ false
         → StandsOn K.mounted_on K.stands (F.device flash.new) backend.new }
@@ -169,7 +169,7 @@ fn store<K: Backend, F: Flash, L: Ledger>(
     }
 }
 
-// Gives a name a value that is not empty, by a backend that is up, and tells whether it had another
+// Gives a name a value that is not empty, by a backend that is up, and says whether it had another
 // one before, or none.
 pub(crate) fn put<K: Backend, F: Flash, L: Ledger>(
     backend: &mut K,
@@ -255,7 +255,7 @@ fn remove<K: Backend, F: Flash, L: Ledger>(
         (F.device flash.old) (F.device flash.new) (Del name.now ∷ []) count (lost_as_save result) }
     ensures at_most { let d = F.device flash.old in
         SpendsAtMost d (F.device flash.new)
-        (most_units (geometry_of d (K.mounted_on backend.old))) }
+        (command_units (geometry_of d (K.mounted_on backend.old))) }
     ensures sound { on K.damage (F.device flash.new) (K.mounted_on backend.old) ≡ None }
     ensures stands { is_err result ≡ false
         → StandsOn K.mounted_on K.stands (F.device flash.new) backend.new }

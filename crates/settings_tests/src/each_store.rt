@@ -2,7 +2,7 @@
 ghost use Rattle.std.specs.Prelude.{◌≡◌, ◌<◌};
 
 use crate::cuts::cuts_of_each_role;
-use crate::stores::{among_strays, is_absent, of_each_role};
+use crate::stores::{among_orphans, is_absent, of_each_role};
 use counted_sim::{CountedSim, Views};
 use flash_map::Role;
 use flash_sim::{Kind, Steps};
@@ -25,7 +25,7 @@ fn exercise<B: Views, L: Ledger, R: Abort>(
     let mut steps = Steps::<L>::new(blank);
     of_each_role(rt, alloc, bench, &mut steps)?;
     cuts_of_each_role(rt, alloc, bench, &mut steps)?;
-    among_strays(rt, alloc, bench, &mut steps)?;
+    among_orphans(rt, alloc, bench, &mut steps)?;
     let (nvs, zms) = (Role::Nvs, Role::Zms);
     let (erasing, rewritable) = (Kind::Erasing, Kind::Rewritable);
     is_absent(rt, alloc, bench, nvs, erasing, 4, 0, b"a", &mut steps)?;

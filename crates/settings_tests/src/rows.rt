@@ -9,7 +9,7 @@ pub(crate) type Left = (&'static [u8], u8, usize);
 
 // Calls on an area that is erased but for these bytes from a place on, and the names that are left,
 // in order.
-pub(crate) struct Play {
+pub(crate) struct Case {
     pub(crate) at: usize,
     pub(crate) bytes: &'static [u8],
     pub(crate) calls: &'static [Call],
@@ -33,8 +33,8 @@ const N: &[u8] = &[b'n'; 64];
 
 const M: &[u8] = &[b'm'; 64];
 
-pub(crate) static NVS: [Play; 6] = [
-    Play {
+pub(crate) static NVS: [Case; 6] = [
+    Case {
         at: 0,
         bytes: b"",
         calls: &[
@@ -45,7 +45,7 @@ pub(crate) static NVS: [Play; 6] = [
         ],
         left: &[],
     },
-    Play {
+    Case {
         at: 0,
         bytes: b"",
         calls: &[
@@ -58,7 +58,7 @@ pub(crate) static NVS: [Play; 6] = [
         left: &[(b"a", 3, 1), (b"b", 1, 1), (b"b/x", 4, 1)],
     },
     // the last set collects
-    Play {
+    Case {
         at: 0,
         bytes: b"",
         calls: &[
@@ -71,7 +71,7 @@ pub(crate) static NVS: [Play; 6] = [
         left: &[(b"a", 0x55, 100)],
     },
     // neither the value that was deleted nor its delete marks are copied
-    Play {
+    Case {
         at: 0,
         bytes: b"",
         calls: &[
@@ -84,7 +84,7 @@ pub(crate) static NVS: [Play; 6] = [
         ],
         left: &[(b"b", 0x44, 100)],
     },
-    Play {
+    Case {
         at: 0,
         bytes: b"",
         calls: &[
@@ -96,7 +96,7 @@ pub(crate) static NVS: [Play; 6] = [
         left: &[(b"b", 0x22, 256)],
     },
     // the value fits, its name does not
-    Play {
+    Case {
         at: 0,
         bytes: b"",
         calls: &[
@@ -141,14 +141,14 @@ pub(crate) static NVS_CUTS: [Cut; 3] = [
     },
 ];
 
-pub(crate) static ZMS: [Play; 4] = [
-    Play {
+pub(crate) static ZMS: [Case; 4] = [
+    Case {
         at: 0,
         bytes: b"",
         calls: &[(b"a", 7, 8, 3, None), (b"a", 7, 8, 0, None)],
         left: &[(b"a", 7, 8)],
     },
-    Play {
+    Case {
         at: 0,
         bytes: b"",
         calls: &[
@@ -160,7 +160,7 @@ pub(crate) static ZMS: [Play; 4] = [
         left: &[(b"a", 1, 1), (b"b/x", 0x11, 9)],
     },
     // the last set collects
-    Play {
+    Case {
         at: 0,
         bytes: b"",
         calls: &[
@@ -172,7 +172,7 @@ pub(crate) static ZMS: [Play; 4] = [
         left: &[(b"a", 0x44, 100)],
     },
     // the empty entry of cycle 1, and the name of an earlier cycle, which the first set hides
-    Play {
+    Case {
         at: 448,
         bytes: b"\xCA\x01\x01\0\x20\x29\0\x80\x61\0\0\0\0\0\0\0\
             \xFF\xFF\xFF\xFF\xFF\xFF\xFF\xFF\xFF\xFF\xFF\xFF\xFF\xFF\xFF\xFF\
@@ -217,8 +217,8 @@ pub(crate) static ZMS_CUTS: [Cut; 2] = [
 ];
 
 // On a bank that is erased.
-pub(crate) static ZMS_ERASING: [Play; 7] = [
-    Play {
+pub(crate) static ZMS_ERASING: [Case; 7] = [
+    Case {
         at: 0,
         bytes: b"",
         calls: &[
@@ -231,7 +231,7 @@ pub(crate) static ZMS_ERASING: [Play; 7] = [
         left: &[(b"a", 1, 1), (b"b/x", 0x11, 9)],
     },
     // the last set collects
-    Play {
+    Case {
         at: 0,
         bytes: b"",
         calls: &[
@@ -242,7 +242,7 @@ pub(crate) static ZMS_ERASING: [Play; 7] = [
         ],
         left: &[(b"a", 0x44, 100)],
     },
-    Play {
+    Case {
         at: 0,
         bytes: b"",
         calls: &[
@@ -254,7 +254,7 @@ pub(crate) static ZMS_ERASING: [Play; 7] = [
         left: &[(b"b", 0x22, 256)],
     },
     // the next sector is fresh: as it opens nothing is done to it
-    Play {
+    Case {
         at: 1008,
         bytes: b"\x61\x01\xFF\xFF\xFF\xFF\xFF\xFF\0\0\0\0\0\0\0\0",
         calls: &[
@@ -266,7 +266,7 @@ pub(crate) static ZMS_ERASING: [Play; 7] = [
         left: &[(b"a", 0x44, 100)],
     },
     // it has no entry, and a unit that was put: it is erased
-    Play {
+    Case {
         at: 960,
         bytes: b"\0\0\0\0\0\0\0\0\0\0\0\0\0\0\0\0\
             \xFF\xFF\xFF\xFF\xFF\xFF\xFF\xFF\xFF\xFF\xFF\xFF\xFF\xFF\xFF\xFF\
@@ -282,7 +282,7 @@ pub(crate) static ZMS_ERASING: [Play; 7] = [
     },
     // the open sector has no entry, and a unit right under them: there is no room, and a close with
     // a collection makes some
-    Play {
+    Case {
         at: 448,
         bytes: b"\0\0\0\0\0\0\0\0\0\0\0\0\0\0\0\0\
             \xFF\xFF\xFF\xFF\xFF\xFF\xFF\xFF\xFF\xFF\xFF\xFF\xFF\xFF\xFF\xFF\
@@ -292,7 +292,7 @@ pub(crate) static ZMS_ERASING: [Play; 7] = [
         left: &[(b"a", 1, 1)],
     },
     // what was put under no empty entry is no entry, and it is erased before the first one
-    Play {
+    Case {
         at: 464,
         bytes: b"\xCA\x01\x01\0\x20\x29\0\x80\x61\0\0\0\0\0\0\0",
         calls: &[(b"a", 1, 1, 4, None)],
@@ -332,8 +332,8 @@ pub(crate) static ZMS_ERASING_CUTS: [Cut; 2] = [
     },
 ];
 
-pub(crate) static FCB: [Play; 4] = [
-    Play {
+pub(crate) static FCB: [Case; 4] = [
+    Case {
         at: 0,
         bytes: b"",
         calls: &[
@@ -345,7 +345,7 @@ pub(crate) static FCB: [Play; 4] = [
         left: &[(b"a", 1, 1)],
     },
     // the last set collects
-    Play {
+    Case {
         at: 0,
         bytes: b"",
         calls: &[
@@ -357,7 +357,7 @@ pub(crate) static FCB: [Play; 4] = [
         left: &[(b"a", 0x44, 100)],
     },
     // records that are no settings are passed over
-    Play {
+    Case {
         at: 0,
         bytes: b"\xEE\xEE\xFF\xC0\x01\xFF\x00\x00\
             \x03\xFF\xFF\xFFa=\x01\xFF\x52\xFF\xFF\xFF\
@@ -369,7 +369,7 @@ pub(crate) static FCB: [Play; 4] = [
         left: &[(b"a", 1, 1), (b"b", b'=', 1)],
     },
     // the longest name with the longest value
-    Play {
+    Case {
         at: 0,
         bytes: b"",
         calls: &[
@@ -422,7 +422,7 @@ pub(crate) static FCB_CUTS: [Cut; 4] = [
 ];
 
 // The longest name with the longest value, in units of 8 and of 16 bytes.
-pub(crate) static FCB_LONG: [Play; 1] = [Play {
+pub(crate) static FCB_LONG: [Case; 1] = [Case {
     at: 0,
     bytes: b"",
     calls: &[
@@ -432,7 +432,7 @@ pub(crate) static FCB_LONG: [Play; 1] = [Play {
     left: &[(N, 0x22, 256)],
 }];
 
-pub(crate) static FCB_LONGER: [Play; 1] = [Play {
+pub(crate) static FCB_LONGER: [Case; 1] = [Case {
     at: 0,
     bytes: b"",
     calls: &[
@@ -446,10 +446,10 @@ pub(crate) static FCB_LONGER: [Play; 1] = [Play {
 pub(crate) type Item = (u32, &'static [u8]);
 
 // A name and its value, none where it is empty.
-pub(crate) type Told = (&'static [u8], &'static [u8]);
+pub(crate) type Reported = (&'static [u8], &'static [u8]);
 
 // Over NVS: a count of 2, the setting `a`, a name with no value, and a pair beyond the count.
-pub(crate) static NVS_STRAYS: [Item; 6] = [
+pub(crate) static NVS_ORPHANS: [Item; 6] = [
     (0x8000, &[2, 0]),
     (0x8001, b"a"),
     (0xC001, &[1]),
@@ -458,4 +458,4 @@ pub(crate) static NVS_STRAYS: [Item; 6] = [
     (0xC003, &[7]),
 ];
 
-pub(crate) static NVS_TOLD: [Told; 3] = [(b"a", &[1]), (b"b", b""), (b"c", b"")];
+pub(crate) static NVS_REPORTED: [Reported; 3] = [(b"a", &[1]), (b"b", b""), (b"c", b"")];

@@ -148,7 +148,7 @@ fn loads<K: Backend, B: Bench, L: Ledger>(
 }
 
 // The names under a subtree, and the bytes of their values.
-fn tells<K: Backend, B: Bench, L: Ledger>(
+fn describes<K: Backend, B: Bench, L: Ledger>(
     alloc: Global,
     settings: &Settings<K>,
     bench: &B,
@@ -161,7 +161,7 @@ fn tells<K: Backend, B: Bench, L: Ledger>(
 {
     let mut bytes = Bytes { count: 0 };
     match settings.load_direct(alloc, bench, subtree, &mut bytes, steps) {
-        Ok(told) => Ok((told, bytes.count)),
+        Ok(reported) => Ok((reported, bytes.count)),
         Err(fault) => Err(fault),
     }
 }
@@ -354,7 +354,7 @@ fn rows<K: Backend, B: Bench, L: Ledger, R: Abort>(
     let mesh = Name::read(b"bt/mesh")?;
     fills(rt, settings, bench, steps)?;
     assert_eq!(rt;
-        tells(alloc, settings, bench, Some(&mesh), steps),
+        describes(alloc, settings, bench, Some(&mesh), steps),
         Ok((1, 2))
     );
     fills_handlers(rt, alloc, settings, bench, registry, steps)?;

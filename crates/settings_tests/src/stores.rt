@@ -8,17 +8,17 @@ ghost use Rattle.any_backend.specs.Standing.{IsReady};
 ghost use Rattle.named_items.specs.Looking.{HasIds};
 
 use crate::rows::{
-    Call, FCB, FCB_LONG, FCB_LONGER, Item, Left, NVS, NVS_STRAYS, NVS_TOLD, Play, Told, ZMS,
-    ZMS_ERASING,
+    Call, Case, FCB, FCB_LONG, FCB_LONGER, Item, Left, NVS, NVS_ORPHANS, NVS_REPORTED, Reported,
+    ZMS, ZMS_ERASING,
 };
 use any_backend::*;
 use arrayvec::ArrayString;
 use backend_api::{Backend, SetFault};
-use backend_nvs::NvsNumbers;
+use backend_nvs::NvsIdLayout;
 use counted_sim::Views;
 use flash_map::{Area, Role};
 use flash_sim::{Bank, Bench, Kind, Steps};
-use named_items::{ItemStore, Numbers, value_of};
+use named_items::{IdLayout, ItemStore, value_of};
 use nvs_gc::Nvs;
 use setting_name::Name;
 use std::alloc::{AllocError, Global};
@@ -240,20 +240,20 @@ pub(crate) fn carried<B: Bench, L: Ledger, R: Abort>(
 }
 
 // The calls one after another, a mount of what is left, and a format of it.
-fn plays<B: Bench, L: Ledger, R: Abort>(
+fn carries_out<B: Bench, L: Ledger, R: Abort>(
     rt: &R,
     alloc: Global,
     bench: &mut B,
     area: &Area,
-    play: &Play,
+    case: &Case,
     steps: &mut Steps<L>,
 ) -> Result<(), Fail>
     requires lawful { IsLawfulFor (B.device bench.old).banks area.now }
     requires serves { any_serves area.now (geometry_of (B.device bench.old) area.now) }
 {
-    carried(rt, alloc, bench, area, play.calls, steps)?;
+    carried(rt, alloc, bench, area, case.calls, steps)?;
     let backend = mounted(alloc, bench, area, steps)?;
-    shows(rt, &backend, bench, play.left, steps)?;
+    shows(rt, &backend, bench, case.left, steps)?;
     AnyBackend::format(bench, area, steps)?;
     let backend = mounted(alloc, bench, area, steps)?;
     shows(rt, &backend, bench, &[], steps)
@@ -267,22 +267,22 @@ fn of_role<B: Bench, L: Ledger, R: Abort>(
     role: Role,
     kind: Kind,
     unit: u32,
-    rows: &[Play],
+    rows: &[Case],
     steps: &mut Steps<L>,
 ) -> Result<(), Fail>
     requires kind { HasKind role kind }
     requires unit { HasUnit role unit }
     requires serves { serves_as role }
 {
-    for play in rows {
-        let image = image(alloc, play.at, play.bytes)?;
+    for case in rows {
+        let image = image(alloc, case.at, case.bytes)?;
         let area = bed(alloc, bench, role, kind, unit, image)?;
-        plays(rt, alloc, bench, &area, play, steps)?;
+        carries_out(rt, alloc, bench, &area, case, steps)?;
     }
     Ok(())
 }
 
-// A name that was never set, on an area where `a` has so many bytes: that is told with no view of
+// A name that was never set, on an area where `a` has so many bytes: that is reported with no view of
 // the flash.
 pub(crate) fn is_absent<B: Views, L: Ledger, R: Abort>(
     rt: &R,
@@ -336,13 +336,13 @@ fn put_items<S: ItemStore, B: Bench, L: Ledger>(
     Ok(())
 }
 
-// On an area with these items each of these names has its value, with no stray removed before.
-fn tells<N: Numbers, S: ItemStore, B: Bench, L: Ledger, R: Abort>(
+// On an area with these items each of these names has its value, with no orphan removed before.
+fn describes<N: IdLayout, S: ItemStore, B: Bench, L: Ledger, R: Abort>(
     rt: &R,
     alloc: Global,
     bench: &mut B,
     area: &Area,
-    told: &[Told],
+    reported: &[Reported],
     steps: &mut Steps<L>,
 ) -> Result<(), Fail>
     requires ids { HasIds N.top S.is_id }
@@ -350,7 +350,7 @@ fn tells<N: Numbers, S: ItemStore, B: Bench, L: Ledger, R: Abort>(
     requires serves { S.serves area.now (geometry_of (B.device bench.old) area.now) }
 {
     let store = S::mount(alloc, bench, area.copy(), steps)?;
-    for (name, value) in told {
+    for (name, value) in reported {
         let name = Name::read(name)?;
         let found = value_of::<N, S, B, L>(&store, bench, &name, steps);
         assert!(rt; found.unwrap_or(b"") == *value);
@@ -358,7 +358,7 @@ fn tells<N: Numbers, S: ItemStore, B: Bench, L: Ledger, R: Abort>(
     Ok(())
 }
 
-pub(crate) fn among_strays<B: Bench, L: Ledger, R: Abort>(
+pub(crate) fn among_orphans<B: Bench, L: Ledger, R: Abort>(
     rt: &R,
     alloc: Global,
     bench: &mut B,
@@ -366,8 +366,8 @@ pub(crate) fn among_strays<B: Bench, L: Ledger, R: Abort>(
 ) -> Result<(), Fail> {
     let image = image(alloc, 0, b"")?;
     let area = bed(alloc, bench, Role::Nvs, Kind::Erasing, 4, image)?;
-    put_items::<Nvs, B, L>(alloc, bench, &area, &NVS_STRAYS, steps)?;
-    tells::<NvsNumbers, Nvs, B, L, R>(rt, alloc, bench, &area, &NVS_TOLD, steps)
+    put_items::<Nvs, B, L>(alloc, bench, &area, &NVS_ORPHANS, steps)?;
+    describes::<NvsIdLayout, Nvs, B, L, R>(rt, alloc, bench, &area, &NVS_REPORTED, steps)
 }
 
 // The rows of each store.

@@ -61,7 +61,7 @@ module _ (old new : Device) (area : Area) (sector at : ℕ) (bytes : List ℕ) (
   pub bytes_lost : WritesPart old new area sector at (padded_bytes (unit_of old area) bytes) → HasPart (sector_bytes old area sector) (sector_bytes new area sector) at (padded 16 (length bytes))
   bytes_lost part =
       let size = image_long in
-      let front = length-take (part.0 * unit_of old area) (padded_bytes (unit_of old area) bytes) in
+      let prefix = length-take (part.0 * unit_of old area) (padded_bytes (unit_of old area) bytes) in
       (take (part.0 * unit_of old area) (padded_bytes (unit_of old area) bytes), omega arith, sector_set old new area sector (overwritten (sector_bytes old area sector) at (take (part.0 * unit_of old area) (padded_bytes (unit_of old area) bytes))) zms part.2)
 
   pub bytes_lost_others : WritesPart old new area sector at (padded_bytes (unit_of old area) bytes) → OthersStay old new area sector

@@ -37,7 +37,7 @@ offset_of e = from_le_bytes w32 (take 4 e.tail)
 abbrev pub is_special : ZEntry → Bool
 is_special e = e.id == 0xFFFFFFFF
 
--- what tells close and gc-done apart
+-- what distinguishes close and gc-done
 abbrev pub mark_of : ZEntry → ℕ
 mark_of e = from_le_bytes w32 (drop 4 e.tail)
 

@@ -11,7 +11,7 @@ use Rattle.zms_cycle.specs.declared.reading.SectorState.TheVariants.{Blank, Used
 use Rattle.zms_cycle.specs.Areas.{kind_on}
 use Rattle.zms_cycle.specs.Sector.{cycle_of, is_closed, valid_slots, data_end, has_gc_done}
 
--- a data end beyond 32 bits is told as the last number of 32 bits
+-- a data end beyond 32 bits is given as the last number of 32 bits
 abbrev pub state_of : Kind → List ℕ → SectorState
 state_of kind sector =
     option_map_or

@@ -14,18 +14,18 @@ use Rattle.zms_cycle.specs.Sector.{entry_in, is_valid_under, cycle_of, holds_clo
 use Rattle.zms_format.specs.Area.{reading, is_begun, is_unused, may_close, damage_of, list_of}
 
 -- a damage, or the open sector and the list
-data Told : Type 0 where
-  IsDamaged : Damaged → Told
-  Holds : ℕ → List (ℕ × List ℕ) → Told
+data Reported : Type 0 where
+  IsDamaged : Damaged → Reported
+  Holds : ℕ → List (ℕ × List ℕ) → Reported
 
-abbrev told_with : Option Damaged → Kind → List (List ℕ) → Told
-told_with (Some damaged) kind sectors = IsDamaged damaged
-told_with None kind sectors = Holds (open_sector (reading kind) sectors) (list_of kind sectors)
+abbrev reported_with : Option Damaged → Kind → List (List ℕ) → Reported
+reported_with (Some damaged) kind sectors = IsDamaged damaged
+reported_with None kind sectors = Holds (open_sector (reading kind) sectors) (list_of kind sectors)
 
 record Example : Type 0 where
   kind : Kind
   sectors : List (List ℕ)
-  told : Told
+  reported : Reported
 
 abbrev blank : List ℕ
 blank = replicate 112 255
@@ -106,132 +106,132 @@ abbrev no_cycle : List ℕ
 no_cycle = replicate 80 255 ++ replicate 16 0 ++ replicate 16 255
 
 abbrev all_closed : Example
-all_closed = record { kind = Rewritable; sectors = closed_long ∷ closed ∷ []; told = IsDamaged (record { sector = 0; why = AllClosed }) }
+all_closed = record { kind = Rewritable; sectors = closed_long ∷ closed ∷ []; reported = IsDamaged (record { sector = 0; why = AllClosed }) }
 
 abbrev entries_in_two : Example
-entries_in_two = record { kind = Rewritable; sectors = one ∷ two ∷ []; told = IsDamaged (record { sector = 1; why = TwoOpen }) }
+entries_in_two = record { kind = Rewritable; sectors = one ∷ two ∷ []; reported = IsDamaged (record { sector = 1; why = TwoOpen }) }
 
 abbrev entries_beside_the_open : Example
-entries_beside_the_open = record { kind = Rewritable; sectors = closed ∷ fresh ∷ two ∷ []; told = IsDamaged (record { sector = 2; why = TwoOpen }) }
+entries_beside_the_open = record { kind = Rewritable; sectors = closed ∷ fresh ∷ two ∷ []; reported = IsDamaged (record { sector = 2; why = TwoOpen }) }
 
 abbrev two_after_closed : Example
-two_after_closed = record { kind = Rewritable; sectors = closed ∷ fresh ∷ closed_bare ∷ blank ∷ []; told = IsDamaged (record { sector = 3; why = TwoOpen }) }
+two_after_closed = record { kind = Rewritable; sectors = closed ∷ fresh ∷ closed_bare ∷ blank ∷ []; reported = IsDamaged (record { sector = 3; why = TwoOpen }) }
 
 abbrev two_open_comes_first : Example
-two_open_comes_first = record { kind = Rewritable; sectors = full ∷ one ∷ []; told = IsDamaged (record { sector = 1; why = TwoOpen }) }
+two_open_comes_first = record { kind = Rewritable; sectors = full ∷ one ∷ []; reported = IsDamaged (record { sector = 1; why = TwoOpen }) }
 
 abbrev too_much : Example
-too_much = record { kind = Rewritable; sectors = blank ∷ full ∷ []; told = IsDamaged (record { sector = 1; why = Overfull }) }
+too_much = record { kind = Rewritable; sectors = blank ∷ full ∷ []; reported = IsDamaged (record { sector = 1; why = Overfull }) }
 
 abbrev no_guard_slot : Example
-no_guard_slot = record { kind = Rewritable; sectors = no_guard ∷ blank ∷ []; told = IsDamaged (record { sector = 0; why = Overfull }) }
+no_guard_slot = record { kind = Rewritable; sectors = no_guard ∷ blank ∷ []; reported = IsDamaged (record { sector = 0; why = Overfull }) }
 
 abbrev value_beside_units : Example
-value_beside_units = record { kind = Rewritable; sectors = beside ∷ blank ∷ []; told = IsDamaged (record { sector = 0; why = Overfull }) }
+value_beside_units = record { kind = Rewritable; sectors = beside ∷ blank ∷ []; reported = IsDamaged (record { sector = 0; why = Overfull }) }
 
 abbrev value_in_guard : Example
-value_in_guard = record { kind = Rewritable; sectors = in_guard ∷ blank ∷ []; told = IsDamaged (record { sector = 0; why = Overfull }) }
+value_in_guard = record { kind = Rewritable; sectors = in_guard ∷ blank ∷ []; reported = IsDamaged (record { sector = 0; why = Overfull }) }
 
 abbrev closed_too_full : Example
-closed_too_full = record { kind = Rewritable; sectors = closed_full ∷ blank ∷ []; told = IsDamaged (record { sector = 0; why = Overfull }) }
+closed_too_full = record { kind = Rewritable; sectors = closed_full ∷ blank ∷ []; reported = IsDamaged (record { sector = 0; why = Overfull }) }
 
 abbrev nothing : Example
-nothing = record { kind = Rewritable; sectors = blank ∷ fresh ∷ []; told = Holds 0 ([]) }
+nothing = record { kind = Rewritable; sectors = blank ∷ fresh ∷ []; reported = Holds 0 ([]) }
 
 abbrev one_value : Example
-one_value = record { kind = Rewritable; sectors = one ∷ blank ∷ []; told = Holds 0 ((7, (17 ∷ 18 ∷ [])) ∷ []) }
+one_value = record { kind = Rewritable; sectors = one ∷ blank ∷ []; reported = Holds 0 ((7, (17 ∷ 18 ∷ [])) ∷ []) }
 
 abbrev delete_stays : Example
-delete_stays = record { kind = Rewritable; sectors = two ∷ fresh ∷ []; told = Holds 0 ((7, (17 ∷ [])) ∷ (8, ([])) ∷ []) }
+delete_stays = record { kind = Rewritable; sectors = two ∷ fresh ∷ []; reported = Holds 0 ((7, (17 ∷ [])) ∷ (8, ([])) ∷ []) }
 
 abbrev long_value : Example
-long_value = record { kind = Rewritable; sectors = long ∷ blank ∷ []; told = Holds 0 ((9, (1 ∷ 2 ∷ 3 ∷ 4 ∷ 5 ∷ 6 ∷ 7 ∷ 8 ∷ 9 ∷ [])) ∷ []) }
+long_value = record { kind = Rewritable; sectors = long ∷ blank ∷ []; reported = Holds 0 ((9, (1 ∷ 2 ∷ 3 ∷ 4 ∷ 5 ∷ 6 ∷ 7 ∷ 8 ∷ 9 ∷ [])) ∷ []) }
 
 abbrev oldest_first : Example
-oldest_first = record { kind = Rewritable; sectors = closed_long ∷ closed ∷ blank ∷ []; told = Holds 2 ((9, (1 ∷ 2 ∷ 3 ∷ 4 ∷ 5 ∷ 6 ∷ 7 ∷ 8 ∷ 9 ∷ [])) ∷ (7, (17 ∷ 18 ∷ [])) ∷ []) }
+oldest_first = record { kind = Rewritable; sectors = closed_long ∷ closed ∷ blank ∷ []; reported = Holds 2 ((9, (1 ∷ 2 ∷ 3 ∷ 4 ∷ 5 ∷ 6 ∷ 7 ∷ 8 ∷ 9 ∷ [])) ∷ (7, (17 ∷ 18 ∷ [])) ∷ []) }
 
 abbrev round_the_end : Example
-round_the_end = record { kind = Rewritable; sectors = one ∷ blank ∷ closed_long ∷ []; told = Holds 0 ((9, (1 ∷ 2 ∷ 3 ∷ 4 ∷ 5 ∷ 6 ∷ 7 ∷ 8 ∷ 9 ∷ [])) ∷ (7, (17 ∷ 18 ∷ [])) ∷ []) }
+round_the_end = record { kind = Rewritable; sectors = one ∷ blank ∷ closed_long ∷ []; reported = Holds 0 ((9, (1 ∷ 2 ∷ 3 ∷ 4 ∷ 5 ∷ 6 ∷ 7 ∷ 8 ∷ 9 ∷ [])) ∷ (7, (17 ∷ 18 ∷ [])) ∷ []) }
 
 abbrev wrong_crc_ends_the_list : Example
-wrong_crc_ends_the_list = record { kind = Rewritable; sectors = wrong_crc ∷ blank ∷ []; told = Holds 0 ((7, (17 ∷ [])) ∷ []) }
+wrong_crc_ends_the_list = record { kind = Rewritable; sectors = wrong_crc ∷ blank ∷ []; reported = Holds 0 ((7, (17 ∷ [])) ∷ []) }
 
 abbrev wrong_head_is_blank : Example
-wrong_head_is_blank = record { kind = Rewritable; sectors = wrong_head ∷ one ∷ []; told = Holds 1 ((7, (17 ∷ 18 ∷ [])) ∷ []) }
+wrong_head_is_blank = record { kind = Rewritable; sectors = wrong_head ∷ one ∷ []; reported = Holds 1 ((7, (17 ∷ 18 ∷ [])) ∷ []) }
 
 abbrev old_cycle_counts_not : Example
-old_cycle_counts_not = record { kind = Rewritable; sectors = stale ∷ blank ∷ []; told = Holds 0 ([]) }
+old_cycle_counts_not = record { kind = Rewritable; sectors = stale ∷ blank ∷ []; reported = Holds 0 ([]) }
 
 abbrev under_a_gap_counts_not : Example
-under_a_gap_counts_not = record { kind = Rewritable; sectors = one ∷ stale_under ∷ []; told = Holds 0 ((7, (17 ∷ 18 ∷ [])) ∷ []) }
+under_a_gap_counts_not = record { kind = Rewritable; sectors = one ∷ stale_under ∷ []; reported = Holds 0 ((7, (17 ∷ 18 ∷ [])) ∷ []) }
 
 abbrev gap_makes_no_sector_open : Example
-gap_makes_no_sector_open = record { kind = Rewritable; sectors = stale_under ∷ one ∷ []; told = Holds 1 ((7, (17 ∷ 18 ∷ [])) ∷ []) }
+gap_makes_no_sector_open = record { kind = Rewritable; sectors = stale_under ∷ one ∷ []; reported = Holds 1 ((7, (17 ∷ 18 ∷ [])) ∷ []) }
 
 abbrev old_close_closes_not : Example
-old_close_closes_not = record { kind = Rewritable; sectors = stale_close ∷ blank ∷ []; told = Holds 0 ((7, (65 ∷ [])) ∷ []) }
+old_close_closes_not = record { kind = Rewritable; sectors = stale_close ∷ blank ∷ []; reported = Holds 0 ((7, (65 ∷ [])) ∷ []) }
 
 abbrev closed_after_a_round : Example
-closed_after_a_round = record { kind = Rewritable; sectors = closed_delete ∷ blank ∷ []; told = Holds 1 ((7, ([])) ∷ []) }
+closed_after_a_round = record { kind = Rewritable; sectors = closed_delete ∷ blank ∷ []; reported = Holds 1 ((7, ([])) ∷ []) }
 
 abbrev copies_count_not : Example
-copies_count_not = record { kind = Rewritable; sectors = one ∷ closed_two ∷ []; told = Holds 0 ((8, (33 ∷ [])) ∷ (7, (34 ∷ 35 ∷ [])) ∷ []) }
+copies_count_not = record { kind = Rewritable; sectors = one ∷ closed_two ∷ []; reported = Holds 0 ((8, (33 ∷ [])) ∷ (7, (34 ∷ 35 ∷ [])) ∷ []) }
 
 abbrev full_copies_count_not : Example
-full_copies_count_not = record { kind = Rewritable; sectors = full ∷ closed_delete ∷ []; told = Holds 0 ((7, ([])) ∷ []) }
+full_copies_count_not = record { kind = Rewritable; sectors = full ∷ closed_delete ∷ []; reported = Holds 0 ((7, ([])) ∷ []) }
 
 abbrev no_guard_among_copies : Example
-no_guard_among_copies = record { kind = Rewritable; sectors = no_guard ∷ closed_long ∷ []; told = Holds 0 ((9, (1 ∷ 2 ∷ 3 ∷ 4 ∷ 5 ∷ 6 ∷ 7 ∷ 8 ∷ 9 ∷ [])) ∷ []) }
+no_guard_among_copies = record { kind = Rewritable; sectors = no_guard ∷ closed_long ∷ []; reported = Holds 0 ((9, (1 ∷ 2 ∷ 3 ∷ 4 ∷ 5 ∷ 6 ∷ 7 ∷ 8 ∷ 9 ∷ [])) ∷ []) }
 
 abbrev victim_counts_not : Example
-victim_counts_not = record { kind = Rewritable; sectors = done ∷ closed_two ∷ []; told = Holds 0 ((7, (49 ∷ [])) ∷ []) }
+victim_counts_not = record { kind = Rewritable; sectors = done ∷ closed_two ∷ []; reported = Holds 0 ((7, (49 ∷ [])) ∷ []) }
 
 abbrev full_victim_counts_not : Example
-full_victim_counts_not = record { kind = Rewritable; sectors = done ∷ closed_full ∷ []; told = Holds 0 ((7, (49 ∷ [])) ∷ []) }
+full_victim_counts_not = record { kind = Rewritable; sectors = done ∷ closed_full ∷ []; reported = Holds 0 ((7, (49 ∷ [])) ∷ []) }
 
 abbrev done_alone : Example
-done_alone = record { kind = Rewritable; sectors = done_bare ∷ closed ∷ []; told = Holds 0 ([]) }
+done_alone = record { kind = Rewritable; sectors = done_bare ∷ closed ∷ []; reported = Holds 0 ([]) }
 
 abbrev done_at_rest : Example
-done_at_rest = record { kind = Rewritable; sectors = done ∷ blank ∷ []; told = Holds 0 ((7, (49 ∷ [])) ∷ []) }
+done_at_rest = record { kind = Rewritable; sectors = done ∷ blank ∷ []; reported = Holds 0 ((7, (49 ∷ [])) ∷ []) }
 
 abbrev collecting_of_three : Example
-collecting_of_three = record { kind = Rewritable; sectors = closed_long ∷ closed_delete ∷ one ∷ []; told = Holds 2 ((9, (1 ∷ 2 ∷ 3 ∷ 4 ∷ 5 ∷ 6 ∷ 7 ∷ 8 ∷ 9 ∷ [])) ∷ (7, ([])) ∷ []) }
+collecting_of_three = record { kind = Rewritable; sectors = closed_long ∷ closed_delete ∷ one ∷ []; reported = Holds 2 ((9, (1 ∷ 2 ∷ 3 ∷ 4 ∷ 5 ∷ 6 ∷ 7 ∷ 8 ∷ 9 ∷ [])) ∷ (7, ([])) ∷ []) }
 
 abbrev collected_of_three : Example
-collected_of_three = record { kind = Rewritable; sectors = closed_long ∷ closed_delete ∷ done ∷ []; told = Holds 2 ((7, ([])) ∷ (7, (49 ∷ [])) ∷ []) }
+collected_of_three = record { kind = Rewritable; sectors = closed_long ∷ closed_delete ∷ done ∷ []; reported = Holds 2 ((7, ([])) ∷ (7, (49 ∷ [])) ∷ []) }
 
 abbrev no_close_in_the_open : Example
-no_close_in_the_open = record { kind = Erasing; sectors = no_close ∷ blank ∷ []; told = IsDamaged (record { sector = 0; why = Dirty }) }
+no_close_in_the_open = record { kind = Erasing; sectors = no_close ∷ blank ∷ []; reported = IsDamaged (record { sector = 0; why = Dirty }) }
 
 abbrev no_close_beside_the_open : Example
-no_close_beside_the_open = record { kind = Erasing; sectors = fresh ∷ no_close_bare ∷ []; told = IsDamaged (record { sector = 1; why = Dirty }) }
+no_close_beside_the_open = record { kind = Erasing; sectors = fresh ∷ no_close_bare ∷ []; reported = IsDamaged (record { sector = 1; why = Dirty }) }
 
 abbrev no_close_and_two_open : Example
-no_close_and_two_open = record { kind = Erasing; sectors = no_close ∷ one ∷ []; told = IsDamaged (record { sector = 1; why = TwoOpen }) }
+no_close_and_two_open = record { kind = Erasing; sectors = no_close ∷ one ∷ []; reported = IsDamaged (record { sector = 1; why = TwoOpen }) }
 
 abbrev old_close_is_in_the_way : Example
-old_close_is_in_the_way = record { kind = Erasing; sectors = stale_close ∷ blank ∷ []; told = IsDamaged (record { sector = 0; why = Dirty }) }
+old_close_is_in_the_way = record { kind = Erasing; sectors = stale_close ∷ blank ∷ []; reported = IsDamaged (record { sector = 0; why = Dirty }) }
 
 abbrev left_over_is_no_entry : Example
-left_over_is_no_entry = record { kind = Erasing; sectors = left_over ∷ blank ∷ []; told = Holds 0 ([]) }
+left_over_is_no_entry = record { kind = Erasing; sectors = left_over ∷ blank ∷ []; reported = Holds 0 ([]) }
 
 abbrev left_over_beside_a_value : Example
-left_over_beside_a_value = record { kind = Erasing; sectors = left_over ∷ one ∷ []; told = Holds 1 ((7, (17 ∷ 18 ∷ [])) ∷ []) }
+left_over_beside_a_value = record { kind = Erasing; sectors = left_over ∷ one ∷ []; reported = Holds 1 ((7, (17 ∷ 18 ∷ [])) ∷ []) }
 
 abbrev no_cycle_no_close : Example
-no_cycle_no_close = record { kind = Erasing; sectors = no_cycle ∷ one ∷ []; told = Holds 1 ((7, (17 ∷ 18 ∷ [])) ∷ []) }
+no_cycle_no_close = record { kind = Erasing; sectors = no_cycle ∷ one ∷ []; reported = Holds 1 ((7, (17 ∷ 18 ∷ [])) ∷ []) }
 
 abbrev closed_and_left_over : Example
-closed_and_left_over = record { kind = Erasing; sectors = closed ∷ left_over ∷ []; told = Holds 1 ((7, (17 ∷ 18 ∷ [])) ∷ []) }
+closed_and_left_over = record { kind = Erasing; sectors = closed ∷ left_over ∷ []; reported = Holds 1 ((7, (17 ∷ 18 ∷ [])) ∷ []) }
 
 abbrev no_close_among_copies : Example
-no_close_among_copies = record { kind = Erasing; sectors = no_close ∷ closed_long ∷ []; told = Holds 0 ((9, (1 ∷ 2 ∷ 3 ∷ 4 ∷ 5 ∷ 6 ∷ 7 ∷ 8 ∷ 9 ∷ [])) ∷ []) }
+no_close_among_copies = record { kind = Erasing; sectors = no_close ∷ closed_long ∷ []; reported = Holds 0 ((9, (1 ∷ 2 ∷ 3 ∷ 4 ∷ 5 ∷ 6 ∷ 7 ∷ 8 ∷ 9 ∷ [])) ∷ []) }
 
 abbrev examples : List Example
 examples = all_closed ∷ entries_in_two ∷ entries_beside_the_open ∷ two_after_closed ∷ two_open_comes_first ∷ too_much ∷ no_guard_slot ∷ value_beside_units ∷ value_in_guard ∷ closed_too_full ∷ nothing ∷ one_value ∷ delete_stays ∷ long_value ∷ oldest_first ∷ round_the_end ∷ wrong_crc_ends_the_list ∷ wrong_head_is_blank ∷ old_cycle_counts_not ∷ under_a_gap_counts_not ∷ gap_makes_no_sector_open ∷ old_close_closes_not ∷ closed_after_a_round ∷ copies_count_not ∷ full_copies_count_not ∷ no_guard_among_copies ∷ victim_counts_not ∷ full_victim_counts_not ∷ done_alone ∷ done_at_rest ∷ collecting_of_three ∷ collected_of_three ∷ no_close_in_the_open ∷ no_close_beside_the_open ∷ no_close_and_two_open ∷ old_close_is_in_the_way ∷ left_over_is_no_entry ∷ left_over_beside_a_value ∷ no_cycle_no_close ∷ closed_and_left_over ∷ no_close_among_copies ∷ []
 
--- each area reads as it is told
-all_agree : map (λ (e : Example). told_with (damage_of e.kind e.sectors) e.kind e.sectors) examples ≡ map (λ (e : Example). e.told) examples
+-- each area reads as is said
+all_agree : map (λ (e : Example). reported_with (damage_of e.kind e.sectors) e.kind e.sectors) examples ≡ map (λ (e : Example). e.reported) examples
 unfolding area_pairs first_damage open_sector slot_at used_slots entry_in is_valid_under cycle_of holds_close holds_done can_close data_len value_end end_of is_under is_begun is_unused may_close entry_cost holds_too_much damage_of is_empty is_close is_done padded decoded crc extended bits_of
 all_agree = refl

@@ -3,7 +3,7 @@ pub mod EntryReads
 pub mod Erased
 mod Examples
 mod FitCosts
-pub mod KindLemmas
+pub mod FormatLemmas
 mod MountLemmas
 pub mod PassedSlots
 pub mod Roomy

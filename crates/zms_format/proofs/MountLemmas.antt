@@ -12,15 +12,15 @@ pub use Rattle.item_laws.proofs.AreaReads.{length-sectors, next_there, previous_
 use Rattle.item_laws.proofs.AreaReads as reads
 use Rattle.item_laws.proofs.Searches.{all-found, not_all-found}
 use Rattle.zms_cycle.specs.Sector.{has_gc_done, has_guard, holds_too_much}
-use Rattle.zms_format.specs.declared.places.Sought.{Sought}
-use Rattle.zms_format.specs.declared.places.Sought.TheVariants as sought
+use Rattle.zms_format.specs.declared.places.Lookup.{Lookup}
+use Rattle.zms_format.specs.declared.places.Lookup.TheVariants as lookup
 use Rattle.zms_format.specs.Area.{is_begun, plain, open_place, damage_of, is_second_open, is_dirty_at, is_overfull_at}
-use Rattle.zms_format.specs.Sought.{is_sought}
+use Rattle.zms_format.specs.Lookup.{is_match}
 use Rattle.zms_format.proofs.Sectors.{unused-is}
 
-pub counts_closed : (sectors : List (List ℕ)) (place k hidden : ℕ) (done : Bool) → is_closed_at plain sectors (next sectors place) ≡ true → has_gc_done (sector_at sectors place) ≡ done → hidden ≡ cond done (next sectors place) place
-    → not (eqb k hidden) ≡ counts_at plain sectors place k
-counts_closed sectors place k hidden done c d is = reads.counts_closed plain sectors place k hidden done c d is
+pub counts_closed : (sectors : List (List ℕ)) (place k ignored : ℕ) (done : Bool) → is_closed_at plain sectors (next sectors place) ≡ true → has_gc_done (sector_at sectors place) ≡ done → ignored ≡ cond done (next sectors place) place
+    → not (eqb k ignored) ≡ counts_at plain sectors place k
+counts_closed sectors place k ignored done c d is = reads.counts_closed plain sectors place k ignored done c d is
 
 pub counts_open : (sectors : List (List ℕ)) (place k : ℕ) → is_closed_at plain sectors (next sectors place) ≡ false → true ≡ counts_at plain sectors place k
 counts_open sectors place k c = reads.counts_open plain sectors place k c
@@ -62,18 +62,18 @@ opening_is sectors place closed before_closed c p = sym (ap (λ (t : Bool). not 
 
 -- the open sector
 
-pub open-opening : (kind : Kind) (sectors : List (List ℕ)) (count place : ℕ) → count ≡ length sectors → Some place ≡ find (is_sought sought.Opening kind sectors) (range_with_len 0 count) → place ≡ open_place sectors
+pub open-opening : (kind : Kind) (sectors : List (List ℕ)) (count place : ℕ) → count ≡ length sectors → Some place ≡ find (is_match lookup.Opening kind sectors) (range_with_len 0 count) → place ≡ open_place sectors
 open-opening kind sectors count place long some = reads.open-opening plain sectors count place long some
 
-pub open-blank : (kind : Kind) (sectors : List (List ℕ)) (count : ℕ) (o : Option ℕ) → count ≡ length sectors → None ≡ find (is_sought sought.Opening kind sectors) (range_with_len 0 count) → o ≡ find (is_sought sought.InUse kind sectors) (range_with_len 0 count)
+pub open-blank : (kind : Kind) (sectors : List (List ℕ)) (count : ℕ) (o : Option ℕ) → count ≡ length sectors → None ≡ find (is_match lookup.Opening kind sectors) (range_with_len 0 count) → o ≡ find (is_match lookup.InUse kind sectors) (range_with_len 0 count)
     → unwrap_or o 0 ≡ open_place sectors
 open-blank kind sectors count o long none found = reads.open-blank plain sectors count o long none found
 
 -- the damage, row by row
 
 -- the sectors from the first on
-first_of : (kind : Kind) (sectors : List (List ℕ)) (count : ℕ) (what : Sought) (o : Option ℕ) → count ≡ length sectors → o ≡ find (is_sought what kind sectors) (range_with_len 0 count) → find (is_sought what kind sectors) (places sectors) ≡ o
-first_of kind sectors count what o long is = sym (is ∙ ap (λ (n : ℕ). find (is_sought what kind sectors) (range_with_len 0 n)) long)
+first_of : (kind : Kind) (sectors : List (List ℕ)) (count : ℕ) (what : Lookup) (o : Option ℕ) → count ≡ length sectors → o ≡ find (is_match what kind sectors) (range_with_len 0 count) → find (is_match what kind sectors) (places sectors) ≡ o
+first_of kind sectors count what o long is = sym (is ∙ ap (λ (n : ℕ). find (is_match what kind sectors) (range_with_len 0 n)) long)
 
 module _ (kind : Kind) (sectors : List (List ℕ)) (count current : ℕ) (long : count ≡ length sectors) (open-is : current ≡ open_place sectors) where
   rows : ℕ → Bool → Option Damaged
@@ -84,34 +84,34 @@ module _ (kind : Kind) (sectors : List (List ℕ)) (count current : ℕ) (long :
   unfolding damage_of rows
   shift = ap (λ (place : ℕ). rows place (list_all (is_closed_at plain sectors) (places sectors))) (sym open-is)
 
-  pub all_closed : None ≡ find (is_sought sought.NotClosed kind sectors) (range_with_len 0 count) → Some (record { sector = 0; why = AllClosed }) ≡ damage_of kind sectors
+  pub all_closed : None ≡ find (is_match lookup.NotClosed kind sectors) (range_with_len 0 count) → Some (record { sector = 0; why = AllClosed }) ≡ damage_of kind sectors
   unfolding rows
-  all_closed none = sym (shift ∙ ap (rows current) (all-found (is_closed_at plain sectors) (places sectors) (first_of kind sectors count sought.NotClosed None long none)))
+  all_closed none = sym (shift ∙ ap (rows current) (all-found (is_closed_at plain sectors) (places sectors) (first_of kind sectors count lookup.NotClosed None long none)))
 
   -- some sector is not closed
-  module _ (some : ℕ) (is_open : Some some ≡ find (is_sought sought.NotClosed kind sectors) (range_with_len 0 count)) where
+  module _ (some : ℕ) (is_open : Some some ≡ find (is_match lookup.NotClosed kind sectors) (range_with_len 0 count)) where
     later : Option Damaged
     later = option_or (first_of_kind Dirty (is_dirty_at kind sectors current) sectors) (first_of_kind Overfull (is_overfull_at sectors current) sectors)
 
     after_closed : damage_of kind sectors ≡ option_or (first_of_kind TwoOpen (is_second_open sectors current) sectors) later
     unfolding rows later
-    after_closed = shift ∙ ap (rows current) (not_all-found (is_closed_at plain sectors) (places sectors) some (first_of kind sectors count sought.NotClosed (Some some) long is_open))
+    after_closed = shift ∙ ap (rows current) (not_all-found (is_closed_at plain sectors) (places sectors) some (first_of kind sectors count lookup.NotClosed (Some some) long is_open))
 
-    pub two_open : (place : ℕ) → Some place ≡ find (is_sought (sought.SecondOpen current) kind sectors) (range_with_len 0 count) → Some (record { sector = place; why = TwoOpen }) ≡ damage_of kind sectors
+    pub two_open : (place : ℕ) → Some place ≡ find (is_match (lookup.SecondOpen current) kind sectors) (range_with_len 0 count) → Some (record { sector = place; why = TwoOpen }) ≡ damage_of kind sectors
     two_open place is =
-        sym (after_closed ∙ ap (λ (o : Option ℕ). option_or (option_map (λ (p : ℕ). record { sector = p; why = TwoOpen }) o) later) (first_of kind sectors count (sought.SecondOpen current) (Some place) long is))
+        sym (after_closed ∙ ap (λ (o : Option ℕ). option_or (option_map (λ (p : ℕ). record { sector = p; why = TwoOpen }) o) later) (first_of kind sectors count (lookup.SecondOpen current) (Some place) long is))
 
     -- no second one is open
-    module _ (one : None ≡ find (is_sought (sought.SecondOpen current) kind sectors) (range_with_len 0 count)) where
+    module _ (one : None ≡ find (is_match (lookup.SecondOpen current) kind sectors) (range_with_len 0 count)) where
       after_open : damage_of kind sectors ≡ option_or (first_of_kind Dirty (is_dirty_at kind sectors current) sectors) (first_of_kind Overfull (is_overfull_at sectors current) sectors)
       unfolding later
-      after_open = after_closed ∙ ap (λ (o : Option ℕ). option_or (option_map (λ (p : ℕ). record { sector = p; why = TwoOpen }) o) later) (first_of kind sectors count (sought.SecondOpen current) None long one)
+      after_open = after_closed ∙ ap (λ (o : Option ℕ). option_or (option_map (λ (p : ℕ). record { sector = p; why = TwoOpen }) o) later) (first_of kind sectors count (lookup.SecondOpen current) None long one)
 
-      pub dirty : (place : ℕ) → Some place ≡ find (is_sought (sought.NotClosable current) kind sectors) (range_with_len 0 count) → Some (record { sector = place; why = Dirty }) ≡ damage_of kind sectors
+      pub dirty : (place : ℕ) → Some place ≡ find (is_match (lookup.NotClosable current) kind sectors) (range_with_len 0 count) → Some (record { sector = place; why = Dirty }) ≡ damage_of kind sectors
       dirty place is =
-          sym (after_open ∙ ap (λ (o : Option ℕ). option_or (option_map (λ (p : ℕ). record { sector = p; why = Dirty }) o) (first_of_kind Overfull (is_overfull_at sectors current) sectors)) (first_of kind sectors count (sought.NotClosable current) (Some place) long is))
+          sym (after_open ∙ ap (λ (o : Option ℕ). option_or (option_map (λ (p : ℕ). record { sector = p; why = Dirty }) o) (first_of_kind Overfull (is_overfull_at sectors current) sectors)) (first_of kind sectors count (lookup.NotClosable current) (Some place) long is))
 
-      pub full : (o : Option ℕ) → None ≡ find (is_sought (sought.NotClosable current) kind sectors) (range_with_len 0 count) → o ≡ find (is_sought (sought.Full current) kind sectors) (range_with_len 0 count) → option_map (λ (p : ℕ). record { sector = p; why = Overfull }) o ≡ damage_of kind sectors
+      pub full : (o : Option ℕ) → None ≡ find (is_match (lookup.NotClosable current) kind sectors) (range_with_len 0 count) → o ≡ find (is_match (lookup.Full current) kind sectors) (range_with_len 0 count) → option_map (λ (p : ℕ). record { sector = p; why = Overfull }) o ≡ damage_of kind sectors
       full o clean is =
-          sym (after_open ∙ ap (λ (o : Option ℕ). option_or (option_map (λ (p : ℕ). record { sector = p; why = Dirty }) o) (first_of_kind Overfull (is_overfull_at sectors current) sectors)) (first_of kind sectors count (sought.NotClosable current) None long clean)
-          ∙ ap (option_map (λ (p : ℕ). record { sector = p; why = Overfull })) (first_of kind sectors count (sought.Full current) o long is))
+          sym (after_open ∙ ap (λ (o : Option ℕ). option_or (option_map (λ (p : ℕ). record { sector = p; why = Dirty }) o) (first_of_kind Overfull (is_overfull_at sectors current) sectors)) (first_of kind sectors count (lookup.NotClosable current) None long clean)
+          ∙ ap (option_map (λ (p : ℕ). record { sector = p; why = Overfull })) (first_of kind sectors count (lookup.Full current) o long is))

@@ -11,7 +11,7 @@ use Rattle.zms_cycle.specs.Searches.{names}
 use Rattle.zms_cycle.proofs.Scanning.{entries_to}
 use Rattle.zms_cycle.proofs.SlotSearch.{entry_in-cases}
 use Rattle.zms_format.specs.Area.{last_in}
-use Rattle.zms_format.specs.Kinds.{entry_of}
+use Rattle.zms_format.specs.Formats.{entry_of}
 use Rattle.zms_format.proofs.Sectors.{find_none, find_other}
 
 -- a slot that names an id outside the range has no entry of one inside

@@ -118,7 +118,7 @@ module _ (b : List ℕ) (long : 48 ≤ length b) (fresh : is_fresh b ≡ true) w
       by_cycle None is = written-none Erasing b is
       by_cycle (Some c) is = let le = written_below b c 0 is refl (λ k from lt. under_slot_0 k (omega arith)) in omega arith
 
--- What the code tells of a clean sector.
+-- What the code says of a clean sector.
 
 not_twice : (x : Bool) → not (not x) ≡ x
 not_twice true = refl
@@ -126,8 +126,8 @@ not_twice false = refl
 
 pub clean_never : (kind : Kind) (b : List ℕ) (used : Bool) → kind ≡ Rewritable → used ≡ (is_begun b || is_closed b) → not used ≡ is_clean kind b
 unfolding is_clean
-clean_never Rewritable b used is told = ap not (told ∙ unused-is b) ∙ not_twice (is_unused Rewritable b)
-clean_never Erasing b used is told = absurd (not_erasing is)
+clean_never Rewritable b used is reported = ap not (reported ∙ unused-is b) ∙ not_twice (is_unused Rewritable b)
+clean_never Erasing b used is reported = absurd (not_erasing is)
   where
     not_erasing : Erasing ≡ Rewritable → ⊥
     not_erasing h = cc
@@ -137,16 +137,16 @@ none_of None h = refl
 none_of (Some c) h = absurd (false≢true h)
 
 pub clean_erasing : (kind : Kind) (b : List ℕ) (blank : Bool) → kind ≡ Erasing → blank ≡ not (is_some (cycle_of b)) → blank ≡ true → blank ≡ is_clean kind b
-clean_erasing kind b blank is told yes_it = yes_it ∙ sym (clean_blank kind b (none_of (cycle_of b) (sym told ∙ yes_it)))
+clean_erasing kind b blank is reported yes_it = yes_it ∙ sym (clean_blank kind b (none_of (cycle_of b) (sym reported ∙ yes_it)))
 
 pub fresh_clean : (kind : Kind) (b : List ℕ) (blank : Bool) → 48 ≤ length b → kind ≡ Erasing → blank ≡ not (is_some (cycle_of b)) → blank ≡ false → is_fresh b ≡ is_clean kind b
 unfolding is_clean
-fresh_clean Rewritable b blank long is told used = absurd (not_erasing is)
+fresh_clean Rewritable b blank long is reported used = absurd (not_erasing is)
   where
     not_erasing : Rewritable ≡ Erasing → ⊥
     not_erasing h = cc
-fresh_clean Erasing b blank long is told used =
-    let no_blank : not (is_some (cycle_of b)) ≡ false = sym told ∙ used in
+fresh_clean Erasing b blank long is reported used =
+    let no_blank : not (is_some (cycle_of b)) ≡ false = sym reported ∙ used in
     let rest : is_clean Erasing b ≡ (is_unused Erasing b && is_fresh b) = ap (λ (t : Bool). is_unused Erasing b && (t || is_fresh b)) no_blank in
     elim (cases_Bool (is_fresh b)) [
       | inl fresh ↦ fresh ∙ sym (rest ∙ and_both (is_unused Erasing b) (is_fresh b) (fresh_unused b long fresh) fresh)

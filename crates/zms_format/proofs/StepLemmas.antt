@@ -20,9 +20,9 @@ use Rattle.zms_cycle.proofs.Frames.{data_len-short}
 use Rattle.zms_format.specs.Area.{reading, is_begun, may_close, is_unused, is_clean}
 use Rattle.zms_format.proofs.Roomy.{IsRoomy, no_cycle, empties_unused, empties_clean, clean_blank, unused_clean, not_clean_cycle, roomy_of, ring_sound_of, ring_same, may_same}
 use Rattle.zms_format.proofs.Sectors.{laws, begun_count, unused_slots, empty_end, written-none, closed_may, closable_may, may_closable}
-use Rattle.zms_format.specs.Kinds.{entry_of, placed_of, kind, entry_units, opens_ready}
+use Rattle.zms_format.specs.Formats.{entry_of, placed_of, format_of, entry_units, opens_ready}
 use Rattle.zms_format.proofs.Erased.{cycle_none}
-use Rattle.zms_format.proofs.KindLemmas.{some_flag, and_true, slot_is, used_guard, ready_of, first_entry_is_known as known}
+use Rattle.zms_format.proofs.FormatLemmas.{some_flag, and_true, slot_is, used_guard, ready_of, first_entry_is_known as known}
 use Rattle.std.specs.Option.{option_map, option_map_or}
 use Rattle.std.specs.List.{range_with_len}
 use Rattle.std.proofs.lemmas.List.{map_push, length-replicate}
@@ -31,7 +31,7 @@ use Rattle.item_laws.proofs.LiveLemmas.{option_cases, some_none}
 use Rattle.item_laws.specs.Live.{last_in as last_here}
 use Rattle.item_store.specs.declared.entry.Entry.{Entry}
 use Rattle.item_store.specs.declared.entry.Placed.{Placed}
-use Rattle.item_store.specs.Kind.{placed_at, slots, entries as kind_entries}
+use Rattle.item_store.specs.SectorFormat.{placed_at, slots, entries as format_entries}
 use Rattle.item_store.proofs.ReadLemmas as own
 use Rattle.zms_cycle.specs.declared.reading.SlotEntry.{SlotEntry}
 use Rattle.zms_cycle.specs.Sector.{entry_in, value_of, pair_of, pair_at, can_close, has_guard, holds_too_much}
@@ -65,8 +65,8 @@ open_closable bank b wide sound open_here used =
     let roomy : IsRoomy bank b = roomy_of bank b (omega arith) sound in
     may_closable bank b roomy.may open_here (some_flag (cycle_of b) (not_clean_cycle bank b used))
 
--- the entries of a sector, as a store of items tells them
-entries_are : (geometry : Geometry) (b : List ℕ) → kind_entries (kind geometry) b ≡ map entry_of (entries b)
+-- the entries of a sector, as a store of items reports them
+entries_are : (geometry : Geometry) (b : List ℕ) → format_entries (format_of geometry) b ≡ map entry_of (entries b)
 entries_are geometry b =
     own.entries_read (λ n. entry_in (slot_of b n)) entry_of (λ f. value_of b f.entry) (slot_is b) (range_with_len 2 (length (valid_slots b)))
     ∙ ap (map entry_of) (sym ((are_zms Rewritable).listed b))
@@ -87,14 +87,14 @@ slots_inside b wide =
     ]
 
 module _ (geometry : Geometry) (b e : List ℕ) (wide : 512 ≤ length b) where
-  pub clears : Empties geometry.kind b e → Clears (kind geometry) b e
+  pub clears : Empties geometry.kind b e → Clears (format_of geometry) b e
   clears empties = record {
     clean = empties_clean geometry.kind b e empties;
     ready = and_true (is_some (cycle_of e)) (is_sound e && may_close geometry.kind e) (ap (λ (x : Option ℕ). is_some x) empties.cycle) (and_true (is_sound e) (may_close geometry.kind e) empties.sound (closable_may geometry.kind e empties.closable));
     long = empties.long;
   }
 
-  pub closes : zms_closes geometry.kind b e → Closes (kind geometry) b e
+  pub closes : zms_closes geometry.kind b e → Closes (format_of geometry) b e
   closes c = record {
     list = record { list = c.list; gc_done = c.gc_done; closed = c.closed };
     same_entries = entries_are geometry e ∙ ap (map entry_of) c.same_entries ∙ sym (entries_are geometry b);
@@ -112,7 +112,7 @@ module _ (geometry : Geometry) (b e : List ℕ) (wide : 512 ≤ length b) where
       ∙ ap (λ (t : Bool). not (is_begun b) && (not t && may_close geometry.kind e)) kept.closed
       ∙ ap (λ (t : Bool). not (is_begun b) && (not (is_closed b) && t)) may
 
-  pub keeps_slots : KeepsSlots b e → pairs e ≡ pairs b → may_close geometry.kind e ≡ may_close geometry.kind b → Keeps (kind geometry) b e
+  pub keeps_slots : KeepsSlots b e → pairs e ≡ pairs b → may_close geometry.kind e ≡ may_close geometry.kind b → Keeps (format_of geometry) b e
   keeps_slots kept list may = record {
     list = record { list = list; gc_done = kept.gc_done; closed = kept.closed };
     long = kept.long;
@@ -122,16 +122,16 @@ module _ (geometry : Geometry) (b e : List ℕ) (wide : 512 ≤ length b) where
         ring_same geometry.kind b e (omega arith) (may ∙ roomy.may) kept.long kept.lower kept.same_entries list sound;
   }
 
-  pub keeps : (most : ℕ) → KeepsList geometry.kind most b e → Keeps (kind geometry) b e
+  pub keeps : (most : ℕ) → KeepsList geometry.kind most b e → Keeps (format_of geometry) b e
   keeps most h = keeps_slots h.kept h.list (may_same geometry.kind b e h.kept.cycle h.kept.closed h.close_slot)
 
   -- one entry more
-  adds_entry : (id : ℕ) (bytes : List ℕ) → AddsPair geometry.kind b e id bytes → kind_entries (kind geometry) e ≡ kind_entries (kind geometry) b ++ new_entry (2 + length (valid_slots b)) id (length bytes) ∷ []
+  adds_entry : (id : ℕ) (bytes : List ℕ) → AddsPair geometry.kind b e id bytes → format_entries (format_of geometry) e ≡ format_entries (format_of geometry) b ++ new_entry (2 + length (valid_slots b)) id (length bytes) ∷ []
   adds_entry id bytes h =
       let slot = h.slot in
       entries_are geometry e ∙ ap (map entry_of) h.more ∙ map_push entry_of (entries b) h.found
       ∙ ap (λ (es : List Entry). es ++ entry_of h.found ∷ []) (sym (entries_are geometry b))
-      ∙ ap (λ (x : Entry). kind_entries (kind geometry) b ++ x ∷ []) (entry_by (entry_of h.found) (2 + length (valid_slots b)) id (length bytes) (omega arith) h.entry_id h.entry_len)
+      ∙ ap (λ (x : Entry). format_entries (format_of geometry) b ++ x ∷ []) (entry_by (entry_of h.found) (2 + length (valid_slots b)) id (length bytes) (omega arith) h.entry_id h.entry_len)
 
   -- one slot more
   pub one_slot : length e ≡ length b → low e + 16 ≡ low b → length (valid_slots e) ≡ length (valid_slots b) + 1
@@ -140,7 +140,7 @@ module _ (geometry : Geometry) (b e : List ℕ) (wide : 512 ≤ length b) where
       let inside = slots_inside e (omega arith) in
       omega arith
 
-  pub adds : (id : ℕ) (bytes : List ℕ) → may_close geometry.kind b ≡ true → cost (length bytes) ≤ free geometry.kind b → AddsPair geometry.kind b e id bytes → Adds (kind geometry) b e id bytes
+  pub adds : (id : ℕ) (bytes : List ℕ) → may_close geometry.kind b ≡ true → cost (length bytes) ≤ free geometry.kind b → AddsPair geometry.kind b e id bytes → Adds (format_of geometry) b e id bytes
   adds id bytes may room h =
       let lower = h.lower in
       let grown = h.grown in
@@ -154,7 +154,7 @@ module _ (geometry : Geometry) (b e : List ℕ) (wide : 512 ≤ length b) where
         free = omega arith;
       }
 
-  pub marks : may_close geometry.kind b ≡ true → 32 ≤ free geometry.kind b → MarksDone geometry.kind b e → Marks (kind geometry) b e
+  pub marks : may_close geometry.kind b ≡ true → 32 ≤ free geometry.kind b → MarksDone geometry.kind b e → Marks (format_of geometry) b e
   marks may room h =
       let lower = h.lower in
       let same_end = h.same_end in
@@ -182,7 +182,7 @@ module _ (geometry : Geometry) (b e : List ℕ) (wide : 512 ≤ length b) where
       ]
 
   -- a sector with a cycle is ready as it is
-  pub begins_as : IsSome (cycle_of b) → ring_sound (reading geometry.kind) b ≡ true → Begins (kind geometry) b b
+  pub begins_as : IsSome (cycle_of b) → ring_sound (reading geometry.kind) b ≡ true → Begins (format_of geometry) b b
   begins_as cycle sound =
       let roomy : IsRoomy geometry.kind b = roomy_of geometry.kind b (omega arith) sound in
       record { blank = λ h. h; clean = λ h. h; idle = λ h. refl; used = λ h. refl; ready = ready_of geometry.kind b cycle roomy.sound roomy.may; put = λ len. refl; long = refl }
@@ -218,7 +218,7 @@ is_there from p is =
     some_same : (x y : Placed) → Some x ≡ Some y → x ≡ y
     some_same x y e = cc
 
--- the pair in its slot has the length that it tells
+-- the pair in its slot has the length that it reports
 pub copied_len : (from : List ℕ) (p : Placed) → is_sound from ≡ true → 2 ≤ p.slot → p.slot < 2 + length (valid_slots from) → option_map (placed_at p.sector) (option_map entry_of (entry_in (slot_of from p.slot))) ≡ Some p → length (pair_at from p.slot).1 ≡ p.len
 copied_len from p sound first listed is =
     let t = is_there from p is in
@@ -227,23 +227,23 @@ copied_len from p sound first listed is =
     ap (λ (q : ℕ × List ℕ). length q.1) pair ∙ long ∙ sym t.len
 
 pub adds_copy : (geometry : Geometry) (b e from : List ℕ) (p : Placed) → 512 ≤ length b → is_sound from ≡ true → 2 ≤ p.slot → p.slot < 2 + length (valid_slots from) → option_map (placed_at p.sector) (option_map entry_of (entry_in (slot_of from p.slot))) ≡ Some p → may_close geometry.kind b ≡ true → cost p.len + 48 ≤ free geometry.kind b
-    → AddsPair geometry.kind b e (pair_at from p.slot).0 (pair_at from p.slot).1 → Adds (kind geometry) b e p.id (option_map_or (λ f. value_of from f.entry) (entry_in (slot_of from p.slot)) [])
+    → AddsPair geometry.kind b e (pair_at from p.slot).0 (pair_at from p.slot).1 → Adds (format_of geometry) b e p.id (option_map_or (λ f. value_of from f.entry) (entry_in (slot_of from p.slot)) [])
 adds_copy geometry b e from p wide sound first listed is may room h =
     let t = is_there from p is in
     let bytes : option_map_or (λ f. value_of from f.entry) (entry_in (slot_of from p.slot)) [] ≡ value_of from t.found.entry = ap (λ (o : Option SlotEntry). option_map_or (λ f. value_of from f.entry) o []) t.read in
     let pair : pair_at from p.slot ≡ (t.found.entry.id, value_of from t.found.entry) = ap (λ (o : Option SlotEntry). option_map_or (pair_of from) o (0, [])) t.read in
     let own_len : cost (length (value_of from t.found.entry)) ≡ cost p.len = ap cost (sym (ap (λ (q : ℕ × List ℕ). length q.1) pair) ∙ copied_len from p sound first listed is) in
     let put : AddsPair geometry.kind b e t.found.entry.id (value_of from t.found.entry) = subst (λ (q : ℕ × List ℕ). AddsPair geometry.kind b e q.0 q.1) pair h in
-    subst (λ (bs : List ℕ). Adds (kind geometry) b e p.id bs) (sym bytes)
-    (subst (λ (i : ℕ). Adds (kind geometry) b e i (value_of from t.found.entry)) (sym t.id) (adds geometry b e wide t.found.entry.id (value_of from t.found.entry) may (omega arith) put))
+    subst (λ (bs : List ℕ). Adds (format_of geometry) b e p.id bs) (sym bytes)
+    (subst (λ (i : ℕ). Adds (format_of geometry) b e i (value_of from t.found.entry)) (sym t.id) (adds geometry b e wide t.found.entry.id (value_of from t.found.entry) may (omega arith) put))
 
 -- The last entry of an id.
 
-pub last_same : (geometry : Geometry) (b : List ℕ) (place id : ℕ) → option_map placed_of (option_map (zms_placed_at place) (last_in id (entries b))) ≡ option_map (placed_at place) (last_here (slots (kind geometry)) place id (kind_entries (kind geometry) b))
+pub last_same : (geometry : Geometry) (b : List ℕ) (place id : ℕ) → option_map placed_of (option_map (zms_placed_at place) (last_in id (entries b))) ≡ option_map (placed_at place) (last_here (slots (format_of geometry)) place id (format_entries (format_of geometry) b))
 last_same geometry b place id =
     both_ways (last_in id (entries b))
     ∙ ap (option_map (placed_at place)) (sym (own.last_read (λ n. entry_in (slot_of b n)) entry_of (λ f. value_of b f.entry) (slot_is b) id (entries b) None)
-    ∙ ap (λ es. last_here (slots (kind geometry)) place id es) (ap (map entry_of) ((are_zms Rewritable).listed b) ∙ sym (own.entries_read (λ n. entry_in (slot_of b n)) entry_of (λ f. value_of b f.entry) (slot_is b) (range_with_len 2 (length (valid_slots b))))))
+    ∙ ap (λ es. last_here (slots (format_of geometry)) place id es) (ap (map entry_of) ((are_zms Rewritable).listed b) ∙ sym (own.entries_read (λ n. entry_in (slot_of b n)) entry_of (λ f. value_of b f.entry) (slot_is b) (range_with_len 2 (length (valid_slots b))))))
   where
     both_ways : (o : Option SlotEntry) → option_map placed_of (option_map (zms_placed_at place) o) ≡ option_map (placed_at place) (option_map entry_of o)
     both_ways None = refl
@@ -251,7 +251,7 @@ last_same geometry b place id =
 
 -- A sector without a cycle, whose emptying makes it ready.
 
-pub begins_empty : (geometry : Geometry) (b e : List ℕ) → cycle_of b ≡ None → Empties geometry.kind b e → Begins (kind geometry) b e
+pub begins_empty : (geometry : Geometry) (b e : List ℕ) → cycle_of b ≡ None → Empties geometry.kind b e → Begins (format_of geometry) b e
 begins_empty geometry b e none empties = record {
   blank = λ h. empties_unused geometry.kind b e empties;
   clean = λ h. empties_clean geometry.kind b e empties;
@@ -285,7 +285,7 @@ module _ (geometry : Geometry) (b e : List ℕ) (none : cycle_of b ≡ None) (st
   unused_after : is_unused geometry.kind e ≡ true
   unused_after = no_cycle geometry.kind e stays.cycle
 
-  pub begin_cut : Keeps (kind geometry) b e
+  pub begin_cut : Keeps (format_of geometry) b e
   begin_cut =
       let law = laws geometry.kind in
       record {
@@ -299,7 +299,7 @@ module _ (geometry : Geometry) (b e : List ℕ) (none : cycle_of b ≡ None) (st
         sound = λ sound. ap (λ (t : Bool). t || ((has_guard e && may_close geometry.kind e) && not (holds_too_much e))) unused_after;
       }
 
-  pub begin_room : LeavesRoom (kind geometry) b e 0
+  pub begin_room : LeavesRoom (format_of geometry) b e 0
   begin_room =
       let slots-b = unused_slots geometry.kind b unused_before in
       let slots-e = unused_slots geometry.kind e unused_after in
@@ -317,10 +317,10 @@ close_cut C Rewritable b e r used same = on_err r (λ unused. absurd (false≢tr
 close_cut C Erasing b e r used same = on_err_weaker r (λ is unused. inl is) (same refl)
 
 -- Any sector whose emptying was cut.
-pub clear_cut : (geometry : Geometry) (b e : List ℕ) → StopsEmptying geometry.kind b e → StopsClearing (kind geometry) b e
+pub clear_cut : (geometry : Geometry) (b e : List ℕ) → StopsEmptying geometry.kind b e → StopsClearing (format_of geometry) b e
 clear_cut geometry b e stops = record { either = either_of geometry.kind stops; opens = opens_of geometry.kind stops }
   where
-    either_of : (bank : BankKind) → StopsEmptying bank b e → KeepsMarks (kind geometry) b e ⊎ (is_clean bank e ≡ true)
+    either_of : (bank : BankKind) → StopsEmptying bank b e → KeepsMarks (format_of geometry) b e ⊎ (is_clean bank e ≡ true)
     either_of Rewritable h = inl (record { closed = h.kept.closed; gc_done = h.kept.gc_done })
     either_of Erasing (inl same) = inl (record { closed = ap is_closed same; gc_done = ap has_gc_done same })
     either_of Erasing (inr erased) = inr (clean_blank Erasing e (ap cycle_of erased ∙ cycle_none (length b)))

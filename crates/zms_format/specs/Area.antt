@@ -25,7 +25,7 @@ is_begun sector = is_valid (cycle_of sector) (slot_of sector 2)
 unfoldable pub may_close : BankKind → List ℕ → Bool
 may_close kind sector = is_closed sector || (not (is_some (cycle_of sector)) || can_close kind sector)
 
--- It is not closed, and its slot 2 is not valid. Valid slots under that one count for nothing.
+-- It is not closed, and its slot 2 is not valid. Valid slots under that one are ignored.
 unfoldable pub is_unused : BankKind → List ℕ → Bool
 is_unused kind sector = not (is_begun sector) && (not (is_closed sector) && may_close kind sector)
 

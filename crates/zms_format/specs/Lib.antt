@@ -1,5 +1,5 @@
 pub mod Area
-pub mod Kinds
+pub mod Formats
 pub mod Parts
-pub mod Sought
+pub mod Lookup
 pub mod Units

@@ -3,7 +3,7 @@ use Rattle.std.specs.Prelude.{◌≡◌, ℕ, List, None}
 use Rattle.flash_sim.specs.declared.flash.Kind.{Kind as BankKind}
 use Rattle.zms_cycle.specs.Sector.{cycle_of}
 use Rattle.zms_cycle.specs.Changes.{Empties}
-use Rattle.zms_format.specs.Kinds.{units_of}
+use Rattle.zms_format.specs.Formats.{units_of}
 
 -- What a put or gc-done spends in a sector without a cycle, which is emptied before, is what it spends behind
 -- the emptying.

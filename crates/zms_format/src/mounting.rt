@@ -7,7 +7,7 @@ ghost use Rattle.item_laws.specs.Area.{open_sector};
 ghost use Rattle.zms_cycle.specs.Areas.{kind_on};
 ghost use Rattle.zms_format.specs.Area.{reading, open_place, damage_of};
 
-use crate::places::{Sought, first};
+use crate::places::{Lookup, first};
 use flash_map::{Area, Damaged, Why};
 use flash_sim::{Flash, Steps};
 use std::sync::ledger::Ledger;
@@ -20,10 +20,10 @@ fn open_place<F: Flash, L: Ledger>(flash: &F, area: &Area, steps: &mut Steps<L>)
     ensures value { let d = F.device flash.now in result ≡ open_place (sectors_of d area.now) }
     ensures within { result < area.now.sectors }
 {
-    if let Some(place) = first(flash, area, Sought::Opening, 0, steps) {
+    if let Some(place) = first(flash, area, Lookup::Opening, 0, steps) {
         return place;
     }
-    first(flash, area, Sought::InUse, 0, steps).unwrap_or(0)
+    first(flash, area, Lookup::InUse, 0, steps).unwrap_or(0)
 }
 
 /// The first sector of the first kind of damage, with this sector open.
@@ -40,25 +40,25 @@ fn damage<F: Flash, L: Ledger>(
     ensures { let d = F.device flash.now in
         result ≡ damage_of (kind_on d area.now) (sectors_of d area.now) }
 {
-    let Some(_) = first(flash, area, Sought::NotClosed, 0, steps) else {
+    let Some(_) = first(flash, area, Lookup::NotClosed, 0, steps) else {
         return Some(Damaged {
             sector: 0,
             why: Why::AllClosed,
         });
     };
-    if let Some(sector) = first(flash, area, Sought::SecondOpen(current), 0, steps) {
+    if let Some(sector) = first(flash, area, Lookup::SecondOpen(current), 0, steps) {
         return Some(Damaged {
             sector,
             why: Why::TwoOpen,
         });
     }
-    if let Some(sector) = first(flash, area, Sought::NotClosable(current), 0, steps) {
+    if let Some(sector) = first(flash, area, Lookup::NotClosable(current), 0, steps) {
         return Some(Damaged {
             sector,
             why: Why::Dirty,
         });
     }
-    let sector = first(flash, area, Sought::Full(current), 0, steps)?;
+    let sector = first(flash, area, Lookup::Full(current), 0, steps)?;
     Some(Damaged {
         sector,
         why: Why::Overfull,

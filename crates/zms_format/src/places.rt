@@ -7,7 +7,7 @@ ghost use Rattle.flash_map.specs.Lawful.{IsLawfulFor};
 ghost use Rattle.item_laws.specs.Area.{counts_at, follows_closed};
 ghost use Rattle.zms_cycle.specs.Areas.{kind_on};
 ghost use Rattle.zms_format.specs.Area.{plain, marks_of, is_second_open, is_dirty_at, is_overfull_at};
-ghost use Rattle.zms_format.specs.Sought.{is_sought, NamesWithin};
+ghost use Rattle.zms_format.specs.Lookup.{is_match, NamesWithin};
 
 use crate::sector::{self, Marks};
 use flash_map::{Area, geometry, sector_view};
@@ -16,7 +16,7 @@ use std::sync::ledger::Ledger;
 
 /// What is looked for from sector to sector. Where a sector is named, it is the open one.
 #[derive(Clone, Copy, Debug, PartialEq, Eq)]
-pub enum Sought {
+pub enum Lookup {
     NotClosed,
     /// Not closed, after a closed one.
     Opening,
@@ -58,12 +58,12 @@ pub fn counts<F: Flash, L: Ledger>(
 {
     let after = area.next(current);
     if marks_at(flash, area, after, steps).closed {
-        let hidden = if marks_at(flash, area, current, steps).gc_done {
+        let ignored = if marks_at(flash, area, current, steps).gc_done {
             after
         } else {
             current
         };
-        place != hidden
+        place != ignored
     } else {
         true
     }
@@ -166,28 +166,28 @@ fn is_second<F: Flash, L: Ledger>(
 }
 
 /// Whether a sector is what is looked for.
-fn is_sought<F: Flash, L: Ledger>(
+fn is_match<F: Flash, L: Ledger>(
     flash: &F,
     area: &Area,
-    sought: Sought,
+    lookup: Lookup,
     place: u32,
     steps: &mut Steps<L>,
 ) -> bool
     requires lawful { IsLawfulFor (F.device flash.now).banks area.now }
     requires role { area.now.role ≡ Zms }
-    requires current { NamesWithin sought area.now.sectors }
+    requires current { NamesWithin lookup area.now.sectors }
     requires inside { place < area.now.sectors }
     ensures { let d = F.device flash.now in
-        result ≡ is_sought sought (kind_on d area.now) (sectors_of d area.now) place }
+        result ≡ is_match lookup (kind_on d area.now) (sectors_of d area.now) place }
 {
     let marks = marks_at(flash, area, place, steps);
-    match sought {
-        Sought::NotClosed => !marks.closed,
-        Sought::Opening => is_opening(flash, area, place, steps),
-        Sought::InUse => marks.in_use(),
-        Sought::SecondOpen(current) => is_second(flash, area, current, place, steps),
-        Sought::NotClosable(current) => is_dirty(flash, area, current, place, steps),
-        Sought::Full(current) => is_full(flash, area, current, place, steps),
+    match lookup {
+        Lookup::NotClosed => !marks.closed,
+        Lookup::Opening => is_opening(flash, area, place, steps),
+        Lookup::InUse => marks.in_use(),
+        Lookup::SecondOpen(current) => is_second(flash, area, current, place, steps),
+        Lookup::NotClosable(current) => is_dirty(flash, area, current, place, steps),
+        Lookup::Full(current) => is_full(flash, area, current, place, steps),
     }
 }
 
@@ -195,21 +195,21 @@ fn is_sought<F: Flash, L: Ledger>(
 pub fn first<F: Flash, L: Ledger>(
     flash: &F,
     area: &Area,
-    sought: Sought,
+    lookup: Lookup,
     from: u32,
     steps: &mut Steps<L>,
 ) -> Option<u32>
     requires lawful { IsLawfulFor (F.device flash.now).banks area.now }
     requires role { area.now.role ≡ Zms }
-    requires current { NamesWithin sought area.now.sectors }
+    requires current { NamesWithin lookup area.now.sectors }
     ensures value { let d = F.device flash.now in
         result
-        ≡ find (is_sought sought (kind_on d area.now) (sectors_of d area.now))
+        ≡ find (is_match lookup (kind_on d area.now) (sectors_of d area.now))
         (range_with_len from (area.now.sectors - from)) }
     ensures within { IfSome result (λ place. place < area.now.sectors) }
 {
     for place in from..area.sectors {
-        if is_sought(flash, area, sought, place, steps) {
+        if is_match(flash, area, lookup, place, steps) {
             return Some(place);
         }
     }

@@ -12,15 +12,15 @@ use Rattle.item_store.specs.Stands as stands
 use Rattle.item_store.specs.Wrapped.{store_in}
 use Rattle.item_store.specs.Writing as writing
 use Rattle.item_store.specs.Written as written
-use Rattle.zms_format.specs.Kinds.{kind}
+use Rattle.zms_format.specs.Formats.{format_of}
 use Rattle.zms_store.specs.declared.store.Zms.{Zms}
-use Rattle.zms_store.specs.Standing.{kind_on, kept}
+use Rattle.zms_store.specs.Standing.{format_on, kept}
 
 -- The area is damaged, and then nothing changed; or it is not, and its items stay, whether power is lost or
 -- not. What is spent is what there is to redo: nothing, an emptying, or a collection.
 abbrev pub MountEnds : Device → Device → Area → Result Zms MountFault → Type 0
 MountEnds old new area result =
-    stands.MountEnds ZmsRole kind kept old new area (store_in (λ (zms : Zms). zms.store) result)
+    stands.MountEnds ZmsRole format_of kept old new area (store_in (λ (zms : Zms). zms.store) result)
 
 -- Closing and collecting, with this sector open: it was clean, and nothing changed; or it was not, and a
 -- whole round was made, with the room that it leaves and its units: those of the close; of the new open
@@ -28,17 +28,17 @@ MountEnds old new area result =
 -- was lost in that, and the list is as before or as the round leaves it. A sector is clean (`is_clean_at`)
 -- where it has no entry and all that a sector has is free in it.
 abbrev pub RoundEnds : {T : Type 0} → Device → Device → Area → ℕ → Result T PowerLost → Type 0
-RoundEnds old new area place result = closing.RoundEnds (kind_on old area) old new area place result
+RoundEnds old new area place result = closing.RoundEnds (format_on old area) old new area place result
 
 abbrev pub WriteEnds : {T : Type 0} → Device → Device → Area → ℕ → List ℕ → Result T WriteFault → Type 0
-WriteEnds old new area id bytes result = writing.WriteEnds (kind_on old area) old new area id bytes result
+WriteEnds old new area id bytes result = writing.WriteEnds (format_on old area) old new area id bytes result
 
 abbrev pub DeleteEnds : {T : Type 0} → Device → Device → Area → ℕ → Result T PowerLost → Type 0
-DeleteEnds old new area id result = writing.DeleteEnds (kind_on old area) old new area id result
+DeleteEnds old new area id result = writing.DeleteEnds (format_on old area) old new area id result
 
 -- some sector of the area, as it reads on the device before, is not blank now
 abbrev pub IsWritten : Device → Device → Area → Type 0
-IsWritten old new area = written.IsWritten (kind_on old area) (sectors_of new area)
+IsWritten old new area = written.IsWritten (format_on old area) (sectors_of new area)
 
 -- an area in which something is written stays so
 abbrev pub KeepsWritten : Device → Device → Area → Type 0

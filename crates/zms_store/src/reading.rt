@@ -7,12 +7,12 @@ ghost use Rattle.flash_map.specs.Area.{sectors_of, sector_at};
 ghost use Rattle.item_laws.specs.Bytes.{IsIdOf, IsNextOf};
 ghost use Rattle.item_laws.specs.NextIds.{IsNextId};
 ghost use Rattle.item_store.specs.Cached.{latest_on};
-ghost use Rattle.item_store.specs.Latest.{IsTold, TellsOn};
+ghost use Rattle.item_store.specs.Latest.{IsKnown, KnowsOn};
 ghost use Rattle.item_store.specs.Listed.{IsListedOn};
 ghost use Rattle.item_store.specs.Older.{IsNextOlder, newest_before};
 ghost use Rattle.zms_format.specs.Area.{IsListed};
-ghost use Rattle.zms_format.specs.Kinds.{kind, placed_of};
-ghost use Rattle.zms_store.specs.Standing.{IsZmsArea, StandsOn, IsPlacedOn, kind_on, entries_on, items_on, live_cost_on};
+ghost use Rattle.zms_format.specs.Formats.{format_of, placed_of};
+ghost use Rattle.zms_store.specs.Standing.{IsZmsArea, StandsOn, IsPlacedOn, format_on, entries_on, items_on, live_cost_on};
 
 use crate::store::Zms;
 use flash_map::{Area, sector_view};
@@ -30,7 +30,7 @@ fn entry_at<F: Flash, L: Ledger>(
     steps: &mut Steps<L>,
 ) -> Found
     requires area { IsZmsArea (F.device flash.now).banks area.now }
-    requires listed { IsListedOn kind (F.device flash.now) area.now placed.now }
+    requires listed { IsListedOn format_of (F.device flash.now) area.now placed.now }
     ensures same { placed_of result ≡ placed.now }
     ensures listed { let d = F.device flash.now in
         IsListed (sector_at (sectors_of d area.now) placed.now.sector) result }
@@ -59,9 +59,9 @@ impl Zms {
         ensures value { option_map (λ bytes. bytes.now) result
             ≡ map.get (items_on (F.device flash.now) self.now.store.area) id }
         ensures none { let d = F.device flash.now in
-            latest_on kind d self.now.store.area id ≡ None → steps.new ≡ steps.old }
+            latest_on format_of d self.now.store.area id ≡ None → steps.new ≡ steps.old }
         ensures few { let d = F.device flash.now in
-            IfSome (latest_on kind d self.now.store.area id)
+            IfSome (latest_on format_of d self.now.store.area id)
             (λ p. p.id ≡ id → steps.new ≤ steps.old + 2) }
     {
         self.store.get(flash, id, steps)
@@ -71,7 +71,7 @@ impl Zms {
     /// same slot of the cache. Else the id has none. It looks at the cache alone.
     pub fn may_hold(&self, id: u32) -> bool
         ensures exactly { (d : Device) → StandsOn d self.now
-            → result ≡ is_some (latest_on kind d self.now.store.area id) }
+            → result ≡ is_some (latest_on format_of d self.now.store.area id) }
         ensures none { (d : Device) → IsLawful d.banks d.bytes → StandsOn d self.now
             → result ≡ false → map.get (items_on d self.now.store.area) id ≡ None }
     {
@@ -79,22 +79,22 @@ impl Zms {
     }
 
     /// Makes a table of the last entries of ids, by one walk over the list, and by a search for
-    /// each id that shares its key: of 800 ids at most, the least that have bytes. It tells of each
-    /// id where no more than 800 ids ever had bytes in the list. It does so as long as the area
+    /// each id that shares its key: of 800 ids at most, the least that have bytes. It
+    /// knows each id where no more than 800 ids ever had bytes in the list. It does so as long as the area
     /// stays as it is.
-    pub fn tell_last_slots<F: Flash, L: Ledger>(
+    pub fn fill_last_slots<F: Flash, L: Ledger>(
         &self,
         flash: &F,
         last: &mut LastSlots,
         steps: &mut Steps<L>,
     )
         requires { StandsOn (F.device flash.now) self.now }
-        ensures { TellsOn kind (F.device flash.now) self.now.store.area last.new }
+        ensures { KnowsOn format_of (F.device flash.now) self.now.store.area last.new }
     {
-        self.store.tell_last_slots(flash, last, steps)
+        self.store.fill_last_slots(flash, last, steps)
     }
 
-    /// The bytes of an item, as `get` gives them, by a table of last entries. Where the table tells
+    /// The bytes of an item, as `get` gives them, by a table of last entries. Where the table knows
     /// of the id, it is one step at most; else it is what `get` does.
     pub fn get_by<'a, F: Flash, L: Ledger>(
         &self,
@@ -104,10 +104,10 @@ impl Zms {
         steps: &mut Steps<L>,
     ) -> Option<&'a [u8]>
         requires stands { StandsOn (F.device flash.now) self.now }
-        requires last { TellsOn kind (F.device flash.now) self.now.store.area last.now }
+        requires last { KnowsOn format_of (F.device flash.now) self.now.store.area last.now }
         ensures value { option_map (λ bytes. bytes.now) result
             ≡ map.get (items_on (F.device flash.now) self.now.store.area) id }
-        ensures few { IsTold last.now.bound id → steps.new ≤ steps.old + 1 }
+        ensures few { IsKnown last.now.bound id → steps.new ≤ steps.old + 1 }
     {
         self.store.get_by(flash, last, id, steps)
     }
@@ -128,7 +128,7 @@ impl Zms {
     }
 
     /// The least id behind this one that has a value, or the least of all, as `next_id` gives it,
-    /// by a table of last entries. Where the table has one, or tells of all ids, nothing is looked
+    /// by a table of last entries. Where the table has one, or knows all ids, nothing is looked
     /// at; else the list is searched.
     pub fn next_by<F: Flash, L: Ledger>(
         &self,
@@ -138,10 +138,10 @@ impl Zms {
         steps: &mut Steps<L>,
     ) -> Option<u32>
         requires stands { StandsOn (F.device flash.now) self.now }
-        requires last { TellsOn kind (F.device flash.now) self.now.store.area last.now }
+        requires last { KnowsOn format_of (F.device flash.now) self.now.store.area last.now }
         ensures next { IsNextId (items_on (F.device flash.now) self.now.store.area) after result }
         ensures known { IfSome result (λ id. id < 0xFFFFFFFF) }
-        ensures told { IfSome result (λ id. IsTold last.now.bound id → steps.new ≡ steps.old) }
+        ensures covered { IfSome result (λ id. IsKnown last.now.bound id → steps.new ≡ steps.old) }
         ensures all { last.now.bound ≡ None → steps.new ≡ steps.old }
     {
         self.store.next_by(flash, last, after, steps)
@@ -195,7 +195,7 @@ impl Zms {
     /// The next older entry of the list: the one before the entry in this sector and slot, or the
     /// newest one where no place is given. Where no entry stands at the place, it is the newest one
     /// before the place, in the round to the open sector. Deletes are among them. `None` comes
-    /// exactly at the front of the list.
+    /// exactly at the oldest entry of the list.
     pub fn walk<F: Flash, L: Ledger>(
         &self,
         flash: &F,
@@ -209,7 +209,7 @@ impl Zms {
             IsNextOlder (entries_on (F.device flash.now) self.now.store.area) after next }
         ensures before { let d = F.device flash.now in let area = self.now.store.area in
             IfSome after (λ place. option_map placed_of result
-            ≡ newest_before (kind_on d area) (sectors_of d area) place) }
+            ≡ newest_before (format_on d area) (sectors_of d area) place) }
         ensures placed { IfSome result (IsPlacedOn (F.device flash.now) self.now) }
     {
         match self.store.walk(flash, after, steps) {

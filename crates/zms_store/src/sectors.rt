@@ -4,9 +4,9 @@ ghost use Rattle.std.specs.Option.{option_map};
 ghost use Rattle.flash_map.specs.declared.area.Role.TheVariants.{Zms as zms_role};
 ghost use Rattle.zms_cycle.specs.Entries.{entry_of as fields_of, offset_of};
 ghost use Rattle.zms_cycle.specs.Sector.{slot_of, cycle_of, data_end, entry_in, has_gc_done, valid_slots, value_of};
-ghost use Rattle.zms_format.specs.Kinds.{entry_of, kind};
-ghost use Rattle.zms_format.proofs.KindLemmas.{zms_is_kind};
-ghost use Rattle.item_store.specs.Kind.{placed_at};
+ghost use Rattle.zms_format.specs.Formats.{entry_of, format_of};
+ghost use Rattle.zms_format.proofs.FormatLemmas.{zms_is_format};
+ghost use Rattle.item_store.specs.SectorFormat.{placed_at};
 
 use flash_map::{Area, Damaged, Geometry, geometry, sector_view};
 use flash_sim::{Flash, Kind, PowerLost, Steps};
@@ -104,7 +104,7 @@ fn named_id(bytes: &[u8], slot: u32) -> u32
 impl SlotSectors for ZmsOpen {
     ghost role = { zms_role };
 
-    ghost kind = { kind };
+    ghost format_of = { format_of };
 
     ghost kept = { λ geometry b. record { gc_done = has_gc_done b; cycle = cycle_of b; slots = length (valid_slots b); data_end = min (data_end geometry.kind b) (2 ^ 32 - 1) } };
 
@@ -382,5 +382,5 @@ impl SlotSectors for ZmsOpen {
         scan(flash, area, steps)
     }
 
-    ghost lawful = { λ geometry is. zms_is_kind geometry };
+    ghost lawful = { λ geometry is. zms_is_format geometry };
 }

@@ -11,7 +11,7 @@ use std::fs;
 use std::io::{self, ErrorKind};
 use std::rt::Files;
 
-/// Files of the system, and standard output. It tells nothing of what they hold. A file is written
+/// Files of the system, and standard output. It shows nothing of what they hold. A file is written
 /// under a name that no file has, and then renamed, so that a failed write leaves what stood there.
 #[derive(Drop)]
 pub struct RealHost<'a, R> {

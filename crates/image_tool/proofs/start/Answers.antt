@@ -5,5 +5,5 @@ use Rattle.image_tool.proofs.start.Goals as goal
 
 pub returns-in_ok-words-in-Ok : goal.returns-in_ok-words-in-Ok
 returns-in_ok-words-in-Ok c =
-    let told : ℕ → Outside = λ n. record { files = None; printed = None; faults = n } in
-    words_exit c.with_handlers.result _ _ _ _ _ (ap told c.new-host.ensures) c.new.ensures c.with_handlers.ensures
+    let report_text : ℕ → Outside = λ n. record { files = None; printed = None; faults = n } in
+    words_exit c.with_handlers.result _ _ _ _ _ (ap report_text c.new-host.ensures) c.new.ensures c.with_handlers.ensures

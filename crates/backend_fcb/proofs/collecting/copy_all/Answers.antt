@@ -4,8 +4,8 @@ use Rattle.flash_map.proofs.PieceLemmas.{on_err}
 use Rattle.std.proofs.lemmas.List.{take_all}
 use Rattle.fcb_ring.specs.declared.ring.Ring.{Ring}
 use Rattle.backend_fcb.specs.Changing.{Copies}
-use Rattle.backend_fcb.specs.Gathering.{bodies_at}
-use Rattle.backend_fcb.specs.declared.gathering.Kept.{Kept}
+use Rattle.backend_fcb.specs.Compaction.{bodies_at}
+use Rattle.backend_fcb.specs.declared.compaction.Kept.{Kept}
 use Rattle.backend_fcb.proofs.CopySteps.{table-start, table-listed, table-oldest, table-short, table-fits, table-step, table-stops, table-kept, table-others, table-lost}
 use Rattle.backend_fcb.proofs.collecting.copy_all.Goals as goal
 

@@ -9,13 +9,13 @@ use Rattle.item_laws.specs.Items.{Items}
 use Rattle.named_items.specs.Numbering.{Numbering}
 use Rattle.named_items.specs.Pairs.{pair_at, HasName}
 use Rattle.named_items.proofs.LookupSteps.{here-has, has-here}
-use Rattle.backend_nvs.specs.Numbers.{numbers_in}
+use Rattle.backend_nvs.specs.IdLayout.{numbering_of}
 use Rattle.backend_nvs.proofs.lookup.is_here.Goals as goal
 
 pub returns : goal.returns
 returns g c =
     let own : Area = g.S.ItemStore.mounted_on c.args.store.now in
-    let n : Numbering = numbers_in own in
+    let n : Numbering = numbering_of own in
     let items : Items = on g.S.ItemStore.contents (g.F.Flash.device c.args.flash.now) own in
     elim (cases_Bool c.is_at.result) [
       | inl yes_it ↦ subst (λ (b : Bool). MatchBool b (HasName (pair_at n items c.args.place) c.args.name.now) (¬ HasName (pair_at n items c.args.place) c.args.name.now)) (sym yes_it)

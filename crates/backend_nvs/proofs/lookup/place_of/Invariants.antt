@@ -1,11 +1,11 @@
 use Rattle.std.proofs.Common.{ℕ, ◌<◌, ◌≤◌}
 use Rattle.flash_map.specs.On.{on}
 use Rattle.named_items.specs.Pairs.{pair_at, HasName}
-use Rattle.backend_nvs.specs.Numbers.{numbers_in}
+use Rattle.backend_nvs.specs.IdLayout.{numbering_of}
 use Rattle.backend_nvs.proofs.lookup.place_of.Given as goal
 
 abbrev pub invariant-loop-place : goal.invariant-loop-place
 invariant-loop-place g l = record {
   within : l.place ≤ l.place-end;
-  none : (k : ℕ) → 0x8001 ≤ k → k < l.place → ¬ HasName (pair_at (numbers_in (g.S.ItemStore.mounted_on l.store)) (on g.S.ItemStore.contents (g.F.Flash.device l.flash) (g.S.ItemStore.mounted_on l.store)) k) l.name;
+  none : (k : ℕ) → 0x8001 ≤ k → k < l.place → ¬ HasName (pair_at (numbering_of (g.S.ItemStore.mounted_on l.store)) (on g.S.ItemStore.contents (g.F.Flash.device l.flash) (g.S.ItemStore.mounted_on l.store)) k) l.name;
 }

@@ -13,14 +13,14 @@ use Rattle.backend_api.specs.Ends.{SetEnds, set_lost}
 use Rattle.backend_api.specs.Map.{Map}
 use Rattle.flash_map.specs.On.{on}
 use Rattle.named_items.specs.StoreEnds as ends
-use Rattle.named_items.specs.Pairs.{count_in, settings_in, HasNoStrays, IsInside, IsPlaceOf}
+use Rattle.named_items.specs.Pairs.{count_in, settings_in, HasNoOrphans, IsInside, IsIdOfName}
 use Rattle.flash_map.specs.Touches.{Touches}
 use Rattle.named_items.specs.Ends.{IsFree}
 use Rattle.named_items.specs.Putting.{IsPut, IsStorable}
 use Rattle.named_items.proofs.ChangeSteps.{moved-clean, moved-lawful, moved-cost}
 use Rattle.named_items.proofs.NewSteps.{not-stored, set-after}
 use Rattle.named_items.proofs.SpendSteps.{spends-some, one-call, spends-both, calls-within, geometry-stays}
-use Rattle.backend_nvs.specs.Numbers.{count_of, numbers_in, settings_of, nvs_counted, nvs_room, nvs-counts, nvs-numbers, too_many}
+use Rattle.backend_nvs.specs.IdLayout.{count_of, numbering_of, settings_of, nvs_counted, nvs_room, nvs-counts, nvs-numbering, too_many}
 use Rattle.backend_nvs.proofs.CountSteps.{few-free, count-leaves, count-refused, raised-same, raised-kept, raised-inside, raised-free}
 use Rattle.flash_map.proofs.Touches.{then}
 use Rattle.named_items.specs.Limits.{limit-least}
@@ -37,13 +37,13 @@ put_new-requires-clause-here g c =
     let before : Items = on g.S.ItemStore.contents d own in
     let mid : Items = on g.S.ItemStore.contents b own in
     let bytes : List ℕ = c.bytes_of_count-bytes.result in
-    let more : count_of (Some bytes) ≡ count_in (numbers_in own) before + 1 = c.bytes_of_count-bytes.ensures.counts ∙ ap (λ (x : ℕ). x + 1) c.requires.counted in
+    let more : count_of (Some bytes) ≡ count_in (numbering_of own) before + 1 = c.bytes_of_count-bytes.ensures.counts ∙ ap (λ (x : ℕ). x + 1) c.requires.counted in
     let is : mid ≡ insert before 0x8000 bytes = c.in-Ok.ensures.ends.items in
-    let same : settings_in (numbers_in own) mid ≡ settings_in (numbers_in own) before = ap (settings_in (numbers_in own)) is ∙ raised-same (value_limit own) before c.requires.here.clean bytes c.bytes_of_count-bytes.ensures.two more in
+    let same : settings_in (numbering_of own) mid ≡ settings_in (numbering_of own) before = ap (settings_in (numbering_of own)) is ∙ raised-same (value_limit own) before c.requires.here.clean bytes c.bytes_of_count-bytes.ensures.two more in
     record {
       lawful = moved-lawful own other c.write.ensures.area d b c.write.ensures.touches.banks c.requires.here.lawful;
       up = c.in-Ok.ensures.stands refl;
-      clean = moved-clean numbers_in nvs_counted too_many g.S.ItemStore.contents own other c.in-Ok.ensures.area b (subst (HasNoStrays (numbers_in own)) (sym is) (raised-kept (value_limit own) before c.requires.here.clean bytes c.bytes_of_count-bytes.ensures.two more));
+      clean = moved-clean numbering_of nvs_counted too_many g.S.ItemStore.contents own other c.in-Ok.ensures.area b (subst (HasNoOrphans (numbering_of own)) (sym is) (raised-kept (value_limit own) before c.requires.here.clean bytes c.bytes_of_count-bytes.ensures.two more));
     }
 
 pub put_new-requires-clause-value : goal.put_new-requires-clause-value
@@ -59,15 +59,15 @@ put_new-requires-clause-place g c =
     let before : Items = on g.S.ItemStore.contents d own in
     let mid : Items = on g.S.ItemStore.contents b own in
     let bytes : List ℕ = c.bytes_of_count-bytes.result in
-    let more : count_of (Some bytes) ≡ count_in (numbers_in own) before + 1 = c.bytes_of_count-bytes.ensures.counts ∙ ap (λ (x : ℕ). x + 1) c.requires.counted in
+    let more : count_of (Some bytes) ≡ count_in (numbering_of own) before + 1 = c.bytes_of_count-bytes.ensures.counts ∙ ap (λ (x : ℕ). x + 1) c.requires.counted in
     let is : mid ≡ insert before 0x8000 bytes = c.in-Ok.ensures.ends.items in
-    let same : settings_in (numbers_in own) mid ≡ settings_in (numbers_in own) before = ap (settings_in (numbers_in own)) is ∙ raised-same (value_limit own) before c.requires.here.clean bytes c.bytes_of_count-bytes.ensures.two more in
-    let few : count_in (numbers_in own) before < 511 = subst (λ (x : ℕ). x < 511) c.requires.counted c.requires.few in
+    let same : settings_in (numbering_of own) mid ≡ settings_in (numbering_of own) before = ap (settings_in (numbering_of own)) is ∙ raised-same (value_limit own) before c.requires.here.clean bytes c.bytes_of_count-bytes.ensures.two more in
+    let few : count_in (numbering_of own) before < 511 = subst (λ (x : ℕ). x < 511) c.requires.counted c.requires.few in
     record {
-      absent = subst (λ (x : Area). IsPlaceOf (numbers_in x) (on g.S.ItemStore.contents b x) c.args.name.now None) (sym c.in-Ok.ensures.area) (nowhere-none (numbers_in own) mid c.args.name.now (ap (λ (m : Map). get m c.args.name.now) same ∙ get-nowhere (numbers_in own) before c.args.name.now c.requires.absent));
+      absent = subst (λ (x : Area). IsIdOfName (numbering_of x) (on g.S.ItemStore.contents b x) c.args.name.now None) (sym c.in-Ok.ensures.area) (nowhere-none (numbering_of own) mid c.args.name.now (ap (λ (m : Map). get m c.args.name.now) same ∙ get-nowhere (numbering_of own) before c.args.name.now c.requires.absent));
       few = subst (λ (x : Area). too_many (settings_of x (on g.S.ItemStore.contents b x)) c.args.name.now ≡ false) (sym c.in-Ok.ensures.area) (subst (λ (m : Map). too_many m c.args.name.now ≡ false) (sym same) (few-free (settings_of own before) c.args.name.now (count-leaves (value_limit own) before c.requires.here.clean few)));
-      inside = subst (λ (x : Area). IsInside (numbers_in x) (on g.S.ItemStore.contents b x) (0x8001 + c.args.count)) (sym c.in-Ok.ensures.area) (subst (λ (m : Items). IsInside (numbers_in own) m (0x8001 + c.args.count)) (sym is) (subst (λ (x : ℕ). IsInside (numbers_in own) (insert before 0x8000 bytes) (0x8001 + x)) (sym c.requires.counted) (raised-inside (value_limit own) before c.requires.here.clean bytes c.bytes_of_count-bytes.ensures.two more)));
-      home = refl;
+      inside = subst (λ (x : Area). IsInside (numbering_of x) (on g.S.ItemStore.contents b x) (0x8001 + c.args.count)) (sym c.in-Ok.ensures.area) (subst (λ (m : Items). IsInside (numbering_of own) m (0x8001 + c.args.count)) (sym is) (subst (λ (x : ℕ). IsInside (numbering_of own) (insert before 0x8000 bytes) (0x8001 + x)) (sym c.requires.counted) (raised-inside (value_limit own) before c.requires.here.clean bytes c.bytes_of_count-bytes.ensures.two more)));
+      candidate = refl;
       free = subst (λ (x : Area). IsFree (on g.S.ItemStore.contents b x) (0x8001 + c.args.count) (0x8001 + c.args.count + 0x4000)) (sym c.in-Ok.ensures.area) (subst (λ (m : Items). IsFree m (0x8001 + c.args.count) (0x8001 + c.args.count + 0x4000)) (sym is) (subst (λ (x : ℕ). IsFree (insert before 0x8000 bytes) (0x8001 + x) (0x8001 + x + 0x4000)) (sym c.requires.counted) (raised-free (value_limit own) before c.requires.here.clean bytes c.bytes_of_count-bytes.ensures.two more)));
     }
 
@@ -81,12 +81,12 @@ refused-requires-clause-here g c =
     let before : Items = on g.S.ItemStore.contents d own in
     let mid : Items = on g.S.ItemStore.contents b own in
     let bytes : List ℕ = c.bytes_of_count-bytes.result in
-    let more : count_of (Some bytes) ≡ count_in (numbers_in own) before + 1 = c.bytes_of_count-bytes.ensures.counts ∙ ap (λ (x : ℕ). x + 1) c.requires.counted in
+    let more : count_of (Some bytes) ≡ count_in (numbering_of own) before + 1 = c.bytes_of_count-bytes.ensures.counts ∙ ap (λ (x : ℕ). x + 1) c.requires.counted in
     let ended = subst (λ (w : WriteFault). ends.WriteEnds {T = Unit {0}} (g.S.ItemStore.price k) (g.S.ItemStore.cap k) own.sectors d b (on g.S.ItemStore.contents d own) (on g.S.ItemStore.contents b own) 0x8000 c.bytes_of_count-bytes.result (Err w)) c.in-Err-NoSpace.field-0-is c.in-Err-NoSpace.ensures.ends in
     record {
       lawful = moved-lawful own other c.write.ensures.area d b c.write.ensures.touches.banks c.requires.here.lawful;
       up = c.in-Err-NoSpace.ensures.stands (ap (λ (w : WriteFault). write_lost {T = Unit {0}} (Err w)) c.in-Err-NoSpace.field-0-is);
-      clean = moved-clean numbers_in nvs_counted too_many g.S.ItemStore.contents own other c.in-Err-NoSpace.ensures.area b (subst (HasNoStrays (numbers_in own)) (sym ended.items) c.requires.here.clean);
+      clean = moved-clean numbering_of nvs_counted too_many g.S.ItemStore.contents own other c.in-Err-NoSpace.ensures.area b (subst (HasNoOrphans (numbering_of own)) (sym ended.items) c.requires.here.clean);
     }
 
 pub returns-in-Ok-clause-touches : goal.returns-in-Ok-clause-touches
@@ -99,7 +99,7 @@ returns-in-Ok-clause-touches g c =
     let before : Items = on g.S.ItemStore.contents d own in
     let mid : Items = on g.S.ItemStore.contents b own in
     let bytes : List ℕ = c.bytes_of_count-bytes.result in
-    let more : count_of (Some bytes) ≡ count_in (numbers_in own) before + 1 = c.bytes_of_count-bytes.ensures.counts ∙ ap (λ (x : ℕ). x + 1) c.requires.counted in
+    let more : count_of (Some bytes) ≡ count_in (numbering_of own) before + 1 = c.bytes_of_count-bytes.ensures.counts ∙ ap (λ (x : ℕ). x + 1) c.requires.counted in
     let e : Device = g.F.Flash.device c.put_new.new.flash in
     let after : Items = on g.S.ItemStore.contents e own in
     then c.in-Ok.ensures.touches (subst (λ (x : Area). Touches (x ∷ []) b e (set_lost c.put_new.result)) c.in-Ok.ensures.area c.put_new.ensures.touches)
@@ -114,10 +114,10 @@ returns-in-Ok-clause-at_most g c =
     let before : Items = on g.S.ItemStore.contents d own in
     let mid : Items = on g.S.ItemStore.contents b own in
     let bytes : List ℕ = c.bytes_of_count-bytes.result in
-    let more : count_of (Some bytes) ≡ count_in (numbers_in own) before + 1 = c.bytes_of_count-bytes.ensures.counts ∙ ap (λ (x : ℕ). x + 1) c.requires.counted in
+    let more : count_of (Some bytes) ≡ count_in (numbering_of own) before + 1 = c.bytes_of_count-bytes.ensures.counts ∙ ap (λ (x : ℕ). x + 1) c.requires.counted in
     let e : Device = g.F.Flash.device c.put_new.new.flash in
     let after : Items = on g.S.ItemStore.contents e own in
-    calls-within d e 4 k (omega arith) (spends-both d b e own other 1 3 c.in-Ok.ensures.touches.banks c.in-Ok.ensures.area (one-call d b (ends.most_units (geometry_of d own)) c.in-Ok.ensures.at_most) c.put_new.ensures.at_most)
+    calls-within d e 4 k (omega arith) (spends-both d b e own other 1 3 c.in-Ok.ensures.touches.banks c.in-Ok.ensures.area (one-call d b (ends.item_units (geometry_of d own)) c.in-Ok.ensures.at_most) c.put_new.ensures.at_most)
 
 pub returns-in-Ok-clause-store : goal.returns-in-Ok-clause-store
 returns-in-Ok-clause-store g c =
@@ -142,21 +142,21 @@ returns-in-Ok-clause-ends g c =
     let before : Items = on g.S.ItemStore.contents d own in
     let mid : Items = on g.S.ItemStore.contents b own in
     let bytes : List ℕ = c.bytes_of_count-bytes.result in
-    let more : count_of (Some bytes) ≡ count_in (numbers_in own) before + 1 = c.bytes_of_count-bytes.ensures.counts ∙ ap (λ (x : ℕ). x + 1) c.requires.counted in
+    let more : count_of (Some bytes) ≡ count_in (numbering_of own) before + 1 = c.bytes_of_count-bytes.ensures.counts ∙ ap (λ (x : ℕ). x + 1) c.requires.counted in
     let e : Device = g.F.Flash.device c.put_new.new.flash in
     let after : Items = on g.S.ItemStore.contents e own in
     let is : mid ≡ insert before 0x8000 bytes = c.in-Ok.ensures.ends.items in
-    let same : settings_in (numbers_in own) mid ≡ settings_in (numbers_in own) before = ap (settings_in (numbers_in own)) is ∙ raised-same (value_limit own) before c.requires.here.clean bytes c.bytes_of_count-bytes.ensures.two more in
-    let few : count_in (numbers_in own) before < 511 = subst (λ (x : ℕ). x < 511) c.requires.counted c.requires.few in
+    let same : settings_in (numbering_of own) mid ≡ settings_in (numbering_of own) before = ap (settings_in (numbering_of own)) is ∙ raised-same (value_limit own) before c.requires.here.clean bytes c.bytes_of_count-bytes.ensures.two more in
+    let few : count_in (numbering_of own) before < 511 = subst (λ (x : ℕ). x < 511) c.requires.counted c.requires.few in
     let all : Touches (own ∷ []) d e (set_lost c.put_new.result) = then c.in-Ok.ensures.touches (subst (λ (x : Area). Touches (x ∷ []) b e (set_lost c.put_new.result)) c.in-Ok.ensures.area c.put_new.ensures.touches) in
     let first : SetEnds (nvs_room g.S.ItemStore.price g.S.ItemStore.cap (geometry_of b own)) own.sectors b e (settings_of own (on g.S.ItemStore.contents b own)) (settings_of own (on g.S.ItemStore.contents e own)) c.args.name.now c.args.value.now c.put_new.result =
     subst (λ (x : Area). SetEnds (nvs_room g.S.ItemStore.price g.S.ItemStore.cap (geometry_of b x)) x.sectors b e (settings_of x (on g.S.ItemStore.contents b x)) (settings_of x (on g.S.ItemStore.contents e x)) c.args.name.now c.args.value.now c.put_new.result) c.in-Ok.ensures.area c.put_new.ensures.ends.ends in
     let second : SetEnds (nvs_room g.S.ItemStore.price g.S.ItemStore.cap k) own.sectors b e (settings_of own (on g.S.ItemStore.contents b own)) (settings_of own (on g.S.ItemStore.contents e own)) c.args.name.now c.args.value.now c.put_new.result =
     subst (λ (x : Geometry). SetEnds (nvs_room g.S.ItemStore.price g.S.ItemStore.cap x) own.sectors b e (settings_of own (on g.S.ItemStore.contents b own)) (settings_of own (on g.S.ItemStore.contents e own)) c.args.name.now c.args.value.now c.put_new.result) (geometry-stays d b own c.in-Ok.ensures.touches.banks) first in
     record {
-      ends = set-after (Unit {0}) (nvs_room g.S.ItemStore.price g.S.ItemStore.cap k) own.sectors d b e (settings_of own before) (settings_of own after) c.args.name.now c.args.value.now c.put_new.result (few-free (settings_of own before) c.args.name.now (count-leaves (value_limit own) before c.requires.here.clean few)) (not-stored (numbers_in own) (nvs-numbers (value_limit own)) nvs_counted too_many (nvs-counts (value_limit own)) before c.requires.here.clean c.args.name.now c.args.value.now c.requires.absent) (λ changed. spends-some g.S.ItemStore.contents d e own (own ∷ []) (set_lost c.put_new.result) all (λ same. changed (ap (settings_in (numbers_in own)) same))) (subst (λ (m : Map). SetEnds (nvs_room g.S.ItemStore.price g.S.ItemStore.cap k) own.sectors b e m (settings_of own (on g.S.ItemStore.contents e own)) c.args.name.now c.args.value.now c.put_new.result) same second);
+      ends = set-after (Unit {0}) (nvs_room g.S.ItemStore.price g.S.ItemStore.cap k) own.sectors d b e (settings_of own before) (settings_of own after) c.args.name.now c.args.value.now c.put_new.result (few-free (settings_of own before) c.args.name.now (count-leaves (value_limit own) before c.requires.here.clean few)) (not-stored (numbering_of own) (nvs-numbering (value_limit own)) nvs_counted too_many (nvs-counts (value_limit own)) before c.requires.here.clean c.args.name.now c.args.value.now c.requires.absent) (λ changed. spends-some g.S.ItemStore.contents d e own (own ∷ []) (set_lost c.put_new.result) all (λ same. changed (ap (settings_in (numbering_of own)) same))) (subst (λ (m : Map). SetEnds (nvs_room g.S.ItemStore.price g.S.ItemStore.cap k) own.sectors b e m (settings_of own (on g.S.ItemStore.contents e own)) c.args.name.now c.args.value.now c.put_new.result) same second);
       cut = λ given. subst (λ (m : Map). IsPut m (settings_of own (on g.S.ItemStore.contents e own)) c.args.name.now c.args.value.now) same (subst (λ (x : Area). IsPut (settings_of x (on g.S.ItemStore.contents b x)) (settings_of x (on g.S.ItemStore.contents e x)) c.args.name.now c.args.value.now) c.in-Ok.ensures.area (c.put_new.ensures.ends.cut given));
-      clean = λ given. subst (λ (x : Area). HasNoStrays (numbers_in x) (on g.S.ItemStore.contents e x)) c.in-Ok.ensures.area (c.put_new.ensures.ends.clean given);
+      clean = λ given. subst (λ (x : Area). HasNoOrphans (numbering_of x) (on g.S.ItemStore.contents e x)) c.in-Ok.ensures.area (c.put_new.ensures.ends.clean given);
     }
 
 pub returns-in-Err-PowerLost-clause-store : goal.returns-in-Err-PowerLost-clause-store
@@ -177,13 +177,13 @@ returns-in-Err-PowerLost-clause-ends g c =
     let before : Items = on g.S.ItemStore.contents d own in
     let mid : Items = on g.S.ItemStore.contents b own in
     let bytes : List ℕ = c.bytes_of_count-bytes.result in
-    let more : count_of (Some bytes) ≡ count_in (numbers_in own) before + 1 = c.bytes_of_count-bytes.ensures.counts ∙ ap (λ (x : ℕ). x + 1) c.requires.counted in
-    let few : count_in (numbers_in own) before < 511 = subst (λ (x : ℕ). x < 511) c.requires.counted c.requires.few in
+    let more : count_of (Some bytes) ≡ count_in (numbering_of own) before + 1 = c.bytes_of_count-bytes.ensures.counts ∙ ap (λ (x : ℕ). x + 1) c.requires.counted in
+    let few : count_in (numbering_of own) before < 511 = subst (λ (x : ℕ). x < 511) c.requires.counted c.requires.few in
     let ended = subst (λ (w : WriteFault). ends.WriteEnds {T = Unit {0}} (g.S.ItemStore.price k) (g.S.ItemStore.cap k) own.sectors d b (on g.S.ItemStore.contents d own) (on g.S.ItemStore.contents b own) 0x8000 c.bytes_of_count-bytes.result (Err w)) c.in-Err-PowerLost.field-0-is c.in-Err-PowerLost.ensures.ends in
     record {
-      ends = (few-free (settings_of own before) c.args.name.now (count-leaves (value_limit own) before c.requires.here.clean few), not-stored (numbers_in own) (nvs-numbers (value_limit own)) nvs_counted too_many (nvs-counts (value_limit own)) before c.requires.here.clean c.args.name.now c.args.value.now c.requires.absent);
-      cut = λ given. elim ended.items [ inl none ↦ inl (ap (settings_in (numbers_in own)) none) | inr put ↦ inl (ap (settings_in (numbers_in own)) put ∙ raised-same (value_limit own) before c.requires.here.clean bytes c.bytes_of_count-bytes.ensures.two more) ];
-      clean = λ kept. absurd {A = HasNoStrays (numbers_in own) mid} (false≢true (sym kept));
+      ends = (few-free (settings_of own before) c.args.name.now (count-leaves (value_limit own) before c.requires.here.clean few), not-stored (numbering_of own) (nvs-numbering (value_limit own)) nvs_counted too_many (nvs-counts (value_limit own)) before c.requires.here.clean c.args.name.now c.args.value.now c.requires.absent);
+      cut = λ given. elim ended.items [ inl none ↦ inl (ap (settings_in (numbering_of own)) none) | inr put ↦ inl (ap (settings_in (numbering_of own)) put ∙ raised-same (value_limit own) before c.requires.here.clean bytes c.bytes_of_count-bytes.ensures.two more) ];
+      clean = λ kept. absurd {A = HasNoOrphans (numbering_of own) mid} (false≢true (sym kept));
     }
 
 pub returns-in-Err-NoSpace-clause-store : goal.returns-in-Err-NoSpace-clause-store
@@ -206,14 +206,14 @@ returns-in-Err-NoSpace-clause-ends g c =
     let before : Items = on g.S.ItemStore.contents d own in
     let mid : Items = on g.S.ItemStore.contents b own in
     let bytes : List ℕ = c.bytes_of_count-bytes.result in
-    let more : count_of (Some bytes) ≡ count_in (numbers_in own) before + 1 = c.bytes_of_count-bytes.ensures.counts ∙ ap (λ (x : ℕ). x + 1) c.requires.counted in
-    let few : count_in (numbers_in own) before < 511 = subst (λ (x : ℕ). x < 511) c.requires.counted c.requires.few in
+    let more : count_of (Some bytes) ≡ count_in (numbering_of own) before + 1 = c.bytes_of_count-bytes.ensures.counts ∙ ap (λ (x : ℕ). x + 1) c.requires.counted in
+    let few : count_in (numbering_of own) before < 511 = subst (λ (x : ℕ). x < 511) c.requires.counted c.requires.few in
     let ended = subst (λ (w : WriteFault). ends.WriteEnds {T = Unit {0}} (g.S.ItemStore.price k) (g.S.ItemStore.cap k) own.sectors d b (on g.S.ItemStore.contents d own) (on g.S.ItemStore.contents b own) 0x8000 c.bytes_of_count-bytes.result (Err w)) c.in-Err-NoSpace.field-0-is c.in-Err-NoSpace.ensures.ends in
     let still : set_lost {T = Unit {0}} (Err c.refused.result) ≡ false = ap (λ (w : SetFault). set_lost {T = Unit {0}} (Err w)) c.refused.ensures in
     record {
-      ends = subst (λ (w : SetFault). SetEnds {T = Unit {0}} (nvs_room g.S.ItemStore.price g.S.ItemStore.cap k) own.sectors d b (settings_of own (on g.S.ItemStore.contents d own)) (settings_of own (on g.S.ItemStore.contents b own)) c.args.name.now c.args.value.now (Err w)) (sym c.refused.ensures) (count-refused (value_limit own) before c.requires.here.clean c.args.name.now c.args.value.now c.requires.absent (g.S.ItemStore.price k) (g.S.ItemStore.cap k) own.sectors bytes mid c.in-Err-NoSpace.field-0-0 c.in-Err-NoSpace.field-0-1 c.bytes_of_count-bytes.ensures.two (count-leaves (value_limit own) before c.requires.here.clean few) ended c.price_of_pair-need.result ((nvs_room g.S.ItemStore.price g.S.ItemStore.cap (geometry_of b other)).cost (settings_of other (on g.S.ItemStore.contents b other))) c.price_of_pair-need.ensures.value (moved-cost numbers_in nvs_counted too_many g.S.ItemStore.contents own other c.in-Err-NoSpace.ensures.area g.S.ItemStore.price g.S.ItemStore.cap d b (settings_of own before) c.in-Err-NoSpace.ensures.touches.banks (ap (settings_in (numbers_in own)) ended.items)));
+      ends = subst (λ (w : SetFault). SetEnds {T = Unit {0}} (nvs_room g.S.ItemStore.price g.S.ItemStore.cap k) own.sectors d b (settings_of own (on g.S.ItemStore.contents d own)) (settings_of own (on g.S.ItemStore.contents b own)) c.args.name.now c.args.value.now (Err w)) (sym c.refused.ensures) (count-refused (value_limit own) before c.requires.here.clean c.args.name.now c.args.value.now c.requires.absent (g.S.ItemStore.price k) (g.S.ItemStore.cap k) own.sectors bytes mid c.in-Err-NoSpace.field-0-0 c.in-Err-NoSpace.field-0-1 c.bytes_of_count-bytes.ensures.two (count-leaves (value_limit own) before c.requires.here.clean few) ended c.price_of_pair-need.result ((nvs_room g.S.ItemStore.price g.S.ItemStore.cap (geometry_of b other)).cost (settings_of other (on g.S.ItemStore.contents b other))) c.price_of_pair-need.ensures.value (moved-cost numbering_of nvs_counted too_many g.S.ItemStore.contents own other c.in-Err-NoSpace.ensures.area g.S.ItemStore.price g.S.ItemStore.cap d b (settings_of own before) c.in-Err-NoSpace.ensures.touches.banks (ap (settings_in (numbering_of own)) ended.items)));
       cut = λ lost. absurd {A = IsPut (settings_of own before) (settings_of own mid) c.args.name.now c.args.value.now} (false≢true (sym still ∙ lost));
-      clean = λ kept. subst (HasNoStrays (numbers_in own)) (sym ended.items) c.requires.here.clean;
+      clean = λ kept. subst (HasNoOrphans (numbering_of own)) (sym ended.items) c.requires.here.clean;
     }
 
 -- a count fits a sector

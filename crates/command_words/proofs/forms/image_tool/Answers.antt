@@ -1,5 +1,5 @@
 use Rattle.std.proofs.Common.{rules, refl}
-use Rattle.command_words.proofs.FormTable.{told_all, told_more}
+use Rattle.command_words.proofs.FormTable.{reported_all, reported_more}
 use Rattle.command_words.proofs.forms.image_tool.Goals as goal
 
 pub loop-name-init : goal.loop-name-init
@@ -8,9 +8,9 @@ loop-name-init c = (refl, search rules)
 pub loop-name-preserved : goal.loop-name-preserved
 loop-name-preserved c = (
   c.loop-name.invariant.0,
-  told_more _ c.loop-name.name-index _ c.loop-name.tool c.in_ok-form.field-0 c.in_ok-tool.tool c.loop-name-test.true c.loop-name.invariant.1
+  reported_more _ c.loop-name.name-index _ c.loop-name.tool c.in_ok-form.field-0 c.in_ok-tool.tool c.loop-name-test.true c.loop-name.invariant.1
       c.in_ok-form.ensures.shape c.in_ok-form.ensures.local c.in_ok-tool.ensures,
 )
 
 pub returns : goal.returns
-returns c = told_all _ c.loop-name.name-index c.loop-name.tool c.loop-name-test.false c.loop-name.invariant.0 c.loop-name.invariant.1
+returns c = reported_all _ c.loop-name.name-index c.loop-name.tool c.loop-name-test.false c.loop-name.invariant.0 c.loop-name.invariant.1

@@ -2,7 +2,7 @@ use Rattle.std.proofs.Common.{◌<◌, ◌^◌, Option, subst, arith}
 use Rattle.fcb_ring.specs.declared.record.RecordAt.{RecordAt}
 use Rattle.fcb_ring.specs.Standing.{entries_on}
 use Rattle.fcb_ring.proofs.WalkLemmas.{at-listed, for-listed, at-smaller}
-use Rattle.event_ring.proofs.CountSteps.{Counts, counts-start, counts-step, counted-all, counted-front, counted-few, sector-same, sector-other}
+use Rattle.event_ring.proofs.CountSteps.{Counts, counts-start, counts-step, counted-all, counted-prefix, counted-few, sector-same, sector-other}
 use Rattle.event_ring.proofs.DropSteps.{left-used}
 use Rattle.event_ring.proofs.dropping.count_oldest.Goals as goal
 
@@ -44,7 +44,7 @@ returns-then-ne g c =
     let ring = c.args.ring.now in
     let some = (left-used d ring c.requires.mounted c.requires.left).0 in
     let other = sector-other ring.used ring.oldest c.in-Some.record.sector some c.oldest-oldest.result c.oldest-oldest.ensures c.ne.result c.ne.ensures c.if-ne.true in
-    counted-front d ring (g.met.F.Flash.is_lawful c.args.flash.now) c.requires.mounted some c.loop-at.count c.in-Some.record
+    counted-prefix d ring (g.met.F.Flash.is_lawful c.args.flash.now) c.requires.mounted some c.loop-at.count c.in-Some.record
     (subst (λ (o : Option RecordAt). Counts (entries_on d ring.area) ring.oldest o c.loop-at.count) c.in-Some.is c.loop-at.invariant) other
 
 pub returns : goal.returns

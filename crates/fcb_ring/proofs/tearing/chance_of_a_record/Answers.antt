@@ -1,5 +1,5 @@
-use Rattle.fcb_ring.proofs.ChanceLemmas.{tells-chance}
+use Rattle.fcb_ring.proofs.ChanceLemmas.{reports-chance}
 use Rattle.fcb_ring.proofs.tearing.chance_of_a_record.Goals as goal
 
 pub returns : goal.returns
-returns c = tells-chance
+returns c = reports-chance

@@ -4,7 +4,7 @@ use Rattle.std.proofs.lemmas.Result.{on_ok_weaker, on_err_weaker}
 use Rattle.flash_sim.specs.Device.{Device}
 use Rattle.flash_map.specs.declared.area.Geometry.{Geometry}
 use Rattle.flash_map.specs.Area.{unit_of, place_of}
-use Rattle.flash_map.proofs.PaddedLemmas.{can_front, front_part, front_most, all_written, all_spent, can_last, last_written, last_part, last_spent, last_most}
+use Rattle.flash_map.proofs.PaddedLemmas.{can_prefix, prefix_part, prefix_most, all_written, all_spent, can_last, last_written, last_part, last_spent, last_most}
 use Rattle.flash_map.proofs.PieceLemmas.{on_err, loses_within, unit-most}
 use Rattle.flash_map.proofs.Rounding.{is_unit}
 use Rattle.flash_map.specs.declared.pieces.TheConstants.{PIECE}
@@ -17,7 +17,7 @@ program_all-requires-clause-can g c =
     let a : Device = g.F.Flash.device c.args.flash.now in
     let lawful = g.met.F.Flash.is_lawful c.args.flash.now in
     let unit : c.geometry-unit.result.unit ≡ unit_of a c.args.area.now = ap (λ (x : Geometry). x.unit) c.geometry-unit.ensures in
-    can_front a a c.args.area.now lawful c.requires.lawful c.args.sector c.args.offset c.args.bytes.now c.requires.can c.geometry-unit.result.unit unit
+    can_prefix a a c.args.area.now lawful c.requires.lawful c.args.sector c.args.offset c.args.bytes.now c.requires.can c.geometry-unit.result.unit unit
 
 pub returns-in_err-program_all-clause-lost : goal.returns-in_err-program_all-clause-lost
 returns-in_err-program_all-clause-lost g c =
@@ -25,7 +25,7 @@ returns-in_err-program_all-clause-lost g c =
     let lawful = g.met.F.Flash.is_lawful c.args.flash.now in
     let unit : c.geometry-unit.result.unit ≡ unit_of a c.args.area.now = ap (λ (x : Geometry). x.unit) c.geometry-unit.ensures in
     let b : Device = g.F.Flash.device c.program_all.new.flash in
-    on_err c.from_residual.result (front_part a b c.args.area.now lawful c.requires.lawful c.args.sector c.args.offset c.args.bytes.now c.requires.can c.geometry-unit.result.unit unit c.in_err-program_all.ensures.lost)
+    on_err c.from_residual.result (prefix_part a b c.args.area.now lawful c.requires.lawful c.args.sector c.args.offset c.args.bytes.now c.requires.can c.geometry-unit.result.unit unit c.in_err-program_all.ensures.lost)
 
 pub returns-in_err-program_all-clause-spent_at_most : goal.returns-in_err-program_all-clause-spent_at_most
 returns-in_err-program_all-clause-spent_at_most g c =
@@ -33,7 +33,7 @@ returns-in_err-program_all-clause-spent_at_most g c =
     let lawful = g.met.F.Flash.is_lawful c.args.flash.now in
     let unit : c.geometry-unit.result.unit ≡ unit_of a c.args.area.now = ap (λ (x : Geometry). x.unit) c.geometry-unit.ensures in
     let b : Device = g.F.Flash.device c.program_all.new.flash in
-    on_err c.from_residual.result (front_most a b c.args.area.now lawful c.requires.lawful c.args.sector c.args.offset c.args.bytes.now c.requires.can c.geometry-unit.result.unit unit c.in_err-program_all.ensures.spent_at_most)
+    on_err c.from_residual.result (prefix_most a b c.args.area.now lawful c.requires.lawful c.args.sector c.args.offset c.args.bytes.now c.requires.can c.geometry-unit.result.unit unit c.in_err-program_all.ensures.spent_at_most)
 
 pub returns-then-whole-bytes-clause-ok : goal.returns-then-whole-bytes-clause-ok
 returns-then-whole-bytes-clause-ok g c =

@@ -9,7 +9,7 @@ use Rattle.image_file.specs.declared.image.ImageWhy.TheVariants.{Short}
 use Rattle.image_file.specs.Said.{contents_said, contents_place, contents_size, bank_count, field_at}
 use Rattle.image_file.specs.Table.{ContentsAt, End, AllHold, FirstFault, contents_rows, rows_of}
 use Rattle.image_file.proofs.ReadingLemmas.{exit, ends, length-all_banks, contents_more, contents_next}
-use Rattle.image_file.proofs.RowLemmas.{first_row, all_rows, front_fault, later_fault, AllHold-append}
+use Rattle.image_file.proofs.RowLemmas.{first_row, all_rows, prefix_fault, later_fault, AllHold-append}
 use Rattle.image_file.proofs.reading.read_contents.Goals as goal
 
 pub returns-in_err-text : goal.returns-in_err-text
@@ -21,7 +21,7 @@ returns-in_err-text c =
     exit (λ (copies : Vec (Vec ℕ)). (contents copies.items ≡ contents_said bytes (bank_count bytes)) × AllHold bytes (contents_rows bytes))
     (λ (p : ℕ) (why : ImageWhy). (length bytes < c.loop-bank.at + c.capacity.result) × (p ≡ length bytes) × (why ≡ Short)) (FirstFault bytes (contents_rows bytes))
     c.from_residual.result c.in_err-text.field-0.0 c.from_residual.ensures.1
-    (λ p why short. front_fault bytes (rows_of ContentsAt (bank_count bytes)) (End ∷ []) p why (first_row bytes ContentsAt (bank_count bytes) i p why (omega (arith, ap length c.requires.banks, length-all_banks bytes)) c.loop-bank.invariant.holds (ends bytes (ContentsAt i) c.loop-bank.at c.capacity.result p why c.loop-bank.invariant.place size short))) c.in_err-text.ensures
+    (λ p why short. prefix_fault bytes (rows_of ContentsAt (bank_count bytes)) (End ∷ []) p why (first_row bytes ContentsAt (bank_count bytes) i p why (omega (arith, ap length c.requires.banks, length-all_banks bytes)) c.loop-bank.invariant.holds (ends bytes (ContentsAt i) c.loop-bank.at c.capacity.result p why c.loop-bank.invariant.place size short))) c.in_err-text.ensures
 
 pub loop-bank-preserved : goal.loop-bank-preserved
 loop-bank-preserved c =

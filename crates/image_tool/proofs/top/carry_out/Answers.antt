@@ -1,7 +1,7 @@
 use Rattle.std.proofs.Common.{subst}
 use Rattle.zs_host.specs.Outside.{Outside}
-use Rattle.image_jobs.specs.Plays.{file_of}
-use Rattle.image_tool.specs.Telling.{DeliversOnly}
+use Rattle.image_jobs.specs.Jobs.{file_of}
+use Rattle.image_tool.specs.Report.{DeliversOnly}
 use Rattle.image_tool.proofs.Ends.{done_by, refused_by, refused_wrote, wrote}
 use Rattle.image_tool.proofs.top.carry_out.Goals as goal
 

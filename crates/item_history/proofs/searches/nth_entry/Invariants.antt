@@ -1,6 +1,6 @@
 use Rattle.std.proofs.Common.{◌<◌}
 use Rattle.flash_map.specs.Area.{sectors_of}
-use Rattle.item_store.specs.Listed.{kind_on}
+use Rattle.item_store.specs.Listed.{format_on}
 use Rattle.item_store.specs.Seen.{behind}
 use Rattle.item_store.proofs.CostSteps.{left}
 use Rattle.item_history.specs.declared.searches.Search.TheVariants.{Left}
@@ -10,7 +10,7 @@ use Rattle.item_history.proofs.searches.nth_entry.Given as goal
 abbrev pub invariant-loop-place : goal.invariant-loop-place
 invariant-loop-place g l = record {
   within : l.place < l.area.sectors;
-  passed : EndsIn (of_id l.id (behind (kind_on g.T.SlotSectors.kind (g.F.Flash.device l.flash) l.area) (sectors_of (g.F.Flash.device l.flash) l.area) l.current l.place)) l.n (Left l.left);
+  passed : EndsIn (of_id l.id (behind (format_on g.T.SlotSectors.format_of (g.F.Flash.device l.flash) l.area) (sectors_of (g.F.Flash.device l.flash) l.area) l.current l.place)) l.n (Left l.left);
 }
 
 abbrev pub decreases-loop-place : goal.decreases-loop-place

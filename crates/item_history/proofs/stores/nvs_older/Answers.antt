@@ -1,7 +1,7 @@
 use Rattle.std.proofs.Common.{sym, subst}
 use Rattle.flash_map.specs.declared.area.Role.TheVariants.{Nvs}
 use Rattle.nvs_gc.specs.declared.sectors.NvsOpen.{NvsOpen}
-use Rattle.nvs_format.specs.Kinds.{kind}
+use Rattle.nvs_format.specs.Formats.{format_of}
 use Rattle.nvs_gc.specs.Standing.{kept, list_on}
 use Rattle.item_store.specs.declared.store.Store.{Store}
 use Rattle.item_store.specs.Stands.{StandsOn}
@@ -11,7 +11,7 @@ use Rattle.item_history.proofs.stores.nvs_older.Goals as goal
 
 pub store_older-requires : goal.store_older-requires
 store_older-requires g c =
-    subst (λ (s : Store NvsOpen). StandsOn Nvs kind kept (g.F.Flash.device c.args.flash.now) s) (sym c.store.ensures) c.requires
+    subst (λ (s : Store NvsOpen). StandsOn Nvs format_of kept (g.F.Flash.device c.args.flash.now) s) (sym c.store.ensures) c.requires
 
 pub returns : goal.returns
 returns g c =

@@ -3,8 +3,8 @@ use Rattle.flash_sim.specs.Device.{Device}
 use Rattle.flash_map.specs.declared.area.Role.TheVariants.{Nvs}
 use Rattle.flash_map.specs.Area.{sector_size}
 use Rattle.nvs_gc.specs.declared.sectors.NvsOpen.{NvsOpen}
-use Rattle.nvs_format.specs.Kinds.{kind}
-use Rattle.nvs_gc.specs.Standing.{kept, kind_on, list_on}
+use Rattle.nvs_format.specs.Formats.{format_of}
+use Rattle.nvs_gc.specs.Standing.{kept, format_on, list_on}
 use Rattle.item_store.specs.declared.store.Store.{Store}
 use Rattle.item_store.specs.Stands.{StandsOn}
 use Rattle.item_history.specs.Usage.{space_of}
@@ -12,9 +12,9 @@ use Rattle.item_history.proofs.stores.nvs_space.Goals as goal
 
 pub store_space-requires : goal.store_space-requires
 store_space-requires g c =
-    subst (λ (s : Store NvsOpen). StandsOn Nvs kind kept (g.F.Flash.device c.args.flash.now) s) (sym c.store.ensures) c.requires
+    subst (λ (s : Store NvsOpen). StandsOn Nvs format_of kept (g.F.Flash.device c.args.flash.now) s) (sym c.store.ensures) c.requires
 
 pub returns : goal.returns
 returns g c =
     let d : Device = g.F.Flash.device c.args.flash.now in
-    subst (λ (s : Store NvsOpen). c.store_space.result ≡ space_of (kind_on d s.area) s.area.sectors (sector_size d s.area) (list_on d s.area)) c.store.ensures c.store_space.ensures
+    subst (λ (s : Store NvsOpen). c.store_space.result ≡ space_of (format_on d s.area) s.area.sectors (sector_size d s.area) (list_on d s.area)) c.store.ensures c.store_space.ensures

@@ -9,19 +9,19 @@ use Rattle.item_session.proofs.session.run_line.Goals as goal
 pub returns-in_default-store-3-clause-done : goal.returns-in_default-store-3-clause-done
 returns-in_default-store-3-clause-done g c =
     let d = g.B.Flash.device c.args.bench.now in
-    let kind = g.T.SlotSectors.kind in
+    let format_of = g.T.SlotSectors.format_of in
     let dark : (g.B.Flash.device c.args.bench.now).is_on ≡ false = elim c.in_default-store-3.branch [
       | in_default-store-3-via-in-Some-store-3+else-is_on-4 w ↦ search rules
       | in_default-store-3-via-in_default-store-3 w ↦ search rules
     ] in
-    subst (λ (l : Line). LineDone kind c.args.area.now l Off d d) (sym c.in-Older.is) (older_off kind c.args.area.now d c.in-Older.id c.in-Older.n dark)
+    subst (λ (l : Line). LineDone format_of c.args.area.now l Off d d) (sym c.in-Older.is) (older_off format_of c.args.area.now d c.in-Older.id c.in-Older.n dark)
 
 pub returns-in_default-store-4-clause-done : goal.returns-in_default-store-4-clause-done
 returns-in_default-store-4-clause-done g c =
     let d = g.B.Flash.device c.args.bench.now in
-    let kind = g.T.SlotSectors.kind in
+    let format_of = g.T.SlotSectors.format_of in
     let dark : (g.B.Flash.device c.args.bench.now).is_on ≡ false = elim c.in_default-store-4.branch [
       | in_default-store-4-via-in-Some-store-4+else-is_on-5 w ↦ search rules
       | in_default-store-4-via-in_default-store-4 w ↦ search rules
     ] in
-    subst (λ (l : Line). LineDone kind c.args.area.now l Off d d) (sym c.in-Space.is) (space_off kind c.args.area.now d dark)
+    subst (λ (l : Line). LineDone format_of c.args.area.now l Off d d) (sym c.in-Space.is) (space_off format_of c.args.area.now d dark)

@@ -8,7 +8,7 @@ use Rattle.item_store.proofs.LastIds.{whole_list}
 use Rattle.flash_sim.specs.Device.{Device}
 use Rattle.flash_map.specs.declared.area.Area.{Area}
 use Rattle.flash_map.specs.Area.{geometry_of, sectors_of}
-use Rattle.item_store.specs.Kind.{Kind, slots}
+use Rattle.item_store.specs.SectorFormat.{SectorFormat, slots}
 use Rattle.item_store.proofs.Areas.{open_inside}
 use Rattle.item_store.proofs.cached.fill.Goals as goal
 
@@ -16,7 +16,7 @@ pub overflow_add-older : goal.overflow_add-older
 overflow_add-older g c =
     let d : Device = g.F.Flash.device c.args.flash.now in
     let area : Area = c.args.area.now in
-    let k : Kind = g.T.SlotSectors.kind (geometry_of d area) in
+    let k : SectorFormat = g.T.SlotSectors.format_of (geometry_of d area) in
     let sectors : List (List ℕ) = sectors_of d area in
     let within = open_inside k d area c.args.current c.requires.area.lawful c.requires.current in
     omega (arith, c.requires.area.lawful.few)
@@ -25,7 +25,7 @@ pub note_among-requires-clause-current : goal.note_among-requires-clause-current
 note_among-requires-clause-current g c =
     let d : Device = g.F.Flash.device c.args.flash.now in
     let area : Area = c.args.area.now in
-    let k : Kind = g.T.SlotSectors.kind (geometry_of d area) in
+    let k : SectorFormat = g.T.SlotSectors.format_of (geometry_of d area) in
     let sectors : List (List ℕ) = sectors_of d area in
     let within = open_inside k d area c.args.current c.requires.area.lawful c.requires.current in
     within
@@ -34,7 +34,7 @@ pub note_among-requires-clause-order : goal.note_among-requires-clause-order
 note_among-requires-clause-order g c =
     let d : Device = g.F.Flash.device c.args.flash.now in
     let area : Area = c.args.area.now in
-    let k : Kind = g.T.SlotSectors.kind (geometry_of d area) in
+    let k : SectorFormat = g.T.SlotSectors.format_of (geometry_of d area) in
     let sectors : List (List ℕ) = sectors_of d area in
     let within = open_inside k d area c.args.current c.requires.area.lawful c.requires.current in
     omega arith
@@ -43,7 +43,7 @@ pub note_among-requires-2-clause-current : goal.note_among-requires-2-clause-cur
 note_among-requires-2-clause-current g c =
     let d : Device = g.F.Flash.device c.args.flash.now in
     let area : Area = c.args.area.now in
-    let k : Kind = g.T.SlotSectors.kind (geometry_of d area) in
+    let k : SectorFormat = g.T.SlotSectors.format_of (geometry_of d area) in
     let sectors : List (List ℕ) = sectors_of d area in
     let within = open_inside k d area c.args.current c.requires.area.lawful c.requires.current in
     within
@@ -52,7 +52,7 @@ pub note_among-requires-2-clause-inside : goal.note_among-requires-2-clause-insi
 note_among-requires-2-clause-inside g c =
     let d : Device = g.F.Flash.device c.args.flash.now in
     let area : Area = c.args.area.now in
-    let k : Kind = g.T.SlotSectors.kind (geometry_of d area) in
+    let k : SectorFormat = g.T.SlotSectors.format_of (geometry_of d area) in
     let sectors : List (List ℕ) = sectors_of d area in
     let within = open_inside k d area c.args.current c.requires.area.lawful c.requires.current in
     omega arith
@@ -61,7 +61,7 @@ pub returns : goal.returns
 returns g c =
     let d : Device = g.F.Flash.device c.args.flash.now in
     let area : Area = c.args.area.now in
-    let k : Kind = g.T.SlotSectors.kind (geometry_of d area) in
+    let k : SectorFormat = g.T.SlotSectors.format_of (geometry_of d area) in
     let sectors : List (List ℕ) = sectors_of d area in
     let empty : IsCacheOf c.clear.new.self [] = subst (λ (cache : List (Option (ℕ × ℕ))). IsCacheOf cache []) (sym c.clear.ensures) (cache-cleared c.args.cache.now c.requires.slots) in
     whole_list k (λ (placed : List Placed). IsCacheOf c.note_among-2.new.notes placed) sectors c.args.current area.sectors (sym (length-sectors d area)) c.requires.current

@@ -8,9 +8,9 @@ use Rattle.item_laws.proofs.AreaReads.{length-sectors}
 use Rattle.item_laws.proofs.Places.{after}
 use Rattle.item_store.specs.declared.entry.Placed.{Placed}
 use Rattle.item_store.specs.Cached.{IsCacheOf}
-use Rattle.item_store.specs.Kind.{Kind, IsKind, placed_at, entries}
+use Rattle.item_store.specs.SectorFormat.{SectorFormat, IsSectorFormat, placed_at, entries}
 use Rattle.item_store.proofs.Areas.{unit_is}
-use Rattle.item_store.proofs.TurnSteps.{cache-turned}
+use Rattle.item_store.proofs.PassSteps.{cache-pass_done}
 use Rattle.item_store.proofs.cached.follow_round.Goals as goal
 
 pub next-victim-requires : goal.next-victim-requires
@@ -20,14 +20,14 @@ pub returns : goal.returns
 returns g c =
     let d : Device = g.F.Flash.device c.args.flash.now in
     let area : Area = c.args.area.now in
-    let k : Kind = g.T.SlotSectors.kind (geometry_of d area) in
-    let law : IsKind (g.T.SlotSectors.kind (geometry_of d area)) = g.met.T.SlotSectors.lawful (geometry_of d area) (unit_is d area (g.met.F.Flash.is_lawful c.args.flash.now) c.requires.area.lawful) in
+    let k : SectorFormat = g.T.SlotSectors.format_of (geometry_of d area) in
+    let law : IsSectorFormat (g.T.SlotSectors.format_of (geometry_of d area)) = g.met.T.SlotSectors.lawful (geometry_of d area) (unit_is d area (g.met.F.Flash.is_lawful c.args.flash.now) c.requires.area.lawful) in
     let new : List (List ℕ) = sectors_of d area in
-    λ size old place turned at is.
-    let count : area.sectors ≡ length old = sym (length-sectors d area) ∙ turned.long in
+    λ size old place pass_done at is.
+    let count : area.sectors ≡ length old = sym (length-sectors d area) ∙ pass_done.long in
     let gone : c.next-victim.result ≡ next old (next old place) =
-    c.next-victim.ensures.value ∙ ap (λ (n : ℕ). after n c.args.opened) count ∙ ap (after (length old)) at in
-    cache-turned k law size old new place turned c.args.cache.now c.note_sector.new.notes c.next-victim.result gone is
+    c.next-victim.ensures.value ∙ ap (λ (n : ℕ). after n c.args.newest) count ∙ ap (after (length old)) at in
+    cache-pass_done k law size old new place pass_done c.args.cache.now c.note_sector.new.notes c.next-victim.result gone is
     (λ (so_far : List Placed) (forgot : IsCacheOf (without c.args.cache.now c.next-victim.result) so_far).
     subst (λ (j : ℕ). IsCacheOf c.note_sector.new.notes (so_far ++ map (placed_at j) (entries k (sector_at new j)))) at
     (c.note_sector.ensures so_far (subst (λ (cache : List (Option (ℕ × ℕ))). IsCacheOf cache so_far) (sym c.forget_sector.ensures) forgot)))

@@ -10,7 +10,7 @@ use Rattle.flash_map.proofs.Touches.{then}
 use Rattle.item_laws.specs.Area.{next}
 use Rattle.item_laws.proofs.AreaReads.{next_there}
 use Rattle.item_laws.specs.Forms.{to_copy}
-use Rattle.item_store.specs.Kind.{Kind, IsKind}
+use Rattle.item_store.specs.SectorFormat.{SectorFormat, IsSectorFormat}
 use Rattle.item_store.specs.Standing.{IsStoreArea}
 use Rattle.item_store.specs.Spending.{both, copies}
 use Rattle.item_store.proofs.Areas.{unit_is, stopped-keeps}
@@ -28,7 +28,7 @@ next-victim-requires g c =
     let a : Device = g.F.Flash.device c.args.flash.now in
     let area : Area = c.args.area.now in
     let place : ℕ = c.args.current in
-    let law : IsKind (g.T.SlotSectors.kind (geometry_of a area)) = g.met.T.SlotSectors.lawful (geometry_of a area) (unit_is a area (g.met.F.Flash.is_lawful c.args.flash.now) c.requires.area.lawful) in
+    let law : IsSectorFormat (g.T.SlotSectors.format_of (geometry_of a area)) = g.met.T.SlotSectors.lawful (geometry_of a area) (unit_is a area (g.met.F.Flash.is_lawful c.args.flash.now) c.requires.area.lawful) in
     current_within a area place c.requires.collecting.ring.within
 
 pub copy_live-requires-clause-victim : goal.copy_live-requires-clause-victim
@@ -36,7 +36,7 @@ copy_live-requires-clause-victim g c =
     let a : Device = g.F.Flash.device c.args.flash.now in
     let area : Area = c.args.area.now in
     let place : ℕ = c.args.current in
-    let law : IsKind (g.T.SlotSectors.kind (geometry_of a area)) = g.met.T.SlotSectors.lawful (geometry_of a area) (unit_is a area (g.met.F.Flash.is_lawful c.args.flash.now) c.requires.area.lawful) in
+    let law : IsSectorFormat (g.T.SlotSectors.format_of (geometry_of a area)) = g.met.T.SlotSectors.lawful (geometry_of a area) (unit_is a area (g.met.F.Flash.is_lawful c.args.flash.now) c.requires.area.lawful) in
     c.next-victim.ensures.value ∙ next_there a area place
 
 pub returns-in_err-copy_live-clause-items : goal.returns-in_err-copy_live-clause-items
@@ -44,8 +44,8 @@ returns-in_err-copy_live-clause-items g c =
     let a : Device = g.F.Flash.device c.args.flash.now in
     let area : Area = c.args.area.now in
     let place : ℕ = c.args.current in
-    let law : IsKind (g.T.SlotSectors.kind (geometry_of a area)) = g.met.T.SlotSectors.lawful (geometry_of a area) (unit_is a area (g.met.F.Flash.is_lawful c.args.flash.now) c.requires.area.lawful) in
-    stopped-keeps (g.T.SlotSectors.kind (geometry_of a area)) law (sectors_of a area) (sectors_of (g.F.Flash.device c.copy_live.new.flash) area) place c.requires.collecting c.in_err-copy_live.ensures.lost
+    let law : IsSectorFormat (g.T.SlotSectors.format_of (geometry_of a area)) = g.met.T.SlotSectors.lawful (geometry_of a area) (unit_is a area (g.met.F.Flash.is_lawful c.args.flash.now) c.requires.area.lawful) in
+    stopped-keeps (g.T.SlotSectors.format_of (geometry_of a area)) law (sectors_of a area) (sectors_of (g.F.Flash.device c.copy_live.new.flash) area) place c.requires.collecting c.in_err-copy_live.ensures.lost
 
 pub mark_done-requires-clause-here : goal.mark_done-requires-clause-here
 mark_done-requires-clause-here g c = record {
@@ -64,15 +64,15 @@ mark_done-requires-clause-here g c = record {
       let place : ℕ = c.args.current in
       let d : Device = g.F.Flash.device c.copy_live.new.flash in
       let did = c.in_ok-copy_live.ensures in
-      from_geometry (λ u. (g.T.SlotSectors.kind u).is_ready (sector_at (sectors_of d area) place) ≡ true) a d area did.touches.banks did.copies.ready;
+      from_geometry (λ u. (g.T.SlotSectors.format_of u).is_ready (sector_at (sectors_of d area) place) ≡ true) a d area did.touches.banks did.copies.ready;
   opened =
       let a : Device = g.F.Flash.device c.args.flash.now in
       let area : Area = c.args.area.now in
       let place : ℕ = c.args.current in
-      let law : IsKind (g.T.SlotSectors.kind (geometry_of a area)) = g.met.T.SlotSectors.lawful (geometry_of a area) (unit_is a area (g.met.F.Flash.is_lawful c.args.flash.now) c.requires.area.lawful) in
+      let law : IsSectorFormat (g.T.SlotSectors.format_of (geometry_of a area)) = g.met.T.SlotSectors.lawful (geometry_of a area) (unit_is a area (g.met.F.Flash.is_lawful c.args.flash.now) c.requires.area.lawful) in
       let d : Device = g.F.Flash.device c.copy_live.new.flash in
       let did = c.in_ok-copy_live.ensures in
-      mark_opened g.T.SlotSectors.kind g.T.SlotSectors.role a area place law (g.met.F.Flash.is_lawful c.args.flash.now) c.requires.area c.requires.collecting d did.touches.banks did.copies;
+      mark_opened g.T.SlotSectors.format_of g.T.SlotSectors.role a area place law (g.met.F.Flash.is_lawful c.args.flash.now) c.requires.area c.requires.collecting d did.touches.banks did.copies;
 }
 
 pub mark_done-requires-clause-room : goal.mark_done-requires-clause-room
@@ -80,26 +80,26 @@ mark_done-requires-clause-room g c =
     let a : Device = g.F.Flash.device c.args.flash.now in
     let area : Area = c.args.area.now in
     let place : ℕ = c.args.current in
-    let law : IsKind (g.T.SlotSectors.kind (geometry_of a area)) = g.met.T.SlotSectors.lawful (geometry_of a area) (unit_is a area (g.met.F.Flash.is_lawful c.args.flash.now) c.requires.area.lawful) in
+    let law : IsSectorFormat (g.T.SlotSectors.format_of (geometry_of a area)) = g.met.T.SlotSectors.lawful (geometry_of a area) (unit_is a area (g.met.F.Flash.is_lawful c.args.flash.now) c.requires.area.lawful) in
     let d : Device = g.F.Flash.device c.copy_live.new.flash in
     let did = c.in_ok-copy_live.ensures in
-    mark_has_room g.T.SlotSectors.kind g.T.SlotSectors.role a area place law (g.met.F.Flash.is_lawful c.args.flash.now) c.requires.area c.requires.collecting d did.touches.banks did.copies
+    mark_has_room g.T.SlotSectors.format_of g.T.SlotSectors.role a area place law (g.met.F.Flash.is_lawful c.args.flash.now) c.requires.area c.requires.collecting d did.touches.banks did.copies
 
 pub returns-in_err-mark_done-clause-items : goal.returns-in_err-mark_done-clause-items
 returns-in_err-mark_done-clause-items g c =
     let a : Device = g.F.Flash.device c.args.flash.now in
     let area : Area = c.args.area.now in
     let place : ℕ = c.args.current in
-    let law : IsKind (g.T.SlotSectors.kind (geometry_of a area)) = g.met.T.SlotSectors.lawful (geometry_of a area) (unit_is a area (g.met.F.Flash.is_lawful c.args.flash.now) c.requires.area.lawful) in
+    let law : IsSectorFormat (g.T.SlotSectors.format_of (geometry_of a area)) = g.met.T.SlotSectors.lawful (geometry_of a area) (unit_is a area (g.met.F.Flash.is_lawful c.args.flash.now) c.requires.area.lawful) in
     let d : Device = g.F.Flash.device c.copy_live.new.flash in
     let did = c.in_ok-copy_live.ensures in
     let e : Device = g.F.Flash.device c.mark_done.new.flash in
-    mark_lost g.T.SlotSectors.kind g.T.SlotSectors.role a area place law (g.met.F.Flash.is_lawful c.args.flash.now) c.requires.area c.requires.collecting d did.touches.banks did.copies e c.in_err-mark_done.ensures.only c.in_err-mark_done.ensures.err.lost
+    mark_lost g.T.SlotSectors.format_of g.T.SlotSectors.role a area place law (g.met.F.Flash.is_lawful c.args.flash.now) c.requires.area c.requires.collecting d did.touches.banks did.copies e c.in_err-mark_done.ensures.only c.in_err-mark_done.ensures.err.lost
 
 pub returns-in_err-copy_live-clause-spends_lost : goal.returns-in_err-copy_live-clause-spends_lost
 returns-in_err-copy_live-clause-spends_lost g c =
     let a : Device = g.F.Flash.device c.args.flash.now in
-    let k : Kind = g.T.SlotSectors.kind (geometry_of a c.args.area.now) in
+    let k : SectorFormat = g.T.SlotSectors.format_of (geometry_of a c.args.area.now) in
     on_err c.from_residual.result
     (first-lost a (g.F.Flash.device c.copy_live.new.flash) (copies k (to_copy k.reading (sectors_of a c.args.area.now) c.args.current)) (both k.units.any_done k.units.any_clear) c.in_err-copy_live.ensures.spends_lost)
 
@@ -108,11 +108,11 @@ returns-in_err-mark_done-clause-spends_lost g c =
     let a : Device = g.F.Flash.device c.args.flash.now in
     let area : Area = c.args.area.now in
     let place : ℕ = c.args.current in
-    let law : IsKind (g.T.SlotSectors.kind (geometry_of a area)) = g.met.T.SlotSectors.lawful (geometry_of a area) (unit_is a area (g.met.F.Flash.is_lawful c.args.flash.now) c.requires.area.lawful) in
+    let law : IsSectorFormat (g.T.SlotSectors.format_of (geometry_of a area)) = g.met.T.SlotSectors.lawful (geometry_of a area) (unit_is a area (g.met.F.Flash.is_lawful c.args.flash.now) c.requires.area.lawful) in
     let d : Device = g.F.Flash.device c.copy_live.new.flash in
     let did = c.in_ok-copy_live.ensures in
     let e : Device = g.F.Flash.device c.mark_done.new.flash in
-    on_err c.from_residual-in_err-mark_done.result (mark_spends_lost g.T.SlotSectors.kind g.T.SlotSectors.role a area place law (g.met.F.Flash.is_lawful c.args.flash.now) c.requires.area c.requires.collecting d did.touches.banks did.copies e did.spends c.in_err-mark_done.ensures.err.spends_lost)
+    on_err c.from_residual-in_err-mark_done.result (mark_spends_lost g.T.SlotSectors.format_of g.T.SlotSectors.role a area place law (g.met.F.Flash.is_lawful c.args.flash.now) c.requires.area c.requires.collecting d did.touches.banks did.copies e did.spends c.in_err-mark_done.ensures.err.spends_lost)
 
 pub returns-clause-touches : goal.returns-clause-touches
 returns-clause-touches g c =
@@ -123,7 +123,7 @@ returns-clause-collects g c =
     let a : Device = g.F.Flash.device c.args.flash.now in
     let area : Area = c.args.area.now in
     let place : ℕ = c.args.current in
-    let law : IsKind (g.T.SlotSectors.kind (geometry_of a area)) = g.met.T.SlotSectors.lawful (geometry_of a area) (unit_is a area (g.met.F.Flash.is_lawful c.args.flash.now) c.requires.area.lawful) in
+    let law : IsSectorFormat (g.T.SlotSectors.format_of (geometry_of a area)) = g.met.T.SlotSectors.lawful (geometry_of a area) (unit_is a area (g.met.F.Flash.is_lawful c.args.flash.now) c.requires.area.lawful) in
     let d : Device = g.F.Flash.device c.copy_live.new.flash in
     let did = c.in_ok-copy_live.ensures in
     let e : Device = g.F.Flash.device c.mark_done.new.flash in
@@ -131,14 +131,14 @@ returns-clause-collects g c =
     let marked = c.in_ok-mark_done.ensures in
     let z : Device = g.F.Flash.device c.clear.new.flash in
     let at : c.next-victim.result ≡ next (sectors_of a area) place = c.next-victim.ensures.value ∙ next_there a area place in
-    on_ok_weaker c.clear.result (λ clears. cleared g.T.SlotSectors.kind g.T.SlotSectors.role a area place law (g.met.F.Flash.is_lawful c.args.flash.now) c.requires.area c.requires.collecting d did.touches.banks did.copies e both.banks marked.only marked.ok.marks c.next-victim.result at z c.clear.ensures.only clears.clean) c.clear.ensures.clears
+    on_ok_weaker c.clear.result (λ clears. cleared g.T.SlotSectors.format_of g.T.SlotSectors.role a area place law (g.met.F.Flash.is_lawful c.args.flash.now) c.requires.area c.requires.collecting d did.touches.banks did.copies e both.banks marked.only marked.ok.marks c.next-victim.result at z c.clear.ensures.only clears.clean) c.clear.ensures.clears
 
 pub returns-clause-items : goal.returns-clause-items
 returns-clause-items g c =
     let a : Device = g.F.Flash.device c.args.flash.now in
     let area : Area = c.args.area.now in
     let place : ℕ = c.args.current in
-    let law : IsKind (g.T.SlotSectors.kind (geometry_of a area)) = g.met.T.SlotSectors.lawful (geometry_of a area) (unit_is a area (g.met.F.Flash.is_lawful c.args.flash.now) c.requires.area.lawful) in
+    let law : IsSectorFormat (g.T.SlotSectors.format_of (geometry_of a area)) = g.met.T.SlotSectors.lawful (geometry_of a area) (unit_is a area (g.met.F.Flash.is_lawful c.args.flash.now) c.requires.area.lawful) in
     let d : Device = g.F.Flash.device c.copy_live.new.flash in
     let did = c.in_ok-copy_live.ensures in
     let e : Device = g.F.Flash.device c.mark_done.new.flash in
@@ -147,15 +147,15 @@ returns-clause-items g c =
     let z : Device = g.F.Flash.device c.clear.new.flash in
     let at : c.next-victim.result ≡ next (sectors_of a area) place = c.next-victim.ensures.value ∙ next_there a area place in
     either c.clear.result
-    (on_ok_weaker c.clear.result (λ clears. cleared_keeps g.T.SlotSectors.kind g.T.SlotSectors.role a area place law (g.met.F.Flash.is_lawful c.args.flash.now) c.requires.area c.requires.collecting d did.touches.banks did.copies e both.banks marked.only marked.ok.marks c.next-victim.result at z c.clear.ensures.only clears.clean) c.clear.ensures.clears)
-    (on_err_weaker c.clear.result (λ keeps. clear_lost g.T.SlotSectors.kind g.T.SlotSectors.role a area place law (g.met.F.Flash.is_lawful c.args.flash.now) c.requires.area c.requires.collecting d did.touches.banks did.copies e both.banks marked.only marked.ok.marks c.next-victim.result at z c.clear.ensures.only keeps) c.clear.ensures.lost)
+    (on_ok_weaker c.clear.result (λ clears. cleared_keeps g.T.SlotSectors.format_of g.T.SlotSectors.role a area place law (g.met.F.Flash.is_lawful c.args.flash.now) c.requires.area c.requires.collecting d did.touches.banks did.copies e both.banks marked.only marked.ok.marks c.next-victim.result at z c.clear.ensures.only clears.clean) c.clear.ensures.clears)
+    (on_err_weaker c.clear.result (λ keeps. clear_lost g.T.SlotSectors.format_of g.T.SlotSectors.role a area place law (g.met.F.Flash.is_lawful c.args.flash.now) c.requires.area c.requires.collecting d did.touches.banks did.copies e both.banks marked.only marked.ok.marks c.next-victim.result at z c.clear.ensures.only keeps) c.clear.ensures.lost)
 
 pub returns-clause-spends : goal.returns-clause-spends
 returns-clause-spends g c =
     let a : Device = g.F.Flash.device c.args.flash.now in
     let area : Area = c.args.area.now in
     let place : ℕ = c.args.current in
-    let law : IsKind (g.T.SlotSectors.kind (geometry_of a area)) = g.met.T.SlotSectors.lawful (geometry_of a area) (unit_is a area (g.met.F.Flash.is_lawful c.args.flash.now) c.requires.area.lawful) in
+    let law : IsSectorFormat (g.T.SlotSectors.format_of (geometry_of a area)) = g.met.T.SlotSectors.lawful (geometry_of a area) (unit_is a area (g.met.F.Flash.is_lawful c.args.flash.now) c.requires.area.lawful) in
     let d : Device = g.F.Flash.device c.copy_live.new.flash in
     let did = c.in_ok-copy_live.ensures in
     let e : Device = g.F.Flash.device c.mark_done.new.flash in
@@ -163,14 +163,14 @@ returns-clause-spends g c =
     let marked = c.in_ok-mark_done.ensures in
     let z : Device = g.F.Flash.device c.clear.new.flash in
     let at : c.next-victim.result ≡ next (sectors_of a area) place = c.next-victim.ensures.value ∙ next_there a area place in
-    on_ok_weaker c.clear.result (λ s. spends_all g.T.SlotSectors.kind g.T.SlotSectors.role a area place law (g.met.F.Flash.is_lawful c.args.flash.now) c.requires.area c.requires.collecting d did.touches.banks did.copies e both.banks marked.only marked.ok.marks c.next-victim.result at z did.spends marked.ok.spends s) c.clear.ensures.spends
+    on_ok_weaker c.clear.result (λ s. spends_all g.T.SlotSectors.format_of g.T.SlotSectors.role a area place law (g.met.F.Flash.is_lawful c.args.flash.now) c.requires.area c.requires.collecting d did.touches.banks did.copies e both.banks marked.only marked.ok.marks c.next-victim.result at z did.spends marked.ok.spends s) c.clear.ensures.spends
 
 pub returns-clause-spends_lost : goal.returns-clause-spends_lost
 returns-clause-spends_lost g c =
     let a : Device = g.F.Flash.device c.args.flash.now in
     let area : Area = c.args.area.now in
     let place : ℕ = c.args.current in
-    let law : IsKind (g.T.SlotSectors.kind (geometry_of a area)) = g.met.T.SlotSectors.lawful (geometry_of a area) (unit_is a area (g.met.F.Flash.is_lawful c.args.flash.now) c.requires.area.lawful) in
+    let law : IsSectorFormat (g.T.SlotSectors.format_of (geometry_of a area)) = g.met.T.SlotSectors.lawful (geometry_of a area) (unit_is a area (g.met.F.Flash.is_lawful c.args.flash.now) c.requires.area.lawful) in
     let d : Device = g.F.Flash.device c.copy_live.new.flash in
     let did = c.in_ok-copy_live.ensures in
     let e : Device = g.F.Flash.device c.mark_done.new.flash in
@@ -178,66 +178,66 @@ returns-clause-spends_lost g c =
     let marked = c.in_ok-mark_done.ensures in
     let z : Device = g.F.Flash.device c.clear.new.flash in
     let at : c.next-victim.result ≡ next (sectors_of a area) place = c.next-victim.ensures.value ∙ next_there a area place in
-    on_err_weaker c.clear.result (λ s. spends_all_lost g.T.SlotSectors.kind g.T.SlotSectors.role a area place law (g.met.F.Flash.is_lawful c.args.flash.now) c.requires.area c.requires.collecting d did.touches.banks did.copies e both.banks marked.only marked.ok.marks c.next-victim.result at z did.spends marked.ok.spends s) c.clear.ensures.spends_lost
+    on_err_weaker c.clear.result (λ s. spends_all_lost g.T.SlotSectors.format_of g.T.SlotSectors.role a area place law (g.met.F.Flash.is_lawful c.args.flash.now) c.requires.area c.requires.collecting d did.touches.banks did.copies e both.banks marked.only marked.ok.marks c.next-victim.result at z did.spends marked.ok.spends s) c.clear.ensures.spends_lost
 
 pub returns-in_err-copy_live-clause-written : goal.returns-in_err-copy_live-clause-written
 returns-in_err-copy_live-clause-written g c =
     let a : Device = g.F.Flash.device c.args.flash.now in
     let area : Area = c.args.area.now in
     let place : ℕ = c.args.current in
-    let law : IsKind (g.T.SlotSectors.kind (geometry_of a area)) = g.met.T.SlotSectors.lawful (geometry_of a area) (unit_is a area (g.met.F.Flash.is_lawful c.args.flash.now) c.requires.area.lawful) in
-    stopped-written (g.T.SlotSectors.kind (geometry_of a area)) law (sectors_of a area) (sectors_of (g.F.Flash.device c.copy_live.new.flash) area) place c.requires.collecting c.in_err-copy_live.ensures.lost
+    let law : IsSectorFormat (g.T.SlotSectors.format_of (geometry_of a area)) = g.met.T.SlotSectors.lawful (geometry_of a area) (unit_is a area (g.met.F.Flash.is_lawful c.args.flash.now) c.requires.area.lawful) in
+    stopped-written (g.T.SlotSectors.format_of (geometry_of a area)) law (sectors_of a area) (sectors_of (g.F.Flash.device c.copy_live.new.flash) area) place c.requires.collecting c.in_err-copy_live.ensures.lost
 
 pub returns-in_err-mark_done-clause-written : goal.returns-in_err-mark_done-clause-written
 returns-in_err-mark_done-clause-written g c =
     let a : Device = g.F.Flash.device c.args.flash.now in
     let area : Area = c.args.area.now in
     let place : ℕ = c.args.current in
-    let law : IsKind (g.T.SlotSectors.kind (geometry_of a area)) = g.met.T.SlotSectors.lawful (geometry_of a area) (unit_is a area (g.met.F.Flash.is_lawful c.args.flash.now) c.requires.area.lawful) in
+    let law : IsSectorFormat (g.T.SlotSectors.format_of (geometry_of a area)) = g.met.T.SlotSectors.lawful (geometry_of a area) (unit_is a area (g.met.F.Flash.is_lawful c.args.flash.now) c.requires.area.lawful) in
     let d : Device = g.F.Flash.device c.copy_live.new.flash in
     let did = c.in_ok-copy_live.ensures in
     let e : Device = g.F.Flash.device c.mark_done.new.flash in
-    mark_cut-written g.T.SlotSectors.kind a area place law c.requires.collecting d did.touches.banks e c.in_err-mark_done.ensures.only did.copies c.in_err-mark_done.ensures.err.lost
+    mark_cut-written g.T.SlotSectors.format_of a area place law c.requires.collecting d did.touches.banks e c.in_err-mark_done.ensures.only did.copies c.in_err-mark_done.ensures.err.lost
 
 pub returns-clause-written : goal.returns-clause-written
 returns-clause-written g c =
     let a : Device = g.F.Flash.device c.args.flash.now in
     let area : Area = c.args.area.now in
     let place : ℕ = c.args.current in
-    let law : IsKind (g.T.SlotSectors.kind (geometry_of a area)) = g.met.T.SlotSectors.lawful (geometry_of a area) (unit_is a area (g.met.F.Flash.is_lawful c.args.flash.now) c.requires.area.lawful) in
+    let law : IsSectorFormat (g.T.SlotSectors.format_of (geometry_of a area)) = g.met.T.SlotSectors.lawful (geometry_of a area) (unit_is a area (g.met.F.Flash.is_lawful c.args.flash.now) c.requires.area.lawful) in
     let d : Device = g.F.Flash.device c.copy_live.new.flash in
     let did = c.in_ok-copy_live.ensures in
     let e : Device = g.F.Flash.device c.mark_done.new.flash in
     let marked = c.in_ok-mark_done.ensures in
     let z : Device = g.F.Flash.device c.clear.new.flash in
     let at : c.next-victim.result ≡ next (sectors_of a area) place = c.next-victim.ensures.value ∙ next_there a area place in
-    clear-written g.T.SlotSectors.kind a area place law c.requires.collecting d did.touches.banks e marked.only marked.ok.marks c.next-victim.result at z c.clear.ensures.only
+    clear-written g.T.SlotSectors.format_of a area place law c.requires.collecting d did.touches.banks e marked.only marked.ok.marks c.next-victim.result at z c.clear.ensures.only
 
 pub returns-in_err-copy_live-clause-list_lost : goal.returns-in_err-copy_live-clause-list_lost
 returns-in_err-copy_live-clause-list_lost g c =
     let a : Device = g.F.Flash.device c.args.flash.now in
     let area : Area = c.args.area.now in
     let place : ℕ = c.args.current in
-    let law : IsKind (g.T.SlotSectors.kind (geometry_of a area)) = g.met.T.SlotSectors.lawful (geometry_of a area) (unit_is a area (g.met.F.Flash.is_lawful c.args.flash.now) c.requires.area.lawful) in
-    on_err c.from_residual.result (inl (stopped-list (g.T.SlotSectors.kind (geometry_of a area)) law (sectors_of a area) place c.requires.collecting (sectors_of (g.F.Flash.device c.copy_live.new.flash) area) c.in_err-copy_live.ensures.lost))
+    let law : IsSectorFormat (g.T.SlotSectors.format_of (geometry_of a area)) = g.met.T.SlotSectors.lawful (geometry_of a area) (unit_is a area (g.met.F.Flash.is_lawful c.args.flash.now) c.requires.area.lawful) in
+    on_err c.from_residual.result (inl (stopped-list (g.T.SlotSectors.format_of (geometry_of a area)) law (sectors_of a area) place c.requires.collecting (sectors_of (g.F.Flash.device c.copy_live.new.flash) area) c.in_err-copy_live.ensures.lost))
 
 pub returns-in_err-mark_done-clause-list_lost : goal.returns-in_err-mark_done-clause-list_lost
 returns-in_err-mark_done-clause-list_lost g c =
     let a : Device = g.F.Flash.device c.args.flash.now in
     let area : Area = c.args.area.now in
     let place : ℕ = c.args.current in
-    let law : IsKind (g.T.SlotSectors.kind (geometry_of a area)) = g.met.T.SlotSectors.lawful (geometry_of a area) (unit_is a area (g.met.F.Flash.is_lawful c.args.flash.now) c.requires.area.lawful) in
+    let law : IsSectorFormat (g.T.SlotSectors.format_of (geometry_of a area)) = g.met.T.SlotSectors.lawful (geometry_of a area) (unit_is a area (g.met.F.Flash.is_lawful c.args.flash.now) c.requires.area.lawful) in
     let d : Device = g.F.Flash.device c.copy_live.new.flash in
     let did = c.in_ok-copy_live.ensures in
     let e : Device = g.F.Flash.device c.mark_done.new.flash in
-    on_err c.from_residual-in_err-mark_done.result (mark_lost_list g.T.SlotSectors.kind g.T.SlotSectors.role a area place law (g.met.F.Flash.is_lawful c.args.flash.now) c.requires.area c.requires.collecting d did.touches.banks did.copies e c.in_err-mark_done.ensures.only c.in_err-mark_done.ensures.err.lost)
+    on_err c.from_residual-in_err-mark_done.result (mark_lost_list g.T.SlotSectors.format_of g.T.SlotSectors.role a area place law (g.met.F.Flash.is_lawful c.args.flash.now) c.requires.area c.requires.collecting d did.touches.banks did.copies e c.in_err-mark_done.ensures.only c.in_err-mark_done.ensures.err.lost)
 
 pub returns-clause-list_lost : goal.returns-clause-list_lost
 returns-clause-list_lost g c =
     let a : Device = g.F.Flash.device c.args.flash.now in
     let area : Area = c.args.area.now in
     let place : ℕ = c.args.current in
-    let law : IsKind (g.T.SlotSectors.kind (geometry_of a area)) = g.met.T.SlotSectors.lawful (geometry_of a area) (unit_is a area (g.met.F.Flash.is_lawful c.args.flash.now) c.requires.area.lawful) in
+    let law : IsSectorFormat (g.T.SlotSectors.format_of (geometry_of a area)) = g.met.T.SlotSectors.lawful (geometry_of a area) (unit_is a area (g.met.F.Flash.is_lawful c.args.flash.now) c.requires.area.lawful) in
     let d : Device = g.F.Flash.device c.copy_live.new.flash in
     let did = c.in_ok-copy_live.ensures in
     let e : Device = g.F.Flash.device c.mark_done.new.flash in
@@ -245,7 +245,7 @@ returns-clause-list_lost g c =
     let marked = c.in_ok-mark_done.ensures in
     let z : Device = g.F.Flash.device c.clear.new.flash in
     let at : c.next-victim.result ≡ next (sectors_of a area) place = c.next-victim.ensures.value ∙ next_there a area place in
-    on_err_weaker c.clear.result (λ keeps. clear_lost_list g.T.SlotSectors.kind g.T.SlotSectors.role a area place law (g.met.F.Flash.is_lawful c.args.flash.now) c.requires.area c.requires.collecting d did.touches.banks did.copies e both.banks marked.only marked.ok.marks c.next-victim.result at z c.clear.ensures.only keeps) c.clear.ensures.lost
+    on_err_weaker c.clear.result (λ keeps. clear_lost_list g.T.SlotSectors.format_of g.T.SlotSectors.role a area place law (g.met.F.Flash.is_lawful c.args.flash.now) c.requires.area c.requires.collecting d did.touches.banks did.copies e both.banks marked.only marked.ok.marks c.next-victim.result at z c.clear.ensures.only keeps) c.clear.ensures.lost
 
 pub mark_done-requires-clause-collects : goal.mark_done-requires-clause-collects
 mark_done-requires-clause-collects g c = record {
@@ -253,17 +253,17 @@ mark_done-requires-clause-collects g c = record {
       let a : Device = g.F.Flash.device c.args.flash.now in
       let area : Area = c.args.area.now in
       let place : ℕ = c.args.current in
-      let law : IsKind (g.T.SlotSectors.kind (geometry_of a area)) = g.met.T.SlotSectors.lawful (geometry_of a area) (unit_is a area (g.met.F.Flash.is_lawful c.args.flash.now) c.requires.area.lawful) in
+      let law : IsSectorFormat (g.T.SlotSectors.format_of (geometry_of a area)) = g.met.T.SlotSectors.lawful (geometry_of a area) (unit_is a area (g.met.F.Flash.is_lawful c.args.flash.now) c.requires.area.lawful) in
       let d : Device = g.F.Flash.device c.copy_live.new.flash in
       let did = c.in_ok-copy_live.ensures in
-      mark_collecting g.T.SlotSectors.kind g.T.SlotSectors.role a area place law (g.met.F.Flash.is_lawful c.args.flash.now) c.requires.area c.requires.collecting d did.touches.banks did.copies;
+      mark_collecting g.T.SlotSectors.format_of g.T.SlotSectors.role a area place law (g.met.F.Flash.is_lawful c.args.flash.now) c.requires.area c.requires.collecting d did.touches.banks did.copies;
   not_done =
       let a : Device = g.F.Flash.device c.args.flash.now in
       let area : Area = c.args.area.now in
       let place : ℕ = c.args.current in
       let d : Device = g.F.Flash.device c.copy_live.new.flash in
       let did = c.in_ok-copy_live.ensures in
-      from_geometry (λ u. (g.T.SlotSectors.kind u).reading.has_gc_done (sector_at (sectors_of d area) place) ≡ false) a d area did.touches.banks did.copies.gc_done;
+      from_geometry (λ u. (g.T.SlotSectors.format_of u).reading.has_gc_done (sector_at (sectors_of d area) place) ≡ false) a d area did.touches.banks did.copies.gc_done;
 }
 
 pub clear-requires-clause-area : goal.clear-requires-clause-area
@@ -288,7 +288,7 @@ returns-clause-kept g c =
     let a : Device = g.F.Flash.device c.args.flash.now in
     let area : Area = c.args.area.now in
     let place : ℕ = c.args.current in
-    let law : IsKind (g.T.SlotSectors.kind (geometry_of a area)) = g.met.T.SlotSectors.lawful (geometry_of a area) (unit_is a area (g.met.F.Flash.is_lawful c.args.flash.now) c.requires.area.lawful) in
+    let law : IsSectorFormat (g.T.SlotSectors.format_of (geometry_of a area)) = g.met.T.SlotSectors.lawful (geometry_of a area) (unit_is a area (g.met.F.Flash.is_lawful c.args.flash.now) c.requires.area.lawful) in
     let d : Device = g.F.Flash.device c.copy_live.new.flash in
     let did = c.in_ok-copy_live.ensures in
     let e : Device = g.F.Flash.device c.mark_done.new.flash in
@@ -297,7 +297,7 @@ returns-clause-kept g c =
     let z : Device = g.F.Flash.device c.clear.new.flash in
     let at : c.next-victim.result ≡ next (sectors_of a area) place = c.next-victim.ensures.value ∙ next_there a area place in
     let own : sector_at (sectors_of z area) place ≡ sector_at (sectors_of e area) place =
-    open_same g.T.SlotSectors.kind g.T.SlotSectors.role a area place law (g.met.F.Flash.is_lawful c.args.flash.now) c.requires.area c.requires.collecting d did.touches.banks did.copies e both.banks marked.only marked.ok.marks c.next-victim.result at z c.clear.ensures.only in
+    open_same g.T.SlotSectors.format_of g.T.SlotSectors.role a area place law (g.met.F.Flash.is_lawful c.args.flash.now) c.requires.area c.requires.collecting d did.touches.banks did.copies e both.banks marked.only marked.ok.marks c.next-victim.result at z c.clear.ensures.only in
     let here : c.mark_done.new.self ≡ g.T.SlotSectors.kept (geometry_of a area) (sector_at (sectors_of e area) place) =
     to_geometry (λ u. c.mark_done.new.self ≡ g.T.SlotSectors.kept u (sector_at (sectors_of e area) place)) a d area did.touches.banks marked.ok.kept in
     on_ok_weaker c.clear.result (λ clears. here ∙ ap (λ (b : List ℕ). g.T.SlotSectors.kept (geometry_of a area) b) (sym own)) c.clear.ensures.clears

@@ -7,7 +7,7 @@ use Rattle.flash_map.specs.Touches.{Touches}
 use Rattle.flash_map.proofs.PieceLemmas.{on_err}
 use Rattle.flash_map.proofs.Touches.{then}
 use Rattle.item_laws.specs.Area.{next}
-use Rattle.item_store.specs.Kind.{IsKind}
+use Rattle.item_store.specs.SectorFormat.{IsSectorFormat}
 use Rattle.item_store.specs.Standing.{IsStoreArea}
 use Rattle.item_store.proofs.Areas.{unit_is, large_there}
 use Rattle.item_store.proofs.CopyLoop.{IsCopying, copying_start, copying_end}
@@ -22,7 +22,7 @@ slots-slots-requires-clause-inside g c =
     let a : Device = g.F.Flash.device c.args.flash.now in
     let area : Area = c.args.area.now in
     let place : ℕ = c.args.current in
-    let law : IsKind (g.T.SlotSectors.kind (geometry_of a area)) = g.met.T.SlotSectors.lawful (geometry_of a area) (unit_is a area (g.met.F.Flash.is_lawful c.args.flash.now) c.requires.area.lawful) in
+    let law : IsSectorFormat (g.T.SlotSectors.format_of (geometry_of a area)) = g.met.T.SlotSectors.lawful (geometry_of a area) (unit_is a area (g.met.F.Flash.is_lawful c.args.flash.now) c.requires.area.lawful) in
     let within = next_within a area place c.requires.collecting.ring.within in omega (arith, c.requires.victim)
 
 pub loop-slot-init : goal.loop-slot-init
@@ -30,10 +30,10 @@ loop-slot-init g c =
     let a : Device = g.F.Flash.device c.args.flash.now in
     let area : Area = c.args.area.now in
     let place : ℕ = c.args.current in
-    let law : IsKind (g.T.SlotSectors.kind (geometry_of a area)) = g.met.T.SlotSectors.lawful (geometry_of a area) (unit_is a area (g.met.F.Flash.is_lawful c.args.flash.now) c.requires.area.lawful) in
+    let law : IsSectorFormat (g.T.SlotSectors.format_of (geometry_of a area)) = g.met.T.SlotSectors.lawful (geometry_of a area) (unit_is a area (g.met.F.Flash.is_lawful c.args.flash.now) c.requires.area.lawful) in
     let none : c.first_slot-first.result - c.first_slot-first.result ≡ 0 = omega arith in
     record {
-      copying = subst (λ (n : ℕ). IsCopying (g.T.SlotSectors.kind (geometry_of a area)) a a area place n) (sym none) (copying_start (g.T.SlotSectors.kind (geometry_of a area)) law a area place c.requires.begun);
+      copying = subst (λ (n : ℕ). IsCopying (g.T.SlotSectors.format_of (geometry_of a area)) a a area place n) (sym none) (copying_start (g.T.SlotSectors.format_of (geometry_of a area)) law a area place c.requires.begun);
       kept = c.requires.kept;
     }
 
@@ -44,41 +44,41 @@ copy_slot-requires-clause-here g c = record {
       let a : Device = g.F.Flash.device c.args.flash.now in
       let area : Area = c.args.area.now in
       let place : ℕ = c.args.current in
-      let law : IsKind (g.T.SlotSectors.kind (geometry_of a area)) = g.met.T.SlotSectors.lawful (geometry_of a area) (unit_is a area (g.met.F.Flash.is_lawful c.args.flash.now) c.requires.area.lawful) in
+      let law : IsSectorFormat (g.T.SlotSectors.format_of (geometry_of a area)) = g.met.T.SlotSectors.lawful (geometry_of a area) (unit_is a area (g.met.F.Flash.is_lawful c.args.flash.now) c.requires.area.lawful) in
       current_within a area place c.requires.collecting.ring.within;
   kept =
       let a : Device = g.F.Flash.device c.args.flash.now in
       let area : Area = c.args.area.now in
       let place : ℕ = c.args.current in
-      let law : IsKind (g.T.SlotSectors.kind (geometry_of a area)) = g.met.T.SlotSectors.lawful (geometry_of a area) (unit_is a area (g.met.F.Flash.is_lawful c.args.flash.now) c.requires.area.lawful) in
+      let law : IsSectorFormat (g.T.SlotSectors.format_of (geometry_of a area)) = g.met.T.SlotSectors.lawful (geometry_of a area) (unit_is a area (g.met.F.Flash.is_lawful c.args.flash.now) c.requires.area.lawful) in
       let d : Device = g.F.Flash.device c.loop-slot.flash in
       let first_is = c.first_slot-first.ensures.value (geometry_of a area) in
       let kept = c.loop-slot.invariant in
-      let more : c.loop-slot.slot < c.first_slot-first.result + (g.T.SlotSectors.kind (geometry_of a area)).count (sector_at (sectors_of a area) (next (sectors_of a area) place)) =
-      (let count : c.slots-slots.result ≡ (g.T.SlotSectors.kind (geometry_of a area)).count (sector_at (sectors_of a area) (next (sectors_of a area) place)) = c.slots-slots.ensures.value ∙ ap (λ (v : ℕ). (g.T.SlotSectors.kind (geometry_of a area)).count (sector_at (sectors_of a area) v)) c.requires.victim in omega arith) in
-      kept_there g.T.SlotSectors.kind g.T.SlotSectors.role a d area place c.args.victim c.first_slot-first.result c.loop-slot.slot law (g.met.F.Flash.is_lawful c.args.flash.now) c.requires.area c.requires.collecting c.requires.victim first_is (omega arith) kept.copying g.T.SlotSectors.kept c.loop-slot.opened kept.kept;
+      let more : c.loop-slot.slot < c.first_slot-first.result + (g.T.SlotSectors.format_of (geometry_of a area)).count (sector_at (sectors_of a area) (next (sectors_of a area) place)) =
+      (let count : c.slots-slots.result ≡ (g.T.SlotSectors.format_of (geometry_of a area)).count (sector_at (sectors_of a area) (next (sectors_of a area) place)) = c.slots-slots.ensures.value ∙ ap (λ (v : ℕ). (g.T.SlotSectors.format_of (geometry_of a area)).count (sector_at (sectors_of a area) v)) c.requires.victim in omega arith) in
+      kept_there g.T.SlotSectors.format_of g.T.SlotSectors.role a d area place c.args.victim c.first_slot-first.result c.loop-slot.slot law (g.met.F.Flash.is_lawful c.args.flash.now) c.requires.area c.requires.collecting c.requires.victim first_is (omega arith) kept.copying g.T.SlotSectors.kept c.loop-slot.opened kept.kept;
   ready =
       let a : Device = g.F.Flash.device c.args.flash.now in
       let area : Area = c.args.area.now in
       let place : ℕ = c.args.current in
-      let law : IsKind (g.T.SlotSectors.kind (geometry_of a area)) = g.met.T.SlotSectors.lawful (geometry_of a area) (unit_is a area (g.met.F.Flash.is_lawful c.args.flash.now) c.requires.area.lawful) in
+      let law : IsSectorFormat (g.T.SlotSectors.format_of (geometry_of a area)) = g.met.T.SlotSectors.lawful (geometry_of a area) (unit_is a area (g.met.F.Flash.is_lawful c.args.flash.now) c.requires.area.lawful) in
       let d : Device = g.F.Flash.device c.loop-slot.flash in
       let first_is = c.first_slot-first.ensures.value (geometry_of a area) in
       let kept = c.loop-slot.invariant in
-      let more : c.loop-slot.slot < c.first_slot-first.result + (g.T.SlotSectors.kind (geometry_of a area)).count (sector_at (sectors_of a area) (next (sectors_of a area) place)) =
-      (let count : c.slots-slots.result ≡ (g.T.SlotSectors.kind (geometry_of a area)).count (sector_at (sectors_of a area) (next (sectors_of a area) place)) = c.slots-slots.ensures.value ∙ ap (λ (v : ℕ). (g.T.SlotSectors.kind (geometry_of a area)).count (sector_at (sectors_of a area) v)) c.requires.victim in omega arith) in
-      ready g.T.SlotSectors.kind g.T.SlotSectors.role a d area place c.args.victim c.first_slot-first.result c.loop-slot.slot law (g.met.F.Flash.is_lawful c.args.flash.now) c.requires.area c.requires.collecting c.requires.victim first_is (omega arith) kept.copying;
+      let more : c.loop-slot.slot < c.first_slot-first.result + (g.T.SlotSectors.format_of (geometry_of a area)).count (sector_at (sectors_of a area) (next (sectors_of a area) place)) =
+      (let count : c.slots-slots.result ≡ (g.T.SlotSectors.format_of (geometry_of a area)).count (sector_at (sectors_of a area) (next (sectors_of a area) place)) = c.slots-slots.ensures.value ∙ ap (λ (v : ℕ). (g.T.SlotSectors.format_of (geometry_of a area)).count (sector_at (sectors_of a area) v)) c.requires.victim in omega arith) in
+      ready g.T.SlotSectors.format_of g.T.SlotSectors.role a d area place c.args.victim c.first_slot-first.result c.loop-slot.slot law (g.met.F.Flash.is_lawful c.args.flash.now) c.requires.area c.requires.collecting c.requires.victim first_is (omega arith) kept.copying;
   opened =
       let a : Device = g.F.Flash.device c.args.flash.now in
       let area : Area = c.args.area.now in
       let place : ℕ = c.args.current in
-      let law : IsKind (g.T.SlotSectors.kind (geometry_of a area)) = g.met.T.SlotSectors.lawful (geometry_of a area) (unit_is a area (g.met.F.Flash.is_lawful c.args.flash.now) c.requires.area.lawful) in
+      let law : IsSectorFormat (g.T.SlotSectors.format_of (geometry_of a area)) = g.met.T.SlotSectors.lawful (geometry_of a area) (unit_is a area (g.met.F.Flash.is_lawful c.args.flash.now) c.requires.area.lawful) in
       let d : Device = g.F.Flash.device c.loop-slot.flash in
       let first_is = c.first_slot-first.ensures.value (geometry_of a area) in
       let kept = c.loop-slot.invariant in
-      let more : c.loop-slot.slot < c.first_slot-first.result + (g.T.SlotSectors.kind (geometry_of a area)).count (sector_at (sectors_of a area) (next (sectors_of a area) place)) =
-      (let count : c.slots-slots.result ≡ (g.T.SlotSectors.kind (geometry_of a area)).count (sector_at (sectors_of a area) (next (sectors_of a area) place)) = c.slots-slots.ensures.value ∙ ap (λ (v : ℕ). (g.T.SlotSectors.kind (geometry_of a area)).count (sector_at (sectors_of a area) v)) c.requires.victim in omega arith) in
-      opens g.T.SlotSectors.kind g.T.SlotSectors.role a d area place c.args.victim c.first_slot-first.result c.loop-slot.slot law (g.met.F.Flash.is_lawful c.args.flash.now) c.requires.area c.requires.collecting c.requires.victim first_is (omega arith) kept.copying;
+      let more : c.loop-slot.slot < c.first_slot-first.result + (g.T.SlotSectors.format_of (geometry_of a area)).count (sector_at (sectors_of a area) (next (sectors_of a area) place)) =
+      (let count : c.slots-slots.result ≡ (g.T.SlotSectors.format_of (geometry_of a area)).count (sector_at (sectors_of a area) (next (sectors_of a area) place)) = c.slots-slots.ensures.value ∙ ap (λ (v : ℕ). (g.T.SlotSectors.format_of (geometry_of a area)).count (sector_at (sectors_of a area) v)) c.requires.victim in omega arith) in
+      opens g.T.SlotSectors.format_of g.T.SlotSectors.role a d area place c.args.victim c.first_slot-first.result c.loop-slot.slot law (g.met.F.Flash.is_lawful c.args.flash.now) c.requires.area c.requires.collecting c.requires.victim first_is (omega arith) kept.copying;
 }
 
 pub copy_slot-requires-clause-victim : goal.copy_slot-requires-clause-victim
@@ -87,57 +87,57 @@ copy_slot-requires-clause-victim g c = record {
       let a : Device = g.F.Flash.device c.args.flash.now in
       let area : Area = c.args.area.now in
       let place : ℕ = c.args.current in
-      let law : IsKind (g.T.SlotSectors.kind (geometry_of a area)) = g.met.T.SlotSectors.lawful (geometry_of a area) (unit_is a area (g.met.F.Flash.is_lawful c.args.flash.now) c.requires.area.lawful) in
+      let law : IsSectorFormat (g.T.SlotSectors.format_of (geometry_of a area)) = g.met.T.SlotSectors.lawful (geometry_of a area) (unit_is a area (g.met.F.Flash.is_lawful c.args.flash.now) c.requires.area.lawful) in
       let d : Device = g.F.Flash.device c.loop-slot.flash in
       let first_is = c.first_slot-first.ensures.value (geometry_of a area) in
       let kept = c.loop-slot.invariant in
-      let more : c.loop-slot.slot < c.first_slot-first.result + (g.T.SlotSectors.kind (geometry_of a area)).count (sector_at (sectors_of a area) (next (sectors_of a area) place)) =
-      (let count : c.slots-slots.result ≡ (g.T.SlotSectors.kind (geometry_of a area)).count (sector_at (sectors_of a area) (next (sectors_of a area) place)) = c.slots-slots.ensures.value ∙ ap (λ (v : ℕ). (g.T.SlotSectors.kind (geometry_of a area)).count (sector_at (sectors_of a area) v)) c.requires.victim in omega arith) in
-      inside g.T.SlotSectors.kind g.T.SlotSectors.role a d area place c.args.victim c.first_slot-first.result c.loop-slot.slot law (g.met.F.Flash.is_lawful c.args.flash.now) c.requires.area c.requires.collecting c.requires.victim first_is (omega arith) kept.copying;
+      let more : c.loop-slot.slot < c.first_slot-first.result + (g.T.SlotSectors.format_of (geometry_of a area)).count (sector_at (sectors_of a area) (next (sectors_of a area) place)) =
+      (let count : c.slots-slots.result ≡ (g.T.SlotSectors.format_of (geometry_of a area)).count (sector_at (sectors_of a area) (next (sectors_of a area) place)) = c.slots-slots.ensures.value ∙ ap (λ (v : ℕ). (g.T.SlotSectors.format_of (geometry_of a area)).count (sector_at (sectors_of a area) v)) c.requires.victim in omega arith) in
+      inside g.T.SlotSectors.format_of g.T.SlotSectors.role a d area place c.args.victim c.first_slot-first.result c.loop-slot.slot law (g.met.F.Flash.is_lawful c.args.flash.now) c.requires.area c.requires.collecting c.requires.victim first_is (omega arith) kept.copying;
   other =
       let a : Device = g.F.Flash.device c.args.flash.now in
       let area : Area = c.args.area.now in
       let place : ℕ = c.args.current in
-      let law : IsKind (g.T.SlotSectors.kind (geometry_of a area)) = g.met.T.SlotSectors.lawful (geometry_of a area) (unit_is a area (g.met.F.Flash.is_lawful c.args.flash.now) c.requires.area.lawful) in
+      let law : IsSectorFormat (g.T.SlotSectors.format_of (geometry_of a area)) = g.met.T.SlotSectors.lawful (geometry_of a area) (unit_is a area (g.met.F.Flash.is_lawful c.args.flash.now) c.requires.area.lawful) in
       let d : Device = g.F.Flash.device c.loop-slot.flash in
       let first_is = c.first_slot-first.ensures.value (geometry_of a area) in
       let kept = c.loop-slot.invariant in
-      let more : c.loop-slot.slot < c.first_slot-first.result + (g.T.SlotSectors.kind (geometry_of a area)).count (sector_at (sectors_of a area) (next (sectors_of a area) place)) =
-      (let count : c.slots-slots.result ≡ (g.T.SlotSectors.kind (geometry_of a area)).count (sector_at (sectors_of a area) (next (sectors_of a area) place)) = c.slots-slots.ensures.value ∙ ap (λ (v : ℕ). (g.T.SlotSectors.kind (geometry_of a area)).count (sector_at (sectors_of a area) v)) c.requires.victim in omega arith) in
-      apart g.T.SlotSectors.kind g.T.SlotSectors.role a d area place c.args.victim c.first_slot-first.result c.loop-slot.slot law (g.met.F.Flash.is_lawful c.args.flash.now) c.requires.area c.requires.collecting c.requires.victim first_is (omega arith) kept.copying;
+      let more : c.loop-slot.slot < c.first_slot-first.result + (g.T.SlotSectors.format_of (geometry_of a area)).count (sector_at (sectors_of a area) (next (sectors_of a area) place)) =
+      (let count : c.slots-slots.result ≡ (g.T.SlotSectors.format_of (geometry_of a area)).count (sector_at (sectors_of a area) (next (sectors_of a area) place)) = c.slots-slots.ensures.value ∙ ap (λ (v : ℕ). (g.T.SlotSectors.format_of (geometry_of a area)).count (sector_at (sectors_of a area) v)) c.requires.victim in omega arith) in
+      apart g.T.SlotSectors.format_of g.T.SlotSectors.role a d area place c.args.victim c.first_slot-first.result c.loop-slot.slot law (g.met.F.Flash.is_lawful c.args.flash.now) c.requires.area c.requires.collecting c.requires.victim first_is (omega arith) kept.copying;
   listed =
       let a : Device = g.F.Flash.device c.args.flash.now in
       let area : Area = c.args.area.now in
       let place : ℕ = c.args.current in
-      let law : IsKind (g.T.SlotSectors.kind (geometry_of a area)) = g.met.T.SlotSectors.lawful (geometry_of a area) (unit_is a area (g.met.F.Flash.is_lawful c.args.flash.now) c.requires.area.lawful) in
+      let law : IsSectorFormat (g.T.SlotSectors.format_of (geometry_of a area)) = g.met.T.SlotSectors.lawful (geometry_of a area) (unit_is a area (g.met.F.Flash.is_lawful c.args.flash.now) c.requires.area.lawful) in
       let d : Device = g.F.Flash.device c.loop-slot.flash in
       let first_is = c.first_slot-first.ensures.value (geometry_of a area) in
       let kept = c.loop-slot.invariant in
-      let more : c.loop-slot.slot < c.first_slot-first.result + (g.T.SlotSectors.kind (geometry_of a area)).count (sector_at (sectors_of a area) (next (sectors_of a area) place)) =
-      (let count : c.slots-slots.result ≡ (g.T.SlotSectors.kind (geometry_of a area)).count (sector_at (sectors_of a area) (next (sectors_of a area) place)) = c.slots-slots.ensures.value ∙ ap (λ (v : ℕ). (g.T.SlotSectors.kind (geometry_of a area)).count (sector_at (sectors_of a area) v)) c.requires.victim in omega arith) in
-      listed_there g.T.SlotSectors.kind g.T.SlotSectors.role a d area place c.args.victim c.first_slot-first.result c.loop-slot.slot law (g.met.F.Flash.is_lawful c.args.flash.now) c.requires.area c.requires.collecting c.requires.victim first_is (omega arith) kept.copying more;
+      let more : c.loop-slot.slot < c.first_slot-first.result + (g.T.SlotSectors.format_of (geometry_of a area)).count (sector_at (sectors_of a area) (next (sectors_of a area) place)) =
+      (let count : c.slots-slots.result ≡ (g.T.SlotSectors.format_of (geometry_of a area)).count (sector_at (sectors_of a area) (next (sectors_of a area) place)) = c.slots-slots.ensures.value ∙ ap (λ (v : ℕ). (g.T.SlotSectors.format_of (geometry_of a area)).count (sector_at (sectors_of a area) v)) c.requires.victim in omega arith) in
+      listed_there g.T.SlotSectors.format_of g.T.SlotSectors.role a d area place c.args.victim c.first_slot-first.result c.loop-slot.slot law (g.met.F.Flash.is_lawful c.args.flash.now) c.requires.area c.requires.collecting c.requires.victim first_is (omega arith) kept.copying more;
   source =
       let a : Device = g.F.Flash.device c.args.flash.now in
       let area : Area = c.args.area.now in
       let place : ℕ = c.args.current in
-      let law : IsKind (g.T.SlotSectors.kind (geometry_of a area)) = g.met.T.SlotSectors.lawful (geometry_of a area) (unit_is a area (g.met.F.Flash.is_lawful c.args.flash.now) c.requires.area.lawful) in
+      let law : IsSectorFormat (g.T.SlotSectors.format_of (geometry_of a area)) = g.met.T.SlotSectors.lawful (geometry_of a area) (unit_is a area (g.met.F.Flash.is_lawful c.args.flash.now) c.requires.area.lawful) in
       let d : Device = g.F.Flash.device c.loop-slot.flash in
       let first_is = c.first_slot-first.ensures.value (geometry_of a area) in
       let kept = c.loop-slot.invariant in
-      let more : c.loop-slot.slot < c.first_slot-first.result + (g.T.SlotSectors.kind (geometry_of a area)).count (sector_at (sectors_of a area) (next (sectors_of a area) place)) =
-      (let count : c.slots-slots.result ≡ (g.T.SlotSectors.kind (geometry_of a area)).count (sector_at (sectors_of a area) (next (sectors_of a area) place)) = c.slots-slots.ensures.value ∙ ap (λ (v : ℕ). (g.T.SlotSectors.kind (geometry_of a area)).count (sector_at (sectors_of a area) v)) c.requires.victim in omega arith) in
-      source g.T.SlotSectors.kind g.T.SlotSectors.role a d area place c.args.victim c.first_slot-first.result c.loop-slot.slot law (g.met.F.Flash.is_lawful c.args.flash.now) c.requires.area c.requires.collecting c.requires.victim first_is (omega arith) kept.copying;
+      let more : c.loop-slot.slot < c.first_slot-first.result + (g.T.SlotSectors.format_of (geometry_of a area)).count (sector_at (sectors_of a area) (next (sectors_of a area) place)) =
+      (let count : c.slots-slots.result ≡ (g.T.SlotSectors.format_of (geometry_of a area)).count (sector_at (sectors_of a area) (next (sectors_of a area) place)) = c.slots-slots.ensures.value ∙ ap (λ (v : ℕ). (g.T.SlotSectors.format_of (geometry_of a area)).count (sector_at (sectors_of a area) v)) c.requires.victim in omega arith) in
+      source g.T.SlotSectors.format_of g.T.SlotSectors.role a d area place c.args.victim c.first_slot-first.result c.loop-slot.slot law (g.met.F.Flash.is_lawful c.args.flash.now) c.requires.area c.requires.collecting c.requires.victim first_is (omega arith) kept.copying;
   within =
       let a : Device = g.F.Flash.device c.args.flash.now in
       let area : Area = c.args.area.now in
       let place : ℕ = c.args.current in
-      let law : IsKind (g.T.SlotSectors.kind (geometry_of a area)) = g.met.T.SlotSectors.lawful (geometry_of a area) (unit_is a area (g.met.F.Flash.is_lawful c.args.flash.now) c.requires.area.lawful) in
+      let law : IsSectorFormat (g.T.SlotSectors.format_of (geometry_of a area)) = g.met.T.SlotSectors.lawful (geometry_of a area) (unit_is a area (g.met.F.Flash.is_lawful c.args.flash.now) c.requires.area.lawful) in
       let d : Device = g.F.Flash.device c.loop-slot.flash in
       let first_is = c.first_slot-first.ensures.value (geometry_of a area) in
       let kept = c.loop-slot.invariant in
-      let more : c.loop-slot.slot < c.first_slot-first.result + (g.T.SlotSectors.kind (geometry_of a area)).count (sector_at (sectors_of a area) (next (sectors_of a area) place)) =
-      (let count : c.slots-slots.result ≡ (g.T.SlotSectors.kind (geometry_of a area)).count (sector_at (sectors_of a area) (next (sectors_of a area) place)) = c.slots-slots.ensures.value ∙ ap (λ (v : ℕ). (g.T.SlotSectors.kind (geometry_of a area)).count (sector_at (sectors_of a area) v)) c.requires.victim in omega arith) in
-      within g.T.SlotSectors.kind g.T.SlotSectors.role a d area place c.args.victim c.first_slot-first.result c.loop-slot.slot law (g.met.F.Flash.is_lawful c.args.flash.now) c.requires.area c.requires.collecting c.requires.victim first_is (omega arith) kept.copying;
+      let more : c.loop-slot.slot < c.first_slot-first.result + (g.T.SlotSectors.format_of (geometry_of a area)).count (sector_at (sectors_of a area) (next (sectors_of a area) place)) =
+      (let count : c.slots-slots.result ≡ (g.T.SlotSectors.format_of (geometry_of a area)).count (sector_at (sectors_of a area) (next (sectors_of a area) place)) = c.slots-slots.ensures.value ∙ ap (λ (v : ℕ). (g.T.SlotSectors.format_of (geometry_of a area)).count (sector_at (sectors_of a area) v)) c.requires.victim in omega arith) in
+      within g.T.SlotSectors.format_of g.T.SlotSectors.role a d area place c.args.victim c.first_slot-first.result c.loop-slot.slot law (g.met.F.Flash.is_lawful c.args.flash.now) c.requires.area c.requires.collecting c.requires.victim first_is (omega arith) kept.copying;
 }
 
 pub copy_slot-requires-clause-room : goal.copy_slot-requires-clause-room
@@ -145,57 +145,57 @@ copy_slot-requires-clause-room g c =
     let a : Device = g.F.Flash.device c.args.flash.now in
     let area : Area = c.args.area.now in
     let place : ℕ = c.args.current in
-    let law : IsKind (g.T.SlotSectors.kind (geometry_of a area)) = g.met.T.SlotSectors.lawful (geometry_of a area) (unit_is a area (g.met.F.Flash.is_lawful c.args.flash.now) c.requires.area.lawful) in
+    let law : IsSectorFormat (g.T.SlotSectors.format_of (geometry_of a area)) = g.met.T.SlotSectors.lawful (geometry_of a area) (unit_is a area (g.met.F.Flash.is_lawful c.args.flash.now) c.requires.area.lawful) in
     let d : Device = g.F.Flash.device c.loop-slot.flash in
     let first_is = c.first_slot-first.ensures.value (geometry_of a area) in
     let kept = c.loop-slot.invariant in
-    let more : c.loop-slot.slot < c.first_slot-first.result + (g.T.SlotSectors.kind (geometry_of a area)).count (sector_at (sectors_of a area) (next (sectors_of a area) place)) =
-    (let count : c.slots-slots.result ≡ (g.T.SlotSectors.kind (geometry_of a area)).count (sector_at (sectors_of a area) (next (sectors_of a area) place)) = c.slots-slots.ensures.value ∙ ap (λ (v : ℕ). (g.T.SlotSectors.kind (geometry_of a area)).count (sector_at (sectors_of a area) v)) c.requires.victim in omega arith) in
-    room g.T.SlotSectors.kind g.T.SlotSectors.role a d area place c.args.victim c.first_slot-first.result c.loop-slot.slot law (g.met.F.Flash.is_lawful c.args.flash.now) c.requires.area c.requires.collecting c.requires.victim first_is (omega arith) kept.copying more
+    let more : c.loop-slot.slot < c.first_slot-first.result + (g.T.SlotSectors.format_of (geometry_of a area)).count (sector_at (sectors_of a area) (next (sectors_of a area) place)) =
+    (let count : c.slots-slots.result ≡ (g.T.SlotSectors.format_of (geometry_of a area)).count (sector_at (sectors_of a area) (next (sectors_of a area) place)) = c.slots-slots.ensures.value ∙ ap (λ (v : ℕ). (g.T.SlotSectors.format_of (geometry_of a area)).count (sector_at (sectors_of a area) v)) c.requires.victim in omega arith) in
+    room g.T.SlotSectors.format_of g.T.SlotSectors.role a d area place c.args.victim c.first_slot-first.result c.loop-slot.slot law (g.met.F.Flash.is_lawful c.args.flash.now) c.requires.area c.requires.collecting c.requires.victim first_is (omega arith) kept.copying more
 
 pub returns-in_err-copy_slot-clause-lost : goal.returns-in_err-copy_slot-clause-lost
 returns-in_err-copy_slot-clause-lost g c =
     let a : Device = g.F.Flash.device c.args.flash.now in
     let area : Area = c.args.area.now in
     let place : ℕ = c.args.current in
-    let law : IsKind (g.T.SlotSectors.kind (geometry_of a area)) = g.met.T.SlotSectors.lawful (geometry_of a area) (unit_is a area (g.met.F.Flash.is_lawful c.args.flash.now) c.requires.area.lawful) in
+    let law : IsSectorFormat (g.T.SlotSectors.format_of (geometry_of a area)) = g.met.T.SlotSectors.lawful (geometry_of a area) (unit_is a area (g.met.F.Flash.is_lawful c.args.flash.now) c.requires.area.lawful) in
     let d : Device = g.F.Flash.device c.loop-slot.flash in
     let first_is = c.first_slot-first.ensures.value (geometry_of a area) in
     let kept = c.loop-slot.invariant in
-    let more : c.loop-slot.slot < c.first_slot-first.result + (g.T.SlotSectors.kind (geometry_of a area)).count (sector_at (sectors_of a area) (next (sectors_of a area) place)) =
-    (let count : c.slots-slots.result ≡ (g.T.SlotSectors.kind (geometry_of a area)).count (sector_at (sectors_of a area) (next (sectors_of a area) place)) = c.slots-slots.ensures.value ∙ ap (λ (v : ℕ). (g.T.SlotSectors.kind (geometry_of a area)).count (sector_at (sectors_of a area) v)) c.requires.victim in omega arith) in
+    let more : c.loop-slot.slot < c.first_slot-first.result + (g.T.SlotSectors.format_of (geometry_of a area)).count (sector_at (sectors_of a area) (next (sectors_of a area) place)) =
+    (let count : c.slots-slots.result ≡ (g.T.SlotSectors.format_of (geometry_of a area)).count (sector_at (sectors_of a area) (next (sectors_of a area) place)) = c.slots-slots.ensures.value ∙ ap (λ (v : ℕ). (g.T.SlotSectors.format_of (geometry_of a area)).count (sector_at (sectors_of a area) v)) c.requires.victim in omega arith) in
     let e : Device = g.F.Flash.device c.copy_slot.new.flash in
-    on_err c.from_residual.result (one_lost g.T.SlotSectors.kind g.T.SlotSectors.role a d area place c.args.victim c.first_slot-first.result c.loop-slot.slot law (g.met.F.Flash.is_lawful c.args.flash.now) c.requires.area c.requires.collecting c.requires.victim first_is (omega arith) kept.copying e c.in_err-copy_slot.ensures.ends.only c.in_err-copy_slot.ensures.ends.lost)
+    on_err c.from_residual.result (one_lost g.T.SlotSectors.format_of g.T.SlotSectors.role a d area place c.args.victim c.first_slot-first.result c.loop-slot.slot law (g.met.F.Flash.is_lawful c.args.flash.now) c.requires.area c.requires.collecting c.requires.victim first_is (omega arith) kept.copying e c.in_err-copy_slot.ensures.ends.only c.in_err-copy_slot.ensures.ends.lost)
 
 pub returns-in_err-copy_slot-clause-spends_lost : goal.returns-in_err-copy_slot-clause-spends_lost
 returns-in_err-copy_slot-clause-spends_lost g c =
     let a : Device = g.F.Flash.device c.args.flash.now in
     let area : Area = c.args.area.now in
     let place : ℕ = c.args.current in
-    let law : IsKind (g.T.SlotSectors.kind (geometry_of a area)) = g.met.T.SlotSectors.lawful (geometry_of a area) (unit_is a area (g.met.F.Flash.is_lawful c.args.flash.now) c.requires.area.lawful) in
+    let law : IsSectorFormat (g.T.SlotSectors.format_of (geometry_of a area)) = g.met.T.SlotSectors.lawful (geometry_of a area) (unit_is a area (g.met.F.Flash.is_lawful c.args.flash.now) c.requires.area.lawful) in
     let d : Device = g.F.Flash.device c.loop-slot.flash in
     let first_is = c.first_slot-first.ensures.value (geometry_of a area) in
     let kept = c.loop-slot.invariant in
-    let more : c.loop-slot.slot < c.first_slot-first.result + (g.T.SlotSectors.kind (geometry_of a area)).count (sector_at (sectors_of a area) (next (sectors_of a area) place)) =
-    (let count : c.slots-slots.result ≡ (g.T.SlotSectors.kind (geometry_of a area)).count (sector_at (sectors_of a area) (next (sectors_of a area) place)) = c.slots-slots.ensures.value ∙ ap (λ (v : ℕ). (g.T.SlotSectors.kind (geometry_of a area)).count (sector_at (sectors_of a area) v)) c.requires.victim in omega arith) in
+    let more : c.loop-slot.slot < c.first_slot-first.result + (g.T.SlotSectors.format_of (geometry_of a area)).count (sector_at (sectors_of a area) (next (sectors_of a area) place)) =
+    (let count : c.slots-slots.result ≡ (g.T.SlotSectors.format_of (geometry_of a area)).count (sector_at (sectors_of a area) (next (sectors_of a area) place)) = c.slots-slots.ensures.value ∙ ap (λ (v : ℕ). (g.T.SlotSectors.format_of (geometry_of a area)).count (sector_at (sectors_of a area) v)) c.requires.victim in omega arith) in
     let e : Device = g.F.Flash.device c.copy_slot.new.flash in
-    on_err c.from_residual.result (one_most g.T.SlotSectors.kind g.T.SlotSectors.role a d area place c.args.victim c.first_slot-first.result c.loop-slot.slot law (g.met.F.Flash.is_lawful c.args.flash.now) c.requires.area c.requires.collecting c.requires.victim first_is (omega arith) kept.copying e more c.in_err-copy_slot.ensures.ends.spends_lost)
+    on_err c.from_residual.result (one_most g.T.SlotSectors.format_of g.T.SlotSectors.role a d area place c.args.victim c.first_slot-first.result c.loop-slot.slot law (g.met.F.Flash.is_lawful c.args.flash.now) c.requires.area c.requires.collecting c.requires.victim first_is (omega arith) kept.copying e more c.in_err-copy_slot.ensures.ends.spends_lost)
 
 pub loop-slot-preserved : goal.loop-slot-preserved
 loop-slot-preserved g c =
     let a : Device = g.F.Flash.device c.args.flash.now in
     let area : Area = c.args.area.now in
     let place : ℕ = c.args.current in
-    let law : IsKind (g.T.SlotSectors.kind (geometry_of a area)) = g.met.T.SlotSectors.lawful (geometry_of a area) (unit_is a area (g.met.F.Flash.is_lawful c.args.flash.now) c.requires.area.lawful) in
+    let law : IsSectorFormat (g.T.SlotSectors.format_of (geometry_of a area)) = g.met.T.SlotSectors.lawful (geometry_of a area) (unit_is a area (g.met.F.Flash.is_lawful c.args.flash.now) c.requires.area.lawful) in
     let d : Device = g.F.Flash.device c.loop-slot.flash in
     let first_is = c.first_slot-first.ensures.value (geometry_of a area) in
     let kept = c.loop-slot.invariant in
-    let more : c.loop-slot.slot < c.first_slot-first.result + (g.T.SlotSectors.kind (geometry_of a area)).count (sector_at (sectors_of a area) (next (sectors_of a area) place)) =
-    (let count : c.slots-slots.result ≡ (g.T.SlotSectors.kind (geometry_of a area)).count (sector_at (sectors_of a area) (next (sectors_of a area) place)) = c.slots-slots.ensures.value ∙ ap (λ (v : ℕ). (g.T.SlotSectors.kind (geometry_of a area)).count (sector_at (sectors_of a area) v)) c.requires.victim in omega arith) in
+    let more : c.loop-slot.slot < c.first_slot-first.result + (g.T.SlotSectors.format_of (geometry_of a area)).count (sector_at (sectors_of a area) (next (sectors_of a area) place)) =
+    (let count : c.slots-slots.result ≡ (g.T.SlotSectors.format_of (geometry_of a area)).count (sector_at (sectors_of a area) (next (sectors_of a area) place)) = c.slots-slots.ensures.value ∙ ap (λ (v : ℕ). (g.T.SlotSectors.format_of (geometry_of a area)).count (sector_at (sectors_of a area) v)) c.requires.victim in omega arith) in
     let e : Device = g.F.Flash.device c.copy_slot.new.flash in
     record {
-      copying = one_more g.T.SlotSectors.kind g.T.SlotSectors.role a d area place c.args.victim c.first_slot-first.result c.loop-slot.slot law (g.met.F.Flash.is_lawful c.args.flash.now) c.requires.area c.requires.collecting c.requires.victim first_is (omega arith) kept.copying e more c.in_ok-copy_slot.ensures.touches c.in_ok-copy_slot.ensures.ends.copies c.in_ok-copy_slot.ensures.ends.spends;
-      kept = kept_after g.T.SlotSectors.kind g.T.SlotSectors.role a d area place c.args.victim c.first_slot-first.result c.loop-slot.slot law (g.met.F.Flash.is_lawful c.args.flash.now) c.requires.area c.requires.collecting c.requires.victim first_is (omega arith) kept.copying g.T.SlotSectors.kept c.copy_slot.new.opened e c.in_ok-copy_slot.ensures.ends.kept;
+      copying = one_more g.T.SlotSectors.format_of g.T.SlotSectors.role a d area place c.args.victim c.first_slot-first.result c.loop-slot.slot law (g.met.F.Flash.is_lawful c.args.flash.now) c.requires.area c.requires.collecting c.requires.victim first_is (omega arith) kept.copying e more c.in_ok-copy_slot.ensures.touches c.in_ok-copy_slot.ensures.ends.copies c.in_ok-copy_slot.ensures.ends.spends;
+      kept = kept_after g.T.SlotSectors.format_of g.T.SlotSectors.role a d area place c.args.victim c.first_slot-first.result c.loop-slot.slot law (g.met.F.Flash.is_lawful c.args.flash.now) c.requires.area c.requires.collecting c.requires.victim first_is (omega arith) kept.copying g.T.SlotSectors.kept c.copy_slot.new.opened e c.in_ok-copy_slot.ensures.ends.kept;
     }
 
 pub returns-clause-copies : goal.returns-clause-copies
@@ -203,13 +203,13 @@ returns-clause-copies g c =
     let a : Device = g.F.Flash.device c.args.flash.now in
     let area : Area = c.args.area.now in
     let place : ℕ = c.args.current in
-    let law : IsKind (g.T.SlotSectors.kind (geometry_of a area)) = g.met.T.SlotSectors.lawful (geometry_of a area) (unit_is a area (g.met.F.Flash.is_lawful c.args.flash.now) c.requires.area.lawful) in
+    let law : IsSectorFormat (g.T.SlotSectors.format_of (geometry_of a area)) = g.met.T.SlotSectors.lawful (geometry_of a area) (unit_is a area (g.met.F.Flash.is_lawful c.args.flash.now) c.requires.area.lawful) in
     let d : Device = g.F.Flash.device c.loop-slot.flash in
     let nw = next_within a area place c.requires.collecting.ring.within in
     let large = large_there g.T.SlotSectors.role a area (g.met.F.Flash.is_lawful c.args.flash.now) c.requires.area (next (sectors_of a area) place) nw in
-    let count : c.slots-slots.result ≡ (g.T.SlotSectors.kind (geometry_of a area)).count (sector_at (sectors_of a area) (next (sectors_of a area) place)) = c.slots-slots.ensures.value ∙ ap (λ (v : ℕ). (g.T.SlotSectors.kind (geometry_of a area)).count (sector_at (sectors_of a area) v)) c.requires.victim in
-    let all : c.loop-slot.slot - c.first_slot-first.result ≡ (g.T.SlotSectors.kind (geometry_of a area)).count (sector_at (sectors_of a area) (next (sectors_of a area) place)) = omega arith in
-    let done = copying_end (g.T.SlotSectors.kind (geometry_of a area)) law a d area place (c.loop-slot.slot - c.first_slot-first.result) c.requires.collecting large all c.loop-slot.invariant.copying in
+    let count : c.slots-slots.result ≡ (g.T.SlotSectors.format_of (geometry_of a area)).count (sector_at (sectors_of a area) (next (sectors_of a area) place)) = c.slots-slots.ensures.value ∙ ap (λ (v : ℕ). (g.T.SlotSectors.format_of (geometry_of a area)).count (sector_at (sectors_of a area) v)) c.requires.victim in
+    let all : c.loop-slot.slot - c.first_slot-first.result ≡ (g.T.SlotSectors.format_of (geometry_of a area)).count (sector_at (sectors_of a area) (next (sectors_of a area) place)) = omega arith in
+    let done = copying_end (g.T.SlotSectors.format_of (geometry_of a area)) law a d area place (c.loop-slot.slot - c.first_slot-first.result) c.requires.collecting large all c.loop-slot.invariant.copying in
     done.0
 
 pub returns-clause-spends : goal.returns-clause-spends
@@ -217,38 +217,38 @@ returns-clause-spends g c =
     let a : Device = g.F.Flash.device c.args.flash.now in
     let area : Area = c.args.area.now in
     let place : ℕ = c.args.current in
-    let law : IsKind (g.T.SlotSectors.kind (geometry_of a area)) = g.met.T.SlotSectors.lawful (geometry_of a area) (unit_is a area (g.met.F.Flash.is_lawful c.args.flash.now) c.requires.area.lawful) in
+    let law : IsSectorFormat (g.T.SlotSectors.format_of (geometry_of a area)) = g.met.T.SlotSectors.lawful (geometry_of a area) (unit_is a area (g.met.F.Flash.is_lawful c.args.flash.now) c.requires.area.lawful) in
     let d : Device = g.F.Flash.device c.loop-slot.flash in
     let nw = next_within a area place c.requires.collecting.ring.within in
     let large = large_there g.T.SlotSectors.role a area (g.met.F.Flash.is_lawful c.args.flash.now) c.requires.area (next (sectors_of a area) place) nw in
-    let count : c.slots-slots.result ≡ (g.T.SlotSectors.kind (geometry_of a area)).count (sector_at (sectors_of a area) (next (sectors_of a area) place)) = c.slots-slots.ensures.value ∙ ap (λ (v : ℕ). (g.T.SlotSectors.kind (geometry_of a area)).count (sector_at (sectors_of a area) v)) c.requires.victim in
-    let all : c.loop-slot.slot - c.first_slot-first.result ≡ (g.T.SlotSectors.kind (geometry_of a area)).count (sector_at (sectors_of a area) (next (sectors_of a area) place)) = omega arith in
-    let done = copying_end (g.T.SlotSectors.kind (geometry_of a area)) law a d area place (c.loop-slot.slot - c.first_slot-first.result) c.requires.collecting large all c.loop-slot.invariant.copying in
+    let count : c.slots-slots.result ≡ (g.T.SlotSectors.format_of (geometry_of a area)).count (sector_at (sectors_of a area) (next (sectors_of a area) place)) = c.slots-slots.ensures.value ∙ ap (λ (v : ℕ). (g.T.SlotSectors.format_of (geometry_of a area)).count (sector_at (sectors_of a area) v)) c.requires.victim in
+    let all : c.loop-slot.slot - c.first_slot-first.result ≡ (g.T.SlotSectors.format_of (geometry_of a area)).count (sector_at (sectors_of a area) (next (sectors_of a area) place)) = omega arith in
+    let done = copying_end (g.T.SlotSectors.format_of (geometry_of a area)) law a d area place (c.loop-slot.slot - c.first_slot-first.result) c.requires.collecting large all c.loop-slot.invariant.copying in
     done.1
 
-pub live_slots-requires-clause-current : goal.live_slots-requires-clause-current
-live_slots-requires-clause-current g c =
+pub live_entries-requires-clause-current : goal.live_entries-requires-clause-current
+live_entries-requires-clause-current g c =
     let a : Device = g.F.Flash.device c.args.flash.now in
     let area : Area = c.args.area.now in
     let place : ℕ = c.args.current in
-    let law : IsKind (g.T.SlotSectors.kind (geometry_of a area)) = g.met.T.SlotSectors.lawful (geometry_of a area) (unit_is a area (g.met.F.Flash.is_lawful c.args.flash.now) c.requires.area.lawful) in
-    sym (reads (g.T.SlotSectors.kind (geometry_of a area)).reading (sectors_of a area) place (inr (inl c.requires.collecting))).0
+    let law : IsSectorFormat (g.T.SlotSectors.format_of (geometry_of a area)) = g.met.T.SlotSectors.lawful (geometry_of a area) (unit_is a area (g.met.F.Flash.is_lawful c.args.flash.now) c.requires.area.lawful) in
+    sym (reads (g.T.SlotSectors.format_of (geometry_of a area)).reading (sectors_of a area) place (inr (inl c.requires.collecting))).0
 
-pub live_slots-requires-clause-inside : goal.live_slots-requires-clause-inside
-live_slots-requires-clause-inside g c =
+pub live_entries-requires-clause-inside : goal.live_entries-requires-clause-inside
+live_entries-requires-clause-inside g c =
     let a : Device = g.F.Flash.device c.args.flash.now in
     let area : Area = c.args.area.now in
     let place : ℕ = c.args.current in
-    let law : IsKind (g.T.SlotSectors.kind (geometry_of a area)) = g.met.T.SlotSectors.lawful (geometry_of a area) (unit_is a area (g.met.F.Flash.is_lawful c.args.flash.now) c.requires.area.lawful) in
+    let law : IsSectorFormat (g.T.SlotSectors.format_of (geometry_of a area)) = g.met.T.SlotSectors.lawful (geometry_of a area) (unit_is a area (g.met.F.Flash.is_lawful c.args.flash.now) c.requires.area.lawful) in
     let within = next_within a area place c.requires.collecting.ring.within in omega (arith, c.requires.victim)
 
-pub live_slots-requires-clause-counts : goal.live_slots-requires-clause-counts
-live_slots-requires-clause-counts g c =
+pub live_entries-requires-clause-counts : goal.live_entries-requires-clause-counts
+live_entries-requires-clause-counts g c =
     let a : Device = g.F.Flash.device c.args.flash.now in
     let area : Area = c.args.area.now in
     let place : ℕ = c.args.current in
-    let law : IsKind (g.T.SlotSectors.kind (geometry_of a area)) = g.met.T.SlotSectors.lawful (geometry_of a area) (unit_is a area (g.met.F.Flash.is_lawful c.args.flash.now) c.requires.area.lawful) in
-    victim_counts (g.T.SlotSectors.kind (geometry_of a area)) (sectors_of a area) place c.args.victim c.requires.collecting c.requires.victim
+    let law : IsSectorFormat (g.T.SlotSectors.format_of (geometry_of a area)) = g.met.T.SlotSectors.lawful (geometry_of a area) (unit_is a area (g.met.F.Flash.is_lawful c.args.flash.now) c.requires.area.lawful) in
+    victim_counts (g.T.SlotSectors.format_of (geometry_of a area)) (sectors_of a area) place c.args.victim c.requires.collecting c.requires.victim
 
 pub has-is-requires : goal.has-is-requires
 has-is-requires g c =
@@ -259,19 +259,19 @@ copy_slot-requires-clause-live g c =
     let a : Device = g.F.Flash.device c.args.flash.now in
     let area : Area = c.args.area.now in
     let place : ℕ = c.args.current in
-    let law : IsKind (g.T.SlotSectors.kind (geometry_of a area)) = g.met.T.SlotSectors.lawful (geometry_of a area) (unit_is a area (g.met.F.Flash.is_lawful c.args.flash.now) c.requires.area.lawful) in
+    let law : IsSectorFormat (g.T.SlotSectors.format_of (geometry_of a area)) = g.met.T.SlotSectors.lawful (geometry_of a area) (unit_is a area (g.met.F.Flash.is_lawful c.args.flash.now) c.requires.area.lawful) in
     let d : Device = g.F.Flash.device c.loop-slot.flash in
     let first_is = c.first_slot-first.ensures.value (geometry_of a area) in
     let kept = c.loop-slot.invariant in
-    let more : c.loop-slot.slot < c.first_slot-first.result + (g.T.SlotSectors.kind (geometry_of a area)).count (sector_at (sectors_of a area) (next (sectors_of a area) place)) =
-    (let count : c.slots-slots.result ≡ (g.T.SlotSectors.kind (geometry_of a area)).count (sector_at (sectors_of a area) (next (sectors_of a area) place)) = c.slots-slots.ensures.value ∙ ap (λ (v : ℕ). (g.T.SlotSectors.kind (geometry_of a area)).count (sector_at (sectors_of a area) v)) c.requires.victim in omega arith) in
-    let count : c.slots-slots.result ≡ (g.T.SlotSectors.kind (geometry_of a area)).count (sector_at (sectors_of a area) c.args.victim) = c.slots-slots.ensures.value in
-    let back : (g.T.SlotSectors.kind (geometry_of a area)).first + (c.loop-slot.slot - c.first_slot-first.result) ≡ c.loop-slot.slot = omega arith in
-    live_flag g.T.SlotSectors.kind g.T.SlotSectors.role a d area place c.args.victim c.first_slot-first.result c.loop-slot.slot law (g.met.F.Flash.is_lawful c.args.flash.now) c.requires.area c.requires.collecting c.requires.victim first_is (omega arith) kept.copying c.has-is.result
-    (c.has-is.ensures ∙ c.live_slots.ensures (c.loop-slot.slot - c.first_slot-first.result) (omega arith) ∙ ap (holds_live (g.T.SlotSectors.kind (geometry_of a area)) (sectors_of a area) c.args.victim) back)
+    let more : c.loop-slot.slot < c.first_slot-first.result + (g.T.SlotSectors.format_of (geometry_of a area)).count (sector_at (sectors_of a area) (next (sectors_of a area) place)) =
+    (let count : c.slots-slots.result ≡ (g.T.SlotSectors.format_of (geometry_of a area)).count (sector_at (sectors_of a area) (next (sectors_of a area) place)) = c.slots-slots.ensures.value ∙ ap (λ (v : ℕ). (g.T.SlotSectors.format_of (geometry_of a area)).count (sector_at (sectors_of a area) v)) c.requires.victim in omega arith) in
+    let count : c.slots-slots.result ≡ (g.T.SlotSectors.format_of (geometry_of a area)).count (sector_at (sectors_of a area) c.args.victim) = c.slots-slots.ensures.value in
+    let back : (g.T.SlotSectors.format_of (geometry_of a area)).first + (c.loop-slot.slot - c.first_slot-first.result) ≡ c.loop-slot.slot = omega arith in
+    live_flag g.T.SlotSectors.format_of g.T.SlotSectors.role a d area place c.args.victim c.first_slot-first.result c.loop-slot.slot law (g.met.F.Flash.is_lawful c.args.flash.now) c.requires.area c.requires.collecting c.requires.victim first_is (omega arith) kept.copying c.has-is.result
+    (c.has-is.ensures ∙ c.live_entries.ensures (c.loop-slot.slot - c.first_slot-first.result) (omega arith) ∙ ap (holds_live (g.T.SlotSectors.format_of (geometry_of a area)) (sectors_of a area) c.args.victim) back)
 
-pub live_slots-requires-clause-none : goal.live_slots-requires-clause-none
-live_slots-requires-clause-none g c =
+pub live_entries-requires-clause-none : goal.live_entries-requires-clause-none
+live_entries-requires-clause-none g c =
     c.new-live.ensures
 
 pub copy_slot-requires-clause-collects : goal.copy_slot-requires-clause-collects
@@ -280,24 +280,24 @@ copy_slot-requires-clause-collects g c = record {
       let a : Device = g.F.Flash.device c.args.flash.now in
       let area : Area = c.args.area.now in
       let place : ℕ = c.args.current in
-      let law : IsKind (g.T.SlotSectors.kind (geometry_of a area)) = g.met.T.SlotSectors.lawful (geometry_of a area) (unit_is a area (g.met.F.Flash.is_lawful c.args.flash.now) c.requires.area.lawful) in
+      let law : IsSectorFormat (g.T.SlotSectors.format_of (geometry_of a area)) = g.met.T.SlotSectors.lawful (geometry_of a area) (unit_is a area (g.met.F.Flash.is_lawful c.args.flash.now) c.requires.area.lawful) in
       let d : Device = g.F.Flash.device c.loop-slot.flash in
       let first_is = c.first_slot-first.ensures.value (geometry_of a area) in
       let kept = c.loop-slot.invariant in
-      let more : c.loop-slot.slot < c.first_slot-first.result + (g.T.SlotSectors.kind (geometry_of a area)).count (sector_at (sectors_of a area) (next (sectors_of a area) place)) =
-      (let count : c.slots-slots.result ≡ (g.T.SlotSectors.kind (geometry_of a area)).count (sector_at (sectors_of a area) (next (sectors_of a area) place)) = c.slots-slots.ensures.value ∙ ap (λ (v : ℕ). (g.T.SlotSectors.kind (geometry_of a area)).count (sector_at (sectors_of a area) v)) c.requires.victim in omega arith) in
-      closed g.T.SlotSectors.kind g.T.SlotSectors.role a d area place c.args.victim c.first_slot-first.result c.loop-slot.slot law (g.met.F.Flash.is_lawful c.args.flash.now) c.requires.area c.requires.collecting c.requires.victim first_is (omega arith) kept.copying;
+      let more : c.loop-slot.slot < c.first_slot-first.result + (g.T.SlotSectors.format_of (geometry_of a area)).count (sector_at (sectors_of a area) (next (sectors_of a area) place)) =
+      (let count : c.slots-slots.result ≡ (g.T.SlotSectors.format_of (geometry_of a area)).count (sector_at (sectors_of a area) (next (sectors_of a area) place)) = c.slots-slots.ensures.value ∙ ap (λ (v : ℕ). (g.T.SlotSectors.format_of (geometry_of a area)).count (sector_at (sectors_of a area) v)) c.requires.victim in omega arith) in
+      closed g.T.SlotSectors.format_of g.T.SlotSectors.role a d area place c.args.victim c.first_slot-first.result c.loop-slot.slot law (g.met.F.Flash.is_lawful c.args.flash.now) c.requires.area c.requires.collecting c.requires.victim first_is (omega arith) kept.copying;
   not_done =
       let a : Device = g.F.Flash.device c.args.flash.now in
       let area : Area = c.args.area.now in
       let place : ℕ = c.args.current in
-      let law : IsKind (g.T.SlotSectors.kind (geometry_of a area)) = g.met.T.SlotSectors.lawful (geometry_of a area) (unit_is a area (g.met.F.Flash.is_lawful c.args.flash.now) c.requires.area.lawful) in
+      let law : IsSectorFormat (g.T.SlotSectors.format_of (geometry_of a area)) = g.met.T.SlotSectors.lawful (geometry_of a area) (unit_is a area (g.met.F.Flash.is_lawful c.args.flash.now) c.requires.area.lawful) in
       let d : Device = g.F.Flash.device c.loop-slot.flash in
       let first_is = c.first_slot-first.ensures.value (geometry_of a area) in
       let kept = c.loop-slot.invariant in
-      let more : c.loop-slot.slot < c.first_slot-first.result + (g.T.SlotSectors.kind (geometry_of a area)).count (sector_at (sectors_of a area) (next (sectors_of a area) place)) =
-      (let count : c.slots-slots.result ≡ (g.T.SlotSectors.kind (geometry_of a area)).count (sector_at (sectors_of a area) (next (sectors_of a area) place)) = c.slots-slots.ensures.value ∙ ap (λ (v : ℕ). (g.T.SlotSectors.kind (geometry_of a area)).count (sector_at (sectors_of a area) v)) c.requires.victim in omega arith) in
-      not_done g.T.SlotSectors.kind g.T.SlotSectors.role a d area place c.args.victim c.first_slot-first.result c.loop-slot.slot law (g.met.F.Flash.is_lawful c.args.flash.now) c.requires.area c.requires.collecting c.requires.victim first_is (omega arith) kept.copying;
+      let more : c.loop-slot.slot < c.first_slot-first.result + (g.T.SlotSectors.format_of (geometry_of a area)).count (sector_at (sectors_of a area) (next (sectors_of a area) place)) =
+      (let count : c.slots-slots.result ≡ (g.T.SlotSectors.format_of (geometry_of a area)).count (sector_at (sectors_of a area) (next (sectors_of a area) place)) = c.slots-slots.ensures.value ∙ ap (λ (v : ℕ). (g.T.SlotSectors.format_of (geometry_of a area)).count (sector_at (sectors_of a area) v)) c.requires.victim in omega arith) in
+      not_done g.T.SlotSectors.format_of g.T.SlotSectors.role a d area place c.args.victim c.first_slot-first.result c.loop-slot.slot law (g.met.F.Flash.is_lawful c.args.flash.now) c.requires.area c.requires.collecting c.requires.victim first_is (omega arith) kept.copying;
 }
 
 pub returns-clause-touches : goal.returns-clause-touches

@@ -4,7 +4,7 @@ use Rattle.std.specs.Prelude.{Option, OnOk, OnErr}
 use Rattle.std.proofs.lemmas.Result.{on_ok_weaker, on_err_weaker}
 use Rattle.flash_sim.specs.Device.{Device}
 use Rattle.flash_map.specs.Area.{geometry_of, sectors_of, sector_at}
-use Rattle.item_store.specs.Kind.{Kind, IsKind, placed_at}
+use Rattle.item_store.specs.SectorFormat.{SectorFormat, IsSectorFormat, placed_at}
 use Rattle.item_store.specs.declared.entry.Placed.{Placed}
 use Rattle.item_store.specs.Collecting.{copy_units}
 use Rattle.item_store.specs.Standing.{SpendsIn, SpendsUpTo}
@@ -20,16 +20,16 @@ copy-requires-clause-source g c = record {
   source = search rules;
   listed =
       let d : Device = g.F.Flash.device c.args.flash.now in
-      let k : Kind = g.T.SlotSectors.kind (geometry_of d c.args.area.now) in
-      let law : IsKind (g.T.SlotSectors.kind (geometry_of d c.args.area.now)) = g.met.T.SlotSectors.lawful (geometry_of d c.args.area.now) (unit_is d c.args.area.now (g.met.F.Flash.is_lawful c.args.flash.now) c.requires.here.area.lawful) in
+      let k : SectorFormat = g.T.SlotSectors.format_of (geometry_of d c.args.area.now) in
+      let law : IsSectorFormat (g.T.SlotSectors.format_of (geometry_of d c.args.area.now)) = g.met.T.SlotSectors.lawful (geometry_of d c.args.area.now) (unit_is d c.args.area.now (g.met.F.Flash.is_lawful c.args.flash.now) c.requires.here.area.lawful) in
       let listed = c.requires.victim.listed in
       let l = live-bytes k law (sectors_of d c.args.area.now) c.args.victim c.args.slot c.in-Some.placed c.requires.victim.within listed.0 listed.1 (sym c.live_in.ensures.entry ∙ c.in-Some.is) in
       subst (λ (v : ℕ). (k.first ≤ c.in-Some.placed.slot) × (c.in-Some.placed.slot < k.first + k.count (sector_at (sectors_of d c.args.area.now) v))) (sym l.sector)
       (subst (λ (s : ℕ). (k.first ≤ s) × (s < k.first + k.count (sector_at (sectors_of d c.args.area.now) c.args.victim))) (sym l.slot_is) listed);
   there =
       let d : Device = g.F.Flash.device c.args.flash.now in
-      let k : Kind = g.T.SlotSectors.kind (geometry_of d c.args.area.now) in
-      let law : IsKind (g.T.SlotSectors.kind (geometry_of d c.args.area.now)) = g.met.T.SlotSectors.lawful (geometry_of d c.args.area.now) (unit_is d c.args.area.now (g.met.F.Flash.is_lawful c.args.flash.now) c.requires.here.area.lawful) in
+      let k : SectorFormat = g.T.SlotSectors.format_of (geometry_of d c.args.area.now) in
+      let law : IsSectorFormat (g.T.SlotSectors.format_of (geometry_of d c.args.area.now)) = g.met.T.SlotSectors.lawful (geometry_of d c.args.area.now) (unit_is d c.args.area.now (g.met.F.Flash.is_lawful c.args.flash.now) c.requires.here.area.lawful) in
       let listed = c.requires.victim.listed in
       let l = live-bytes k law (sectors_of d c.args.area.now) c.args.victim c.args.slot c.in-Some.placed c.requires.victim.within listed.0 listed.1 (sym c.live_in.ensures.entry ∙ c.in-Some.is) in
       subst (λ (v : ℕ). option_map (placed_at v) (k.in_slot (sector_at (sectors_of d c.args.area.now) v) c.in-Some.placed.slot) ≡ Some c.in-Some.placed) (sym l.sector)
@@ -46,8 +46,8 @@ returns-in-Some-clause-ends g c = record {
   spends =
       let d : Device = g.F.Flash.device c.args.flash.now in
       let e : Device = g.F.Flash.device c.copy.new.flash in
-      let k : Kind = g.T.SlotSectors.kind (geometry_of d c.args.area.now) in
-      let law : IsKind (g.T.SlotSectors.kind (geometry_of d c.args.area.now)) = g.met.T.SlotSectors.lawful (geometry_of d c.args.area.now) (unit_is d c.args.area.now (g.met.F.Flash.is_lawful c.args.flash.now) c.requires.here.area.lawful) in
+      let k : SectorFormat = g.T.SlotSectors.format_of (geometry_of d c.args.area.now) in
+      let law : IsSectorFormat (g.T.SlotSectors.format_of (geometry_of d c.args.area.now)) = g.met.T.SlotSectors.lawful (geometry_of d c.args.area.now) (unit_is d c.args.area.now (g.met.F.Flash.is_lawful c.args.flash.now) c.requires.here.area.lawful) in
       let b : List ℕ = sector_at (sectors_of d c.args.area.now) c.args.current in
       let len : ℕ = c.in-Some.placed.len in
       subst (λ (o : Option Placed). OnOk c.copy.result (SpendsIn d e (copy_units k o))) (sym (sym c.live_in.ensures.entry ∙ c.in-Some.is))
@@ -55,8 +55,8 @@ returns-in-Some-clause-ends g c = record {
   spends_lost =
       let d : Device = g.F.Flash.device c.args.flash.now in
       let e : Device = g.F.Flash.device c.copy.new.flash in
-      let k : Kind = g.T.SlotSectors.kind (geometry_of d c.args.area.now) in
-      let law : IsKind (g.T.SlotSectors.kind (geometry_of d c.args.area.now)) = g.met.T.SlotSectors.lawful (geometry_of d c.args.area.now) (unit_is d c.args.area.now (g.met.F.Flash.is_lawful c.args.flash.now) c.requires.here.area.lawful) in
+      let k : SectorFormat = g.T.SlotSectors.format_of (geometry_of d c.args.area.now) in
+      let law : IsSectorFormat (g.T.SlotSectors.format_of (geometry_of d c.args.area.now)) = g.met.T.SlotSectors.lawful (geometry_of d c.args.area.now) (unit_is d c.args.area.now (g.met.F.Flash.is_lawful c.args.flash.now) c.requires.here.area.lawful) in
       let b : List ℕ = sector_at (sectors_of d c.args.area.now) c.args.current in
       let len : ℕ = c.in-Some.placed.len in
       subst (λ (o : Option Placed). OnErr c.copy.result (SpendsUpTo d e (copy_units k o))) (sym (sym c.live_in.ensures.entry ∙ c.in-Some.is))

@@ -8,7 +8,7 @@ use Rattle.flash_map.specs.Area.{geometry_of, sectors_of}
 use Rattle.flash_map.proofs.SpendingBounds.{between_none}
 use Rattle.item_laws.specs.Area.{next, is_closed_at}
 use Rattle.item_laws.proofs.AreaReads.{next_there}
-use Rattle.item_store.specs.Kind.{Range, IsKind}
+use Rattle.item_store.specs.SectorFormat.{Range, IsSectorFormat}
 use Rattle.item_store.specs.Standing.{SpendsIn, SpendsUpTo}
 use Rattle.item_store.proofs.Areas.{unit_is}
 use Rattle.item_store.proofs.CopyLoop.{either}
@@ -21,34 +21,34 @@ next-requires g c =
     let a : Device = g.F.Flash.device c.args.flash.now in
     let area : Area = c.args.area.now in
     let place : ℕ = c.args.current in
-    let law : IsKind (g.T.SlotSectors.kind (geometry_of a area)) = g.met.T.SlotSectors.lawful (geometry_of a area) (unit_is a area (g.met.F.Flash.is_lawful c.args.flash.now) c.requires.area.lawful) in
-    place_in g.T.SlotSectors.kind a area place law c.requires.form c.requires.blank
+    let law : IsSectorFormat (g.T.SlotSectors.format_of (geometry_of a area)) = g.met.T.SlotSectors.lawful (geometry_of a area) (unit_is a area (g.met.F.Flash.is_lawful c.args.flash.now) c.requires.area.lawful) in
+    place_in g.T.SlotSectors.format_of a area place law c.requires.form c.requires.blank
 
 pub prepare-requires-clause-inside : goal.prepare-requires-clause-inside
 prepare-requires-clause-inside g c =
     let a : Device = g.F.Flash.device c.args.flash.now in
     let area : Area = c.args.area.now in
     let place : ℕ = c.args.current in
-    let law : IsKind (g.T.SlotSectors.kind (geometry_of a area)) = g.met.T.SlotSectors.lawful (geometry_of a area) (unit_is a area (g.met.F.Flash.is_lawful c.args.flash.now) c.requires.area.lawful) in
-    place_in g.T.SlotSectors.kind a area place law c.requires.form c.requires.blank
+    let law : IsSectorFormat (g.T.SlotSectors.format_of (geometry_of a area)) = g.met.T.SlotSectors.lawful (geometry_of a area) (unit_is a area (g.met.F.Flash.is_lawful c.args.flash.now) c.requires.area.lawful) in
+    place_in g.T.SlotSectors.format_of a area place law c.requires.form c.requires.blank
 
 pub prepare-requires-clause-not_closed : goal.prepare-requires-clause-not_closed
 prepare-requires-clause-not_closed g c =
     let a : Device = g.F.Flash.device c.args.flash.now in
     let area : Area = c.args.area.now in
     let place : ℕ = c.args.current in
-    let law : IsKind (g.T.SlotSectors.kind (geometry_of a area)) = g.met.T.SlotSectors.lawful (geometry_of a area) (unit_is a area (g.met.F.Flash.is_lawful c.args.flash.now) c.requires.area.lawful) in
-    place_not_closed g.T.SlotSectors.kind a area place law c.requires.form c.requires.blank
+    let law : IsSectorFormat (g.T.SlotSectors.format_of (geometry_of a area)) = g.met.T.SlotSectors.lawful (geometry_of a area) (unit_is a area (g.met.F.Flash.is_lawful c.args.flash.now) c.requires.area.lawful) in
+    place_not_closed g.T.SlotSectors.format_of a area place law c.requires.form c.requires.blank
 
 pub collect_again-requires-clause-collecting : goal.collect_again-requires-clause-collecting
 collect_again-requires-clause-collecting g c =
     let a : Device = g.F.Flash.device c.args.flash.now in
     let area : Area = c.args.area.now in
     let place : ℕ = c.args.current in
-    let law : IsKind (g.T.SlotSectors.kind (geometry_of a area)) = g.met.T.SlotSectors.lawful (geometry_of a area) (unit_is a area (g.met.F.Flash.is_lawful c.args.flash.now) c.requires.area.lawful) in
+    let law : IsSectorFormat (g.T.SlotSectors.format_of (geometry_of a area)) = g.met.T.SlotSectors.lawful (geometry_of a area) (unit_is a area (g.met.F.Flash.is_lawful c.args.flash.now) c.requires.area.lawful) in
     let at : c.next.result ≡ next (sectors_of a area) place = c.next.ensures.value ∙ next_there a area place in
-    let shut : is_closed_at (g.T.SlotSectors.kind (geometry_of a area)).reading (sectors_of a area) (next (sectors_of a area) place) ≡ true = ap (is_closed_at (g.T.SlotSectors.kind (geometry_of a area)).reading (sectors_of a area)) (sym at) ∙ sym c.is_closed.ensures ∙ c.if-is_closed.true in
-    next_collecting g.T.SlotSectors.kind a area place law c.requires.form c.requires.blank shut
+    let shut : is_closed_at (g.T.SlotSectors.format_of (geometry_of a area)).reading (sectors_of a area) (next (sectors_of a area) place) ≡ true = ap (is_closed_at (g.T.SlotSectors.format_of (geometry_of a area)).reading (sectors_of a area)) (sym at) ∙ sym c.is_closed.ensures ∙ c.if-is_closed.true in
+    next_collecting g.T.SlotSectors.format_of a area place law c.requires.form c.requires.blank shut
 
 pub returns-then-is_closed-clause-ends : goal.returns-then-is_closed-clause-ends
 returns-then-is_closed-clause-ends g c = record {
@@ -56,39 +56,39 @@ returns-then-is_closed-clause-ends g c = record {
       let a : Device = g.F.Flash.device c.args.flash.now in
       let area : Area = c.args.area.now in
       let place : ℕ = c.args.current in
-      let law : IsKind (g.T.SlotSectors.kind (geometry_of a area)) = g.met.T.SlotSectors.lawful (geometry_of a area) (unit_is a area (g.met.F.Flash.is_lawful c.args.flash.now) c.requires.area.lawful) in
+      let law : IsSectorFormat (g.T.SlotSectors.format_of (geometry_of a area)) = g.met.T.SlotSectors.lawful (geometry_of a area) (unit_is a area (g.met.F.Flash.is_lawful c.args.flash.now) c.requires.area.lawful) in
       let at : c.next.result ≡ next (sectors_of a area) place = c.next.ensures.value ∙ next_there a area place in
-      let shut : is_closed_at (g.T.SlotSectors.kind (geometry_of a area)).reading (sectors_of a area) (next (sectors_of a area) place) ≡ true = ap (is_closed_at (g.T.SlotSectors.kind (geometry_of a area)).reading (sectors_of a area)) (sym at) ∙ sym c.is_closed.ensures ∙ c.if-is_closed.true in
-      on_ok_weaker c.collect_again.result (λ at rested. no_rest g.T.SlotSectors.kind a area place law c.requires.form c.requires.blank shut rested) c.collect_again.ensures.collects;
+      let shut : is_closed_at (g.T.SlotSectors.format_of (geometry_of a area)).reading (sectors_of a area) (next (sectors_of a area) place) ≡ true = ap (is_closed_at (g.T.SlotSectors.format_of (geometry_of a area)).reading (sectors_of a area)) (sym at) ∙ sym c.is_closed.ensures ∙ c.if-is_closed.true in
+      on_ok_weaker c.collect_again.result (λ at rested. no_rest g.T.SlotSectors.format_of a area place law c.requires.form c.requires.blank shut rested) c.collect_again.ensures.collects;
   collects = search rules;
   list_lost =
       let a : Device = g.F.Flash.device c.args.flash.now in
       let area : Area = c.args.area.now in
       let place : ℕ = c.args.current in
-      let law : IsKind (g.T.SlotSectors.kind (geometry_of a area)) = g.met.T.SlotSectors.lawful (geometry_of a area) (unit_is a area (g.met.F.Flash.is_lawful c.args.flash.now) c.requires.area.lawful) in
+      let law : IsSectorFormat (g.T.SlotSectors.format_of (geometry_of a area)) = g.met.T.SlotSectors.lawful (geometry_of a area) (unit_is a area (g.met.F.Flash.is_lawful c.args.flash.now) c.requires.area.lawful) in
       let at : c.next.result ≡ next (sectors_of a area) place = c.next.ensures.value ∙ next_there a area place in
-      let shut : is_closed_at (g.T.SlotSectors.kind (geometry_of a area)).reading (sectors_of a area) (next (sectors_of a area) place) ≡ true = ap (is_closed_at (g.T.SlotSectors.kind (geometry_of a area)).reading (sectors_of a area)) (sym at) ∙ sym c.is_closed.ensures ∙ c.if-is_closed.true in
+      let shut : is_closed_at (g.T.SlotSectors.format_of (geometry_of a area)).reading (sectors_of a area) (next (sectors_of a area) place) ≡ true = ap (is_closed_at (g.T.SlotSectors.format_of (geometry_of a area)).reading (sectors_of a area)) (sym at) ∙ sym c.is_closed.ensures ∙ c.if-is_closed.true in
       let e : Device = g.F.Flash.device c.collect_again.new.flash in
-      on_err_weaker c.collect_again.result (again_lost g.T.SlotSectors.kind a area place law c.requires.form c.requires.blank shut e) c.collect_again.ensures.list_lost;
+      on_err_weaker c.collect_again.result (again_lost g.T.SlotSectors.format_of a area place law c.requires.form c.requires.blank shut e) c.collect_again.ensures.list_lost;
   kept = search rules;
   spends =
       let a : Device = g.F.Flash.device c.args.flash.now in
       let area : Area = c.args.area.now in
       let place : ℕ = c.args.current in
-      let law : IsKind (g.T.SlotSectors.kind (geometry_of a area)) = g.met.T.SlotSectors.lawful (geometry_of a area) (unit_is a area (g.met.F.Flash.is_lawful c.args.flash.now) c.requires.area.lawful) in
+      let law : IsSectorFormat (g.T.SlotSectors.format_of (geometry_of a area)) = g.met.T.SlotSectors.lawful (geometry_of a area) (unit_is a area (g.met.F.Flash.is_lawful c.args.flash.now) c.requires.area.lawful) in
       let at : c.next.result ≡ next (sectors_of a area) place = c.next.ensures.value ∙ next_there a area place in
-      let shut : is_closed_at (g.T.SlotSectors.kind (geometry_of a area)).reading (sectors_of a area) (next (sectors_of a area) place) ≡ true = ap (is_closed_at (g.T.SlotSectors.kind (geometry_of a area)).reading (sectors_of a area)) (sym at) ∙ sym c.is_closed.ensures ∙ c.if-is_closed.true in
+      let shut : is_closed_at (g.T.SlotSectors.format_of (geometry_of a area)).reading (sectors_of a area) (next (sectors_of a area) place) ≡ true = ap (is_closed_at (g.T.SlotSectors.format_of (geometry_of a area)).reading (sectors_of a area)) (sym at) ∙ sym c.is_closed.ensures ∙ c.if-is_closed.true in
       let e : Device = g.F.Flash.device c.collect_again.new.flash in
-      subst (λ (r : Range). OnOk c.collect_again.result (SpendsIn a e r)) (sym (again_units-are g.T.SlotSectors.kind a area place law c.requires.form c.requires.blank shut)) c.collect_again.ensures.spends;
+      subst (λ (r : Range). OnOk c.collect_again.result (SpendsIn a e r)) (sym (again_units-are g.T.SlotSectors.format_of a area place law c.requires.form c.requires.blank shut)) c.collect_again.ensures.spends;
   spends_lost =
       let a : Device = g.F.Flash.device c.args.flash.now in
       let area : Area = c.args.area.now in
       let place : ℕ = c.args.current in
-      let law : IsKind (g.T.SlotSectors.kind (geometry_of a area)) = g.met.T.SlotSectors.lawful (geometry_of a area) (unit_is a area (g.met.F.Flash.is_lawful c.args.flash.now) c.requires.area.lawful) in
+      let law : IsSectorFormat (g.T.SlotSectors.format_of (geometry_of a area)) = g.met.T.SlotSectors.lawful (geometry_of a area) (unit_is a area (g.met.F.Flash.is_lawful c.args.flash.now) c.requires.area.lawful) in
       let at : c.next.result ≡ next (sectors_of a area) place = c.next.ensures.value ∙ next_there a area place in
-      let shut : is_closed_at (g.T.SlotSectors.kind (geometry_of a area)).reading (sectors_of a area) (next (sectors_of a area) place) ≡ true = ap (is_closed_at (g.T.SlotSectors.kind (geometry_of a area)).reading (sectors_of a area)) (sym at) ∙ sym c.is_closed.ensures ∙ c.if-is_closed.true in
+      let shut : is_closed_at (g.T.SlotSectors.format_of (geometry_of a area)).reading (sectors_of a area) (next (sectors_of a area) place) ≡ true = ap (is_closed_at (g.T.SlotSectors.format_of (geometry_of a area)).reading (sectors_of a area)) (sym at) ∙ sym c.is_closed.ensures ∙ c.if-is_closed.true in
       let e : Device = g.F.Flash.device c.collect_again.new.flash in
-      subst (λ (r : Range). OnErr c.collect_again.result (SpendsUpTo a e r)) (sym (again_units-are g.T.SlotSectors.kind a area place law c.requires.form c.requires.blank shut)) c.collect_again.ensures.spends_lost;
+      subst (λ (r : Range). OnErr c.collect_again.result (SpendsUpTo a e r)) (sym (again_units-are g.T.SlotSectors.format_of a area place law c.requires.form c.requires.blank shut)) c.collect_again.ensures.spends_lost;
 }
 
 pub returns-then-opens_ready-clause-ends : goal.returns-then-opens_ready-clause-ends
@@ -97,50 +97,50 @@ returns-then-opens_ready-clause-ends g c = record {
       let a : Device = g.F.Flash.device c.args.flash.now in
       let area : Area = c.args.area.now in
       let place : ℕ = c.args.current in
-      let law : IsKind (g.T.SlotSectors.kind (geometry_of a area)) = g.met.T.SlotSectors.lawful (geometry_of a area) (unit_is a area (g.met.F.Flash.is_lawful c.args.flash.now) c.requires.area.lawful) in
+      let law : IsSectorFormat (g.T.SlotSectors.format_of (geometry_of a area)) = g.met.T.SlotSectors.lawful (geometry_of a area) (unit_is a area (g.met.F.Flash.is_lawful c.args.flash.now) c.requires.area.lawful) in
       let at : c.next.result ≡ next (sectors_of a area) place = c.next.ensures.value ∙ next_there a area place in
-      let free : is_closed_at (g.T.SlotSectors.kind (geometry_of a area)).reading (sectors_of a area) (next (sectors_of a area) place) ≡ false = ap (is_closed_at (g.T.SlotSectors.kind (geometry_of a area)).reading (sectors_of a area)) (sym at) ∙ sym c.is_closed.ensures ∙ c.if-is_closed.false in
+      let free : is_closed_at (g.T.SlotSectors.format_of (geometry_of a area)).reading (sectors_of a area) (next (sectors_of a area) place) ≡ false = ap (is_closed_at (g.T.SlotSectors.format_of (geometry_of a area)).reading (sectors_of a area)) (sym at) ∙ sym c.is_closed.ensures ∙ c.if-is_closed.false in
       let e : Device = g.F.Flash.device c.prepare.new.flash in
-      on_ok_weaker c.prepare.result (λ begun rested. opened_by g.T.SlotSectors.kind a area place law c.requires.form c.requires.blank free e begun) c.prepare.ensures.begun;
+      on_ok_weaker c.prepare.result (λ begun rested. opened_by g.T.SlotSectors.format_of a area place law c.requires.form c.requires.blank free e begun) c.prepare.ensures.begun;
   collects =
       let a : Device = g.F.Flash.device c.args.flash.now in
       let area : Area = c.args.area.now in
       let place : ℕ = c.args.current in
-      let law : IsKind (g.T.SlotSectors.kind (geometry_of a area)) = g.met.T.SlotSectors.lawful (geometry_of a area) (unit_is a area (g.met.F.Flash.is_lawful c.args.flash.now) c.requires.area.lawful) in
+      let law : IsSectorFormat (g.T.SlotSectors.format_of (geometry_of a area)) = g.met.T.SlotSectors.lawful (geometry_of a area) (unit_is a area (g.met.F.Flash.is_lawful c.args.flash.now) c.requires.area.lawful) in
       let at : c.next.result ≡ next (sectors_of a area) place = c.next.ensures.value ∙ next_there a area place in
-      let free : is_closed_at (g.T.SlotSectors.kind (geometry_of a area)).reading (sectors_of a area) (next (sectors_of a area) place) ≡ false = ap (is_closed_at (g.T.SlotSectors.kind (geometry_of a area)).reading (sectors_of a area)) (sym at) ∙ sym c.is_closed.ensures ∙ c.if-is_closed.false in
-      on_ok_weaker c.prepare.result (λ begun collecting. no_collection g.T.SlotSectors.kind a area place law c.requires.form c.requires.blank free collecting) c.prepare.ensures.begun;
+      let free : is_closed_at (g.T.SlotSectors.format_of (geometry_of a area)).reading (sectors_of a area) (next (sectors_of a area) place) ≡ false = ap (is_closed_at (g.T.SlotSectors.format_of (geometry_of a area)).reading (sectors_of a area)) (sym at) ∙ sym c.is_closed.ensures ∙ c.if-is_closed.false in
+      on_ok_weaker c.prepare.result (λ begun collecting. no_collection g.T.SlotSectors.format_of a area place law c.requires.form c.requires.blank free collecting) c.prepare.ensures.begun;
   list_lost =
       let a : Device = g.F.Flash.device c.args.flash.now in
       let area : Area = c.args.area.now in
       let place : ℕ = c.args.current in
-      let law : IsKind (g.T.SlotSectors.kind (geometry_of a area)) = g.met.T.SlotSectors.lawful (geometry_of a area) (unit_is a area (g.met.F.Flash.is_lawful c.args.flash.now) c.requires.area.lawful) in
+      let law : IsSectorFormat (g.T.SlotSectors.format_of (geometry_of a area)) = g.met.T.SlotSectors.lawful (geometry_of a area) (unit_is a area (g.met.F.Flash.is_lawful c.args.flash.now) c.requires.area.lawful) in
       let at : c.next.result ≡ next (sectors_of a area) place = c.next.ensures.value ∙ next_there a area place in
-      let free : is_closed_at (g.T.SlotSectors.kind (geometry_of a area)).reading (sectors_of a area) (next (sectors_of a area) place) ≡ false = ap (is_closed_at (g.T.SlotSectors.kind (geometry_of a area)).reading (sectors_of a area)) (sym at) ∙ sym c.is_closed.ensures ∙ c.if-is_closed.false in
-      let ready : (g.T.SlotSectors.kind (geometry_of a area)).opens_ready ≡ true = ap (λ (u : Geometry). (g.T.SlotSectors.kind u).opens_ready) (sym c.geometry.ensures) ∙ sym c.opens_ready.ensures ∙ c.if-opens_ready.true in
+      let free : is_closed_at (g.T.SlotSectors.format_of (geometry_of a area)).reading (sectors_of a area) (next (sectors_of a area) place) ≡ false = ap (is_closed_at (g.T.SlotSectors.format_of (geometry_of a area)).reading (sectors_of a area)) (sym at) ∙ sym c.is_closed.ensures ∙ c.if-is_closed.false in
+      let ready : (g.T.SlotSectors.format_of (geometry_of a area)).opens_ready ≡ true = ap (λ (u : Geometry). (g.T.SlotSectors.format_of u).opens_ready) (sym c.geometry.ensures) ∙ sym c.opens_ready.ensures ∙ c.if-opens_ready.true in
       let e : Device = g.F.Flash.device c.prepare.new.flash in
-      on_err_weaker c.prepare.result (ready_lost_list g.T.SlotSectors.kind a area place law c.requires.form c.requires.blank free ready e c.prepare.ensures.only) c.prepare.ensures.lost;
+      on_err_weaker c.prepare.result (ready_lost_list g.T.SlotSectors.format_of a area place law c.requires.form c.requires.blank free ready e c.prepare.ensures.only) c.prepare.ensures.lost;
   kept = search rules;
   spends =
       let a : Device = g.F.Flash.device c.args.flash.now in
       let area : Area = c.args.area.now in
       let place : ℕ = c.args.current in
-      let law : IsKind (g.T.SlotSectors.kind (geometry_of a area)) = g.met.T.SlotSectors.lawful (geometry_of a area) (unit_is a area (g.met.F.Flash.is_lawful c.args.flash.now) c.requires.area.lawful) in
+      let law : IsSectorFormat (g.T.SlotSectors.format_of (geometry_of a area)) = g.met.T.SlotSectors.lawful (geometry_of a area) (unit_is a area (g.met.F.Flash.is_lawful c.args.flash.now) c.requires.area.lawful) in
       let at : c.next.result ≡ next (sectors_of a area) place = c.next.ensures.value ∙ next_there a area place in
-      let free : is_closed_at (g.T.SlotSectors.kind (geometry_of a area)).reading (sectors_of a area) (next (sectors_of a area) place) ≡ false = ap (is_closed_at (g.T.SlotSectors.kind (geometry_of a area)).reading (sectors_of a area)) (sym at) ∙ sym c.is_closed.ensures ∙ c.if-is_closed.false in
-      let ready : (g.T.SlotSectors.kind (geometry_of a area)).opens_ready ≡ true = ap (λ (u : Geometry). (g.T.SlotSectors.kind u).opens_ready) (sym c.geometry.ensures) ∙ sym c.opens_ready.ensures ∙ c.if-opens_ready.true in
+      let free : is_closed_at (g.T.SlotSectors.format_of (geometry_of a area)).reading (sectors_of a area) (next (sectors_of a area) place) ≡ false = ap (is_closed_at (g.T.SlotSectors.format_of (geometry_of a area)).reading (sectors_of a area)) (sym at) ∙ sym c.is_closed.ensures ∙ c.if-is_closed.false in
+      let ready : (g.T.SlotSectors.format_of (geometry_of a area)).opens_ready ≡ true = ap (λ (u : Geometry). (g.T.SlotSectors.format_of u).opens_ready) (sym c.geometry.ensures) ∙ sym c.opens_ready.ensures ∙ c.if-opens_ready.true in
       let e : Device = g.F.Flash.device c.prepare.new.flash in
-      subst (λ (r : Range). OnOk c.prepare.result (SpendsIn a e r)) (sym (open_units-are g.T.SlotSectors.kind a area place law c.requires.form c.requires.blank free true ready)) c.prepare.ensures.spends;
+      subst (λ (r : Range). OnOk c.prepare.result (SpendsIn a e r)) (sym (open_units-are g.T.SlotSectors.format_of a area place law c.requires.form c.requires.blank free true ready)) c.prepare.ensures.spends;
   spends_lost =
       let a : Device = g.F.Flash.device c.args.flash.now in
       let area : Area = c.args.area.now in
       let place : ℕ = c.args.current in
-      let law : IsKind (g.T.SlotSectors.kind (geometry_of a area)) = g.met.T.SlotSectors.lawful (geometry_of a area) (unit_is a area (g.met.F.Flash.is_lawful c.args.flash.now) c.requires.area.lawful) in
+      let law : IsSectorFormat (g.T.SlotSectors.format_of (geometry_of a area)) = g.met.T.SlotSectors.lawful (geometry_of a area) (unit_is a area (g.met.F.Flash.is_lawful c.args.flash.now) c.requires.area.lawful) in
       let at : c.next.result ≡ next (sectors_of a area) place = c.next.ensures.value ∙ next_there a area place in
-      let free : is_closed_at (g.T.SlotSectors.kind (geometry_of a area)).reading (sectors_of a area) (next (sectors_of a area) place) ≡ false = ap (is_closed_at (g.T.SlotSectors.kind (geometry_of a area)).reading (sectors_of a area)) (sym at) ∙ sym c.is_closed.ensures ∙ c.if-is_closed.false in
-      let ready : (g.T.SlotSectors.kind (geometry_of a area)).opens_ready ≡ true = ap (λ (u : Geometry). (g.T.SlotSectors.kind u).opens_ready) (sym c.geometry.ensures) ∙ sym c.opens_ready.ensures ∙ c.if-opens_ready.true in
+      let free : is_closed_at (g.T.SlotSectors.format_of (geometry_of a area)).reading (sectors_of a area) (next (sectors_of a area) place) ≡ false = ap (is_closed_at (g.T.SlotSectors.format_of (geometry_of a area)).reading (sectors_of a area)) (sym at) ∙ sym c.is_closed.ensures ∙ c.if-is_closed.false in
+      let ready : (g.T.SlotSectors.format_of (geometry_of a area)).opens_ready ≡ true = ap (λ (u : Geometry). (g.T.SlotSectors.format_of u).opens_ready) (sym c.geometry.ensures) ∙ sym c.opens_ready.ensures ∙ c.if-opens_ready.true in
       let e : Device = g.F.Flash.device c.prepare.new.flash in
-      subst (λ (r : Range). OnErr c.prepare.result (SpendsUpTo a e r)) (sym (open_units-are g.T.SlotSectors.kind a area place law c.requires.form c.requires.blank free true ready)) c.prepare.ensures.spends_lost;
+      subst (λ (r : Range). OnErr c.prepare.result (SpendsUpTo a e r)) (sym (open_units-are g.T.SlotSectors.format_of a area place law c.requires.form c.requires.blank free true ready)) c.prepare.ensures.spends_lost;
 }
 
 pub returns-then-opens_ready-clause-items : goal.returns-then-opens_ready-clause-items
@@ -148,23 +148,23 @@ returns-then-opens_ready-clause-items g c =
     let a : Device = g.F.Flash.device c.args.flash.now in
     let area : Area = c.args.area.now in
     let place : ℕ = c.args.current in
-    let law : IsKind (g.T.SlotSectors.kind (geometry_of a area)) = g.met.T.SlotSectors.lawful (geometry_of a area) (unit_is a area (g.met.F.Flash.is_lawful c.args.flash.now) c.requires.area.lawful) in
+    let law : IsSectorFormat (g.T.SlotSectors.format_of (geometry_of a area)) = g.met.T.SlotSectors.lawful (geometry_of a area) (unit_is a area (g.met.F.Flash.is_lawful c.args.flash.now) c.requires.area.lawful) in
     let at : c.next.result ≡ next (sectors_of a area) place = c.next.ensures.value ∙ next_there a area place in
-    let free : is_closed_at (g.T.SlotSectors.kind (geometry_of a area)).reading (sectors_of a area) (next (sectors_of a area) place) ≡ false = ap (is_closed_at (g.T.SlotSectors.kind (geometry_of a area)).reading (sectors_of a area)) (sym at) ∙ sym c.is_closed.ensures ∙ c.if-is_closed.false in
-    let ready : (g.T.SlotSectors.kind (geometry_of a area)).opens_ready ≡ true = ap (λ (u : Geometry). (g.T.SlotSectors.kind u).opens_ready) (sym c.geometry.ensures) ∙ sym c.opens_ready.ensures ∙ c.if-opens_ready.true in
+    let free : is_closed_at (g.T.SlotSectors.format_of (geometry_of a area)).reading (sectors_of a area) (next (sectors_of a area) place) ≡ false = ap (is_closed_at (g.T.SlotSectors.format_of (geometry_of a area)).reading (sectors_of a area)) (sym at) ∙ sym c.is_closed.ensures ∙ c.if-is_closed.false in
+    let ready : (g.T.SlotSectors.format_of (geometry_of a area)).opens_ready ≡ true = ap (λ (u : Geometry). (g.T.SlotSectors.format_of u).opens_ready) (sym c.geometry.ensures) ∙ sym c.opens_ready.ensures ∙ c.if-opens_ready.true in
     let e : Device = g.F.Flash.device c.prepare.new.flash in
     either c.prepare.result
-    (on_ok_weaker c.prepare.result (opened_keeps g.T.SlotSectors.kind a area place law c.requires.form c.requires.blank free e) c.prepare.ensures.begun)
-    (on_err_weaker c.prepare.result (ready_lost g.T.SlotSectors.kind a area place law c.requires.form c.requires.blank free ready e c.prepare.ensures.only) c.prepare.ensures.lost)
+    (on_ok_weaker c.prepare.result (opened_keeps g.T.SlotSectors.format_of a area place law c.requires.form c.requires.blank free e) c.prepare.ensures.begun)
+    (on_err_weaker c.prepare.result (ready_lost g.T.SlotSectors.format_of a area place law c.requires.form c.requires.blank free ready e c.prepare.ensures.only) c.prepare.ensures.lost)
 
 pub returns-then-opens_ready-clause-written : goal.returns-then-opens_ready-clause-written
 returns-then-opens_ready-clause-written g c =
     let a : Device = g.F.Flash.device c.args.flash.now in
     let area : Area = c.args.area.now in
     let place : ℕ = c.args.current in
-    let law : IsKind (g.T.SlotSectors.kind (geometry_of a area)) = g.met.T.SlotSectors.lawful (geometry_of a area) (unit_is a area (g.met.F.Flash.is_lawful c.args.flash.now) c.requires.area.lawful) in
+    let law : IsSectorFormat (g.T.SlotSectors.format_of (geometry_of a area)) = g.met.T.SlotSectors.lawful (geometry_of a area) (unit_is a area (g.met.F.Flash.is_lawful c.args.flash.now) c.requires.area.lawful) in
     let e : Device = g.F.Flash.device c.prepare.new.flash in
-    blank-written (g.T.SlotSectors.kind (geometry_of a area)) law (sectors_of a area) (sectors_of e area) place c.prepare.ensures.only c.requires.blank
+    blank-written (g.T.SlotSectors.format_of (geometry_of a area)) law (sectors_of a area) (sectors_of e area) place c.prepare.ensures.only c.requires.blank
 
 pub returns-clause-ends : goal.returns-clause-ends
 returns-clause-ends g c = record {
@@ -172,30 +172,30 @@ returns-clause-ends g c = record {
       let a : Device = g.F.Flash.device c.args.flash.now in
       let area : Area = c.args.area.now in
       let place : ℕ = c.args.current in
-      let law : IsKind (g.T.SlotSectors.kind (geometry_of a area)) = g.met.T.SlotSectors.lawful (geometry_of a area) (unit_is a area (g.met.F.Flash.is_lawful c.args.flash.now) c.requires.area.lawful) in
+      let law : IsSectorFormat (g.T.SlotSectors.format_of (geometry_of a area)) = g.met.T.SlotSectors.lawful (geometry_of a area) (unit_is a area (g.met.F.Flash.is_lawful c.args.flash.now) c.requires.area.lawful) in
       let at : c.next.result ≡ next (sectors_of a area) place = c.next.ensures.value ∙ next_there a area place in
-      let free : is_closed_at (g.T.SlotSectors.kind (geometry_of a area)).reading (sectors_of a area) (next (sectors_of a area) place) ≡ false = ap (is_closed_at (g.T.SlotSectors.kind (geometry_of a area)).reading (sectors_of a area)) (sym at) ∙ sym c.is_closed.ensures ∙ c.if-is_closed.false in
-      let ready : (g.T.SlotSectors.kind (geometry_of a area)).opens_ready ≡ false = ap (λ (u : Geometry). (g.T.SlotSectors.kind u).opens_ready) (sym c.geometry.ensures) ∙ sym c.opens_ready.ensures ∙ c.if-opens_ready.false in
-      λ rested. opened_idle g.T.SlotSectors.kind a area place law c.requires.form c.requires.blank free ready;
+      let free : is_closed_at (g.T.SlotSectors.format_of (geometry_of a area)).reading (sectors_of a area) (next (sectors_of a area) place) ≡ false = ap (is_closed_at (g.T.SlotSectors.format_of (geometry_of a area)).reading (sectors_of a area)) (sym at) ∙ sym c.is_closed.ensures ∙ c.if-is_closed.false in
+      let ready : (g.T.SlotSectors.format_of (geometry_of a area)).opens_ready ≡ false = ap (λ (u : Geometry). (g.T.SlotSectors.format_of u).opens_ready) (sym c.geometry.ensures) ∙ sym c.opens_ready.ensures ∙ c.if-opens_ready.false in
+      λ rested. opened_idle g.T.SlotSectors.format_of a area place law c.requires.form c.requires.blank free ready;
   collects =
       let a : Device = g.F.Flash.device c.args.flash.now in
       let area : Area = c.args.area.now in
       let place : ℕ = c.args.current in
-      let law : IsKind (g.T.SlotSectors.kind (geometry_of a area)) = g.met.T.SlotSectors.lawful (geometry_of a area) (unit_is a area (g.met.F.Flash.is_lawful c.args.flash.now) c.requires.area.lawful) in
+      let law : IsSectorFormat (g.T.SlotSectors.format_of (geometry_of a area)) = g.met.T.SlotSectors.lawful (geometry_of a area) (unit_is a area (g.met.F.Flash.is_lawful c.args.flash.now) c.requires.area.lawful) in
       let at : c.next.result ≡ next (sectors_of a area) place = c.next.ensures.value ∙ next_there a area place in
-      let free : is_closed_at (g.T.SlotSectors.kind (geometry_of a area)).reading (sectors_of a area) (next (sectors_of a area) place) ≡ false = ap (is_closed_at (g.T.SlotSectors.kind (geometry_of a area)).reading (sectors_of a area)) (sym at) ∙ sym c.is_closed.ensures ∙ c.if-is_closed.false in
-      λ collecting. no_collection g.T.SlotSectors.kind a area place law c.requires.form c.requires.blank free collecting;
+      let free : is_closed_at (g.T.SlotSectors.format_of (geometry_of a area)).reading (sectors_of a area) (next (sectors_of a area) place) ≡ false = ap (is_closed_at (g.T.SlotSectors.format_of (geometry_of a area)).reading (sectors_of a area)) (sym at) ∙ sym c.is_closed.ensures ∙ c.if-is_closed.false in
+      λ collecting. no_collection g.T.SlotSectors.format_of a area place law c.requires.form c.requires.blank free collecting;
   list_lost = search rules;
   kept = search rules;
   spends =
       let a : Device = g.F.Flash.device c.args.flash.now in
       let area : Area = c.args.area.now in
       let place : ℕ = c.args.current in
-      let law : IsKind (g.T.SlotSectors.kind (geometry_of a area)) = g.met.T.SlotSectors.lawful (geometry_of a area) (unit_is a area (g.met.F.Flash.is_lawful c.args.flash.now) c.requires.area.lawful) in
+      let law : IsSectorFormat (g.T.SlotSectors.format_of (geometry_of a area)) = g.met.T.SlotSectors.lawful (geometry_of a area) (unit_is a area (g.met.F.Flash.is_lawful c.args.flash.now) c.requires.area.lawful) in
       let at : c.next.result ≡ next (sectors_of a area) place = c.next.ensures.value ∙ next_there a area place in
-      let free : is_closed_at (g.T.SlotSectors.kind (geometry_of a area)).reading (sectors_of a area) (next (sectors_of a area) place) ≡ false = ap (is_closed_at (g.T.SlotSectors.kind (geometry_of a area)).reading (sectors_of a area)) (sym at) ∙ sym c.is_closed.ensures ∙ c.if-is_closed.false in
-      let ready : (g.T.SlotSectors.kind (geometry_of a area)).opens_ready ≡ false = ap (λ (u : Geometry). (g.T.SlotSectors.kind u).opens_ready) (sym c.geometry.ensures) ∙ sym c.opens_ready.ensures ∙ c.if-opens_ready.false in
-      subst (λ (r : Range). SpendsIn a a r) (sym (open_units-are g.T.SlotSectors.kind a area place law c.requires.form c.requires.blank free false ready)) (between_none a);
+      let free : is_closed_at (g.T.SlotSectors.format_of (geometry_of a area)).reading (sectors_of a area) (next (sectors_of a area) place) ≡ false = ap (is_closed_at (g.T.SlotSectors.format_of (geometry_of a area)).reading (sectors_of a area)) (sym at) ∙ sym c.is_closed.ensures ∙ c.if-is_closed.false in
+      let ready : (g.T.SlotSectors.format_of (geometry_of a area)).opens_ready ≡ false = ap (λ (u : Geometry). (g.T.SlotSectors.format_of u).opens_ready) (sym c.geometry.ensures) ∙ sym c.opens_ready.ensures ∙ c.if-opens_ready.false in
+      subst (λ (r : Range). SpendsIn a a r) (sym (open_units-are g.T.SlotSectors.format_of a area place law c.requires.form c.requires.blank free false ready)) (between_none a);
   spends_lost = search rules;
 }
 
@@ -204,7 +204,7 @@ returns-clause-items g c =
     let a : Device = g.F.Flash.device c.args.flash.now in
     let area : Area = c.args.area.now in
     let place : ℕ = c.args.current in
-    let law : IsKind (g.T.SlotSectors.kind (geometry_of a area)) = g.met.T.SlotSectors.lawful (geometry_of a area) (unit_is a area (g.met.F.Flash.is_lawful c.args.flash.now) c.requires.area.lawful) in
+    let law : IsSectorFormat (g.T.SlotSectors.format_of (geometry_of a area)) = g.met.T.SlotSectors.lawful (geometry_of a area) (unit_is a area (g.met.F.Flash.is_lawful c.args.flash.now) c.requires.area.lawful) in
     let at : c.next.result ≡ next (sectors_of a area) place = c.next.ensures.value ∙ next_there a area place in
-    let free : is_closed_at (g.T.SlotSectors.kind (geometry_of a area)).reading (sectors_of a area) (next (sectors_of a area) place) ≡ false = ap (is_closed_at (g.T.SlotSectors.kind (geometry_of a area)).reading (sectors_of a area)) (sym at) ∙ sym c.is_closed.ensures ∙ c.if-is_closed.false in
-    idle_keeps g.T.SlotSectors.kind a area place law c.requires.form c.requires.blank free
+    let free : is_closed_at (g.T.SlotSectors.format_of (geometry_of a area)).reading (sectors_of a area) (next (sectors_of a area) place) ≡ false = ap (is_closed_at (g.T.SlotSectors.format_of (geometry_of a area)).reading (sectors_of a area)) (sym at) ∙ sym c.is_closed.ensures ∙ c.if-is_closed.false in
+    idle_keeps g.T.SlotSectors.format_of a area place law c.requires.form c.requires.blank free

@@ -8,7 +8,7 @@ use Rattle.flash_map.proofs.SpendingBounds.{between_none}
 use Rattle.item_laws.specs.Area.{next}
 use Rattle.item_laws.specs.Forms.{IsForm}
 use Rattle.item_laws.proofs.AreaReads.{next_there, length-sectors}
-use Rattle.item_store.specs.Kind.{IsKind}
+use Rattle.item_store.specs.SectorFormat.{IsSectorFormat}
 use Rattle.item_store.specs.Steps.{Clears, StopsClearing}
 use Rattle.item_store.specs.Standing.{list_of, SpendsIn, SpendsUpTo}
 use Rattle.item_store.specs.Collecting.{redo_list, redo_units}
@@ -28,15 +28,15 @@ use Rattle.item_store.proofs.collecting.redo.Goals as goal
 pub returns-in-Nothing-clause-items : goal.returns-in-Nothing-clause-items
 returns-in-Nothing-clause-items g c =
     let a : Device = g.F.Flash.device c.args.flash.now in
-    keeps_none (g.T.SlotSectors.kind (geometry_of a c.args.area.now)) (sectors_of a c.args.area.now) c.requires.undamaged
+    keeps_none (g.T.SlotSectors.format_of (geometry_of a c.args.area.now)) (sectors_of a c.args.area.now) c.requires.undamaged
 
 pub what_to_redo-requires-clause-within : goal.what_to_redo-requires-clause-within
 what_to_redo-requires-clause-within g c =
     let a : Device = g.F.Flash.device c.args.flash.now in
     let area : Area = c.args.area.now in
     let place : ℕ = c.args.current in
-    let law : IsKind (g.T.SlotSectors.kind (geometry_of a area)) = g.met.T.SlotSectors.lawful (geometry_of a area) (unit_is a area (g.met.F.Flash.is_lawful c.args.flash.now) c.requires.area.lawful) in
-    let within = open_inside (g.T.SlotSectors.kind (geometry_of a area)) a area place c.requires.area.lawful c.requires.current in
+    let law : IsSectorFormat (g.T.SlotSectors.format_of (geometry_of a area)) = g.met.T.SlotSectors.lawful (geometry_of a area) (unit_is a area (g.met.F.Flash.is_lawful c.args.flash.now) c.requires.area.lawful) in
+    let within = open_inside (g.T.SlotSectors.format_of (geometry_of a area)) a area place c.requires.area.lawful c.requires.current in
     within
 
 pub next-requires : goal.next-requires
@@ -44,8 +44,8 @@ next-requires g c =
     let a : Device = g.F.Flash.device c.args.flash.now in
     let area : Area = c.args.area.now in
     let place : ℕ = c.args.current in
-    let law : IsKind (g.T.SlotSectors.kind (geometry_of a area)) = g.met.T.SlotSectors.lawful (geometry_of a area) (unit_is a area (g.met.F.Flash.is_lawful c.args.flash.now) c.requires.area.lawful) in
-    let within = open_inside (g.T.SlotSectors.kind (geometry_of a area)) a area place c.requires.area.lawful c.requires.current in
+    let law : IsSectorFormat (g.T.SlotSectors.format_of (geometry_of a area)) = g.met.T.SlotSectors.lawful (geometry_of a area) (unit_is a area (g.met.F.Flash.is_lawful c.args.flash.now) c.requires.area.lawful) in
+    let within = open_inside (g.T.SlotSectors.format_of (geometry_of a area)) a area place c.requires.area.lawful c.requires.current in
     within
 
 pub collect_again-requires-clause-collecting : goal.collect_again-requires-clause-collecting
@@ -53,11 +53,11 @@ collect_again-requires-clause-collecting g c =
     let a : Device = g.F.Flash.device c.args.flash.now in
     let area : Area = c.args.area.now in
     let place : ℕ = c.args.current in
-    let law : IsKind (g.T.SlotSectors.kind (geometry_of a area)) = g.met.T.SlotSectors.lawful (geometry_of a area) (unit_is a area (g.met.F.Flash.is_lawful c.args.flash.now) c.requires.area.lawful) in
+    let law : IsSectorFormat (g.T.SlotSectors.format_of (geometry_of a area)) = g.met.T.SlotSectors.lawful (geometry_of a area) (unit_is a area (g.met.F.Flash.is_lawful c.args.flash.now) c.requires.area.lawful) in
     let count = length-sectors a area in
-    let form : IsForm (g.T.SlotSectors.kind (geometry_of a area)).reading (sectors_of a area) place = form_here (g.T.SlotSectors.kind (geometry_of a area)) law (sectors_of a area) place (omega (arith, c.requires.area.lawful.several)) c.requires.undamaged c.requires.current in
+    let form : IsForm (g.T.SlotSectors.format_of (geometry_of a area)).reading (sectors_of a area) place = form_here (g.T.SlotSectors.format_of (geometry_of a area)) law (sectors_of a area) place (omega (arith, c.requires.area.lawful.several)) c.requires.undamaged c.requires.current in
     let what = sym c.what_to_redo.ensures ∙ c.in-CollectAgain.is in
-    collecting_from (g.T.SlotSectors.kind (geometry_of a area)) law (sectors_of a area) place form what
+    collecting_from (g.T.SlotSectors.format_of (geometry_of a area)) law (sectors_of a area) place form what
 
 pub returns-in-Nothing-clause-ends : goal.returns-in-Nothing-clause-ends
 returns-in-Nothing-clause-ends g c = record {
@@ -65,38 +65,38 @@ returns-in-Nothing-clause-ends g c = record {
       let a : Device = g.F.Flash.device c.args.flash.now in
       let area : Area = c.args.area.now in
       let place : ℕ = c.args.current in
-      let law : IsKind (g.T.SlotSectors.kind (geometry_of a area)) = g.met.T.SlotSectors.lawful (geometry_of a area) (unit_is a area (g.met.F.Flash.is_lawful c.args.flash.now) c.requires.area.lawful) in
+      let law : IsSectorFormat (g.T.SlotSectors.format_of (geometry_of a area)) = g.met.T.SlotSectors.lawful (geometry_of a area) (unit_is a area (g.met.F.Flash.is_lawful c.args.flash.now) c.requires.area.lawful) in
       let count = length-sectors a area in
-      let form : IsForm (g.T.SlotSectors.kind (geometry_of a area)).reading (sectors_of a area) place = form_here (g.T.SlotSectors.kind (geometry_of a area)) law (sectors_of a area) place (omega (arith, c.requires.area.lawful.several)) c.requires.undamaged c.requires.current in
+      let form : IsForm (g.T.SlotSectors.format_of (geometry_of a area)).reading (sectors_of a area) place = form_here (g.T.SlotSectors.format_of (geometry_of a area)) law (sectors_of a area) place (omega (arith, c.requires.area.lawful.several)) c.requires.undamaged c.requires.current in
       let what = sym c.what_to_redo.ensures ∙ c.in-Nothing.is in
-      rest_from (g.T.SlotSectors.kind (geometry_of a area)) law (sectors_of a area) place form what;
+      rest_from (g.T.SlotSectors.format_of (geometry_of a area)) law (sectors_of a area) place form what;
   list =
       let a : Device = g.F.Flash.device c.args.flash.now in
       let area : Area = c.args.area.now in
       let place : ℕ = c.args.current in
       let what = sym c.what_to_redo.ensures ∙ c.in-Nothing.is in
-      ap (redo_list (g.T.SlotSectors.kind (geometry_of a area)) (sectors_of a area) place) (sym what);
+      ap (redo_list (g.T.SlotSectors.format_of (geometry_of a area)) (sectors_of a area) place) (sym what);
   list_lost = search rules;
   busy = search rules;
   collects =
       let a : Device = g.F.Flash.device c.args.flash.now in
       let area : Area = c.args.area.now in
       let place : ℕ = c.args.current in
-      let law : IsKind (g.T.SlotSectors.kind (geometry_of a area)) = g.met.T.SlotSectors.lawful (geometry_of a area) (unit_is a area (g.met.F.Flash.is_lawful c.args.flash.now) c.requires.area.lawful) in
+      let law : IsSectorFormat (g.T.SlotSectors.format_of (geometry_of a area)) = g.met.T.SlotSectors.lawful (geometry_of a area) (unit_is a area (g.met.F.Flash.is_lawful c.args.flash.now) c.requires.area.lawful) in
       let count = length-sectors a area in
-      let form : IsForm (g.T.SlotSectors.kind (geometry_of a area)).reading (sectors_of a area) place = form_here (g.T.SlotSectors.kind (geometry_of a area)) law (sectors_of a area) place (omega (arith, c.requires.area.lawful.several)) c.requires.undamaged c.requires.current in
+      let form : IsForm (g.T.SlotSectors.format_of (geometry_of a area)).reading (sectors_of a area) place = form_here (g.T.SlotSectors.format_of (geometry_of a area)) law (sectors_of a area) place (omega (arith, c.requires.area.lawful.several)) c.requires.undamaged c.requires.current in
       let what = sym c.what_to_redo.ensures ∙ c.in-Nothing.is in
-      λ collecting. absurd (not_again (sym what ∙ redo-collecting (g.T.SlotSectors.kind (geometry_of a area)) law (sectors_of a area) place collecting));
+      λ collecting. absurd (not_again (sym what ∙ redo-collecting (g.T.SlotSectors.format_of (geometry_of a area)) law (sectors_of a area) place collecting));
   kept = search rules;
   spends =
       let a : Device = g.F.Flash.device c.args.flash.now in
       let area : Area = c.args.area.now in
       let place : ℕ = c.args.current in
-      let law : IsKind (g.T.SlotSectors.kind (geometry_of a area)) = g.met.T.SlotSectors.lawful (geometry_of a area) (unit_is a area (g.met.F.Flash.is_lawful c.args.flash.now) c.requires.area.lawful) in
+      let law : IsSectorFormat (g.T.SlotSectors.format_of (geometry_of a area)) = g.met.T.SlotSectors.lawful (geometry_of a area) (unit_is a area (g.met.F.Flash.is_lawful c.args.flash.now) c.requires.area.lawful) in
       let count = length-sectors a area in
-      let form : IsForm (g.T.SlotSectors.kind (geometry_of a area)).reading (sectors_of a area) place = form_here (g.T.SlotSectors.kind (geometry_of a area)) law (sectors_of a area) place (omega (arith, c.requires.area.lawful.several)) c.requires.undamaged c.requires.current in
+      let form : IsForm (g.T.SlotSectors.format_of (geometry_of a area)).reading (sectors_of a area) place = form_here (g.T.SlotSectors.format_of (geometry_of a area)) law (sectors_of a area) place (omega (arith, c.requires.area.lawful.several)) c.requires.undamaged c.requires.current in
       let what = sym c.what_to_redo.ensures ∙ c.in-Nothing.is in
-      subst (λ (what : Redo). SpendsIn a a (redo_units (g.T.SlotSectors.kind (geometry_of a area)) (sectors_of a area) place what)) (sym what) (between_none a);
+      subst (λ (what : Redo). SpendsIn a a (redo_units (g.T.SlotSectors.format_of (geometry_of a area)) (sectors_of a area) place what)) (sym what) (between_none a);
   spends_lost = search rules;
 }
 
@@ -106,110 +106,110 @@ returns-in-ClearNext-clause-ends g c = record {
       let a : Device = g.F.Flash.device c.args.flash.now in
       let area : Area = c.args.area.now in
       let place : ℕ = c.args.current in
-      let law : IsKind (g.T.SlotSectors.kind (geometry_of a area)) = g.met.T.SlotSectors.lawful (geometry_of a area) (unit_is a area (g.met.F.Flash.is_lawful c.args.flash.now) c.requires.area.lawful) in
+      let law : IsSectorFormat (g.T.SlotSectors.format_of (geometry_of a area)) = g.met.T.SlotSectors.lawful (geometry_of a area) (unit_is a area (g.met.F.Flash.is_lawful c.args.flash.now) c.requires.area.lawful) in
       let count = length-sectors a area in
-      let form : IsForm (g.T.SlotSectors.kind (geometry_of a area)).reading (sectors_of a area) place = form_here (g.T.SlotSectors.kind (geometry_of a area)) law (sectors_of a area) place (omega (arith, c.requires.area.lawful.several)) c.requires.undamaged c.requires.current in
+      let form : IsForm (g.T.SlotSectors.format_of (geometry_of a area)).reading (sectors_of a area) place = form_here (g.T.SlotSectors.format_of (geometry_of a area)) law (sectors_of a area) place (omega (arith, c.requires.area.lawful.several)) c.requires.undamaged c.requires.current in
       let what = sym c.what_to_redo.ensures ∙ c.in-ClearNext.is in
       let d : Device = g.F.Flash.device c.clear.new.flash in
       let at : c.next.result ≡ next (sectors_of a area) place = c.next.ensures.value ∙ next_there a area place in
       let only : ChangesOnly (sectors_of a area) (sectors_of d area) (next (sectors_of a area) place) = subst (λ (v : ℕ). ChangesOnly (sectors_of a area) (sectors_of d area) v) at c.clear.ensures.only in
-      let collected = collected_from (g.T.SlotSectors.kind (geometry_of a area)) law (sectors_of a area) place form what in
-      let emptied = λ (e : Clears (g.T.SlotSectors.kind (geometry_of a area)) (sector_at (sectors_of a area) c.next.result) (sector_at (sectors_of d area) c.next.result)).
-      victim_emptied (g.T.SlotSectors.kind (geometry_of a area)) law (sectors_of a area) (sectors_of d area) place collected only (subst (λ (v : ℕ). Clears (g.T.SlotSectors.kind (geometry_of a area)) (sector_at (sectors_of a area) v) (sector_at (sectors_of d area) v)) at e).clean in
-      let stays = λ (e : StopsClearing (g.T.SlotSectors.kind (geometry_of a area)) (sector_at (sectors_of a area) c.next.result) (sector_at (sectors_of d area) c.next.result)).
-      victim_cut_keeps (g.T.SlotSectors.kind (geometry_of a area)) law (sectors_of a area) (sectors_of d area) place collected only (subst (λ (v : ℕ). StopsClearing (g.T.SlotSectors.kind (geometry_of a area)) (sector_at (sectors_of a area) v) (sector_at (sectors_of d area) v)) at e) in
+      let collected = collected_from (g.T.SlotSectors.format_of (geometry_of a area)) law (sectors_of a area) place form what in
+      let emptied = λ (e : Clears (g.T.SlotSectors.format_of (geometry_of a area)) (sector_at (sectors_of a area) c.next.result) (sector_at (sectors_of d area) c.next.result)).
+      victim_emptied (g.T.SlotSectors.format_of (geometry_of a area)) law (sectors_of a area) (sectors_of d area) place collected only (subst (λ (v : ℕ). Clears (g.T.SlotSectors.format_of (geometry_of a area)) (sector_at (sectors_of a area) v) (sector_at (sectors_of d area) v)) at e).clean in
+      let stays = λ (e : StopsClearing (g.T.SlotSectors.format_of (geometry_of a area)) (sector_at (sectors_of a area) c.next.result) (sector_at (sectors_of d area) c.next.result)).
+      victim_cut_keeps (g.T.SlotSectors.format_of (geometry_of a area)) law (sectors_of a area) (sectors_of d area) place collected only (subst (λ (v : ℕ). StopsClearing (g.T.SlotSectors.format_of (geometry_of a area)) (sector_at (sectors_of a area) v) (sector_at (sectors_of d area) v)) at e) in
       on_ok_weaker c.clear.result (λ e. (emptied e).0) c.clear.ensures.clears;
   list =
       let a : Device = g.F.Flash.device c.args.flash.now in
       let area : Area = c.args.area.now in
       let place : ℕ = c.args.current in
-      let law : IsKind (g.T.SlotSectors.kind (geometry_of a area)) = g.met.T.SlotSectors.lawful (geometry_of a area) (unit_is a area (g.met.F.Flash.is_lawful c.args.flash.now) c.requires.area.lawful) in
+      let law : IsSectorFormat (g.T.SlotSectors.format_of (geometry_of a area)) = g.met.T.SlotSectors.lawful (geometry_of a area) (unit_is a area (g.met.F.Flash.is_lawful c.args.flash.now) c.requires.area.lawful) in
       let count = length-sectors a area in
-      let form : IsForm (g.T.SlotSectors.kind (geometry_of a area)).reading (sectors_of a area) place = form_here (g.T.SlotSectors.kind (geometry_of a area)) law (sectors_of a area) place (omega (arith, c.requires.area.lawful.several)) c.requires.undamaged c.requires.current in
+      let form : IsForm (g.T.SlotSectors.format_of (geometry_of a area)).reading (sectors_of a area) place = form_here (g.T.SlotSectors.format_of (geometry_of a area)) law (sectors_of a area) place (omega (arith, c.requires.area.lawful.several)) c.requires.undamaged c.requires.current in
       let what = sym c.what_to_redo.ensures ∙ c.in-ClearNext.is in
       let d : Device = g.F.Flash.device c.clear.new.flash in
       let at : c.next.result ≡ next (sectors_of a area) place = c.next.ensures.value ∙ next_there a area place in
       let only : ChangesOnly (sectors_of a area) (sectors_of d area) (next (sectors_of a area) place) = subst (λ (v : ℕ). ChangesOnly (sectors_of a area) (sectors_of d area) v) at c.clear.ensures.only in
-      let collected = collected_from (g.T.SlotSectors.kind (geometry_of a area)) law (sectors_of a area) place form what in
-      subst (λ (what : Redo). OnOk c.clear.result (list_of (g.T.SlotSectors.kind (geometry_of a area)) (sectors_of d area) ≡ redo_list (g.T.SlotSectors.kind (geometry_of a area)) (sectors_of a area) place what)) (sym what)
+      let collected = collected_from (g.T.SlotSectors.format_of (geometry_of a area)) law (sectors_of a area) place form what in
+      subst (λ (what : Redo). OnOk c.clear.result (list_of (g.T.SlotSectors.format_of (geometry_of a area)) (sectors_of d area) ≡ redo_list (g.T.SlotSectors.format_of (geometry_of a area)) (sectors_of a area) place what)) (sym what)
       (on_ok_weaker c.clear.result
-      (λ e. emptied-list (g.T.SlotSectors.kind (geometry_of a area)) law (sectors_of a area) (sectors_of d area) place collected only (subst (λ (v : ℕ). Clears (g.T.SlotSectors.kind (geometry_of a area)) (sector_at (sectors_of a area) v) (sector_at (sectors_of d area) v)) at e).clean)
+      (λ e. emptied-list (g.T.SlotSectors.format_of (geometry_of a area)) law (sectors_of a area) (sectors_of d area) place collected only (subst (λ (v : ℕ). Clears (g.T.SlotSectors.format_of (geometry_of a area)) (sector_at (sectors_of a area) v) (sector_at (sectors_of d area) v)) at e).clean)
       c.clear.ensures.clears);
   list_lost =
       let a : Device = g.F.Flash.device c.args.flash.now in
       let area : Area = c.args.area.now in
       let place : ℕ = c.args.current in
-      let law : IsKind (g.T.SlotSectors.kind (geometry_of a area)) = g.met.T.SlotSectors.lawful (geometry_of a area) (unit_is a area (g.met.F.Flash.is_lawful c.args.flash.now) c.requires.area.lawful) in
+      let law : IsSectorFormat (g.T.SlotSectors.format_of (geometry_of a area)) = g.met.T.SlotSectors.lawful (geometry_of a area) (unit_is a area (g.met.F.Flash.is_lawful c.args.flash.now) c.requires.area.lawful) in
       let count = length-sectors a area in
-      let form : IsForm (g.T.SlotSectors.kind (geometry_of a area)).reading (sectors_of a area) place = form_here (g.T.SlotSectors.kind (geometry_of a area)) law (sectors_of a area) place (omega (arith, c.requires.area.lawful.several)) c.requires.undamaged c.requires.current in
+      let form : IsForm (g.T.SlotSectors.format_of (geometry_of a area)).reading (sectors_of a area) place = form_here (g.T.SlotSectors.format_of (geometry_of a area)) law (sectors_of a area) place (omega (arith, c.requires.area.lawful.several)) c.requires.undamaged c.requires.current in
       let what = sym c.what_to_redo.ensures ∙ c.in-ClearNext.is in
       let d : Device = g.F.Flash.device c.clear.new.flash in
       let at : c.next.result ≡ next (sectors_of a area) place = c.next.ensures.value ∙ next_there a area place in
       let only : ChangesOnly (sectors_of a area) (sectors_of d area) (next (sectors_of a area) place) = subst (λ (v : ℕ). ChangesOnly (sectors_of a area) (sectors_of d area) v) at c.clear.ensures.only in
-      let collected = collected_from (g.T.SlotSectors.kind (geometry_of a area)) law (sectors_of a area) place form what in
+      let collected = collected_from (g.T.SlotSectors.format_of (geometry_of a area)) law (sectors_of a area) place form what in
       on_err_weaker c.clear.result
-      (λ e. inl (victim_cut-list (g.T.SlotSectors.kind (geometry_of a area)) law (sectors_of a area) (sectors_of d area) place collected only (subst (λ (v : ℕ). StopsClearing (g.T.SlotSectors.kind (geometry_of a area)) (sector_at (sectors_of a area) v) (sector_at (sectors_of d area) v)) at e)))
+      (λ e. inl (victim_cut-list (g.T.SlotSectors.format_of (geometry_of a area)) law (sectors_of a area) (sectors_of d area) place collected only (subst (λ (v : ℕ). StopsClearing (g.T.SlotSectors.format_of (geometry_of a area)) (sector_at (sectors_of a area) v) (sector_at (sectors_of d area) v)) at e)))
       c.clear.ensures.lost;
   busy =
       let a : Device = g.F.Flash.device c.args.flash.now in
       let area : Area = c.args.area.now in
       let place : ℕ = c.args.current in
-      let law : IsKind (g.T.SlotSectors.kind (geometry_of a area)) = g.met.T.SlotSectors.lawful (geometry_of a area) (unit_is a area (g.met.F.Flash.is_lawful c.args.flash.now) c.requires.area.lawful) in
+      let law : IsSectorFormat (g.T.SlotSectors.format_of (geometry_of a area)) = g.met.T.SlotSectors.lawful (geometry_of a area) (unit_is a area (g.met.F.Flash.is_lawful c.args.flash.now) c.requires.area.lawful) in
       let count = length-sectors a area in
-      let form : IsForm (g.T.SlotSectors.kind (geometry_of a area)).reading (sectors_of a area) place = form_here (g.T.SlotSectors.kind (geometry_of a area)) law (sectors_of a area) place (omega (arith, c.requires.area.lawful.several)) c.requires.undamaged c.requires.current in
+      let form : IsForm (g.T.SlotSectors.format_of (geometry_of a area)).reading (sectors_of a area) place = form_here (g.T.SlotSectors.format_of (geometry_of a area)) law (sectors_of a area) place (omega (arith, c.requires.area.lawful.several)) c.requires.undamaged c.requires.current in
       let what = sym c.what_to_redo.ensures ∙ c.in-ClearNext.is in
-      on_err c.clear.result (λ rest. not_next (sym (redo-at_rest (g.T.SlotSectors.kind (geometry_of a area)) law (sectors_of a area) place rest) ∙ what));
+      on_err c.clear.result (λ rest. not_next (sym (redo-at_rest (g.T.SlotSectors.format_of (geometry_of a area)) law (sectors_of a area) place rest) ∙ what));
   collects =
       let a : Device = g.F.Flash.device c.args.flash.now in
       let area : Area = c.args.area.now in
       let place : ℕ = c.args.current in
-      let law : IsKind (g.T.SlotSectors.kind (geometry_of a area)) = g.met.T.SlotSectors.lawful (geometry_of a area) (unit_is a area (g.met.F.Flash.is_lawful c.args.flash.now) c.requires.area.lawful) in
+      let law : IsSectorFormat (g.T.SlotSectors.format_of (geometry_of a area)) = g.met.T.SlotSectors.lawful (geometry_of a area) (unit_is a area (g.met.F.Flash.is_lawful c.args.flash.now) c.requires.area.lawful) in
       let count = length-sectors a area in
-      let form : IsForm (g.T.SlotSectors.kind (geometry_of a area)).reading (sectors_of a area) place = form_here (g.T.SlotSectors.kind (geometry_of a area)) law (sectors_of a area) place (omega (arith, c.requires.area.lawful.several)) c.requires.undamaged c.requires.current in
+      let form : IsForm (g.T.SlotSectors.format_of (geometry_of a area)).reading (sectors_of a area) place = form_here (g.T.SlotSectors.format_of (geometry_of a area)) law (sectors_of a area) place (omega (arith, c.requires.area.lawful.several)) c.requires.undamaged c.requires.current in
       let what = sym c.what_to_redo.ensures ∙ c.in-ClearNext.is in
-      on_ok_weaker c.clear.result (λ e collecting. absurd (next_not_again (sym what ∙ redo-collecting (g.T.SlotSectors.kind (geometry_of a area)) law (sectors_of a area) place collecting))) c.clear.ensures.clears;
+      on_ok_weaker c.clear.result (λ e collecting. absurd (next_not_again (sym what ∙ redo-collecting (g.T.SlotSectors.format_of (geometry_of a area)) law (sectors_of a area) place collecting))) c.clear.ensures.clears;
   kept =
       let a : Device = g.F.Flash.device c.args.flash.now in
       let area : Area = c.args.area.now in
       let place : ℕ = c.args.current in
-      let law : IsKind (g.T.SlotSectors.kind (geometry_of a area)) = g.met.T.SlotSectors.lawful (geometry_of a area) (unit_is a area (g.met.F.Flash.is_lawful c.args.flash.now) c.requires.area.lawful) in
+      let law : IsSectorFormat (g.T.SlotSectors.format_of (geometry_of a area)) = g.met.T.SlotSectors.lawful (geometry_of a area) (unit_is a area (g.met.F.Flash.is_lawful c.args.flash.now) c.requires.area.lawful) in
       let count = length-sectors a area in
-      let form : IsForm (g.T.SlotSectors.kind (geometry_of a area)).reading (sectors_of a area) place = form_here (g.T.SlotSectors.kind (geometry_of a area)) law (sectors_of a area) place (omega (arith, c.requires.area.lawful.several)) c.requires.undamaged c.requires.current in
+      let form : IsForm (g.T.SlotSectors.format_of (geometry_of a area)).reading (sectors_of a area) place = form_here (g.T.SlotSectors.format_of (geometry_of a area)) law (sectors_of a area) place (omega (arith, c.requires.area.lawful.several)) c.requires.undamaged c.requires.current in
       let what = sym c.what_to_redo.ensures ∙ c.in-ClearNext.is in
       let d : Device = g.F.Flash.device c.clear.new.flash in
       let at : c.next.result ≡ next (sectors_of a area) place = c.next.ensures.value ∙ next_there a area place in
       let only : ChangesOnly (sectors_of a area) (sectors_of d area) (next (sectors_of a area) place) = subst (λ (v : ℕ). ChangesOnly (sectors_of a area) (sectors_of d area) v) at c.clear.ensures.only in
-      let collected = collected_from (g.T.SlotSectors.kind (geometry_of a area)) law (sectors_of a area) place form what in
-      let emptied = λ (e : Clears (g.T.SlotSectors.kind (geometry_of a area)) (sector_at (sectors_of a area) c.next.result) (sector_at (sectors_of d area) c.next.result)).
-      victim_emptied (g.T.SlotSectors.kind (geometry_of a area)) law (sectors_of a area) (sectors_of d area) place collected only (subst (λ (v : ℕ). Clears (g.T.SlotSectors.kind (geometry_of a area)) (sector_at (sectors_of a area) v) (sector_at (sectors_of d area) v)) at e).clean in
-      let stays = λ (e : StopsClearing (g.T.SlotSectors.kind (geometry_of a area)) (sector_at (sectors_of a area) c.next.result) (sector_at (sectors_of d area) c.next.result)).
-      victim_cut_keeps (g.T.SlotSectors.kind (geometry_of a area)) law (sectors_of a area) (sectors_of d area) place collected only (subst (λ (v : ℕ). StopsClearing (g.T.SlotSectors.kind (geometry_of a area)) (sector_at (sectors_of a area) v) (sector_at (sectors_of d area) v)) at e) in
+      let collected = collected_from (g.T.SlotSectors.format_of (geometry_of a area)) law (sectors_of a area) place form what in
+      let emptied = λ (e : Clears (g.T.SlotSectors.format_of (geometry_of a area)) (sector_at (sectors_of a area) c.next.result) (sector_at (sectors_of d area) c.next.result)).
+      victim_emptied (g.T.SlotSectors.format_of (geometry_of a area)) law (sectors_of a area) (sectors_of d area) place collected only (subst (λ (v : ℕ). Clears (g.T.SlotSectors.format_of (geometry_of a area)) (sector_at (sectors_of a area) v) (sector_at (sectors_of d area) v)) at e).clean in
+      let stays = λ (e : StopsClearing (g.T.SlotSectors.format_of (geometry_of a area)) (sector_at (sectors_of a area) c.next.result) (sector_at (sectors_of d area) c.next.result)).
+      victim_cut_keeps (g.T.SlotSectors.format_of (geometry_of a area)) law (sectors_of a area) (sectors_of d area) place collected only (subst (λ (v : ℕ). StopsClearing (g.T.SlotSectors.format_of (geometry_of a area)) (sector_at (sectors_of a area) v) (sector_at (sectors_of d area) v)) at e) in
       let same = only_else (sectors_of a area) (sectors_of d area) (next (sectors_of a area) place) place only (λ (s : place ≡ next (sectors_of a area) place). after-apart _ place collected.ring.within collected.ring.several (sym s)) in
       on_ok_weaker c.clear.result (λ e. c.requires.kept ∙ ap (λ (b : List ℕ). g.T.SlotSectors.kept (geometry_of a area) b) (sym same)) c.clear.ensures.clears;
   spends =
       let a : Device = g.F.Flash.device c.args.flash.now in
       let area : Area = c.args.area.now in
       let place : ℕ = c.args.current in
-      let law : IsKind (g.T.SlotSectors.kind (geometry_of a area)) = g.met.T.SlotSectors.lawful (geometry_of a area) (unit_is a area (g.met.F.Flash.is_lawful c.args.flash.now) c.requires.area.lawful) in
+      let law : IsSectorFormat (g.T.SlotSectors.format_of (geometry_of a area)) = g.met.T.SlotSectors.lawful (geometry_of a area) (unit_is a area (g.met.F.Flash.is_lawful c.args.flash.now) c.requires.area.lawful) in
       let count = length-sectors a area in
-      let form : IsForm (g.T.SlotSectors.kind (geometry_of a area)).reading (sectors_of a area) place = form_here (g.T.SlotSectors.kind (geometry_of a area)) law (sectors_of a area) place (omega (arith, c.requires.area.lawful.several)) c.requires.undamaged c.requires.current in
+      let form : IsForm (g.T.SlotSectors.format_of (geometry_of a area)).reading (sectors_of a area) place = form_here (g.T.SlotSectors.format_of (geometry_of a area)) law (sectors_of a area) place (omega (arith, c.requires.area.lawful.several)) c.requires.undamaged c.requires.current in
       let what = sym c.what_to_redo.ensures ∙ c.in-ClearNext.is in
       let d : Device = g.F.Flash.device c.clear.new.flash in
       let at : c.next.result ≡ next (sectors_of a area) place = c.next.ensures.value ∙ next_there a area place in
-      subst (λ (what : Redo). OnOk c.clear.result (SpendsIn a d (redo_units (g.T.SlotSectors.kind (geometry_of a area)) (sectors_of a area) place what))) (sym what)
-      (subst (λ (v : ℕ). OnOk c.clear.result (SpendsIn a d ((g.T.SlotSectors.kind (geometry_of a area)).units.clear (sector_at (sectors_of a area) v)))) at c.clear.ensures.spends);
+      subst (λ (what : Redo). OnOk c.clear.result (SpendsIn a d (redo_units (g.T.SlotSectors.format_of (geometry_of a area)) (sectors_of a area) place what))) (sym what)
+      (subst (λ (v : ℕ). OnOk c.clear.result (SpendsIn a d ((g.T.SlotSectors.format_of (geometry_of a area)).units.clear (sector_at (sectors_of a area) v)))) at c.clear.ensures.spends);
   spends_lost =
       let a : Device = g.F.Flash.device c.args.flash.now in
       let area : Area = c.args.area.now in
       let place : ℕ = c.args.current in
-      let law : IsKind (g.T.SlotSectors.kind (geometry_of a area)) = g.met.T.SlotSectors.lawful (geometry_of a area) (unit_is a area (g.met.F.Flash.is_lawful c.args.flash.now) c.requires.area.lawful) in
+      let law : IsSectorFormat (g.T.SlotSectors.format_of (geometry_of a area)) = g.met.T.SlotSectors.lawful (geometry_of a area) (unit_is a area (g.met.F.Flash.is_lawful c.args.flash.now) c.requires.area.lawful) in
       let count = length-sectors a area in
-      let form : IsForm (g.T.SlotSectors.kind (geometry_of a area)).reading (sectors_of a area) place = form_here (g.T.SlotSectors.kind (geometry_of a area)) law (sectors_of a area) place (omega (arith, c.requires.area.lawful.several)) c.requires.undamaged c.requires.current in
+      let form : IsForm (g.T.SlotSectors.format_of (geometry_of a area)).reading (sectors_of a area) place = form_here (g.T.SlotSectors.format_of (geometry_of a area)) law (sectors_of a area) place (omega (arith, c.requires.area.lawful.several)) c.requires.undamaged c.requires.current in
       let what = sym c.what_to_redo.ensures ∙ c.in-ClearNext.is in
       let d : Device = g.F.Flash.device c.clear.new.flash in
       let at : c.next.result ≡ next (sectors_of a area) place = c.next.ensures.value ∙ next_there a area place in
-      subst (λ (what : Redo). OnErr c.clear.result (SpendsUpTo a d (redo_units (g.T.SlotSectors.kind (geometry_of a area)) (sectors_of a area) place what))) (sym what)
-      (subst (λ (v : ℕ). OnErr c.clear.result (SpendsUpTo a d ((g.T.SlotSectors.kind (geometry_of a area)).units.clear (sector_at (sectors_of a area) v)))) at c.clear.ensures.spends_lost);
+      subst (λ (what : Redo). OnErr c.clear.result (SpendsUpTo a d (redo_units (g.T.SlotSectors.format_of (geometry_of a area)) (sectors_of a area) place what))) (sym what)
+      (subst (λ (v : ℕ). OnErr c.clear.result (SpendsUpTo a d ((g.T.SlotSectors.format_of (geometry_of a area)).units.clear (sector_at (sectors_of a area) v)))) at c.clear.ensures.spends_lost);
 }
 
 pub returns-in-ClearNext-clause-items : goal.returns-in-ClearNext-clause-items
@@ -217,18 +217,18 @@ returns-in-ClearNext-clause-items g c =
     let a : Device = g.F.Flash.device c.args.flash.now in
     let area : Area = c.args.area.now in
     let place : ℕ = c.args.current in
-    let law : IsKind (g.T.SlotSectors.kind (geometry_of a area)) = g.met.T.SlotSectors.lawful (geometry_of a area) (unit_is a area (g.met.F.Flash.is_lawful c.args.flash.now) c.requires.area.lawful) in
+    let law : IsSectorFormat (g.T.SlotSectors.format_of (geometry_of a area)) = g.met.T.SlotSectors.lawful (geometry_of a area) (unit_is a area (g.met.F.Flash.is_lawful c.args.flash.now) c.requires.area.lawful) in
     let count = length-sectors a area in
-    let form : IsForm (g.T.SlotSectors.kind (geometry_of a area)).reading (sectors_of a area) place = form_here (g.T.SlotSectors.kind (geometry_of a area)) law (sectors_of a area) place (omega (arith, c.requires.area.lawful.several)) c.requires.undamaged c.requires.current in
+    let form : IsForm (g.T.SlotSectors.format_of (geometry_of a area)).reading (sectors_of a area) place = form_here (g.T.SlotSectors.format_of (geometry_of a area)) law (sectors_of a area) place (omega (arith, c.requires.area.lawful.several)) c.requires.undamaged c.requires.current in
     let what = sym c.what_to_redo.ensures ∙ c.in-ClearNext.is in
     let d : Device = g.F.Flash.device c.clear.new.flash in
     let at : c.next.result ≡ next (sectors_of a area) place = c.next.ensures.value ∙ next_there a area place in
     let only : ChangesOnly (sectors_of a area) (sectors_of d area) (next (sectors_of a area) place) = subst (λ (v : ℕ). ChangesOnly (sectors_of a area) (sectors_of d area) v) at c.clear.ensures.only in
-    let collected = collected_from (g.T.SlotSectors.kind (geometry_of a area)) law (sectors_of a area) place form what in
-    let emptied = λ (e : Clears (g.T.SlotSectors.kind (geometry_of a area)) (sector_at (sectors_of a area) c.next.result) (sector_at (sectors_of d area) c.next.result)).
-    victim_emptied (g.T.SlotSectors.kind (geometry_of a area)) law (sectors_of a area) (sectors_of d area) place collected only (subst (λ (v : ℕ). Clears (g.T.SlotSectors.kind (geometry_of a area)) (sector_at (sectors_of a area) v) (sector_at (sectors_of d area) v)) at e).clean in
-    let stays = λ (e : StopsClearing (g.T.SlotSectors.kind (geometry_of a area)) (sector_at (sectors_of a area) c.next.result) (sector_at (sectors_of d area) c.next.result)).
-    victim_cut_keeps (g.T.SlotSectors.kind (geometry_of a area)) law (sectors_of a area) (sectors_of d area) place collected only (subst (λ (v : ℕ). StopsClearing (g.T.SlotSectors.kind (geometry_of a area)) (sector_at (sectors_of a area) v) (sector_at (sectors_of d area) v)) at e) in
+    let collected = collected_from (g.T.SlotSectors.format_of (geometry_of a area)) law (sectors_of a area) place form what in
+    let emptied = λ (e : Clears (g.T.SlotSectors.format_of (geometry_of a area)) (sector_at (sectors_of a area) c.next.result) (sector_at (sectors_of d area) c.next.result)).
+    victim_emptied (g.T.SlotSectors.format_of (geometry_of a area)) law (sectors_of a area) (sectors_of d area) place collected only (subst (λ (v : ℕ). Clears (g.T.SlotSectors.format_of (geometry_of a area)) (sector_at (sectors_of a area) v) (sector_at (sectors_of d area) v)) at e).clean in
+    let stays = λ (e : StopsClearing (g.T.SlotSectors.format_of (geometry_of a area)) (sector_at (sectors_of a area) c.next.result) (sector_at (sectors_of d area) c.next.result)).
+    victim_cut_keeps (g.T.SlotSectors.format_of (geometry_of a area)) law (sectors_of a area) (sectors_of d area) place collected only (subst (λ (v : ℕ). StopsClearing (g.T.SlotSectors.format_of (geometry_of a area)) (sector_at (sectors_of a area) v) (sector_at (sectors_of d area) v)) at e) in
     either c.clear.result
     (on_ok_weaker c.clear.result (λ e. (emptied e).1) c.clear.ensures.clears)
     (on_err_weaker c.clear.result (λ e. stays e) c.clear.ensures.lost)
@@ -238,11 +238,11 @@ returns-in-ClearNext-clause-same g c =
     let a : Device = g.F.Flash.device c.args.flash.now in
     let area : Area = c.args.area.now in
     let place : ℕ = c.args.current in
-    let law : IsKind (g.T.SlotSectors.kind (geometry_of a area)) = g.met.T.SlotSectors.lawful (geometry_of a area) (unit_is a area (g.met.F.Flash.is_lawful c.args.flash.now) c.requires.area.lawful) in
+    let law : IsSectorFormat (g.T.SlotSectors.format_of (geometry_of a area)) = g.met.T.SlotSectors.lawful (geometry_of a area) (unit_is a area (g.met.F.Flash.is_lawful c.args.flash.now) c.requires.area.lawful) in
     let count = length-sectors a area in
-    let form : IsForm (g.T.SlotSectors.kind (geometry_of a area)).reading (sectors_of a area) place = form_here (g.T.SlotSectors.kind (geometry_of a area)) law (sectors_of a area) place (omega (arith, c.requires.area.lawful.several)) c.requires.undamaged c.requires.current in
+    let form : IsForm (g.T.SlotSectors.format_of (geometry_of a area)).reading (sectors_of a area) place = form_here (g.T.SlotSectors.format_of (geometry_of a area)) law (sectors_of a area) place (omega (arith, c.requires.area.lawful.several)) c.requires.undamaged c.requires.current in
     let what = sym c.what_to_redo.ensures ∙ c.in-ClearNext.is in
-    λ rest. absurd (not_next (sym (redo-at_rest (g.T.SlotSectors.kind (geometry_of a area)) law (sectors_of a area) place rest) ∙ what))
+    λ rest. absurd (not_next (sym (redo-at_rest (g.T.SlotSectors.format_of (geometry_of a area)) law (sectors_of a area) place rest) ∙ what))
 
 pub returns-in-CollectAgain-clause-ends : goal.returns-in-CollectAgain-clause-ends
 returns-in-CollectAgain-clause-ends g c = record {
@@ -250,58 +250,58 @@ returns-in-CollectAgain-clause-ends g c = record {
       let a : Device = g.F.Flash.device c.args.flash.now in
       let area : Area = c.args.area.now in
       let place : ℕ = c.args.current in
-      let law : IsKind (g.T.SlotSectors.kind (geometry_of a area)) = g.met.T.SlotSectors.lawful (geometry_of a area) (unit_is a area (g.met.F.Flash.is_lawful c.args.flash.now) c.requires.area.lawful) in
+      let law : IsSectorFormat (g.T.SlotSectors.format_of (geometry_of a area)) = g.met.T.SlotSectors.lawful (geometry_of a area) (unit_is a area (g.met.F.Flash.is_lawful c.args.flash.now) c.requires.area.lawful) in
       on_ok_weaker c.collect_again.result (λ at. at.collects.form) c.collect_again.ensures.collects;
   list =
       let a : Device = g.F.Flash.device c.args.flash.now in
       let area : Area = c.args.area.now in
       let place : ℕ = c.args.current in
-      let law : IsKind (g.T.SlotSectors.kind (geometry_of a area)) = g.met.T.SlotSectors.lawful (geometry_of a area) (unit_is a area (g.met.F.Flash.is_lawful c.args.flash.now) c.requires.area.lawful) in
+      let law : IsSectorFormat (g.T.SlotSectors.format_of (geometry_of a area)) = g.met.T.SlotSectors.lawful (geometry_of a area) (unit_is a area (g.met.F.Flash.is_lawful c.args.flash.now) c.requires.area.lawful) in
       let count = length-sectors a area in
-      let form : IsForm (g.T.SlotSectors.kind (geometry_of a area)).reading (sectors_of a area) place = form_here (g.T.SlotSectors.kind (geometry_of a area)) law (sectors_of a area) place (omega (arith, c.requires.area.lawful.several)) c.requires.undamaged c.requires.current in
+      let form : IsForm (g.T.SlotSectors.format_of (geometry_of a area)).reading (sectors_of a area) place = form_here (g.T.SlotSectors.format_of (geometry_of a area)) law (sectors_of a area) place (omega (arith, c.requires.area.lawful.several)) c.requires.undamaged c.requires.current in
       let what = sym c.what_to_redo.ensures ∙ c.in-CollectAgain.is in
       let d : Device = g.F.Flash.device c.collect_again.new.flash in
-      subst (λ (what : Redo). OnOk c.collect_again.result (list_of (g.T.SlotSectors.kind (geometry_of a area)) (sectors_of d area) ≡ redo_list (g.T.SlotSectors.kind (geometry_of a area)) (sectors_of a area) place what)) (sym what)
-      (on_ok_weaker c.collect_again.result (λ at. whole-list (g.T.SlotSectors.kind (geometry_of a area)) law (sectors_of a area) place (collecting_from (g.T.SlotSectors.kind (geometry_of a area)) law (sectors_of a area) place form what) (sectors_of d area) at) c.collect_again.ensures.collects);
+      subst (λ (what : Redo). OnOk c.collect_again.result (list_of (g.T.SlotSectors.format_of (geometry_of a area)) (sectors_of d area) ≡ redo_list (g.T.SlotSectors.format_of (geometry_of a area)) (sectors_of a area) place what)) (sym what)
+      (on_ok_weaker c.collect_again.result (λ at. whole-list (g.T.SlotSectors.format_of (geometry_of a area)) law (sectors_of a area) place (collecting_from (g.T.SlotSectors.format_of (geometry_of a area)) law (sectors_of a area) place form what) (sectors_of d area) at) c.collect_again.ensures.collects);
   list_lost =
       let a : Device = g.F.Flash.device c.args.flash.now in
       let area : Area = c.args.area.now in
       let place : ℕ = c.args.current in
-      let law : IsKind (g.T.SlotSectors.kind (geometry_of a area)) = g.met.T.SlotSectors.lawful (geometry_of a area) (unit_is a area (g.met.F.Flash.is_lawful c.args.flash.now) c.requires.area.lawful) in
+      let law : IsSectorFormat (g.T.SlotSectors.format_of (geometry_of a area)) = g.met.T.SlotSectors.lawful (geometry_of a area) (unit_is a area (g.met.F.Flash.is_lawful c.args.flash.now) c.requires.area.lawful) in
       let count = length-sectors a area in
-      let form : IsForm (g.T.SlotSectors.kind (geometry_of a area)).reading (sectors_of a area) place = form_here (g.T.SlotSectors.kind (geometry_of a area)) law (sectors_of a area) place (omega (arith, c.requires.area.lawful.several)) c.requires.undamaged c.requires.current in
+      let form : IsForm (g.T.SlotSectors.format_of (geometry_of a area)).reading (sectors_of a area) place = form_here (g.T.SlotSectors.format_of (geometry_of a area)) law (sectors_of a area) place (omega (arith, c.requires.area.lawful.several)) c.requires.undamaged c.requires.current in
       let what = sym c.what_to_redo.ensures ∙ c.in-CollectAgain.is in
       let d : Device = g.F.Flash.device c.collect_again.new.flash in
-      subst (λ (what : Redo). OnErr c.collect_again.result ((list_of (g.T.SlotSectors.kind (geometry_of a area)) (sectors_of d area) ≡ list_of (g.T.SlotSectors.kind (geometry_of a area)) (sectors_of a area)) ⊎ (list_of (g.T.SlotSectors.kind (geometry_of a area)) (sectors_of d area) ≡ redo_list (g.T.SlotSectors.kind (geometry_of a area)) (sectors_of a area) place what))) (sym what) c.collect_again.ensures.list_lost;
+      subst (λ (what : Redo). OnErr c.collect_again.result ((list_of (g.T.SlotSectors.format_of (geometry_of a area)) (sectors_of d area) ≡ list_of (g.T.SlotSectors.format_of (geometry_of a area)) (sectors_of a area)) ⊎ (list_of (g.T.SlotSectors.format_of (geometry_of a area)) (sectors_of d area) ≡ redo_list (g.T.SlotSectors.format_of (geometry_of a area)) (sectors_of a area) place what))) (sym what) c.collect_again.ensures.list_lost;
   busy =
       let a : Device = g.F.Flash.device c.args.flash.now in
       let area : Area = c.args.area.now in
       let place : ℕ = c.args.current in
-      let law : IsKind (g.T.SlotSectors.kind (geometry_of a area)) = g.met.T.SlotSectors.lawful (geometry_of a area) (unit_is a area (g.met.F.Flash.is_lawful c.args.flash.now) c.requires.area.lawful) in
+      let law : IsSectorFormat (g.T.SlotSectors.format_of (geometry_of a area)) = g.met.T.SlotSectors.lawful (geometry_of a area) (unit_is a area (g.met.F.Flash.is_lawful c.args.flash.now) c.requires.area.lawful) in
       let count = length-sectors a area in
-      let form : IsForm (g.T.SlotSectors.kind (geometry_of a area)).reading (sectors_of a area) place = form_here (g.T.SlotSectors.kind (geometry_of a area)) law (sectors_of a area) place (omega (arith, c.requires.area.lawful.several)) c.requires.undamaged c.requires.current in
+      let form : IsForm (g.T.SlotSectors.format_of (geometry_of a area)).reading (sectors_of a area) place = form_here (g.T.SlotSectors.format_of (geometry_of a area)) law (sectors_of a area) place (omega (arith, c.requires.area.lawful.several)) c.requires.undamaged c.requires.current in
       let what = sym c.what_to_redo.ensures ∙ c.in-CollectAgain.is in
-      on_err c.collect_again.result (λ rest. not_again (sym (redo-at_rest (g.T.SlotSectors.kind (geometry_of a area)) law (sectors_of a area) place rest) ∙ what));
+      on_err c.collect_again.result (λ rest. not_again (sym (redo-at_rest (g.T.SlotSectors.format_of (geometry_of a area)) law (sectors_of a area) place rest) ∙ what));
   collects = search rules;
   kept = search rules;
   spends =
       let a : Device = g.F.Flash.device c.args.flash.now in
       let area : Area = c.args.area.now in
       let place : ℕ = c.args.current in
-      let law : IsKind (g.T.SlotSectors.kind (geometry_of a area)) = g.met.T.SlotSectors.lawful (geometry_of a area) (unit_is a area (g.met.F.Flash.is_lawful c.args.flash.now) c.requires.area.lawful) in
+      let law : IsSectorFormat (g.T.SlotSectors.format_of (geometry_of a area)) = g.met.T.SlotSectors.lawful (geometry_of a area) (unit_is a area (g.met.F.Flash.is_lawful c.args.flash.now) c.requires.area.lawful) in
       let count = length-sectors a area in
-      let form : IsForm (g.T.SlotSectors.kind (geometry_of a area)).reading (sectors_of a area) place = form_here (g.T.SlotSectors.kind (geometry_of a area)) law (sectors_of a area) place (omega (arith, c.requires.area.lawful.several)) c.requires.undamaged c.requires.current in
+      let form : IsForm (g.T.SlotSectors.format_of (geometry_of a area)).reading (sectors_of a area) place = form_here (g.T.SlotSectors.format_of (geometry_of a area)) law (sectors_of a area) place (omega (arith, c.requires.area.lawful.several)) c.requires.undamaged c.requires.current in
       let what = sym c.what_to_redo.ensures ∙ c.in-CollectAgain.is in
-      subst (λ (what : Redo). OnOk c.collect_again.result (SpendsIn a (g.F.Flash.device c.collect_again.new.flash) (redo_units (g.T.SlotSectors.kind (geometry_of a area)) (sectors_of a area) place what))) (sym what) c.collect_again.ensures.spends;
+      subst (λ (what : Redo). OnOk c.collect_again.result (SpendsIn a (g.F.Flash.device c.collect_again.new.flash) (redo_units (g.T.SlotSectors.format_of (geometry_of a area)) (sectors_of a area) place what))) (sym what) c.collect_again.ensures.spends;
   spends_lost =
       let a : Device = g.F.Flash.device c.args.flash.now in
       let area : Area = c.args.area.now in
       let place : ℕ = c.args.current in
-      let law : IsKind (g.T.SlotSectors.kind (geometry_of a area)) = g.met.T.SlotSectors.lawful (geometry_of a area) (unit_is a area (g.met.F.Flash.is_lawful c.args.flash.now) c.requires.area.lawful) in
+      let law : IsSectorFormat (g.T.SlotSectors.format_of (geometry_of a area)) = g.met.T.SlotSectors.lawful (geometry_of a area) (unit_is a area (g.met.F.Flash.is_lawful c.args.flash.now) c.requires.area.lawful) in
       let count = length-sectors a area in
-      let form : IsForm (g.T.SlotSectors.kind (geometry_of a area)).reading (sectors_of a area) place = form_here (g.T.SlotSectors.kind (geometry_of a area)) law (sectors_of a area) place (omega (arith, c.requires.area.lawful.several)) c.requires.undamaged c.requires.current in
+      let form : IsForm (g.T.SlotSectors.format_of (geometry_of a area)).reading (sectors_of a area) place = form_here (g.T.SlotSectors.format_of (geometry_of a area)) law (sectors_of a area) place (omega (arith, c.requires.area.lawful.several)) c.requires.undamaged c.requires.current in
       let what = sym c.what_to_redo.ensures ∙ c.in-CollectAgain.is in
-      subst (λ (what : Redo). OnErr c.collect_again.result (SpendsUpTo a (g.F.Flash.device c.collect_again.new.flash) (redo_units (g.T.SlotSectors.kind (geometry_of a area)) (sectors_of a area) place what))) (sym what) c.collect_again.ensures.spends_lost;
+      subst (λ (what : Redo). OnErr c.collect_again.result (SpendsUpTo a (g.F.Flash.device c.collect_again.new.flash) (redo_units (g.T.SlotSectors.format_of (geometry_of a area)) (sectors_of a area) place what))) (sym what) c.collect_again.ensures.spends_lost;
 }
 
 pub returns-in-CollectAgain-clause-same : goal.returns-in-CollectAgain-clause-same
@@ -309,11 +309,11 @@ returns-in-CollectAgain-clause-same g c =
     let a : Device = g.F.Flash.device c.args.flash.now in
     let area : Area = c.args.area.now in
     let place : ℕ = c.args.current in
-    let law : IsKind (g.T.SlotSectors.kind (geometry_of a area)) = g.met.T.SlotSectors.lawful (geometry_of a area) (unit_is a area (g.met.F.Flash.is_lawful c.args.flash.now) c.requires.area.lawful) in
+    let law : IsSectorFormat (g.T.SlotSectors.format_of (geometry_of a area)) = g.met.T.SlotSectors.lawful (geometry_of a area) (unit_is a area (g.met.F.Flash.is_lawful c.args.flash.now) c.requires.area.lawful) in
     let count = length-sectors a area in
-    let form : IsForm (g.T.SlotSectors.kind (geometry_of a area)).reading (sectors_of a area) place = form_here (g.T.SlotSectors.kind (geometry_of a area)) law (sectors_of a area) place (omega (arith, c.requires.area.lawful.several)) c.requires.undamaged c.requires.current in
+    let form : IsForm (g.T.SlotSectors.format_of (geometry_of a area)).reading (sectors_of a area) place = form_here (g.T.SlotSectors.format_of (geometry_of a area)) law (sectors_of a area) place (omega (arith, c.requires.area.lawful.several)) c.requires.undamaged c.requires.current in
     let what = sym c.what_to_redo.ensures ∙ c.in-CollectAgain.is in
-    λ rest. absurd (not_again (sym (redo-at_rest (g.T.SlotSectors.kind (geometry_of a area)) law (sectors_of a area) place rest) ∙ what))
+    λ rest. absurd (not_again (sym (redo-at_rest (g.T.SlotSectors.format_of (geometry_of a area)) law (sectors_of a area) place rest) ∙ what))
 
 pub returns-in-Nothing-clause-written : goal.returns-in-Nothing-clause-written
 returns-in-Nothing-clause-written g c =
@@ -324,15 +324,15 @@ returns-in-ClearNext-clause-written g c =
     let a : Device = g.F.Flash.device c.args.flash.now in
     let area : Area = c.args.area.now in
     let place : ℕ = c.args.current in
-    let law : IsKind (g.T.SlotSectors.kind (geometry_of a area)) = g.met.T.SlotSectors.lawful (geometry_of a area) (unit_is a area (g.met.F.Flash.is_lawful c.args.flash.now) c.requires.area.lawful) in
+    let law : IsSectorFormat (g.T.SlotSectors.format_of (geometry_of a area)) = g.met.T.SlotSectors.lawful (geometry_of a area) (unit_is a area (g.met.F.Flash.is_lawful c.args.flash.now) c.requires.area.lawful) in
     let count = length-sectors a area in
-    let form : IsForm (g.T.SlotSectors.kind (geometry_of a area)).reading (sectors_of a area) place = form_here (g.T.SlotSectors.kind (geometry_of a area)) law (sectors_of a area) place (omega (arith, c.requires.area.lawful.several)) c.requires.undamaged c.requires.current in
+    let form : IsForm (g.T.SlotSectors.format_of (geometry_of a area)).reading (sectors_of a area) place = form_here (g.T.SlotSectors.format_of (geometry_of a area)) law (sectors_of a area) place (omega (arith, c.requires.area.lawful.several)) c.requires.undamaged c.requires.current in
     let what = sym c.what_to_redo.ensures ∙ c.in-ClearNext.is in
     let d : Device = g.F.Flash.device c.clear.new.flash in
     let at : c.next.result ≡ next (sectors_of a area) place = c.next.ensures.value ∙ next_there a area place in
     let only : ChangesOnly (sectors_of a area) (sectors_of d area) (next (sectors_of a area) place) = subst (λ (v : ℕ). ChangesOnly (sectors_of a area) (sectors_of d area) v) at c.clear.ensures.only in
-    let collected = collected_from (g.T.SlotSectors.kind (geometry_of a area)) law (sectors_of a area) place form what in
-    inr (victim-written (g.T.SlotSectors.kind (geometry_of a area)) law (sectors_of a area) (sectors_of d area) place collected only)
+    let collected = collected_from (g.T.SlotSectors.format_of (geometry_of a area)) law (sectors_of a area) place form what in
+    inr (victim-written (g.T.SlotSectors.format_of (geometry_of a area)) law (sectors_of a area) (sectors_of d area) place collected only)
 
 pub returns-in-CollectAgain-clause-written : goal.returns-in-CollectAgain-clause-written
 returns-in-CollectAgain-clause-written g c =

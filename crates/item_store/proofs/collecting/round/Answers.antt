@@ -5,7 +5,7 @@ use Rattle.flash_map.specs.Area.{geometry_of, sectors_of, sector_at}
 use Rattle.flash_map.proofs.PieceLemmas.{on_err}
 use Rattle.item_laws.specs.Area.{next}
 use Rattle.item_laws.proofs.AreaReads.{next_there}
-use Rattle.item_store.specs.Kind.{Kind, IsKind}
+use Rattle.item_store.specs.SectorFormat.{SectorFormat, IsSectorFormat}
 use Rattle.item_store.specs.Spending.{none, ready_units, again_units, has_victim}
 use Rattle.item_store.proofs.Areas.{unit_is}
 use Rattle.item_store.proofs.Ranges.{first-lost}
@@ -21,33 +21,33 @@ close-requires-clause-inside g c =
     let a : Device = g.F.Flash.device c.args.flash.now in
     let area : Area = c.args.area.now in
     let place : ℕ = c.args.current in
-    let law : IsKind (g.T.SlotSectors.kind (geometry_of a area)) = g.met.T.SlotSectors.lawful (geometry_of a area) (unit_is a area (g.met.F.Flash.is_lawful c.args.flash.now) c.requires.stands.area.lawful) in
-    open_within g.T.SlotSectors.kind g.T.SlotSectors.role a area place law (g.met.F.Flash.is_lawful c.args.flash.now) c.requires.stands.area c.requires.stands.undamaged c.requires.stands.current c.requires.stands.rested
+    let law : IsSectorFormat (g.T.SlotSectors.format_of (geometry_of a area)) = g.met.T.SlotSectors.lawful (geometry_of a area) (unit_is a area (g.met.F.Flash.is_lawful c.args.flash.now) c.requires.stands.area.lawful) in
+    open_within g.T.SlotSectors.format_of g.T.SlotSectors.role a area place law (g.met.F.Flash.is_lawful c.args.flash.now) c.requires.stands.area c.requires.stands.undamaged c.requires.stands.current c.requires.stands.rested
 
 pub close-requires-clause-sound : goal.close-requires-clause-sound
 close-requires-clause-sound g c =
     let a : Device = g.F.Flash.device c.args.flash.now in
     let area : Area = c.args.area.now in
     let place : ℕ = c.args.current in
-    let law : IsKind (g.T.SlotSectors.kind (geometry_of a area)) = g.met.T.SlotSectors.lawful (geometry_of a area) (unit_is a area (g.met.F.Flash.is_lawful c.args.flash.now) c.requires.stands.area.lawful) in
-    open_sound g.T.SlotSectors.kind g.T.SlotSectors.role a area place law (g.met.F.Flash.is_lawful c.args.flash.now) c.requires.stands.area c.requires.stands.undamaged c.requires.stands.current c.requires.stands.rested
+    let law : IsSectorFormat (g.T.SlotSectors.format_of (geometry_of a area)) = g.met.T.SlotSectors.lawful (geometry_of a area) (unit_is a area (g.met.F.Flash.is_lawful c.args.flash.now) c.requires.stands.area.lawful) in
+    open_sound g.T.SlotSectors.format_of g.T.SlotSectors.role a area place law (g.met.F.Flash.is_lawful c.args.flash.now) c.requires.stands.area c.requires.stands.undamaged c.requires.stands.current c.requires.stands.rested
 
 pub close-requires-clause-not_closed : goal.close-requires-clause-not_closed
 close-requires-clause-not_closed g c =
     let a : Device = g.F.Flash.device c.args.flash.now in
     let area : Area = c.args.area.now in
     let place : ℕ = c.args.current in
-    let law : IsKind (g.T.SlotSectors.kind (geometry_of a area)) = g.met.T.SlotSectors.lawful (geometry_of a area) (unit_is a area (g.met.F.Flash.is_lawful c.args.flash.now) c.requires.stands.area.lawful) in
-    open_not_closed g.T.SlotSectors.kind g.T.SlotSectors.role a area place law (g.met.F.Flash.is_lawful c.args.flash.now) c.requires.stands.area c.requires.stands.undamaged c.requires.stands.current c.requires.stands.rested
+    let law : IsSectorFormat (g.T.SlotSectors.format_of (geometry_of a area)) = g.met.T.SlotSectors.lawful (geometry_of a area) (unit_is a area (g.met.F.Flash.is_lawful c.args.flash.now) c.requires.stands.area.lawful) in
+    open_not_closed g.T.SlotSectors.format_of g.T.SlotSectors.role a area place law (g.met.F.Flash.is_lawful c.args.flash.now) c.requires.stands.area c.requires.stands.undamaged c.requires.stands.current c.requires.stands.rested
 
 pub returns-in_err-close-clause-items : goal.returns-in_err-close-clause-items
 returns-in_err-close-clause-items g c =
     let a : Device = g.F.Flash.device c.args.flash.now in
     let area : Area = c.args.area.now in
     let place : ℕ = c.args.current in
-    let law : IsKind (g.T.SlotSectors.kind (geometry_of a area)) = g.met.T.SlotSectors.lawful (geometry_of a area) (unit_is a area (g.met.F.Flash.is_lawful c.args.flash.now) c.requires.stands.area.lawful) in
+    let law : IsSectorFormat (g.T.SlotSectors.format_of (geometry_of a area)) = g.met.T.SlotSectors.lawful (geometry_of a area) (unit_is a area (g.met.F.Flash.is_lawful c.args.flash.now) c.requires.stands.area.lawful) in
     let b : Device = g.F.Flash.device c.close.new.flash in
-    close_lost g.T.SlotSectors.kind g.T.SlotSectors.role a area place law (g.met.F.Flash.is_lawful c.args.flash.now) c.requires.stands.area c.requires.stands.undamaged c.requires.stands.current c.requires.stands.rested b c.in_err-close.ensures.touches.banks c.in_err-close.ensures.ends.only c.in_err-close.ensures.ends.lost
+    close_lost g.T.SlotSectors.format_of g.T.SlotSectors.role a area place law (g.met.F.Flash.is_lawful c.args.flash.now) c.requires.stands.area c.requires.stands.undamaged c.requires.stands.current c.requires.stands.rested b c.in_err-close.ensures.touches.banks c.in_err-close.ensures.ends.only c.in_err-close.ensures.ends.lost
 
 pub returns-in_err-close-clause-ends : goal.returns-in_err-close-clause-ends
 returns-in_err-close-clause-ends g c = record {
@@ -56,15 +56,15 @@ returns-in_err-close-clause-ends g c = record {
       let a : Device = g.F.Flash.device c.args.flash.now in
       let area : Area = c.args.area.now in
       let place : ℕ = c.args.current in
-      let law : IsKind (g.T.SlotSectors.kind (geometry_of a area)) = g.met.T.SlotSectors.lawful (geometry_of a area) (unit_is a area (g.met.F.Flash.is_lawful c.args.flash.now) c.requires.stands.area.lawful) in
+      let law : IsSectorFormat (g.T.SlotSectors.format_of (geometry_of a area)) = g.met.T.SlotSectors.lawful (geometry_of a area) (unit_is a area (g.met.F.Flash.is_lawful c.args.flash.now) c.requires.stands.area.lawful) in
       let b : Device = g.F.Flash.device c.close.new.flash in
-      on_err c.from_residual.result (close_lost_list g.T.SlotSectors.kind g.T.SlotSectors.role a area place law (g.met.F.Flash.is_lawful c.args.flash.now) c.requires.stands.area c.requires.stands.undamaged c.requires.stands.current c.requires.stands.rested b c.in_err-close.ensures.touches.banks c.in_err-close.ensures.ends.only c.in_err-close.ensures.ends.lost);
+      on_err c.from_residual.result (close_lost_list g.T.SlotSectors.format_of g.T.SlotSectors.role a area place law (g.met.F.Flash.is_lawful c.args.flash.now) c.requires.stands.area c.requires.stands.undamaged c.requires.stands.current c.requires.stands.rested b c.in_err-close.ensures.touches.banks c.in_err-close.ensures.ends.only c.in_err-close.ensures.ends.lost);
   kept = search rules;
-  turns = search rules;
+  does_pass = search rules;
   spends = search rules;
   spends_lost =
       let a : Device = g.F.Flash.device c.args.flash.now in
-      let k : Kind = g.T.SlotSectors.kind (geometry_of a c.args.area.now) in
+      let k : SectorFormat = g.T.SlotSectors.format_of (geometry_of a c.args.area.now) in
       let old = sectors_of a c.args.area.now in
       let opened = next old c.args.current in
       on_err c.from_residual.result
@@ -76,42 +76,42 @@ next-place-requires g c =
     let a : Device = g.F.Flash.device c.args.flash.now in
     let area : Area = c.args.area.now in
     let place : ℕ = c.args.current in
-    let law : IsKind (g.T.SlotSectors.kind (geometry_of a area)) = g.met.T.SlotSectors.lawful (geometry_of a area) (unit_is a area (g.met.F.Flash.is_lawful c.args.flash.now) c.requires.stands.area.lawful) in
-    open_within g.T.SlotSectors.kind g.T.SlotSectors.role a area place law (g.met.F.Flash.is_lawful c.args.flash.now) c.requires.stands.area c.requires.stands.undamaged c.requires.stands.current c.requires.stands.rested
+    let law : IsSectorFormat (g.T.SlotSectors.format_of (geometry_of a area)) = g.met.T.SlotSectors.lawful (geometry_of a area) (unit_is a area (g.met.F.Flash.is_lawful c.args.flash.now) c.requires.stands.area.lawful) in
+    open_within g.T.SlotSectors.format_of g.T.SlotSectors.role a area place law (g.met.F.Flash.is_lawful c.args.flash.now) c.requires.stands.area c.requires.stands.undamaged c.requires.stands.current c.requires.stands.rested
 
 pub open_next-requires-clause-form : goal.open_next-requires-clause-form
 open_next-requires-clause-form g c =
     let a : Device = g.F.Flash.device c.args.flash.now in
     let area : Area = c.args.area.now in
     let place : ℕ = c.args.current in
-    let law : IsKind (g.T.SlotSectors.kind (geometry_of a area)) = g.met.T.SlotSectors.lawful (geometry_of a area) (unit_is a area (g.met.F.Flash.is_lawful c.args.flash.now) c.requires.stands.area.lawful) in
+    let law : IsSectorFormat (g.T.SlotSectors.format_of (geometry_of a area)) = g.met.T.SlotSectors.lawful (geometry_of a area) (unit_is a area (g.met.F.Flash.is_lawful c.args.flash.now) c.requires.stands.area.lawful) in
     let b : Device = g.F.Flash.device c.close.new.flash in
     let did = c.in_ok-close.ensures in
     let at : c.next-place.result ≡ next (sectors_of a area) place = c.next-place.ensures.value ∙ next_there a area place in
-    next_form g.T.SlotSectors.kind g.T.SlotSectors.role a area place law (g.met.F.Flash.is_lawful c.args.flash.now) c.requires.stands.area c.requires.stands.undamaged c.requires.stands.current c.requires.stands.rested b did.touches.banks did.ends.only did.ends.closes c.next-place.result at
+    next_form g.T.SlotSectors.format_of g.T.SlotSectors.role a area place law (g.met.F.Flash.is_lawful c.args.flash.now) c.requires.stands.area c.requires.stands.undamaged c.requires.stands.current c.requires.stands.rested b did.touches.banks did.ends.only did.ends.closes c.next-place.result at
 
 pub open_next-requires-clause-blank : goal.open_next-requires-clause-blank
 open_next-requires-clause-blank g c =
     let a : Device = g.F.Flash.device c.args.flash.now in
     let area : Area = c.args.area.now in
     let place : ℕ = c.args.current in
-    let law : IsKind (g.T.SlotSectors.kind (geometry_of a area)) = g.met.T.SlotSectors.lawful (geometry_of a area) (unit_is a area (g.met.F.Flash.is_lawful c.args.flash.now) c.requires.stands.area.lawful) in
+    let law : IsSectorFormat (g.T.SlotSectors.format_of (geometry_of a area)) = g.met.T.SlotSectors.lawful (geometry_of a area) (unit_is a area (g.met.F.Flash.is_lawful c.args.flash.now) c.requires.stands.area.lawful) in
     let b : Device = g.F.Flash.device c.close.new.flash in
     let did = c.in_ok-close.ensures in
     let at : c.next-place.result ≡ next (sectors_of a area) place = c.next-place.ensures.value ∙ next_there a area place in
-    next_unused g.T.SlotSectors.kind g.T.SlotSectors.role a area place law (g.met.F.Flash.is_lawful c.args.flash.now) c.requires.stands.area c.requires.stands.undamaged c.requires.stands.current c.requires.stands.rested b did.touches.banks did.ends.only did.ends.closes c.next-place.result at
+    next_unused g.T.SlotSectors.format_of g.T.SlotSectors.role a area place law (g.met.F.Flash.is_lawful c.args.flash.now) c.requires.stands.area c.requires.stands.undamaged c.requires.stands.current c.requires.stands.rested b did.touches.banks did.ends.only did.ends.closes c.next-place.result at
 
 pub returns-in_err-open_next-clause-items : goal.returns-in_err-open_next-clause-items
 returns-in_err-open_next-clause-items g c =
     let a : Device = g.F.Flash.device c.args.flash.now in
     let area : Area = c.args.area.now in
     let place : ℕ = c.args.current in
-    let law : IsKind (g.T.SlotSectors.kind (geometry_of a area)) = g.met.T.SlotSectors.lawful (geometry_of a area) (unit_is a area (g.met.F.Flash.is_lawful c.args.flash.now) c.requires.stands.area.lawful) in
+    let law : IsSectorFormat (g.T.SlotSectors.format_of (geometry_of a area)) = g.met.T.SlotSectors.lawful (geometry_of a area) (unit_is a area (g.met.F.Flash.is_lawful c.args.flash.now) c.requires.stands.area.lawful) in
     let b : Device = g.F.Flash.device c.close.new.flash in
     let did = c.in_ok-close.ensures in
     let at : c.next-place.result ≡ next (sectors_of a area) place = c.next-place.ensures.value ∙ next_there a area place in
     let e : Device = g.F.Flash.device c.open_next.new.flash in
-    next_keeps g.T.SlotSectors.kind g.T.SlotSectors.role a area place law (g.met.F.Flash.is_lawful c.args.flash.now) c.requires.stands.area c.requires.stands.undamaged c.requires.stands.current c.requires.stands.rested b did.touches.banks did.ends.only did.ends.closes c.next-place.result at e c.in_err-open_next.ensures.items
+    next_keeps g.T.SlotSectors.format_of g.T.SlotSectors.role a area place law (g.met.F.Flash.is_lawful c.args.flash.now) c.requires.stands.area c.requires.stands.undamaged c.requires.stands.current c.requires.stands.rested b did.touches.banks did.ends.only did.ends.closes c.next-place.result at e c.in_err-open_next.ensures.items
 
 pub returns-in_err-open_next-clause-ends : goal.returns-in_err-open_next-clause-ends
 returns-in_err-open_next-clause-ends g c = record {
@@ -120,25 +120,25 @@ returns-in_err-open_next-clause-ends g c = record {
       let a : Device = g.F.Flash.device c.args.flash.now in
       let area : Area = c.args.area.now in
       let place : ℕ = c.args.current in
-      let law : IsKind (g.T.SlotSectors.kind (geometry_of a area)) = g.met.T.SlotSectors.lawful (geometry_of a area) (unit_is a area (g.met.F.Flash.is_lawful c.args.flash.now) c.requires.stands.area.lawful) in
+      let law : IsSectorFormat (g.T.SlotSectors.format_of (geometry_of a area)) = g.met.T.SlotSectors.lawful (geometry_of a area) (unit_is a area (g.met.F.Flash.is_lawful c.args.flash.now) c.requires.stands.area.lawful) in
       let b : Device = g.F.Flash.device c.close.new.flash in
       let did = c.in_ok-close.ensures in
       let at : c.next-place.result ≡ next (sectors_of a area) place = c.next-place.ensures.value ∙ next_there a area place in
       let e : Device = g.F.Flash.device c.open_next.new.flash in
-      on_err c.from_residual-in_err-open_next.result (next_lost_list g.T.SlotSectors.kind g.T.SlotSectors.role a area place law (g.met.F.Flash.is_lawful c.args.flash.now) c.requires.stands.area c.requires.stands.undamaged c.requires.stands.current c.requires.stands.rested b did.touches.banks did.ends.only did.ends.closes c.next-place.result at e c.in_err-open_next.ensures.ends.list_lost);
+      on_err c.from_residual-in_err-open_next.result (next_lost_list g.T.SlotSectors.format_of g.T.SlotSectors.role a area place law (g.met.F.Flash.is_lawful c.args.flash.now) c.requires.stands.area c.requires.stands.undamaged c.requires.stands.current c.requires.stands.rested b did.touches.banks did.ends.only did.ends.closes c.next-place.result at e c.in_err-open_next.ensures.ends.list_lost);
   kept = search rules;
-  turns = search rules;
+  does_pass = search rules;
   spends = search rules;
   spends_lost =
       let a : Device = g.F.Flash.device c.args.flash.now in
       let area : Area = c.args.area.now in
       let place : ℕ = c.args.current in
-      let law : IsKind (g.T.SlotSectors.kind (geometry_of a area)) = g.met.T.SlotSectors.lawful (geometry_of a area) (unit_is a area (g.met.F.Flash.is_lawful c.args.flash.now) c.requires.stands.area.lawful) in
+      let law : IsSectorFormat (g.T.SlotSectors.format_of (geometry_of a area)) = g.met.T.SlotSectors.lawful (geometry_of a area) (unit_is a area (g.met.F.Flash.is_lawful c.args.flash.now) c.requires.stands.area.lawful) in
       let b : Device = g.F.Flash.device c.close.new.flash in
       let did = c.in_ok-close.ensures in
       let at : c.next-place.result ≡ next (sectors_of a area) place = c.next-place.ensures.value ∙ next_there a area place in
       let e : Device = g.F.Flash.device c.open_next.new.flash in
-      on_err c.from_residual-in_err-open_next.result (round_spends_lost g.T.SlotSectors.kind g.T.SlotSectors.role a area place law (g.met.F.Flash.is_lawful c.args.flash.now) c.requires.stands.area c.requires.stands.undamaged c.requires.stands.current c.requires.stands.rested b did.touches.banks did.ends.only did.ends.closes c.next-place.result at e did.ends.spends c.in_err-open_next.ensures.ends.spends_lost);
+      on_err c.from_residual-in_err-open_next.result (round_spends_lost g.T.SlotSectors.format_of g.T.SlotSectors.role a area place law (g.met.F.Flash.is_lawful c.args.flash.now) c.requires.stands.area c.requires.stands.undamaged c.requires.stands.current c.requires.stands.rested b did.touches.banks did.ends.only did.ends.closes c.next-place.result at e did.ends.spends c.in_err-open_next.ensures.ends.spends_lost);
 }
 
 pub returns-clause-opened : goal.returns-clause-opened
@@ -146,7 +146,7 @@ returns-clause-opened g c =
     let a : Device = g.F.Flash.device c.args.flash.now in
     let area : Area = c.args.area.now in
     let place : ℕ = c.args.current in
-    let law : IsKind (g.T.SlotSectors.kind (geometry_of a area)) = g.met.T.SlotSectors.lawful (geometry_of a area) (unit_is a area (g.met.F.Flash.is_lawful c.args.flash.now) c.requires.stands.area.lawful) in
+    let law : IsSectorFormat (g.T.SlotSectors.format_of (geometry_of a area)) = g.met.T.SlotSectors.lawful (geometry_of a area) (unit_is a area (g.met.F.Flash.is_lawful c.args.flash.now) c.requires.stands.area.lawful) in
     let b : Device = g.F.Flash.device c.close.new.flash in
     let did = c.in_ok-close.ensures in
     let at : c.next-place.result ≡ next (sectors_of a area) place = c.next-place.ensures.value ∙ next_there a area place in
@@ -158,44 +158,44 @@ returns-clause-ends g c = record {
       let a : Device = g.F.Flash.device c.args.flash.now in
       let area : Area = c.args.area.now in
       let place : ℕ = c.args.current in
-      let law : IsKind (g.T.SlotSectors.kind (geometry_of a area)) = g.met.T.SlotSectors.lawful (geometry_of a area) (unit_is a area (g.met.F.Flash.is_lawful c.args.flash.now) c.requires.stands.area.lawful) in
+      let law : IsSectorFormat (g.T.SlotSectors.format_of (geometry_of a area)) = g.met.T.SlotSectors.lawful (geometry_of a area) (unit_is a area (g.met.F.Flash.is_lawful c.args.flash.now) c.requires.stands.area.lawful) in
       let b : Device = g.F.Flash.device c.close.new.flash in
       let did = c.in_ok-close.ensures in
       let at : c.next-place.result ≡ next (sectors_of a area) place = c.next-place.ensures.value ∙ next_there a area place in
       let e : Device = g.F.Flash.device c.open_next.new.flash in
-      (next_turns g.T.SlotSectors.kind g.T.SlotSectors.role a area place law (g.met.F.Flash.is_lawful c.args.flash.now) c.requires.stands.area c.requires.stands.undamaged c.requires.stands.current c.requires.stands.rested b did.touches.banks did.ends.only did.ends.closes c.next-place.result at e (g.met.F.Flash.is_lawful c.close.new.flash) c.in_ok-open_next.ensures.ends.opens c.in_ok-open_next.ensures.ends.collects).round.form;
+      (next_turns g.T.SlotSectors.format_of g.T.SlotSectors.role a area place law (g.met.F.Flash.is_lawful c.args.flash.now) c.requires.stands.area c.requires.stands.undamaged c.requires.stands.current c.requires.stands.rested b did.touches.banks did.ends.only did.ends.closes c.next-place.result at e (g.met.F.Flash.is_lawful c.close.new.flash) c.in_ok-open_next.ensures.ends.opens c.in_ok-open_next.ensures.ends.collects).round.form;
   list_lost = search rules;
   kept =
       let a : Device = g.F.Flash.device c.args.flash.now in
       let area : Area = c.args.area.now in
       let place : ℕ = c.args.current in
-      let law : IsKind (g.T.SlotSectors.kind (geometry_of a area)) = g.met.T.SlotSectors.lawful (geometry_of a area) (unit_is a area (g.met.F.Flash.is_lawful c.args.flash.now) c.requires.stands.area.lawful) in
+      let law : IsSectorFormat (g.T.SlotSectors.format_of (geometry_of a area)) = g.met.T.SlotSectors.lawful (geometry_of a area) (unit_is a area (g.met.F.Flash.is_lawful c.args.flash.now) c.requires.stands.area.lawful) in
       let b : Device = g.F.Flash.device c.close.new.flash in
       let did = c.in_ok-close.ensures in
       let at : c.next-place.result ≡ next (sectors_of a area) place = c.next-place.ensures.value ∙ next_there a area place in
       let e : Device = g.F.Flash.device c.open_next.new.flash in
       subst (λ (p : ℕ). c.open_next.new.opened ≡ g.T.SlotSectors.kept (geometry_of a area) (sector_at (sectors_of e area) p)) at
       (to_geometry (λ u. c.open_next.new.opened ≡ g.T.SlotSectors.kept u (sector_at (sectors_of e area) c.next-place.result)) a b area did.touches.banks c.in_ok-open_next.ensures.ends.kept);
-  turns =
+  does_pass =
       let a : Device = g.F.Flash.device c.args.flash.now in
       let area : Area = c.args.area.now in
       let place : ℕ = c.args.current in
-      let law : IsKind (g.T.SlotSectors.kind (geometry_of a area)) = g.met.T.SlotSectors.lawful (geometry_of a area) (unit_is a area (g.met.F.Flash.is_lawful c.args.flash.now) c.requires.stands.area.lawful) in
+      let law : IsSectorFormat (g.T.SlotSectors.format_of (geometry_of a area)) = g.met.T.SlotSectors.lawful (geometry_of a area) (unit_is a area (g.met.F.Flash.is_lawful c.args.flash.now) c.requires.stands.area.lawful) in
       let b : Device = g.F.Flash.device c.close.new.flash in
       let did = c.in_ok-close.ensures in
       let at : c.next-place.result ≡ next (sectors_of a area) place = c.next-place.ensures.value ∙ next_there a area place in
       let e : Device = g.F.Flash.device c.open_next.new.flash in
-      next_turns g.T.SlotSectors.kind g.T.SlotSectors.role a area place law (g.met.F.Flash.is_lawful c.args.flash.now) c.requires.stands.area c.requires.stands.undamaged c.requires.stands.current c.requires.stands.rested b did.touches.banks did.ends.only did.ends.closes c.next-place.result at e (g.met.F.Flash.is_lawful c.close.new.flash) c.in_ok-open_next.ensures.ends.opens c.in_ok-open_next.ensures.ends.collects;
+      next_turns g.T.SlotSectors.format_of g.T.SlotSectors.role a area place law (g.met.F.Flash.is_lawful c.args.flash.now) c.requires.stands.area c.requires.stands.undamaged c.requires.stands.current c.requires.stands.rested b did.touches.banks did.ends.only did.ends.closes c.next-place.result at e (g.met.F.Flash.is_lawful c.close.new.flash) c.in_ok-open_next.ensures.ends.opens c.in_ok-open_next.ensures.ends.collects;
   spends =
       let a : Device = g.F.Flash.device c.args.flash.now in
       let area : Area = c.args.area.now in
       let place : ℕ = c.args.current in
-      let law : IsKind (g.T.SlotSectors.kind (geometry_of a area)) = g.met.T.SlotSectors.lawful (geometry_of a area) (unit_is a area (g.met.F.Flash.is_lawful c.args.flash.now) c.requires.stands.area.lawful) in
+      let law : IsSectorFormat (g.T.SlotSectors.format_of (geometry_of a area)) = g.met.T.SlotSectors.lawful (geometry_of a area) (unit_is a area (g.met.F.Flash.is_lawful c.args.flash.now) c.requires.stands.area.lawful) in
       let b : Device = g.F.Flash.device c.close.new.flash in
       let did = c.in_ok-close.ensures in
       let at : c.next-place.result ≡ next (sectors_of a area) place = c.next-place.ensures.value ∙ next_there a area place in
       let e : Device = g.F.Flash.device c.open_next.new.flash in
-      round_spends g.T.SlotSectors.kind g.T.SlotSectors.role a area place law (g.met.F.Flash.is_lawful c.args.flash.now) c.requires.stands.area c.requires.stands.undamaged c.requires.stands.current c.requires.stands.rested b did.touches.banks did.ends.only did.ends.closes c.next-place.result at e did.ends.spends c.in_ok-open_next.ensures.ends.spends;
+      round_spends g.T.SlotSectors.format_of g.T.SlotSectors.role a area place law (g.met.F.Flash.is_lawful c.args.flash.now) c.requires.stands.area c.requires.stands.undamaged c.requires.stands.current c.requires.stands.rested b did.touches.banks did.ends.only did.ends.closes c.next-place.result at e did.ends.spends c.in_ok-open_next.ensures.ends.spends;
   spends_lost = search rules;
 }
 
@@ -204,75 +204,75 @@ returns-clause-items g c =
     let a : Device = g.F.Flash.device c.args.flash.now in
     let area : Area = c.args.area.now in
     let place : ℕ = c.args.current in
-    let law : IsKind (g.T.SlotSectors.kind (geometry_of a area)) = g.met.T.SlotSectors.lawful (geometry_of a area) (unit_is a area (g.met.F.Flash.is_lawful c.args.flash.now) c.requires.stands.area.lawful) in
+    let law : IsSectorFormat (g.T.SlotSectors.format_of (geometry_of a area)) = g.met.T.SlotSectors.lawful (geometry_of a area) (unit_is a area (g.met.F.Flash.is_lawful c.args.flash.now) c.requires.stands.area.lawful) in
     let b : Device = g.F.Flash.device c.close.new.flash in
     let did = c.in_ok-close.ensures in
     let at : c.next-place.result ≡ next (sectors_of a area) place = c.next-place.ensures.value ∙ next_there a area place in
     let e : Device = g.F.Flash.device c.open_next.new.flash in
-    next_keeps g.T.SlotSectors.kind g.T.SlotSectors.role a area place law (g.met.F.Flash.is_lawful c.args.flash.now) c.requires.stands.area c.requires.stands.undamaged c.requires.stands.current c.requires.stands.rested b did.touches.banks did.ends.only did.ends.closes c.next-place.result at e c.in_ok-open_next.ensures.items
+    next_keeps g.T.SlotSectors.format_of g.T.SlotSectors.role a area place law (g.met.F.Flash.is_lawful c.args.flash.now) c.requires.stands.area c.requires.stands.undamaged c.requires.stands.current c.requires.stands.rested b did.touches.banks did.ends.only did.ends.closes c.next-place.result at e c.in_ok-open_next.ensures.items
 
 pub returns-in_err-close-clause-written : goal.returns-in_err-close-clause-written
 returns-in_err-close-clause-written g c =
     let a : Device = g.F.Flash.device c.args.flash.now in
     let area : Area = c.args.area.now in
     let place : ℕ = c.args.current in
-    let law : IsKind (g.T.SlotSectors.kind (geometry_of a area)) = g.met.T.SlotSectors.lawful (geometry_of a area) (unit_is a area (g.met.F.Flash.is_lawful c.args.flash.now) c.requires.stands.area.lawful) in
+    let law : IsSectorFormat (g.T.SlotSectors.format_of (geometry_of a area)) = g.met.T.SlotSectors.lawful (geometry_of a area) (unit_is a area (g.met.F.Flash.is_lawful c.args.flash.now) c.requires.stands.area.lawful) in
     let b : Device = g.F.Flash.device c.close.new.flash in
-    let within = (open_within g.T.SlotSectors.kind g.T.SlotSectors.role a area place law (g.met.F.Flash.is_lawful c.args.flash.now) c.requires.stands.area c.requires.stands.undamaged c.requires.stands.current c.requires.stands.rested) in
+    let within = (open_within g.T.SlotSectors.format_of g.T.SlotSectors.role a area place law (g.met.F.Flash.is_lawful c.args.flash.now) c.requires.stands.area c.requires.stands.undamaged c.requires.stands.current c.requires.stands.rested) in
     let count = length-sectors a area in
-    close-written (g.T.SlotSectors.kind (geometry_of a area)) law (sectors_of a area) (sectors_of b area) place c.in_err-close.ensures.ends.only (omega arith) c.in_err-close.ensures.ends.lost
+    close-written (g.T.SlotSectors.format_of (geometry_of a area)) law (sectors_of a area) (sectors_of b area) place c.in_err-close.ensures.ends.only (omega arith) c.in_err-close.ensures.ends.lost
 
 pub returns-in_err-open_next-clause-written : goal.returns-in_err-open_next-clause-written
 returns-in_err-open_next-clause-written g c =
     let a : Device = g.F.Flash.device c.args.flash.now in
     let area : Area = c.args.area.now in
     let place : ℕ = c.args.current in
-    let law : IsKind (g.T.SlotSectors.kind (geometry_of a area)) = g.met.T.SlotSectors.lawful (geometry_of a area) (unit_is a area (g.met.F.Flash.is_lawful c.args.flash.now) c.requires.stands.area.lawful) in
+    let law : IsSectorFormat (g.T.SlotSectors.format_of (geometry_of a area)) = g.met.T.SlotSectors.lawful (geometry_of a area) (unit_is a area (g.met.F.Flash.is_lawful c.args.flash.now) c.requires.stands.area.lawful) in
     let b : Device = g.F.Flash.device c.close.new.flash in
     let did = c.in_ok-close.ensures in
     let e : Device = g.F.Flash.device c.open_next.new.flash in
-    λ _. opened-written g.T.SlotSectors.kind a area place law (open_within g.T.SlotSectors.kind g.T.SlotSectors.role a area place law (g.met.F.Flash.is_lawful c.args.flash.now) c.requires.stands.area c.requires.stands.undamaged c.requires.stands.current c.requires.stands.rested) b did.touches.banks did.ends.only did.ends.closes e c.in_err-open_next.ensures.written
+    λ _. opened-written g.T.SlotSectors.format_of a area place law (open_within g.T.SlotSectors.format_of g.T.SlotSectors.role a area place law (g.met.F.Flash.is_lawful c.args.flash.now) c.requires.stands.area c.requires.stands.undamaged c.requires.stands.current c.requires.stands.rested) b did.touches.banks did.ends.only did.ends.closes e c.in_err-open_next.ensures.written
 
 pub returns-clause-written : goal.returns-clause-written
 returns-clause-written g c =
     let a : Device = g.F.Flash.device c.args.flash.now in
     let area : Area = c.args.area.now in
     let place : ℕ = c.args.current in
-    let law : IsKind (g.T.SlotSectors.kind (geometry_of a area)) = g.met.T.SlotSectors.lawful (geometry_of a area) (unit_is a area (g.met.F.Flash.is_lawful c.args.flash.now) c.requires.stands.area.lawful) in
+    let law : IsSectorFormat (g.T.SlotSectors.format_of (geometry_of a area)) = g.met.T.SlotSectors.lawful (geometry_of a area) (unit_is a area (g.met.F.Flash.is_lawful c.args.flash.now) c.requires.stands.area.lawful) in
     let b : Device = g.F.Flash.device c.close.new.flash in
     let did = c.in_ok-close.ensures in
     let e : Device = g.F.Flash.device c.open_next.new.flash in
-    λ _. opened-written g.T.SlotSectors.kind a area place law (open_within g.T.SlotSectors.kind g.T.SlotSectors.role a area place law (g.met.F.Flash.is_lawful c.args.flash.now) c.requires.stands.area c.requires.stands.undamaged c.requires.stands.current c.requires.stands.rested) b did.touches.banks did.ends.only did.ends.closes e c.in_ok-open_next.ensures.written
+    λ _. opened-written g.T.SlotSectors.format_of a area place law (open_within g.T.SlotSectors.format_of g.T.SlotSectors.role a area place law (g.met.F.Flash.is_lawful c.args.flash.now) c.requires.stands.area c.requires.stands.undamaged c.requires.stands.current c.requires.stands.rested) b did.touches.banks did.ends.only did.ends.closes e c.in_ok-open_next.ensures.written
 
 pub returns-in_err-close-clause-changed : goal.returns-in_err-close-clause-changed
 returns-in_err-close-clause-changed g c =
     let a : Device = g.F.Flash.device c.args.flash.now in
     let area : Area = c.args.area.now in
     let place : ℕ = c.args.current in
-    let law : IsKind (g.T.SlotSectors.kind (geometry_of a area)) = g.met.T.SlotSectors.lawful (geometry_of a area) (unit_is a area (g.met.F.Flash.is_lawful c.args.flash.now) c.requires.stands.area.lawful) in
+    let law : IsSectorFormat (g.T.SlotSectors.format_of (geometry_of a area)) = g.met.T.SlotSectors.lawful (geometry_of a area) (unit_is a area (g.met.F.Flash.is_lawful c.args.flash.now) c.requires.stands.area.lawful) in
     let b : Device = g.F.Flash.device c.close.new.flash in
-    let within = (open_within g.T.SlotSectors.kind g.T.SlotSectors.role a area place law (g.met.F.Flash.is_lawful c.args.flash.now) c.requires.stands.area c.requires.stands.undamaged c.requires.stands.current c.requires.stands.rested) in
+    let within = (open_within g.T.SlotSectors.format_of g.T.SlotSectors.role a area place law (g.met.F.Flash.is_lawful c.args.flash.now) c.requires.stands.area c.requires.stands.undamaged c.requires.stands.current c.requires.stands.rested) in
     let count = length-sectors a area in
-    close-changed (g.T.SlotSectors.kind (geometry_of a area)) law (sectors_of a area) (sectors_of b area) place c.in_err-close.ensures.ends.only (omega arith) c.in_err-close.ensures.ends.lost c.in_err-close.ensures.ends.blank_lost
+    close-changed (g.T.SlotSectors.format_of (geometry_of a area)) law (sectors_of a area) (sectors_of b area) place c.in_err-close.ensures.ends.only (omega arith) c.in_err-close.ensures.ends.lost c.in_err-close.ensures.ends.blank_lost
 
 pub returns-in_err-open_next-clause-changed : goal.returns-in_err-open_next-clause-changed
 returns-in_err-open_next-clause-changed g c =
     let a : Device = g.F.Flash.device c.args.flash.now in
     let area : Area = c.args.area.now in
     let place : ℕ = c.args.current in
-    let law : IsKind (g.T.SlotSectors.kind (geometry_of a area)) = g.met.T.SlotSectors.lawful (geometry_of a area) (unit_is a area (g.met.F.Flash.is_lawful c.args.flash.now) c.requires.stands.area.lawful) in
+    let law : IsSectorFormat (g.T.SlotSectors.format_of (geometry_of a area)) = g.met.T.SlotSectors.lawful (geometry_of a area) (unit_is a area (g.met.F.Flash.is_lawful c.args.flash.now) c.requires.stands.area.lawful) in
     let b : Device = g.F.Flash.device c.close.new.flash in
     let did = c.in_ok-close.ensures in
     let e : Device = g.F.Flash.device c.open_next.new.flash in
-    inr (opened-written g.T.SlotSectors.kind a area place law (open_within g.T.SlotSectors.kind g.T.SlotSectors.role a area place law (g.met.F.Flash.is_lawful c.args.flash.now) c.requires.stands.area c.requires.stands.undamaged c.requires.stands.current c.requires.stands.rested) b did.touches.banks did.ends.only did.ends.closes e c.in_err-open_next.ensures.written)
+    inr (opened-written g.T.SlotSectors.format_of a area place law (open_within g.T.SlotSectors.format_of g.T.SlotSectors.role a area place law (g.met.F.Flash.is_lawful c.args.flash.now) c.requires.stands.area c.requires.stands.undamaged c.requires.stands.current c.requires.stands.rested) b did.touches.banks did.ends.only did.ends.closes e c.in_err-open_next.ensures.written)
 
 pub returns-clause-changed : goal.returns-clause-changed
 returns-clause-changed g c =
     let a : Device = g.F.Flash.device c.args.flash.now in
     let area : Area = c.args.area.now in
     let place : ℕ = c.args.current in
-    let law : IsKind (g.T.SlotSectors.kind (geometry_of a area)) = g.met.T.SlotSectors.lawful (geometry_of a area) (unit_is a area (g.met.F.Flash.is_lawful c.args.flash.now) c.requires.stands.area.lawful) in
+    let law : IsSectorFormat (g.T.SlotSectors.format_of (geometry_of a area)) = g.met.T.SlotSectors.lawful (geometry_of a area) (unit_is a area (g.met.F.Flash.is_lawful c.args.flash.now) c.requires.stands.area.lawful) in
     let b : Device = g.F.Flash.device c.close.new.flash in
     let did = c.in_ok-close.ensures in
     let e : Device = g.F.Flash.device c.open_next.new.flash in
-    inr (opened-written g.T.SlotSectors.kind a area place law (open_within g.T.SlotSectors.kind g.T.SlotSectors.role a area place law (g.met.F.Flash.is_lawful c.args.flash.now) c.requires.stands.area c.requires.stands.undamaged c.requires.stands.current c.requires.stands.rested) b did.touches.banks did.ends.only did.ends.closes e c.in_ok-open_next.ensures.written)
+    inr (opened-written g.T.SlotSectors.format_of a area place law (open_within g.T.SlotSectors.format_of g.T.SlotSectors.role a area place law (g.met.F.Flash.is_lawful c.args.flash.now) c.requires.stands.area c.requires.stands.undamaged c.requires.stands.current c.requires.stands.rested) b did.touches.banks did.ends.only did.ends.closes e c.in_ok-open_next.ensures.written)

@@ -5,14 +5,14 @@ use Rattle.flash_map.specs.Area.{geometry_of, sectors_of}
 use Rattle.item_laws.specs.Live.{last_of}
 use Rattle.item_laws.proofs.LastLemmas.{none_by, among, last-step, last-suffix}
 use Rattle.item_store.specs.declared.entry.Placed.{Placed}
-use Rattle.item_store.specs.Kind.{Kind, slots}
+use Rattle.item_store.specs.SectorFormat.{SectorFormat, slots}
 use Rattle.item_store.proofs.lookup.find_among.Goals as goal
 
 pub loop-place-init : goal.loop-place-init
 loop-place-init g c =
     let none : c.args.end - c.args.end ≡ 0 = omega arith in
     let d : Device = g.F.Flash.device c.args.flash.now in
-    let k : Kind = g.T.SlotSectors.kind (geometry_of d c.args.area.now) in
+    let k : SectorFormat = g.T.SlotSectors.format_of (geometry_of d c.args.area.now) in
     record {
       low = omega arith;
       high = omega arith;
@@ -22,7 +22,7 @@ loop-place-init g c =
 pub returns-then-is_some : goal.returns-then-is_some
 returns-then-is_some g c =
     let d : Device = g.F.Flash.device c.args.flash.now in
-    let k : Kind = g.T.SlotSectors.kind (geometry_of d c.args.area.now) in
+    let k : SectorFormat = g.T.SlotSectors.format_of (geometry_of d c.args.area.now) in
     let kept = c.loop-place.invariant in
     let here : last_of (slots k) c.args.id (among (slots k) (sectors_of d c.args.area.now) c.args.current (c.loop-place.place - 1) (c.args.end - (c.loop-place.place - 1))) ≡ c.find_at-found.result =
     last-step (slots k) (sectors_of d c.args.area.now) c.args.current c.args.id c.loop-place.place c.args.end c.find_at-found.result (omega arith) kept.high kept.none c.find_at-found.ensures in
@@ -32,7 +32,7 @@ returns-then-is_some g c =
 pub loop-place-preserved : goal.loop-place-preserved
 loop-place-preserved g c =
     let d : Device = g.F.Flash.device c.args.flash.now in
-    let k : Kind = g.T.SlotSectors.kind (geometry_of d c.args.area.now) in
+    let k : SectorFormat = g.T.SlotSectors.format_of (geometry_of d c.args.area.now) in
     let kept = c.loop-place.invariant in
     record {
       low = omega arith;
@@ -44,7 +44,7 @@ loop-place-preserved g c =
 pub returns : goal.returns
 returns g c =
     let d : Device = g.F.Flash.device c.args.flash.now in
-    let k : Kind = g.T.SlotSectors.kind (geometry_of d c.args.area.now) in
+    let k : SectorFormat = g.T.SlotSectors.format_of (geometry_of d c.args.area.now) in
     let kept = c.loop-place.invariant in
     let at : c.args.first ≡ c.loop-place.place = omega (arith, kept.low) in
     sym (ap (λ (p : ℕ). last_of (slots k) c.args.id (among (slots k) (sectors_of d c.args.area.now) c.args.current p (c.args.end - p))) at ∙ kept.none)

@@ -2,14 +2,14 @@ use Rattle.std.proofs.Common.{◌≡◌, ◌-◌, ◌≤◌, None}
 use Rattle.flash_map.specs.Area.{geometry_of, sectors_of}
 use Rattle.item_laws.specs.Live.{last_of}
 use Rattle.item_laws.proofs.LastLemmas.{among}
-use Rattle.item_store.specs.Kind.{slots}
+use Rattle.item_store.specs.SectorFormat.{slots}
 use Rattle.item_store.proofs.lookup.find_among.Given as goal
 
 abbrev pub invariant-loop-place : goal.invariant-loop-place
 invariant-loop-place g l = record {
   low : l.first ≤ l.place;
   high : l.place ≤ l.end;
-  none : last_of (slots (g.T.SlotSectors.kind (geometry_of (g.F.Flash.device l.flash) l.area))) l.id (among (slots (g.T.SlotSectors.kind (geometry_of (g.F.Flash.device l.flash) l.area))) (sectors_of (g.F.Flash.device l.flash) l.area) l.current l.place (l.end - l.place)) ≡ None;
+  none : last_of (slots (g.T.SlotSectors.format_of (geometry_of (g.F.Flash.device l.flash) l.area))) l.id (among (slots (g.T.SlotSectors.format_of (geometry_of (g.F.Flash.device l.flash) l.area))) (sectors_of (g.F.Flash.device l.flash) l.area) l.current l.place (l.end - l.place)) ≡ None;
 }
 
 abbrev pub decreases-loop-place : goal.decreases-loop-place

@@ -2,17 +2,17 @@ use Rattle.std.proofs.Common.{sym, ◌∙◌}
 use Rattle.flash_sim.specs.Device.{Device}
 use Rattle.flash_map.specs.Area.{geometry_of, sectors_of}
 use Rattle.item_laws.proofs.LastLemmas.{counted-last, counted-none}
-use Rattle.item_store.specs.Kind.{Kind, slots}
+use Rattle.item_store.specs.SectorFormat.{SectorFormat, slots}
 use Rattle.item_store.proofs.lookup.find_at.Goals as goal
 
 pub returns-then-counts : goal.returns-then-counts
 returns-then-counts g c =
     let d : Device = g.F.Flash.device c.args.flash.now in
-    let k : Kind = g.T.SlotSectors.kind (geometry_of d c.args.area.now) in
+    let k : SectorFormat = g.T.SlotSectors.format_of (geometry_of d c.args.area.now) in
     c.find_in.ensures ∙ counted-last (slots k) (sectors_of d c.args.area.now) c.args.current c.args.place c.args.id (sym c.counts.ensures ∙ c.if-counts.true)
 
 pub returns-else-counts : goal.returns-else-counts
 returns-else-counts g c =
     let d : Device = g.F.Flash.device c.args.flash.now in
-    let k : Kind = g.T.SlotSectors.kind (geometry_of d c.args.area.now) in
+    let k : SectorFormat = g.T.SlotSectors.format_of (geometry_of d c.args.area.now) in
     counted-none (slots k) (sectors_of d c.args.area.now) c.args.current c.args.place c.args.id (sym c.counts.ensures ∙ c.if-counts.false)

@@ -5,14 +5,14 @@ use Rattle.item_store.proofs.SeenSteps.{seen_sector}
 use Rattle.flash_sim.specs.Device.{Device}
 use Rattle.flash_map.specs.declared.area.Area.{Area}
 use Rattle.flash_map.specs.Area.{geometry_of, sectors_of}
-use Rattle.item_store.specs.Kind.{Kind, slots}
+use Rattle.item_store.specs.SectorFormat.{SectorFormat, slots}
 use Rattle.item_store.proofs.noting.note_among.Goals as goal
 
 pub loop-place-init : goal.loop-place-init
 loop-place-init g c =
     let d : Device = g.F.Flash.device c.args.flash.now in
     let area : Area = c.args.area.now in
-    let k : Kind = g.T.SlotSectors.kind (geometry_of d area) in
+    let k : SectorFormat = g.T.SlotSectors.format_of (geometry_of d area) in
     let sectors : List (List ℕ) = sectors_of d area in
     λ before seen.
     let none : 0 ≡ c.args.first - c.args.first = omega arith in
@@ -23,7 +23,7 @@ pub loop-place-preserved : goal.loop-place-preserved
 loop-place-preserved g c =
     let d : Device = g.F.Flash.device c.args.flash.now in
     let area : Area = c.args.area.now in
-    let k : Kind = g.T.SlotSectors.kind (geometry_of d area) in
+    let k : SectorFormat = g.T.SlotSectors.format_of (geometry_of d area) in
     let sectors : List (List ℕ) = sectors_of d area in
     λ before seen.
     seen_sector k (g.N.Notes.noted k.ids c.note_counting.new.notes) before sectors c.args.current c.args.first c.loop-place.place (omega arith)
@@ -33,7 +33,7 @@ pub returns : goal.returns
 returns g c =
     let d : Device = g.F.Flash.device c.args.flash.now in
     let area : Area = c.args.area.now in
-    let k : Kind = g.T.SlotSectors.kind (geometry_of d area) in
+    let k : SectorFormat = g.T.SlotSectors.format_of (geometry_of d area) in
     let sectors : List (List ℕ) = sectors_of d area in
     λ before seen.
     let at : c.loop-place.place ≡ c.args.end = omega arith in

@@ -7,21 +7,21 @@ use Rattle.item_laws.specs.Live.{counted_in, last_of}
 use Rattle.item_laws.proofs.AreaReads.{length-sectors}
 use Rattle.item_laws.proofs.Newest.{newest-behind, newest-before}
 use Rattle.item_store.specs.declared.entry.Placed.{Placed}
-use Rattle.item_store.specs.Kind.{Kind, slots}
+use Rattle.item_store.specs.SectorFormat.{SectorFormat, slots}
 use Rattle.item_store.proofs.SearchSteps.{up-near, up-far}
 use Rattle.item_store.proofs.searching.find_up_to.Goals as goal
 
 pub returns-then-current-place : goal.returns-then-current-place
 returns-then-current-place g c =
     let d : Device = g.F.Flash.device c.args.flash.now in
-    let k : Kind = g.T.SlotSectors.kind (geometry_of d c.args.area.now) in
+    let k : SectorFormat = g.T.SlotSectors.format_of (geometry_of d c.args.area.now) in
     let sectors : List (List ℕ) = sectors_of d c.args.area.now in
     c.find_among.ensures ∙ ap (λ (js : List ℕ). last_of (slots k) c.args.id (flat_map (counted_in (slots k) sectors c.args.current) js)) (up-near (length sectors) c.args.current c.args.place c.if-current-place.true)
 
 pub returns-then-is_some : goal.returns-then-is_some
 returns-then-is_some g c =
     let d : Device = g.F.Flash.device c.args.flash.now in
-    let k : Kind = g.T.SlotSectors.kind (geometry_of d c.args.area.now) in
+    let k : SectorFormat = g.T.SlotSectors.format_of (geometry_of d c.args.area.now) in
     let sectors : List (List ℕ) = sectors_of d c.args.area.now in
     let row : ℕ → List Placed = counted_in (slots k) sectors c.args.current in
     let older : List ℕ = range_with_len (c.args.current + 1) (length sectors - (c.args.current + 1)) in
@@ -32,7 +32,7 @@ returns-then-is_some g c =
 pub returns : goal.returns
 returns g c =
     let d : Device = g.F.Flash.device c.args.flash.now in
-    let k : Kind = g.T.SlotSectors.kind (geometry_of d c.args.area.now) in
+    let k : SectorFormat = g.T.SlotSectors.format_of (geometry_of d c.args.area.now) in
     let sectors : List (List ℕ) = sectors_of d c.args.area.now in
     let row : ℕ → List Placed = counted_in (slots k) sectors c.args.current in
     let older : List ℕ = range_with_len (c.args.current + 1) (length sectors - (c.args.current + 1)) in

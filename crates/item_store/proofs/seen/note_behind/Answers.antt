@@ -6,7 +6,7 @@ use Rattle.item_store.proofs.SeenSteps.{behind_near, behind_far}
 use Rattle.flash_sim.specs.Device.{Device}
 use Rattle.flash_map.specs.declared.area.Area.{Area}
 use Rattle.flash_map.specs.Area.{geometry_of, sectors_of}
-use Rattle.item_store.specs.Kind.{Kind, slots}
+use Rattle.item_store.specs.SectorFormat.{SectorFormat, slots}
 use Rattle.item_store.proofs.seen.note_behind.Goals as goal
 
 pub overflow_add-after : goal.overflow_add-after
@@ -17,7 +17,7 @@ pub returns-then-place-current : goal.returns-then-place-current
 returns-then-place-current g c =
     let d : Device = g.F.Flash.device c.args.flash.now in
     let area : Area = c.args.area.now in
-    let k : Kind = g.T.SlotSectors.kind (geometry_of d area) in
+    let k : SectorFormat = g.T.SlotSectors.format_of (geometry_of d area) in
     let sectors : List (List ℕ) = sectors_of d area in
     λ seen. subst (HasSeen k.ids c.note_among.new.notes) (behind_near k sectors c.args.current c.args.place c.if-place-current.true) (c.note_among.ensures [] seen)
 
@@ -25,7 +25,7 @@ pub returns : goal.returns
 returns g c =
     let d : Device = g.F.Flash.device c.args.flash.now in
     let area : Area = c.args.area.now in
-    let k : Kind = g.T.SlotSectors.kind (geometry_of d area) in
+    let k : SectorFormat = g.T.SlotSectors.format_of (geometry_of d area) in
     let sectors : List (List ℕ) = sectors_of d area in
     λ seen. subst (HasSeen k.ids c.note_among-3.new.notes) (behind_far k sectors c.args.current c.args.place area.sectors (omega arith) (sym (length-sectors d area)))
     (c.note_among-3.ensures (among (slots k) sectors c.args.current (c.args.place + 1) (area.sectors - (c.args.place + 1))) (c.note_among-2.ensures [] seen))

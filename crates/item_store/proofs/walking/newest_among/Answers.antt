@@ -7,7 +7,7 @@ use Rattle.item_store.proofs.OlderSteps.{newest-step, newest-suffix}
 use Rattle.flash_sim.specs.Device.{Device}
 use Rattle.flash_map.specs.declared.area.Area.{Area}
 use Rattle.flash_map.specs.Area.{geometry_of, sectors_of}
-use Rattle.item_store.specs.Kind.{Kind, IsKind, slots}
+use Rattle.item_store.specs.SectorFormat.{SectorFormat, IsSectorFormat, slots}
 use Rattle.item_store.proofs.Areas.{unit_is}
 use Rattle.item_store.proofs.walking.newest_among.Goals as goal
 
@@ -15,7 +15,7 @@ pub loop-place-init : goal.loop-place-init
 loop-place-init g c =
     let d : Device = g.F.Flash.device c.args.flash.now in
     let area : Area = c.args.area.now in
-    let k : Kind = g.T.SlotSectors.kind (geometry_of d area) in
+    let k : SectorFormat = g.T.SlotSectors.format_of (geometry_of d area) in
     let sectors : List (List ℕ) = sectors_of d area in
     let none : c.args.end - c.args.end ≡ 0 = omega arith in
     record {
@@ -28,9 +28,9 @@ pub returns-then-is_some-clause-last : goal.returns-then-is_some-clause-last
 returns-then-is_some-clause-last g c =
     let d : Device = g.F.Flash.device c.args.flash.now in
     let area : Area = c.args.area.now in
-    let k : Kind = g.T.SlotSectors.kind (geometry_of d area) in
+    let k : SectorFormat = g.T.SlotSectors.format_of (geometry_of d area) in
     let sectors : List (List ℕ) = sectors_of d area in
-    let law : IsKind (g.T.SlotSectors.kind (geometry_of d area)) = g.met.T.SlotSectors.lawful (geometry_of d area) (unit_is d area (g.met.F.Flash.is_lawful c.args.flash.now) c.requires.area.lawful) in
+    let law : IsSectorFormat (g.T.SlotSectors.format_of (geometry_of d area)) = g.met.T.SlotSectors.lawful (geometry_of d area) (unit_is d area (g.met.F.Flash.is_lawful c.args.flash.now) c.requires.area.lawful) in
     let so_far = c.loop-place.invariant in
     let here : last_or None (among (slots k) sectors c.args.current (c.loop-place.place - 1) (c.args.end - (c.loop-place.place - 1))) ≡ c.newest_of-found.result =
     newest-step k law sectors c.args.current c.loop-place.place c.args.end c.newest_of-found.result (omega arith) so_far.high so_far.none c.newest_of-found.ensures.last in
@@ -41,9 +41,9 @@ pub loop-place-preserved : goal.loop-place-preserved
 loop-place-preserved g c =
     let d : Device = g.F.Flash.device c.args.flash.now in
     let area : Area = c.args.area.now in
-    let k : Kind = g.T.SlotSectors.kind (geometry_of d area) in
+    let k : SectorFormat = g.T.SlotSectors.format_of (geometry_of d area) in
     let sectors : List (List ℕ) = sectors_of d area in
-    let law : IsKind (g.T.SlotSectors.kind (geometry_of d area)) = g.met.T.SlotSectors.lawful (geometry_of d area) (unit_is d area (g.met.F.Flash.is_lawful c.args.flash.now) c.requires.area.lawful) in
+    let law : IsSectorFormat (g.T.SlotSectors.format_of (geometry_of d area)) = g.met.T.SlotSectors.lawful (geometry_of d area) (unit_is d area (g.met.F.Flash.is_lawful c.args.flash.now) c.requires.area.lawful) in
     let so_far = c.loop-place.invariant in
     record {
       low = omega arith;
@@ -56,7 +56,7 @@ pub returns-clause-last : goal.returns-clause-last
 returns-clause-last g c =
     let d : Device = g.F.Flash.device c.args.flash.now in
     let area : Area = c.args.area.now in
-    let k : Kind = g.T.SlotSectors.kind (geometry_of d area) in
+    let k : SectorFormat = g.T.SlotSectors.format_of (geometry_of d area) in
     let sectors : List (List ℕ) = sectors_of d area in
     let so_far = c.loop-place.invariant in
     let at : c.args.first ≡ c.loop-place.place = omega (arith, so_far.low) in

@@ -6,7 +6,7 @@ use Rattle.item_store.proofs.Placings.{read_listed}
 use Rattle.flash_sim.specs.Device.{Device}
 use Rattle.flash_map.specs.declared.area.Area.{Area}
 use Rattle.flash_map.specs.Area.{geometry_of, sectors_of, sector_at}
-use Rattle.item_store.specs.Kind.{Kind, IsKind}
+use Rattle.item_store.specs.SectorFormat.{SectorFormat, IsSectorFormat}
 use Rattle.item_store.proofs.Areas.{unit_is}
 use Rattle.item_store.proofs.walking.newest_in.Goals as goal
 
@@ -14,7 +14,7 @@ pub loop-count-init : goal.loop-count-init
 loop-count-init g c =
     let d : Device = g.F.Flash.device c.args.flash.now in
     let area : Area = c.args.area.now in
-    let k : Kind = g.T.SlotSectors.kind (geometry_of d area) in
+    let k : SectorFormat = g.T.SlotSectors.format_of (geometry_of d area) in
     let sectors : List (List ℕ) = sectors_of d area in
     let listed : c.slots.result ≡ k.count (sector_at sectors c.args.place) = c.slots.ensures.value in
     let first : c.first_slot-first.result ≡ k.first = c.first_slot-first.ensures.value (geometry_of d area) in
@@ -28,7 +28,7 @@ pub overflow_add-slot : goal.overflow_add-slot
 overflow_add-slot g c =
     let d : Device = g.F.Flash.device c.args.flash.now in
     let area : Area = c.args.area.now in
-    let k : Kind = g.T.SlotSectors.kind (geometry_of d area) in
+    let k : SectorFormat = g.T.SlotSectors.format_of (geometry_of d area) in
     let sectors : List (List ℕ) = sectors_of d area in
     let listed : c.slots.result ≡ k.count (sector_at sectors c.args.place) = c.slots.ensures.value in
     let first : c.first_slot-first.result ≡ k.first = c.first_slot-first.ensures.value (geometry_of d area) in
@@ -38,7 +38,7 @@ pub entry_in-requires-clause-listed : goal.entry_in-requires-clause-listed
 entry_in-requires-clause-listed g c =
     let d : Device = g.F.Flash.device c.args.flash.now in
     let area : Area = c.args.area.now in
-    let k : Kind = g.T.SlotSectors.kind (geometry_of d area) in
+    let k : SectorFormat = g.T.SlotSectors.format_of (geometry_of d area) in
     let sectors : List (List ℕ) = sectors_of d area in
     let listed : c.slots.result ≡ k.count (sector_at sectors c.args.place) = c.slots.ensures.value in
     let first : c.first_slot-first.result ≡ k.first = c.first_slot-first.ensures.value (geometry_of d area) in
@@ -48,9 +48,9 @@ pub returns-in-Some-clause-last : goal.returns-in-Some-clause-last
 returns-in-Some-clause-last g c =
     let d : Device = g.F.Flash.device c.args.flash.now in
     let area : Area = c.args.area.now in
-    let k : Kind = g.T.SlotSectors.kind (geometry_of d area) in
+    let k : SectorFormat = g.T.SlotSectors.format_of (geometry_of d area) in
     let sectors : List (List ℕ) = sectors_of d area in
-    let law : IsKind (g.T.SlotSectors.kind (geometry_of d area)) = g.met.T.SlotSectors.lawful (geometry_of d area) (unit_is d area (g.met.F.Flash.is_lawful c.args.flash.now) c.requires.area.lawful) in
+    let law : IsSectorFormat (g.T.SlotSectors.format_of (geometry_of d area)) = g.met.T.SlotSectors.lawful (geometry_of d area) (unit_is d area (g.met.F.Flash.is_lawful c.args.flash.now) c.requires.area.lawful) in
     let listed : c.slots.result ≡ k.count (sector_at sectors c.args.place) = c.slots.ensures.value in
     let first : c.first_slot-first.result ≡ k.first = c.first_slot-first.ensures.value (geometry_of d area) in
     newest_here k law (sector_at sectors c.args.place) c.args.place c.loop-count.count (c.first_slot-first.result + (c.loop-count.count - 1)) c.in-Some.placed _ (omega arith) (omega arith) (sym c.in-Some.is ∙ c.entry_in.ensures.entry) c.loop-count.invariant.later
@@ -59,9 +59,9 @@ pub returns-in-Some-clause-listed : goal.returns-in-Some-clause-listed
 returns-in-Some-clause-listed g c =
     let d : Device = g.F.Flash.device c.args.flash.now in
     let area : Area = c.args.area.now in
-    let k : Kind = g.T.SlotSectors.kind (geometry_of d area) in
+    let k : SectorFormat = g.T.SlotSectors.format_of (geometry_of d area) in
     let sectors : List (List ℕ) = sectors_of d area in
-    let law : IsKind (g.T.SlotSectors.kind (geometry_of d area)) = g.met.T.SlotSectors.lawful (geometry_of d area) (unit_is d area (g.met.F.Flash.is_lawful c.args.flash.now) c.requires.area.lawful) in
+    let law : IsSectorFormat (g.T.SlotSectors.format_of (geometry_of d area)) = g.met.T.SlotSectors.lawful (geometry_of d area) (unit_is d area (g.met.F.Flash.is_lawful c.args.flash.now) c.requires.area.lawful) in
     let listed : c.slots.result ≡ k.count (sector_at sectors c.args.place) = c.slots.ensures.value in
     let first : c.first_slot-first.result ≡ k.first = c.first_slot-first.ensures.value (geometry_of d area) in
     (read_listed k law sectors c.args.place (c.first_slot-first.result + (c.loop-count.count - 1)) c.in-Some.placed (omega (arith, length-sectors d area, c.requires.inside)) (omega arith) (omega (arith, c.loop-count.invariant.inside)) (sym c.in-Some.is ∙ c.entry_in.ensures.entry)).0
@@ -70,9 +70,9 @@ pub returns-in-Some-clause-sector : goal.returns-in-Some-clause-sector
 returns-in-Some-clause-sector g c =
     let d : Device = g.F.Flash.device c.args.flash.now in
     let area : Area = c.args.area.now in
-    let k : Kind = g.T.SlotSectors.kind (geometry_of d area) in
+    let k : SectorFormat = g.T.SlotSectors.format_of (geometry_of d area) in
     let sectors : List (List ℕ) = sectors_of d area in
-    let law : IsKind (g.T.SlotSectors.kind (geometry_of d area)) = g.met.T.SlotSectors.lawful (geometry_of d area) (unit_is d area (g.met.F.Flash.is_lawful c.args.flash.now) c.requires.area.lawful) in
+    let law : IsSectorFormat (g.T.SlotSectors.format_of (geometry_of d area)) = g.met.T.SlotSectors.lawful (geometry_of d area) (unit_is d area (g.met.F.Flash.is_lawful c.args.flash.now) c.requires.area.lawful) in
     let listed : c.slots.result ≡ k.count (sector_at sectors c.args.place) = c.slots.ensures.value in
     let first : c.first_slot-first.result ≡ k.first = c.first_slot-first.ensures.value (geometry_of d area) in
     (read_listed k law sectors c.args.place (c.first_slot-first.result + (c.loop-count.count - 1)) c.in-Some.placed (omega (arith, length-sectors d area, c.requires.inside)) (omega arith) (omega (arith, c.loop-count.invariant.inside)) (sym c.in-Some.is ∙ c.entry_in.ensures.entry)).1
@@ -81,9 +81,9 @@ pub loop-count-preserved : goal.loop-count-preserved
 loop-count-preserved g c =
     let d : Device = g.F.Flash.device c.args.flash.now in
     let area : Area = c.args.area.now in
-    let k : Kind = g.T.SlotSectors.kind (geometry_of d area) in
+    let k : SectorFormat = g.T.SlotSectors.format_of (geometry_of d area) in
     let sectors : List (List ℕ) = sectors_of d area in
-    let law : IsKind (g.T.SlotSectors.kind (geometry_of d area)) = g.met.T.SlotSectors.lawful (geometry_of d area) (unit_is d area (g.met.F.Flash.is_lawful c.args.flash.now) c.requires.area.lawful) in
+    let law : IsSectorFormat (g.T.SlotSectors.format_of (geometry_of d area)) = g.met.T.SlotSectors.lawful (geometry_of d area) (unit_is d area (g.met.F.Flash.is_lawful c.args.flash.now) c.requires.area.lawful) in
     let listed : c.slots.result ≡ k.count (sector_at sectors c.args.place) = c.slots.ensures.value in
     let first : c.first_slot-first.result ≡ k.first = c.first_slot-first.ensures.value (geometry_of d area) in
     record {
@@ -95,7 +95,7 @@ pub returns-clause-last : goal.returns-clause-last
 returns-clause-last g c =
     let d : Device = g.F.Flash.device c.args.flash.now in
     let area : Area = c.args.area.now in
-    let k : Kind = g.T.SlotSectors.kind (geometry_of d area) in
+    let k : SectorFormat = g.T.SlotSectors.format_of (geometry_of d area) in
     let sectors : List (List ℕ) = sectors_of d area in
     let none : 0 ≡ c.loop-count.count = omega arith in
     ap (λ (n : ℕ). last_or None (placed_to k (sector_at sectors c.args.place) c.args.place n)) none ∙ c.loop-count.invariant.later

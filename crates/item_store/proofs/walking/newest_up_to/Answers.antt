@@ -8,14 +8,14 @@ use Rattle.item_store.proofs.OlderSteps.{newest-behind, newest-before}
 use Rattle.flash_sim.specs.Device.{Device}
 use Rattle.flash_map.specs.declared.area.Area.{Area}
 use Rattle.flash_map.specs.Area.{geometry_of, sectors_of}
-use Rattle.item_store.specs.Kind.{Kind, slots}
+use Rattle.item_store.specs.SectorFormat.{SectorFormat, slots}
 use Rattle.item_store.proofs.walking.newest_up_to.Goals as goal
 
 pub returns-then-is_some-clause-last : goal.returns-then-is_some-clause-last
 returns-then-is_some-clause-last g c =
     let d : Device = g.F.Flash.device c.args.flash.now in
     let area : Area = c.args.area.now in
-    let k : Kind = g.T.SlotSectors.kind (geometry_of d area) in
+    let k : SectorFormat = g.T.SlotSectors.format_of (geometry_of d area) in
     let sectors : List (List ℕ) = sectors_of d area in
     let older : List Placed = flat_map (counted_in (slots k) sectors c.args.current) (places_before (length sectors) c.args.current c.args.place) in
     let here : List Placed = counted_within (slots k) sectors c.args.current c.args.place c.args.limit in
@@ -25,7 +25,7 @@ pub returns-clause-last : goal.returns-clause-last
 returns-clause-last g c =
     let d : Device = g.F.Flash.device c.args.flash.now in
     let area : Area = c.args.area.now in
-    let k : Kind = g.T.SlotSectors.kind (geometry_of d area) in
+    let k : SectorFormat = g.T.SlotSectors.format_of (geometry_of d area) in
     let sectors : List (List ℕ) = sectors_of d area in
     let older : List Placed = flat_map (counted_in (slots k) sectors c.args.current) (places_before (length sectors) c.args.current c.args.place) in
     let here : List Placed = counted_within (slots k) sectors c.args.current c.args.place c.args.limit in

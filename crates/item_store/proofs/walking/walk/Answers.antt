@@ -10,7 +10,7 @@ use Rattle.item_store.proofs.OlderSteps.{walked-newest, walked-older}
 use Rattle.flash_sim.specs.Device.{Device}
 use Rattle.flash_map.specs.declared.area.Area.{Area}
 use Rattle.flash_map.specs.Area.{geometry_of, sectors_of}
-use Rattle.item_store.specs.Kind.{Kind, IsKind, slots}
+use Rattle.item_store.specs.SectorFormat.{SectorFormat, IsSectorFormat, slots}
 use Rattle.item_store.proofs.Areas.{unit_is, open_inside}
 use Rattle.item_store.proofs.walking.walk.Goals as goal
 
@@ -18,7 +18,7 @@ pub newest_up_to-requires-clause-current : goal.newest_up_to-requires-clause-cur
 newest_up_to-requires-clause-current g c =
     let d : Device = g.F.Flash.device c.args.flash.now in
     let area : Area = c.args.area.now in
-    let k : Kind = g.T.SlotSectors.kind (geometry_of d area) in
+    let k : SectorFormat = g.T.SlotSectors.format_of (geometry_of d area) in
     let sectors : List (List ℕ) = sectors_of d area in
     let within = open_inside k d area c.args.current c.requires.area.lawful c.requires.current in
     within
@@ -27,7 +27,7 @@ pub newest_up_to-requires-clause-inside : goal.newest_up_to-requires-clause-insi
 newest_up_to-requires-clause-inside g c =
     let d : Device = g.F.Flash.device c.args.flash.now in
     let area : Area = c.args.area.now in
-    let k : Kind = g.T.SlotSectors.kind (geometry_of d area) in
+    let k : SectorFormat = g.T.SlotSectors.format_of (geometry_of d area) in
     let sectors : List (List ℕ) = sectors_of d area in
     rw c.in-Some.is at c.requires.inside
 
@@ -35,7 +35,7 @@ pub slots-all-requires-clause-inside : goal.slots-all-requires-clause-inside
 slots-all-requires-clause-inside g c =
     let d : Device = g.F.Flash.device c.args.flash.now in
     let area : Area = c.args.area.now in
-    let k : Kind = g.T.SlotSectors.kind (geometry_of d area) in
+    let k : SectorFormat = g.T.SlotSectors.format_of (geometry_of d area) in
     let sectors : List (List ℕ) = sectors_of d area in
     let within = open_inside k d area c.args.current c.requires.area.lawful c.requires.current in
     within
@@ -44,7 +44,7 @@ pub newest_up_to-requires-in-None-clause-current : goal.newest_up_to-requires-in
 newest_up_to-requires-in-None-clause-current g c =
     let d : Device = g.F.Flash.device c.args.flash.now in
     let area : Area = c.args.area.now in
-    let k : Kind = g.T.SlotSectors.kind (geometry_of d area) in
+    let k : SectorFormat = g.T.SlotSectors.format_of (geometry_of d area) in
     let sectors : List (List ℕ) = sectors_of d area in
     let within = open_inside k d area c.args.current c.requires.area.lawful c.requires.current in
     within
@@ -53,7 +53,7 @@ pub newest_up_to-requires-in-None-clause-inside : goal.newest_up_to-requires-in-
 newest_up_to-requires-in-None-clause-inside g c =
     let d : Device = g.F.Flash.device c.args.flash.now in
     let area : Area = c.args.area.now in
-    let k : Kind = g.T.SlotSectors.kind (geometry_of d area) in
+    let k : SectorFormat = g.T.SlotSectors.format_of (geometry_of d area) in
     let sectors : List (List ℕ) = sectors_of d area in
     let within = open_inside k d area c.args.current c.requires.area.lawful c.requires.current in
     within
@@ -62,9 +62,9 @@ pub returns-in-Some-clause-older : goal.returns-in-Some-clause-older
 returns-in-Some-clause-older g c =
     let d : Device = g.F.Flash.device c.args.flash.now in
     let area : Area = c.args.area.now in
-    let k : Kind = g.T.SlotSectors.kind (geometry_of d area) in
+    let k : SectorFormat = g.T.SlotSectors.format_of (geometry_of d area) in
     let sectors : List (List ℕ) = sectors_of d area in
-    let law : IsKind (g.T.SlotSectors.kind (geometry_of d area)) = g.met.T.SlotSectors.lawful (geometry_of d area) (unit_is d area (g.met.F.Flash.is_lawful c.args.flash.now) c.requires.area.lawful) in
+    let law : IsSectorFormat (g.T.SlotSectors.format_of (geometry_of d area)) = g.met.T.SlotSectors.lawful (geometry_of d area) (unit_is d area (g.met.F.Flash.is_lawful c.args.flash.now) c.requires.area.lawful) in
     let within = open_inside k d area c.args.current c.requires.area.lawful c.requires.current in
     let count = length-sectors d area in
     let inside : c.in-Some.sector < area.sectors = rw c.in-Some.is at c.requires.inside in
@@ -77,9 +77,9 @@ pub returns-in-None-clause-older : goal.returns-in-None-clause-older
 returns-in-None-clause-older g c =
     let d : Device = g.F.Flash.device c.args.flash.now in
     let area : Area = c.args.area.now in
-    let k : Kind = g.T.SlotSectors.kind (geometry_of d area) in
+    let k : SectorFormat = g.T.SlotSectors.format_of (geometry_of d area) in
     let sectors : List (List ℕ) = sectors_of d area in
-    let law : IsKind (g.T.SlotSectors.kind (geometry_of d area)) = g.met.T.SlotSectors.lawful (geometry_of d area) (unit_is d area (g.met.F.Flash.is_lawful c.args.flash.now) c.requires.area.lawful) in
+    let law : IsSectorFormat (g.T.SlotSectors.format_of (geometry_of d area)) = g.met.T.SlotSectors.lawful (geometry_of d area) (unit_is d area (g.met.F.Flash.is_lawful c.args.flash.now) c.requires.area.lawful) in
     let within = open_inside k d area c.args.current c.requires.area.lawful c.requires.current in
     let count = length-sectors d area in
     subst (λ (after : Option (ℕ × ℕ)). IsNextOlder (all_placed (slots k) sectors) after c.newest_up_to-in-None.result) (sym c.in-None.is)
@@ -89,7 +89,7 @@ pub returns-in-Some-clause-before : goal.returns-in-Some-clause-before
 returns-in-Some-clause-before g c =
     let d : Device = g.F.Flash.device c.args.flash.now in
     let area : Area = c.args.area.now in
-    let k : Kind = g.T.SlotSectors.kind (geometry_of d area) in
+    let k : SectorFormat = g.T.SlotSectors.format_of (geometry_of d area) in
     let sectors : List (List ℕ) = sectors_of d area in
     let first = c.first_slot.ensures.value (geometry_of d area) in
     let limit : c.saturating_sub-limit.result ≡ c.in-Some.slot - k.first = c.saturating_sub-limit.ensures ∙ ap (λ (n : ℕ). c.in-Some.slot - n) first in
@@ -102,6 +102,6 @@ pub returns-in-None-clause-before : goal.returns-in-None-clause-before
 returns-in-None-clause-before g c =
     let d : Device = g.F.Flash.device c.args.flash.now in
     let area : Area = c.args.area.now in
-    let k : Kind = g.T.SlotSectors.kind (geometry_of d area) in
+    let k : SectorFormat = g.T.SlotSectors.format_of (geometry_of d area) in
     let sectors : List (List ℕ) = sectors_of d area in
     subst (λ (after : Option (ℕ × ℕ)). IfSome after (λ place. c.newest_up_to-in-None.result ≡ newest_before k sectors place)) (sym c.in-None.is) tt

@@ -4,7 +4,7 @@ use Rattle.flash_sim.specs.Device.{Device}
 use Rattle.flash_map.specs.declared.area.Area.{Area}
 use Rattle.flash_map.specs.Area.{geometry_of, sectors_of}
 use Rattle.flash_map.proofs.Touches.{then}
-use Rattle.item_store.specs.Kind.{Kind, IsKind}
+use Rattle.item_store.specs.SectorFormat.{SectorFormat, IsSectorFormat}
 use Rattle.item_store.specs.Room.{has_room}
 use Rattle.item_store.proofs.Areas.{unit_is}
 use Rattle.item_store.proofs.AppendFacts.{then_ordinary, then_room, appends, stops_in_entry, still_undamaged}
@@ -17,34 +17,34 @@ pub put_noted-requires-clause-ordinary : goal.put_noted-requires-clause-ordinary
 put_noted-requires-clause-ordinary g c =
     let a : Device = g.F.Flash.device c.args.flash.now in
     let area : Area = c.args.area.now in
-    let law : IsKind (g.T.SlotSectors.kind (geometry_of a area)) = g.met.T.SlotSectors.lawful (geometry_of a area) (unit_is a area (g.met.F.Flash.is_lawful c.args.flash.now) c.requires.stands.area.lawful) in
+    let law : IsSectorFormat (g.T.SlotSectors.format_of (geometry_of a area)) = g.met.T.SlotSectors.lawful (geometry_of a area) (unit_is a area (g.met.F.Flash.is_lawful c.args.flash.now) c.requires.stands.area.lawful) in
     let d : Device = g.F.Flash.device c.make_room.new.flash in
     let did = c.in_ok-room.ensures in
-    let room : has_room (g.T.SlotSectors.kind (geometry_of a area)) (sectors_of d area) (length c.args.bytes.now) ≡ true = sym did.room ∙ c.if-not-room.false in
-    then_ordinary g.T.SlotSectors.role g.T.SlotSectors.kind g.T.SlotSectors.kept a d area c.args.current.now c.args.opened.now law (g.met.F.Flash.is_lawful c.args.flash.now) c.requires.stands c.args.id c.args.bytes.now did.touches.banks did.makes room c.requires.ordinary
+    let room : has_room (g.T.SlotSectors.format_of (geometry_of a area)) (sectors_of d area) (length c.args.bytes.now) ≡ true = sym did.room ∙ c.if-not-room.false in
+    then_ordinary g.T.SlotSectors.role g.T.SlotSectors.format_of g.T.SlotSectors.kept a d area c.args.current.now c.args.opened.now law (g.met.F.Flash.is_lawful c.args.flash.now) c.requires.stands c.args.id c.args.bytes.now did.touches.banks did.makes room c.requires.ordinary
 
 pub put_noted-requires-clause-room : goal.put_noted-requires-clause-room
 put_noted-requires-clause-room g c =
     let a : Device = g.F.Flash.device c.args.flash.now in
     let area : Area = c.args.area.now in
-    let law : IsKind (g.T.SlotSectors.kind (geometry_of a area)) = g.met.T.SlotSectors.lawful (geometry_of a area) (unit_is a area (g.met.F.Flash.is_lawful c.args.flash.now) c.requires.stands.area.lawful) in
+    let law : IsSectorFormat (g.T.SlotSectors.format_of (geometry_of a area)) = g.met.T.SlotSectors.lawful (geometry_of a area) (unit_is a area (g.met.F.Flash.is_lawful c.args.flash.now) c.requires.stands.area.lawful) in
     let d : Device = g.F.Flash.device c.make_room.new.flash in
     let did = c.in_ok-room.ensures in
-    let room : has_room (g.T.SlotSectors.kind (geometry_of a area)) (sectors_of d area) (length c.args.bytes.now) ≡ true = sym did.room ∙ c.if-not-room.false in
-    then_room g.T.SlotSectors.role g.T.SlotSectors.kind g.T.SlotSectors.kept a d area c.args.current.now c.args.opened.now law (g.met.F.Flash.is_lawful c.args.flash.now) c.requires.stands c.args.id c.args.bytes.now did.touches.banks did.makes room
+    let room : has_room (g.T.SlotSectors.format_of (geometry_of a area)) (sectors_of d area) (length c.args.bytes.now) ≡ true = sym did.room ∙ c.if-not-room.false in
+    then_room g.T.SlotSectors.role g.T.SlotSectors.format_of g.T.SlotSectors.kept a d area c.args.current.now c.args.opened.now law (g.met.F.Flash.is_lawful c.args.flash.now) c.requires.stands c.args.id c.args.bytes.now did.touches.banks did.makes room
 
 pub returns-in-Ok-clause-ends : goal.returns-in-Ok-clause-ends
 returns-in-Ok-clause-ends g c =
     let a : Device = g.F.Flash.device c.args.flash.now in
     let area : Area = c.args.area.now in
-    let law : IsKind (g.T.SlotSectors.kind (geometry_of a area)) = g.met.T.SlotSectors.lawful (geometry_of a area) (unit_is a area (g.met.F.Flash.is_lawful c.args.flash.now) c.requires.stands.area.lawful) in
+    let law : IsSectorFormat (g.T.SlotSectors.format_of (geometry_of a area)) = g.met.T.SlotSectors.lawful (geometry_of a area) (unit_is a area (g.met.F.Flash.is_lawful c.args.flash.now) c.requires.stands.area.lawful) in
     let d : Device = g.F.Flash.device c.make_room.new.flash in
     let did = c.in_ok-room.ensures in
-    let room : has_room (g.T.SlotSectors.kind (geometry_of a area)) (sectors_of d area) (length c.args.bytes.now) ≡ true = sym did.room ∙ c.if-not-room.false in
+    let room : has_room (g.T.SlotSectors.format_of (geometry_of a area)) (sectors_of d area) (length c.args.bytes.now) ≡ true = sym did.room ∙ c.if-not-room.false in
     let e : Device = g.F.Flash.device c.put_noted.new.flash in
-    appends g.T.SlotSectors.role g.T.SlotSectors.kind g.T.SlotSectors.kept a d area c.args.current.now c.args.opened.now law (g.met.F.Flash.is_lawful c.args.flash.now) c.requires.stands c.args.id c.args.bytes.now did.touches.banks did.makes room e c.in-Ok.ensures.puts
+    appends g.T.SlotSectors.role g.T.SlotSectors.format_of g.T.SlotSectors.kept a d area c.args.current.now c.args.opened.now law (g.met.F.Flash.is_lawful c.args.flash.now) c.requires.stands c.args.id c.args.bytes.now did.touches.banks did.makes room e c.in-Ok.ensures.puts
 
-ends_lost : {X : Type 0} (k : Kind) (old new : Device) (area : Area) (id : ℕ) (bytes : List ℕ) (r : Result Bool X) → IsErr r → StopsAppending k old new area id bytes → AppendEnds k old new area id bytes r
+ends_lost : {X : Type 0} (k : SectorFormat) (old new : Device) (area : Area) (id : ℕ) (bytes : List ℕ) (r : Result Bool X) → IsErr r → StopsAppending k old new area id bytes → AppendEnds k old new area id bytes r
 ends_lost k old new area id bytes (Ok b) is stops = absurd (false≢true is)
 ends_lost k old new area id bytes (Err x) is stops = stops
 
@@ -52,7 +52,7 @@ pub returns-in_err-room-clause-ends : goal.returns-in_err-room-clause-ends
 returns-in_err-room-clause-ends g c =
     let a : Device = g.F.Flash.device c.args.flash.now in
     let area : Area = c.args.area.now in
-    ends_lost (g.T.SlotSectors.kind (geometry_of a area)) a (g.F.Flash.device c.make_room.new.flash) area c.args.id c.args.bytes.now c.from_residual.result c.from_residual.ensures.0 (inl c.in_err-room.ensures.stops)
+    ends_lost (g.T.SlotSectors.format_of (geometry_of a area)) a (g.F.Flash.device c.make_room.new.flash) area c.args.id c.args.bytes.now c.from_residual.result c.from_residual.ensures.0 (inl c.in_err-room.ensures.stops)
 
 pub returns-in_err-room-clause-written : goal.returns-in_err-room-clause-written
 returns-in_err-room-clause-written g c =
@@ -69,7 +69,7 @@ returns-in-Err-clause-written g c =
     let d : Device = g.F.Flash.device c.make_room.new.flash in
     let e : Device = g.F.Flash.device c.put_noted.new.flash in
     let did = c.in_ok-room.ensures in
-    λ written. to_geometry (λ u. IsWritten (g.T.SlotSectors.kind u) (sectors_of e area)) a d area did.touches.banks (c.in-Err.ensures.written (from_geometry (λ u. IsWritten (g.T.SlotSectors.kind u) (sectors_of d area)) a d area did.touches.banks (did.written written)))
+    λ written. to_geometry (λ u. IsWritten (g.T.SlotSectors.format_of u) (sectors_of e area)) a d area did.touches.banks (c.in-Err.ensures.written (from_geometry (λ u. IsWritten (g.T.SlotSectors.format_of u) (sectors_of d area)) a d area did.touches.banks (did.written written)))
 
 pub returns-in-Ok-clause-written : goal.returns-in-Ok-clause-written
 returns-in-Ok-clause-written g c =
@@ -78,40 +78,40 @@ returns-in-Ok-clause-written g c =
     let d : Device = g.F.Flash.device c.make_room.new.flash in
     let e : Device = g.F.Flash.device c.put_noted.new.flash in
     let did = c.in_ok-room.ensures in
-    λ written. to_geometry (λ u. IsWritten (g.T.SlotSectors.kind u) (sectors_of e area)) a d area did.touches.banks (c.in-Ok.ensures.written (from_geometry (λ u. IsWritten (g.T.SlotSectors.kind u) (sectors_of d area)) a d area did.touches.banks (did.written written)))
+    λ written. to_geometry (λ u. IsWritten (g.T.SlotSectors.format_of u) (sectors_of e area)) a d area did.touches.banks (c.in-Ok.ensures.written (from_geometry (λ u. IsWritten (g.T.SlotSectors.format_of u) (sectors_of d area)) a d area did.touches.banks (did.written written)))
 
 pub returns-in-Err-clause-ends : goal.returns-in-Err-clause-ends
 returns-in-Err-clause-ends g c =
     let a : Device = g.F.Flash.device c.args.flash.now in
     let area : Area = c.args.area.now in
-    let law : IsKind (g.T.SlotSectors.kind (geometry_of a area)) = g.met.T.SlotSectors.lawful (geometry_of a area) (unit_is a area (g.met.F.Flash.is_lawful c.args.flash.now) c.requires.stands.area.lawful) in
+    let law : IsSectorFormat (g.T.SlotSectors.format_of (geometry_of a area)) = g.met.T.SlotSectors.lawful (geometry_of a area) (unit_is a area (g.met.F.Flash.is_lawful c.args.flash.now) c.requires.stands.area.lawful) in
     let d : Device = g.F.Flash.device c.make_room.new.flash in
     let did = c.in_ok-room.ensures in
-    let room : has_room (g.T.SlotSectors.kind (geometry_of a area)) (sectors_of d area) (length c.args.bytes.now) ≡ true = sym did.room ∙ c.if-not-room.false in
+    let room : has_room (g.T.SlotSectors.format_of (geometry_of a area)) (sectors_of d area) (length c.args.bytes.now) ≡ true = sym did.room ∙ c.if-not-room.false in
     let e : Device = g.F.Flash.device c.put_noted.new.flash in
-    stops_in_entry g.T.SlotSectors.role g.T.SlotSectors.kind g.T.SlotSectors.kept a d area c.args.current.now c.args.opened.now law (g.met.F.Flash.is_lawful c.args.flash.now) c.requires.stands c.args.id c.args.bytes.now did.touches.banks did.makes room e c.in-Err.ensures.stops
+    stops_in_entry g.T.SlotSectors.role g.T.SlotSectors.format_of g.T.SlotSectors.kept a d area c.args.current.now c.args.opened.now law (g.met.F.Flash.is_lawful c.args.flash.now) c.requires.stands c.args.id c.args.bytes.now did.touches.banks did.makes room e c.in-Err.ensures.stops
 
 pub returns-in-Err-clause-undamaged : goal.returns-in-Err-clause-undamaged
 returns-in-Err-clause-undamaged g c =
     let a : Device = g.F.Flash.device c.args.flash.now in
     let area : Area = c.args.area.now in
-    let law : IsKind (g.T.SlotSectors.kind (geometry_of a area)) = g.met.T.SlotSectors.lawful (geometry_of a area) (unit_is a area (g.met.F.Flash.is_lawful c.args.flash.now) c.requires.stands.area.lawful) in
+    let law : IsSectorFormat (g.T.SlotSectors.format_of (geometry_of a area)) = g.met.T.SlotSectors.lawful (geometry_of a area) (unit_is a area (g.met.F.Flash.is_lawful c.args.flash.now) c.requires.stands.area.lawful) in
     let d : Device = g.F.Flash.device c.make_room.new.flash in
     let did = c.in_ok-room.ensures in
-    let room : has_room (g.T.SlotSectors.kind (geometry_of a area)) (sectors_of d area) (length c.args.bytes.now) ≡ true = sym did.room ∙ c.if-not-room.false in
+    let room : has_room (g.T.SlotSectors.format_of (geometry_of a area)) (sectors_of d area) (length c.args.bytes.now) ≡ true = sym did.room ∙ c.if-not-room.false in
     let e : Device = g.F.Flash.device c.put_noted.new.flash in
-    still_undamaged g.T.SlotSectors.role g.T.SlotSectors.kind g.T.SlotSectors.kept a d area c.args.current.now c.args.opened.now law (g.met.F.Flash.is_lawful c.args.flash.now) c.requires.stands c.args.id c.args.bytes.now did.touches.banks did.makes room e c.in-Err.ensures.stops.undamaged
+    still_undamaged g.T.SlotSectors.role g.T.SlotSectors.format_of g.T.SlotSectors.kept a d area c.args.current.now c.args.opened.now law (g.met.F.Flash.is_lawful c.args.flash.now) c.requires.stands c.args.id c.args.bytes.now did.touches.banks did.makes room e c.in-Err.ensures.stops.undamaged
 
 pub returns-in-Ok-clause-undamaged : goal.returns-in-Ok-clause-undamaged
 returns-in-Ok-clause-undamaged g c =
     let a : Device = g.F.Flash.device c.args.flash.now in
     let area : Area = c.args.area.now in
-    let law : IsKind (g.T.SlotSectors.kind (geometry_of a area)) = g.met.T.SlotSectors.lawful (geometry_of a area) (unit_is a area (g.met.F.Flash.is_lawful c.args.flash.now) c.requires.stands.area.lawful) in
+    let law : IsSectorFormat (g.T.SlotSectors.format_of (geometry_of a area)) = g.met.T.SlotSectors.lawful (geometry_of a area) (unit_is a area (g.met.F.Flash.is_lawful c.args.flash.now) c.requires.stands.area.lawful) in
     let d : Device = g.F.Flash.device c.make_room.new.flash in
     let did = c.in_ok-room.ensures in
-    let room : has_room (g.T.SlotSectors.kind (geometry_of a area)) (sectors_of d area) (length c.args.bytes.now) ≡ true = sym did.room ∙ c.if-not-room.false in
+    let room : has_room (g.T.SlotSectors.format_of (geometry_of a area)) (sectors_of d area) (length c.args.bytes.now) ≡ true = sym did.room ∙ c.if-not-room.false in
     let e : Device = g.F.Flash.device c.put_noted.new.flash in
-    still_undamaged g.T.SlotSectors.role g.T.SlotSectors.kind g.T.SlotSectors.kept a d area c.args.current.now c.args.opened.now law (g.met.F.Flash.is_lawful c.args.flash.now) c.requires.stands c.args.id c.args.bytes.now did.touches.banks did.makes room e c.in-Ok.ensures.puts.undamaged
+    still_undamaged g.T.SlotSectors.role g.T.SlotSectors.format_of g.T.SlotSectors.kept a d area c.args.current.now c.args.opened.now law (g.met.F.Flash.is_lawful c.args.flash.now) c.requires.stands c.args.id c.args.bytes.now did.touches.banks did.makes room e c.in-Ok.ensures.puts.undamaged
 
 pub returns-in-Ok-clause-touches : goal.returns-in-Ok-clause-touches
 returns-in-Ok-clause-touches g c =

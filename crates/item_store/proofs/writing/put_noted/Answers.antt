@@ -2,7 +2,7 @@ use Rattle.std.proofs.Common.{◌≡◌, ◌+◌, length, arith}
 use Rattle.flash_sim.specs.Device.{Device}
 use Rattle.flash_map.specs.declared.area.Area.{Area}
 use Rattle.flash_map.specs.Area.{geometry_of, sector_at, sectors_of}
-use Rattle.item_store.specs.Kind.{IsKind}
+use Rattle.item_store.specs.SectorFormat.{IsSectorFormat}
 use Rattle.item_store.proofs.Areas.{unit_is}
 use Rattle.item_store.proofs.CacheSteps.{cache-put, entry-behind}
 use Rattle.item_store.proofs.RoomFacts.{inside}
@@ -13,7 +13,7 @@ own_slots-count-requires-clause-area g c = c.in_ok-put.ensures.stands.area
 
 pub own_slots-count-requires-clause-inside : goal.own_slots-count-requires-clause-inside
 own_slots-count-requires-clause-inside g c =
-    inside g.T.SlotSectors.role g.T.SlotSectors.kind g.T.SlotSectors.kept (g.F.Flash.device c.put.new.flash) c.args.area.now c.args.current c.put.new.opened c.in_ok-put.ensures.stands
+    inside g.T.SlotSectors.role g.T.SlotSectors.format_of g.T.SlotSectors.kept (g.F.Flash.device c.put.new.flash) c.args.area.now c.args.current c.put.new.opened c.in_ok-put.ensures.stands
 
 pub overflow_add-slot : goal.overflow_add-slot
 overflow_add-slot g c =
@@ -23,26 +23,26 @@ pub overflow_sub-slot : goal.overflow_sub-slot
 overflow_sub-slot g c =
     let a : Device = g.F.Flash.device c.args.flash.now in
     let area : Area = c.args.area.now in
-    let law : IsKind (g.T.SlotSectors.kind (geometry_of a area)) = g.met.T.SlotSectors.lawful (geometry_of a area) (unit_is a area (g.met.F.Flash.is_lawful c.args.flash.now) c.requires.stands.area.lawful) in
+    let law : IsSectorFormat (g.T.SlotSectors.format_of (geometry_of a area)) = g.met.T.SlotSectors.lawful (geometry_of a area) (unit_is a area (g.met.F.Flash.is_lawful c.args.flash.now) c.requires.stands.area.lawful) in
     let d : Device = g.F.Flash.device c.put.new.flash in
     let did = c.in_ok-put.ensures in
     let first = c.first_slot-first.ensures.value (geometry_of d area) in
     let count = c.own_slots-count.ensures.value in
-    let at : c.first_slot-first.result + c.own_slots-count.result ≡ (g.T.SlotSectors.kind (geometry_of d area)).first + (g.T.SlotSectors.kind (geometry_of d area)).count (sector_at (sectors_of d area) c.args.current) = omega arith in
-    let there = entry-behind g.T.SlotSectors.kind a d area c.args.current c.args.id (length c.args.bytes.now) did.touches.banks did.entry (c.first_slot-first.result + c.own_slots-count.result) at in
+    let at : c.first_slot-first.result + c.own_slots-count.result ≡ (g.T.SlotSectors.format_of (geometry_of d area)).first + (g.T.SlotSectors.format_of (geometry_of d area)).count (sector_at (sectors_of d area) c.args.current) = omega arith in
+    let there = entry-behind g.T.SlotSectors.format_of a d area c.args.current c.args.id (length c.args.bytes.now) did.touches.banks did.entry (c.first_slot-first.result + c.own_slots-count.result) at in
     omega arith
 
 pub returns-clause-cached : goal.returns-clause-cached
 returns-clause-cached g c =
     let a : Device = g.F.Flash.device c.args.flash.now in
     let area : Area = c.args.area.now in
-    let law : IsKind (g.T.SlotSectors.kind (geometry_of a area)) = g.met.T.SlotSectors.lawful (geometry_of a area) (unit_is a area (g.met.F.Flash.is_lawful c.args.flash.now) c.requires.stands.area.lawful) in
+    let law : IsSectorFormat (g.T.SlotSectors.format_of (geometry_of a area)) = g.met.T.SlotSectors.lawful (geometry_of a area) (unit_is a area (g.met.F.Flash.is_lawful c.args.flash.now) c.requires.stands.area.lawful) in
     let d : Device = g.F.Flash.device c.put.new.flash in
     let did = c.in_ok-put.ensures in
     let first = c.first_slot-first.ensures.value (geometry_of d area) in
     let count = c.own_slots-count.ensures.value in
-    let at : c.first_slot-first.result + c.own_slots-count.result ≡ (g.T.SlotSectors.kind (geometry_of d area)).first + (g.T.SlotSectors.kind (geometry_of d area)).count (sector_at (sectors_of d area) c.args.current) = omega arith in
-    cache-put g.T.SlotSectors.kind a d area c.args.current c.args.id (length c.args.bytes.now) did.touches.banks did.entry c.args.cache.now c.requires.cached c.note.new.self (c.first_slot-first.result + c.own_slots-count.result) at c.note.ensures
+    let at : c.first_slot-first.result + c.own_slots-count.result ≡ (g.T.SlotSectors.format_of (geometry_of d area)).first + (g.T.SlotSectors.format_of (geometry_of d area)).count (sector_at (sectors_of d area) c.args.current) = omega arith in
+    cache-put g.T.SlotSectors.format_of a d area c.args.current c.args.id (length c.args.bytes.now) did.touches.banks did.entry c.args.cache.now c.requires.cached c.note.new.self (c.first_slot-first.result + c.own_slots-count.result) at c.note.ensures
 
 pub returns-in_err-put-clause-written : goal.returns-in_err-put-clause-written
 returns-in_err-put-clause-written g c = c.in_err-put.ensures.written

@@ -1,6 +1,6 @@
 use Rattle.migrator.proofs.Spent.{put_units}
 use Rattle.std.proofs.Common.{◌*◌}
-use Rattle.backend_api.specs.Room.{most_units}
+use Rattle.backend_api.specs.Room.{command_units}
 use Rattle.std.specs.FinMap as maps
 use Rattle.flash_map.proofs.SpendingLemmas.{most_weaker}
 use Rattle.flash_sim.specs.declared.flash.Bank.{Bank}
@@ -78,7 +78,7 @@ returns-clause-at_most g c =
     let a : Device = g.F.Flash.device c.args.flash.now in
     let m : Map = on g.K.Backend.contents a (g.K.Backend.mounted_on c.args.from.now) in
     let area = g.K.Backend.mounted_on c.args.to.now in
-    most_weaker a (g.F.Flash.device c.loop-at.flash) (put_units m c.loop-at.at (geometry_of a area)) (maps.len m * most_units (geometry_of a area)) (put-all m c.loop-at.at (geometry_of a area)) c.loop-at.invariant.units
+    most_weaker a (g.F.Flash.device c.loop-at.flash) (put_units m c.loop-at.at (geometry_of a area)) (maps.len m * command_units (geometry_of a area)) (put-all m c.loop-at.at (geometry_of a area)) c.loop-at.invariant.units
 
 pub next_name-at-requires-clause-lawful : goal.next_name-at-requires-clause-lawful
 next_name-at-requires-clause-lawful g c = c.requires.stores.lawful_from

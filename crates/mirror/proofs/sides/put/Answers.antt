@@ -11,7 +11,7 @@ use Rattle.flash_map.specs.declared.area.Area.{Area}
 use Rattle.flash_map.specs.Lawful.{IsLawfulFor}
 use Rattle.backend_api.specs.Ends.{SetEndsOn, set_lost}
 use Rattle.backend_api.specs.Map.{IsStored}
-use Rattle.backend_api.specs.Room.{most_units}
+use Rattle.backend_api.specs.Room.{command_units}
 use Rattle.backend_api.specs.declared.backend.SetFault.{SetFault}
 use Rattle.mirror.specs.Mirrored.{IsDone}
 use Rattle.mirror.specs.Room.{too_many_on}
@@ -51,7 +51,7 @@ pub returns-in-Ok-clause-at_most : goal.returns-in-Ok-clause-at_most
 returns-in-Ok-clause-at_most g c =
     let d = g.F.Flash.device c.args.flash.now in
     let e = g.F.Flash.device c.set.new.flash in
-    subst (λ (x : Area). SpendsAtMost d e (most_units (geometry_of d x))) c.requires.stands.here c.in-Ok.ensures.at_most
+    subst (λ (x : Area). SpendsAtMost d e (command_units (geometry_of d x))) c.requires.stands.here c.in-Ok.ensures.at_most
 
 pub returns-in-Ok-clause-sound : goal.returns-in-Ok-clause-sound
 returns-in-Ok-clause-sound g c =
@@ -79,7 +79,7 @@ pub returns-in-Err-PowerLost-clause-at_most : goal.returns-in-Err-PowerLost-clau
 returns-in-Err-PowerLost-clause-at_most g c =
     let d = g.F.Flash.device c.args.flash.now in
     let e = g.F.Flash.device c.set.new.flash in
-    subst (λ (x : Area). SpendsAtMost d e (most_units (geometry_of d x))) c.requires.stands.here c.in-Err-PowerLost.ensures.at_most
+    subst (λ (x : Area). SpendsAtMost d e (command_units (geometry_of d x))) c.requires.stands.here c.in-Err-PowerLost.ensures.at_most
 
 pub returns-in-Err-PowerLost-clause-sound : goal.returns-in-Err-PowerLost-clause-sound
 returns-in-Err-PowerLost-clause-sound g c =

@@ -7,7 +7,7 @@ use Rattle.flash_map.specs.Spending.{SpendsAtMost}
 use Rattle.flash_map.specs.Touches.{Touches}
 use Rattle.flash_map.specs.declared.area.Area.{Area}
 use Rattle.flash_map.specs.Lawful.{IsLawfulFor}
-use Rattle.backend_api.specs.Room.{most_units}
+use Rattle.backend_api.specs.Room.{command_units}
 use Rattle.mirror.proofs.sides.take.Goals as goal
 
 pub delete-requires-clause-lawful : goal.delete-requires-clause-lawful
@@ -26,7 +26,7 @@ pub returns-clause-at_most : goal.returns-clause-at_most
 returns-clause-at_most g c =
     let d = g.F.Flash.device c.args.flash.now in
     let e = g.F.Flash.device c.delete.new.flash in
-    subst (λ (x : Area). SpendsAtMost d e (most_units (geometry_of d x))) c.requires.stands.here c.delete.ensures.at_most
+    subst (λ (x : Area). SpendsAtMost d e (command_units (geometry_of d x))) c.requires.stands.here c.delete.ensures.at_most
 
 pub returns-clause-sound : goal.returns-clause-sound
 returns-clause-sound g c =

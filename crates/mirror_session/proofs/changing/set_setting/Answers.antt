@@ -8,7 +8,7 @@ use Rattle.backend_api.specs.declared.backend.SetFault.{SetFault}
 use Rattle.backend_api.specs.declared.backend.SetFault.TheVariants.{NoSpace, TooManyNames, PowerLost}
 use Rattle.script_lines.specs.declared.answer.Answer.TheVariants as settings
 use Rattle.mirror_session.specs.declared.line.Line.TheVariants.{Set}
-use Rattle.mirror_session.specs.declared.answer.Answer.TheVariants.{Told}
+use Rattle.mirror_session.specs.declared.answer.Answer.TheVariants.{Plain}
 use Rattle.mirror_session.specs.Answer.{done, lost}
 use Rattle.mirror_session.specs.Bench.{meanings, moment}
 use Rattle.mirror_session.specs.LineDone.{LineDone}
@@ -50,7 +50,7 @@ returns-in-Err-NoSpace-clause-done g c =
     let which : c.in-Err-NoSpace.field-0 ≡ NoSpace c.in-Err-NoSpace.need c.in-Err-NoSpace.live = rw c.in-Err-NoSpace.is at c.in-Err-NoSpace.field-0-is in
     let end : c.set-end.result ≡ Err (NoSpace c.in-Err-NoSpace.need c.in-Err-NoSpace.live) = c.in-Err-NoSpace.is ∙ ap (λ (fault : SetFault). Err fault) which in
     let line = set_full K.mounted_on K.stands m K.serves c.args.map.now old new c.args.mirror.now c.set-end.new.self c.requires.map c.requires.held c.requires.on lawful lawful_new c.args.name.now c.as_slice.result.now some c.set-end.ensures.at_most (new.spent - old.spent) refl c.set-end.result c.set-end.ensures.ends c.in-Err-NoSpace.need c.in-Err-NoSpace.live end (subst (λ (r : Result (Unit {0}) SetFault). Touches (c.args.mirror.now.trusted.area ∷ c.args.mirror.now.other.area ∷ []) old new (set_lost r)) end c.set-end.ensures.touches) in
-    rw (c.spent.ensures, c.spent-before.ensures) (subst (λ (v : List ℕ). LineDone m c.args.map.now (Set c.args.name.now v) (Told (settings.NoSpace (new.spent - old.spent) c.in-Err-NoSpace.need c.in-Err-NoSpace.live)) (moment old true) (moment new true)) c.as_slice.ensures line)
+    rw (c.spent.ensures, c.spent-before.ensures) (subst (λ (v : List ℕ). LineDone m c.args.map.now (Set c.args.name.now v) (Plain (settings.NoSpace (new.spent - old.spent) c.in-Err-NoSpace.need c.in-Err-NoSpace.live)) (moment old true) (moment new true)) c.as_slice.ensures line)
 
 pub returns-in-Err-TooManyNames-clause-done : goal.returns-in-Err-TooManyNames-clause-done
 returns-in-Err-TooManyNames-clause-done g c =
@@ -64,7 +64,7 @@ returns-in-Err-TooManyNames-clause-done g c =
     let which : c.in-Err-TooManyNames.field-0 ≡ TooManyNames = rw c.in-Err-TooManyNames.is at c.in-Err-TooManyNames.field-0-is in
     let end : c.set-end.result ≡ Err (TooManyNames) = c.in-Err-TooManyNames.is ∙ ap (λ (fault : SetFault). Err fault) which in
     let line = set_many K.mounted_on K.stands m K.serves c.args.map.now old new c.args.mirror.now c.set-end.new.self c.requires.map c.requires.held c.requires.on lawful lawful_new c.args.name.now c.as_slice.result.now some c.set-end.ensures.at_most (new.spent - old.spent) refl c.set-end.result c.set-end.ensures.ends end (subst (λ (r : Result (Unit {0}) SetFault). Touches (c.args.mirror.now.trusted.area ∷ c.args.mirror.now.other.area ∷ []) old new (set_lost r)) end c.set-end.ensures.touches) in
-    rw (c.spent.ensures, c.spent-before.ensures) (subst (λ (v : List ℕ). LineDone m c.args.map.now (Set c.args.name.now v) (Told (settings.TooMany (new.spent - old.spent))) (moment old true) (moment new true)) c.as_slice.ensures line)
+    rw (c.spent.ensures, c.spent-before.ensures) (subst (λ (v : List ℕ). LineDone m c.args.map.now (Set c.args.name.now v) (Plain (settings.TooMany (new.spent - old.spent))) (moment old true) (moment new true)) c.as_slice.ensures line)
 
 pub returns-in-Err-PowerLost-clause-done : goal.returns-in-Err-PowerLost-clause-done
 returns-in-Err-PowerLost-clause-done g c =

@@ -3,7 +3,7 @@ use Rattle.std.specs.FinMap.{get, remove}
 use Rattle.named_items.specs.Pairs.{count_in}
 use Rattle.named_items.proofs.CostLemmas.{get-cut, get-cut_other}
 use Rattle.named_items.proofs.PairLemmas.{place-taken, no-name}
-use Rattle.named_items.proofs.StrayLemmas.{one-place}
+use Rattle.named_items.proofs.OrphanLemmas.{one-place}
 use Rattle.named_items.proofs.laws.name_deleted.Goals as goal
 
 pub returns : goal.returns

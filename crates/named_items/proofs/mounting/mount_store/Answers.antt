@@ -11,44 +11,44 @@ use Rattle.flash_map.specs.On.{on}
 use Rattle.item_laws.specs.Items.{Items}
 use Rattle.backend_api.specs.Room.{removal_units}
 use Rattle.backend_api.specs.Written.{StaysWritten}
-use Rattle.named_items.specs.Strays.{KeepsSettings}
+use Rattle.named_items.specs.Orphans.{KeepsSettings}
 use Rattle.named_items.proofs.RemovalUnits.{store-mounted, all-removed}
 use Rattle.named_items.proofs.SpendSteps.{geometry-stays}
-use Rattle.named_items.specs.Pairs.{settings_in, HasNoStrays}
+use Rattle.named_items.specs.Pairs.{settings_in, HasNoOrphans}
 use Rattle.named_items.proofs.mounting.mount_store.Goals as goal
 
-pub returns-in-Ok-remove_strays-clause-rests : goal.returns-in-Ok-remove_strays-clause-rests
-returns-in-Ok-remove_strays-clause-rests g c = λ rest none.
+pub returns-in-Ok-remove_orphans-clause-rests : goal.returns-in-Ok-remove_orphans-clause-rests
+returns-in-Ok-remove_orphans-clause-rests g c = λ rest none.
     let d : Device = g.F.Flash.device c.args.flash.now in
     let e : Device = g.F.Flash.device c.mount.new.flash in
     let own : Area = c.args.area in
     let on_it : g.S.ItemStore.mounted_on c.in-Ok.store ≡ own = c.in-Ok.ensures.on in
     let idle : e ≡ d = c.in-Ok.ensures.rests rest in
-    c.remove_strays.ensures.rests (subst (λ (x : Area). HasNoStrays (g.N.Numbers.numbers x) (on g.S.ItemStore.contents e x)) (sym on_it) (subst (λ (y : Device). HasNoStrays (g.N.Numbers.numbers own) (on g.S.ItemStore.contents y own)) (sym idle) none)) ∙ idle
+    c.remove_orphans.ensures.rests (subst (λ (x : Area). HasNoOrphans (g.N.IdLayout.numbering x) (on g.S.ItemStore.contents e x)) (sym on_it) (subst (λ (y : Device). HasNoOrphans (g.N.IdLayout.numbering own) (on g.S.ItemStore.contents y own)) (sym idle) none)) ∙ idle
 
-pub returns-in-Err-remove_strays-clause-touches : goal.returns-in-Err-remove_strays-clause-touches
-returns-in-Err-remove_strays-clause-touches g c =
+pub returns-in-Err-remove_orphans-clause-touches : goal.returns-in-Err-remove_orphans-clause-touches
+returns-in-Err-remove_orphans-clause-touches g c =
     let d : Device = g.F.Flash.device c.args.flash.now in
     let e : Device = g.F.Flash.device c.mount.new.flash in
     let own : Area = c.args.area in
     let on_it : g.S.ItemStore.mounted_on c.in-Ok.store ≡ own = c.in-Ok.ensures.on in
-    let f : Device = g.F.Flash.device c.remove_strays.new.flash in
-    then c.in-Ok.ensures.touches (subst (λ (x : Area). Touches (x ∷ []) e f true) on_it c.in-Err-remove_strays.ensures.touches)
+    let f : Device = g.F.Flash.device c.remove_orphans.new.flash in
+    then c.in-Ok.ensures.touches (subst (λ (x : Area). Touches (x ∷ []) e f true) on_it c.in-Err-remove_orphans.ensures.touches)
 
-pub returns-in-Err-remove_strays-clause-rests : goal.returns-in-Err-remove_strays-clause-rests
-returns-in-Err-remove_strays-clause-rests g c = λ rest none.
+pub returns-in-Err-remove_orphans-clause-rests : goal.returns-in-Err-remove_orphans-clause-rests
+returns-in-Err-remove_orphans-clause-rests g c = λ rest none.
     let d : Device = g.F.Flash.device c.args.flash.now in
     let e : Device = g.F.Flash.device c.mount.new.flash in
     let own : Area = c.args.area in
     let on_it : g.S.ItemStore.mounted_on c.in-Ok.store ≡ own = c.in-Ok.ensures.on in
     let idle : e ≡ d = c.in-Ok.ensures.rests rest in
-    c.remove_strays.ensures.rests (subst (λ (x : Area). HasNoStrays (g.N.Numbers.numbers x) (on g.S.ItemStore.contents e x)) (sym on_it) (subst (λ (y : Device). HasNoStrays (g.N.Numbers.numbers own) (on g.S.ItemStore.contents y own)) (sym idle) none)) ∙ idle
+    c.remove_orphans.ensures.rests (subst (λ (x : Area). HasNoOrphans (g.N.IdLayout.numbering x) (on g.S.ItemStore.contents e x)) (sym on_it) (subst (λ (y : Device). HasNoOrphans (g.N.IdLayout.numbering own) (on g.S.ItemStore.contents y own)) (sym idle) none)) ∙ idle
 
-pub returns-in-Ok-remove_strays-clause-at_most : goal.returns-in-Ok-remove_strays-clause-at_most
-returns-in-Ok-remove_strays-clause-at_most g c =
+pub returns-in-Ok-remove_orphans-clause-at_most : goal.returns-in-Ok-remove_orphans-clause-at_most
+returns-in-Ok-remove_orphans-clause-at_most g c =
     let d : Device = g.F.Flash.device c.args.flash.now in
     let e : Device = g.F.Flash.device c.mount.new.flash in
-    let f : Device = g.F.Flash.device c.remove_strays.new.flash in
+    let f : Device = g.F.Flash.device c.remove_orphans.new.flash in
     let own : Area = c.args.area in
     let on_it : g.S.ItemStore.mounted_on c.in-Ok.store ≡ own = c.in-Ok.ensures.on in
     let none : on g.S.ItemStore.damage d own ≡ None = c.in-Ok.ensures.ends in
@@ -57,13 +57,13 @@ returns-in-Ok-remove_strays-clause-at_most g c =
     all-removed (geometry_of d own) d e f (len (on g.S.ItemStore.contents d own)) few c.in-Ok.ensures.at_most
     (subst (λ (k : Geometry). SpendsAtMost e f (len (on g.S.ItemStore.contents d own) * removal_units k)) (geometry-stays d e own c.in-Ok.ensures.touches.banks)
     (subst (λ (m : Items). SpendsAtMost e f (len m * removal_units (geometry_of e own))) keeps
-    (subst (λ (x : Area). SpendsAtMost e f (len (on g.S.ItemStore.contents e x) * removal_units (geometry_of e x))) on_it c.remove_strays.ensures.at_most)))
+    (subst (λ (x : Area). SpendsAtMost e f (len (on g.S.ItemStore.contents e x) * removal_units (geometry_of e x))) on_it c.remove_orphans.ensures.at_most)))
 
-pub returns-in-Err-remove_strays-clause-at_most : goal.returns-in-Err-remove_strays-clause-at_most
-returns-in-Err-remove_strays-clause-at_most g c =
+pub returns-in-Err-remove_orphans-clause-at_most : goal.returns-in-Err-remove_orphans-clause-at_most
+returns-in-Err-remove_orphans-clause-at_most g c =
     let d : Device = g.F.Flash.device c.args.flash.now in
     let e : Device = g.F.Flash.device c.mount.new.flash in
-    let f : Device = g.F.Flash.device c.remove_strays.new.flash in
+    let f : Device = g.F.Flash.device c.remove_orphans.new.flash in
     let own : Area = c.args.area in
     let on_it : g.S.ItemStore.mounted_on c.in-Ok.store ≡ own = c.in-Ok.ensures.on in
     let none : on g.S.ItemStore.damage d own ≡ None = c.in-Ok.ensures.ends in
@@ -72,72 +72,72 @@ returns-in-Err-remove_strays-clause-at_most g c =
     all-removed (geometry_of d own) d e f (len (on g.S.ItemStore.contents d own)) few c.in-Ok.ensures.at_most
     (subst (λ (k : Geometry). SpendsAtMost e f (len (on g.S.ItemStore.contents d own) * removal_units k)) (geometry-stays d e own c.in-Ok.ensures.touches.banks)
     (subst (λ (m : Items). SpendsAtMost e f (len m * removal_units (geometry_of e own))) keeps
-    (subst (λ (x : Area). SpendsAtMost e f (len (on g.S.ItemStore.contents e x) * removal_units (geometry_of e x))) on_it c.remove_strays.ensures.at_most)))
+    (subst (λ (x : Area). SpendsAtMost e f (len (on g.S.ItemStore.contents e x) * removal_units (geometry_of e x))) on_it c.remove_orphans.ensures.at_most)))
 
 pub returns-in-Err-clause-at_most : goal.returns-in-Err-clause-at_most
 returns-in-Err-clause-at_most g c = store-mounted (geometry_of (g.F.Flash.device c.args.flash.now) c.args.area) (g.F.Flash.device c.args.flash.now) (g.F.Flash.device c.mount.new.flash) c.in-Err.ensures.at_most
 
-pub returns-in-Ok-remove_strays-clause-written : goal.returns-in-Ok-remove_strays-clause-written
-returns-in-Ok-remove_strays-clause-written g c = λ blank.
+pub returns-in-Ok-remove_orphans-clause-written : goal.returns-in-Ok-remove_orphans-clause-written
+returns-in-Ok-remove_orphans-clause-written g c = λ blank.
     let e : Device = g.F.Flash.device c.mount.new.flash in
-    let f : Device = g.F.Flash.device c.remove_strays.new.flash in
+    let f : Device = g.F.Flash.device c.remove_orphans.new.flash in
     let on_it : g.S.ItemStore.mounted_on c.in-Ok.store ≡ c.args.area = c.in-Ok.ensures.on in
-    c.in-Ok.ensures.written (subst (λ (x : Area). StaysWritten e f x) on_it c.remove_strays.ensures.written blank)
+    c.in-Ok.ensures.written (subst (λ (x : Area). StaysWritten e f x) on_it c.remove_orphans.ensures.written blank)
 
-pub returns-in-Err-remove_strays-clause-written : goal.returns-in-Err-remove_strays-clause-written
-returns-in-Err-remove_strays-clause-written g c = λ blank.
+pub returns-in-Err-remove_orphans-clause-written : goal.returns-in-Err-remove_orphans-clause-written
+returns-in-Err-remove_orphans-clause-written g c = λ blank.
     let e : Device = g.F.Flash.device c.mount.new.flash in
-    let f : Device = g.F.Flash.device c.remove_strays.new.flash in
+    let f : Device = g.F.Flash.device c.remove_orphans.new.flash in
     let on_it : g.S.ItemStore.mounted_on c.in-Ok.store ≡ c.args.area = c.in-Ok.ensures.on in
-    c.in-Ok.ensures.written (subst (λ (x : Area). StaysWritten e f x) on_it c.remove_strays.ensures.written blank)
+    c.in-Ok.ensures.written (subst (λ (x : Area). StaysWritten e f x) on_it c.remove_orphans.ensures.written blank)
 
-pub returns-in-Ok-remove_strays-clause-keeps : goal.returns-in-Ok-remove_strays-clause-keeps
-returns-in-Ok-remove_strays-clause-keeps g c = λ none.
+pub returns-in-Ok-remove_orphans-clause-keeps : goal.returns-in-Ok-remove_orphans-clause-keeps
+returns-in-Ok-remove_orphans-clause-keeps g c = λ none.
     let d : Device = g.F.Flash.device c.args.flash.now in
     let e : Device = g.F.Flash.device c.mount.new.flash in
-    let f : Device = g.F.Flash.device c.remove_strays.new.flash in
+    let f : Device = g.F.Flash.device c.remove_orphans.new.flash in
     let own : Area = c.args.area in
     let on_it : g.S.ItemStore.mounted_on c.in-Ok.store ≡ own = c.in-Ok.ensures.on in
     let keeps : on g.S.ItemStore.contents e own ≡ on g.S.ItemStore.contents d own = c.in-Ok.ensures.keeps none in
-    let step = subst (λ (x : Area). KeepsSettings (g.N.Numbers.numbers x) (on g.S.ItemStore.contents e x) (on g.S.ItemStore.contents f x)) on_it c.remove_strays.ensures.keeps in
-    subst (λ (m : Items). KeepsSettings (g.N.Numbers.numbers own) m (on g.S.ItemStore.contents f own)) keeps step
+    let step = subst (λ (x : Area). KeepsSettings (g.N.IdLayout.numbering x) (on g.S.ItemStore.contents e x) (on g.S.ItemStore.contents f x)) on_it c.remove_orphans.ensures.keeps in
+    subst (λ (m : Items). KeepsSettings (g.N.IdLayout.numbering own) m (on g.S.ItemStore.contents f own)) keeps step
 
-pub returns-in-Ok-remove_strays-clause-sound : goal.returns-in-Ok-remove_strays-clause-sound
-returns-in-Ok-remove_strays-clause-sound g c = λ none.
-    let f : Device = g.F.Flash.device c.remove_strays.new.flash in
-    subst (λ (x : Area). on g.S.ItemStore.damage f x ≡ None) c.in-Ok.ensures.on c.remove_strays.ensures.store.sound
+pub returns-in-Ok-remove_orphans-clause-sound : goal.returns-in-Ok-remove_orphans-clause-sound
+returns-in-Ok-remove_orphans-clause-sound g c = λ none.
+    let f : Device = g.F.Flash.device c.remove_orphans.new.flash in
+    subst (λ (x : Area). on g.S.ItemStore.damage f x ≡ None) c.in-Ok.ensures.on c.remove_orphans.ensures.store.sound
 
-pub returns-in-Err-remove_strays-clause-keeps : goal.returns-in-Err-remove_strays-clause-keeps
-returns-in-Err-remove_strays-clause-keeps g c = λ none.
+pub returns-in-Err-remove_orphans-clause-keeps : goal.returns-in-Err-remove_orphans-clause-keeps
+returns-in-Err-remove_orphans-clause-keeps g c = λ none.
     let d : Device = g.F.Flash.device c.args.flash.now in
     let e : Device = g.F.Flash.device c.mount.new.flash in
-    let f : Device = g.F.Flash.device c.remove_strays.new.flash in
+    let f : Device = g.F.Flash.device c.remove_orphans.new.flash in
     let own : Area = c.args.area in
     let on_it : g.S.ItemStore.mounted_on c.in-Ok.store ≡ own = c.in-Ok.ensures.on in
     let keeps : on g.S.ItemStore.contents e own ≡ on g.S.ItemStore.contents d own = c.in-Ok.ensures.keeps none in
-    let step = subst (λ (x : Area). KeepsSettings (g.N.Numbers.numbers x) (on g.S.ItemStore.contents e x) (on g.S.ItemStore.contents f x)) on_it c.remove_strays.ensures.keeps in
-    subst (λ (m : Items). KeepsSettings (g.N.Numbers.numbers own) m (on g.S.ItemStore.contents f own)) keeps step
+    let step = subst (λ (x : Area). KeepsSettings (g.N.IdLayout.numbering x) (on g.S.ItemStore.contents e x) (on g.S.ItemStore.contents f x)) on_it c.remove_orphans.ensures.keeps in
+    subst (λ (m : Items). KeepsSettings (g.N.IdLayout.numbering own) m (on g.S.ItemStore.contents f own)) keeps step
 
-pub returns-in-Err-remove_strays-clause-sound : goal.returns-in-Err-remove_strays-clause-sound
-returns-in-Err-remove_strays-clause-sound g c = λ none.
-    let f : Device = g.F.Flash.device c.remove_strays.new.flash in
-    subst (λ (x : Area). on g.S.ItemStore.damage f x ≡ None) c.in-Ok.ensures.on c.remove_strays.ensures.store.sound
+pub returns-in-Err-remove_orphans-clause-sound : goal.returns-in-Err-remove_orphans-clause-sound
+returns-in-Err-remove_orphans-clause-sound g c = λ none.
+    let f : Device = g.F.Flash.device c.remove_orphans.new.flash in
+    subst (λ (x : Area). on g.S.ItemStore.damage f x ≡ None) c.in-Ok.ensures.on c.remove_orphans.ensures.store.sound
 
 pub returns-in-Err-clause-keeps : goal.returns-in-Err-clause-keeps
 returns-in-Err-clause-keeps g c = λ none. record {
-  settings = ap (settings_in (g.N.Numbers.numbers c.args.area)) (c.in-Err.ensures.keeps none);
+  settings = ap (settings_in (g.N.IdLayout.numbering c.args.area)) (c.in-Err.ensures.keeps none);
   kept = λ id is. ap (λ (m : Items). get m id) (c.in-Err.ensures.keeps none);
   gone = λ id. inr (ap (λ (m : Items). get m id) (c.in-Err.ensures.keeps none));
 }
 
-pub returns-in-Ok-remove_strays-clause-store : goal.returns-in-Ok-remove_strays-clause-store
-returns-in-Ok-remove_strays-clause-store g c =
+pub returns-in-Ok-remove_orphans-clause-store : goal.returns-in-Ok-remove_orphans-clause-store
+returns-in-Ok-remove_orphans-clause-store g c =
     let e : Device = g.F.Flash.device c.mount.new.flash in
     let own : Area = c.args.area in
     let on_it : g.S.ItemStore.mounted_on c.in-Ok.store ≡ own = c.in-Ok.ensures.on in
-    let f : Device = g.F.Flash.device c.remove_strays.new.flash in
+    let f : Device = g.F.Flash.device c.remove_orphans.new.flash in
     record {
-      on_it = c.remove_strays.ensures.store.area ∙ on_it;
-      up = c.in-Ok-remove_strays.ensures.store.up refl;
-      clean = subst (λ (x : Area). HasNoStrays (g.N.Numbers.numbers x) (on g.S.ItemStore.contents f x)) on_it c.in-Ok-remove_strays.ensures.ends;
+      on_it = c.remove_orphans.ensures.store.area ∙ on_it;
+      up = c.in-Ok-remove_orphans.ensures.store.up refl;
+      clean = subst (λ (x : Area). HasNoOrphans (g.N.IdLayout.numbering x) (on g.S.ItemStore.contents f x)) on_it c.in-Ok-remove_orphans.ensures.ends;
     }

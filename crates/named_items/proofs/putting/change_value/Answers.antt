@@ -12,7 +12,7 @@ use Rattle.backend_api.specs.Ends.{SetEnds, set_lost}
 use Rattle.flash_map.specs.On.{on}
 use Rattle.named_items.specs.StoreEnds as ends
 use Rattle.named_items.specs.Numbering.{Numbering}
-use Rattle.named_items.specs.Pairs.{is_pair, settings_in, AltersOnly, HasNoStrays}
+use Rattle.named_items.specs.Pairs.{is_pair, settings_in, AltersOnly, HasNoOrphans}
 use Rattle.named_items.specs.Putting.{room_in, IsPut}
 use Rattle.named_items.proofs.ChangeSteps.{moved-clean, moved-lawful, moved-cost, moved-price, change-clean, change-done, change-refused, change-cut, change-few, stored-holds}
 use Rattle.named_items.proofs.LookupSteps.{at-passes, at-known}
@@ -24,21 +24,21 @@ pub overflow_add-first : goal.overflow_add-first
 overflow_add-first g c =
     let d : Device = g.F.Flash.device c.args.flash.now in
     let own : Area = g.S.ItemStore.mounted_on c.args.store.now in
-    let n : Numbering = g.N.Numbers.numbers own in
+    let n : Numbering = g.N.IdLayout.numbering own in
     let k : Geometry = geometry_of d own in
     let before : Items = on g.S.ItemStore.contents d own in
-    let low : c.args.first + n.step < g.N.Numbers.top = at-known n before c.args.name.now c.args.first c.requires.at g.N.Numbers.top (g.met.N.Numbers.within own) in
+    let low : c.args.first + n.step < g.N.IdLayout.top = at-known n before c.args.name.now c.args.first c.requires.at g.N.IdLayout.top (g.met.N.IdLayout.within own) in
     let same : n.step ≡ c.step.result = c.step.ensures own in
-    omega (arith, low, same, g.met.N.Numbers.top_small)
+    omega (arith, low, same, g.met.N.IdLayout.top_small)
 
 pub write-requires-clause-known : goal.write-requires-clause-known
 write-requires-clause-known g c =
     let d : Device = g.F.Flash.device c.args.flash.now in
     let own : Area = g.S.ItemStore.mounted_on c.args.store.now in
-    let n : Numbering = g.N.Numbers.numbers own in
+    let n : Numbering = g.N.IdLayout.numbering own in
     let k : Geometry = geometry_of d own in
     let before : Items = on g.S.ItemStore.contents d own in
-    let low : c.args.first + n.step < g.N.Numbers.top = at-known n before c.args.name.now c.args.first c.requires.at g.N.Numbers.top (g.met.N.Numbers.within own) in
+    let low : c.args.first + n.step < g.N.IdLayout.top = at-known n before c.args.name.now c.args.first c.requires.at g.N.IdLayout.top (g.met.N.IdLayout.within own) in
     subst (λ (step : ℕ). g.S.ItemStore.is_id (c.args.first + step)) (c.step.ensures own) (c.requires.ids.all (c.args.first + n.step) low)
 
 pub refused-requires-clause-here : goal.refused-requires-clause-here
@@ -46,7 +46,7 @@ refused-requires-clause-here g c =
     let d : Device = g.F.Flash.device c.args.flash.now in
     let e : Device = g.F.Flash.device c.write.new.flash in
     let own : Area = g.S.ItemStore.mounted_on c.args.store.now in
-    let n : Numbering = g.N.Numbers.numbers own in
+    let n : Numbering = g.N.IdLayout.numbering own in
     let k : Geometry = geometry_of d own in
     let before : Items = on g.S.ItemStore.contents d own in
     let after : Items = on g.S.ItemStore.contents e own in
@@ -56,7 +56,7 @@ refused-requires-clause-here g c =
     record {
       lawful = moved-lawful own (g.S.ItemStore.mounted_on c.write.new.self) c.write.ensures.area d e c.write.ensures.touches.banks c.requires.here.lawful;
       up = c.in-Err-NoSpace.ensures.stands (ap (λ (w : WriteFault). write_lost {T = Unit {0}} (Err w)) c.in-Err-NoSpace.field-0-is);
-      clean = moved-clean g.N.Numbers.numbers g.N.Numbers.counted g.N.Numbers.too_many g.S.ItemStore.contents own (g.S.ItemStore.mounted_on c.write.new.self) c.write.ensures.area e (subst (HasNoStrays n) (sym finds.items) c.requires.here.clean);
+      clean = moved-clean g.N.IdLayout.numbering g.N.IdLayout.counted g.N.IdLayout.too_many g.S.ItemStore.contents own (g.S.ItemStore.mounted_on c.write.new.self) c.write.ensures.area e (subst (HasNoOrphans n) (sym finds.items) c.requires.here.clean);
     }
 
 pub returns-in-Ok-clause-store : goal.returns-in-Ok-clause-store
@@ -73,18 +73,18 @@ returns-in-Ok-clause-ends g c =
     let d : Device = g.F.Flash.device c.args.flash.now in
     let e : Device = g.F.Flash.device c.write.new.flash in
     let own : Area = g.S.ItemStore.mounted_on c.args.store.now in
-    let n : Numbering = g.N.Numbers.numbers own in
+    let n : Numbering = g.N.IdLayout.numbering own in
     let k : Geometry = geometry_of d own in
     let before : Items = on g.S.ItemStore.contents d own in
     let after : Items = on g.S.ItemStore.contents e own in
-    let pair : is_pair n c.args.first c.args.name.now c.args.value.now ≡ true = at-passes n before c.args.name.now c.args.first c.requires.at c.args.value.now c.requires.value.some (subst (λ (most : ℕ). length c.args.value.now ≤ most) (sym (g.met.N.Numbers.longest own)) c.requires.value.short) in
+    let pair : is_pair n c.args.first c.args.name.now c.args.value.now ≡ true = at-passes n before c.args.name.now c.args.first c.requires.at c.args.value.now c.requires.value.some (subst (λ (most : ℕ). length c.args.value.now ≤ most) (sym (g.met.N.IdLayout.longest own)) c.requires.value.short) in
     let writes : ends.Writes (g.S.ItemStore.price k) (g.S.ItemStore.cap k) d e before after (c.args.first + n.step) c.args.value.now =
     subst (λ (step : ℕ). ends.Writes (g.S.ItemStore.price k) (g.S.ItemStore.cap k) d e before after (c.args.first + step) c.args.value.now) (sym (c.step.ensures own)) c.in-Ok.ensures.ends in
     record {
-      ends = change-done n (g.met.N.Numbers.is_numbering own) g.N.Numbers.counted g.N.Numbers.too_many (g.met.N.Numbers.count_cost own) g.met.N.Numbers.stored_few before c.requires.here.clean c.args.name.now c.args.value.now c.args.first (c.args.first + n.step) c.requires.at pair refl (g.S.ItemStore.price k) (g.S.ItemStore.cap k) own.sectors d e after writes.items writes.equal
+      ends = change-done n (g.met.N.IdLayout.is_numbering own) g.N.IdLayout.counted g.N.IdLayout.too_many (g.met.N.IdLayout.count_cost own) g.met.N.IdLayout.stored_few before c.requires.here.clean c.args.name.now c.args.value.now c.args.first (c.args.first + n.step) c.requires.at pair refl (g.S.ItemStore.price k) (g.S.ItemStore.cap k) own.sectors d e after writes.items writes.equal
           (λ changed. spends-some g.S.ItemStore.contents d e own (own ∷ []) (write_lost c.write.result) c.write.ensures.touches (λ same. changed (ap (settings_in n) same)));
       cut = λ lost. absurd {A = IsPut (settings_in n before) (settings_in n after) c.args.name.now c.args.value.now} (false≢true lost);
-      clean = λ kept. subst (HasNoStrays n) (sym writes.items) (change-clean n (g.met.N.Numbers.is_numbering own) g.N.Numbers.counted g.N.Numbers.too_many (g.met.N.Numbers.count_cost own) g.met.N.Numbers.stored_few before c.requires.here.clean c.args.name.now c.args.value.now c.args.first (c.args.first + n.step) c.requires.at pair refl);
+      clean = λ kept. subst (HasNoOrphans n) (sym writes.items) (change-clean n (g.met.N.IdLayout.is_numbering own) g.N.IdLayout.counted g.N.IdLayout.too_many (g.met.N.IdLayout.count_cost own) g.met.N.IdLayout.stored_few before c.requires.here.clean c.args.name.now c.args.value.now c.args.first (c.args.first + n.step) c.requires.at pair refl);
     }
 
 pub returns-in-Ok-clause-others : goal.returns-in-Ok-clause-others
@@ -92,7 +92,7 @@ returns-in-Ok-clause-others g c =
     let d : Device = g.F.Flash.device c.args.flash.now in
     let e : Device = g.F.Flash.device c.write.new.flash in
     let own : Area = g.S.ItemStore.mounted_on c.args.store.now in
-    let n : Numbering = g.N.Numbers.numbers own in
+    let n : Numbering = g.N.IdLayout.numbering own in
     let k : Geometry = geometry_of d own in
     let before : Items = on g.S.ItemStore.contents d own in
     let after : Items = on g.S.ItemStore.contents e own in
@@ -113,18 +113,18 @@ returns-in-Err-PowerLost-clause-ends g c =
     let d : Device = g.F.Flash.device c.args.flash.now in
     let e : Device = g.F.Flash.device c.write.new.flash in
     let own : Area = g.S.ItemStore.mounted_on c.args.store.now in
-    let n : Numbering = g.N.Numbers.numbers own in
+    let n : Numbering = g.N.IdLayout.numbering own in
     let k : Geometry = geometry_of d own in
     let before : Items = on g.S.ItemStore.contents d own in
     let after : Items = on g.S.ItemStore.contents e own in
-    let pair : is_pair n c.args.first c.args.name.now c.args.value.now ≡ true = at-passes n before c.args.name.now c.args.first c.requires.at c.args.value.now c.requires.value.some (subst (λ (most : ℕ). length c.args.value.now ≤ most) (sym (g.met.N.Numbers.longest own)) c.requires.value.short) in
+    let pair : is_pair n c.args.first c.args.name.now c.args.value.now ≡ true = at-passes n before c.args.name.now c.args.first c.requires.at c.args.value.now c.requires.value.some (subst (λ (most : ℕ). length c.args.value.now ≤ most) (sym (g.met.N.IdLayout.longest own)) c.requires.value.short) in
     let stops : ends.StopsWriting (g.S.ItemStore.price k) (g.S.ItemStore.cap k) before after (c.args.first + n.step) c.args.value.now =
     subst (λ (w : WriteFault). ends.WriteEnds {T = Unit {0}} (g.S.ItemStore.price k) (g.S.ItemStore.cap k) own.sectors d e before after (c.args.first + n.step) c.args.value.now (Err w)) c.in-Err-PowerLost.field-0-is
     (subst (λ (step : ℕ). ends.WriteEnds {T = Unit {0}} (g.S.ItemStore.price k) (g.S.ItemStore.cap k) own.sectors d e before after (c.args.first + step) c.args.value.now (Err c.in-Err-PowerLost.field-0)) (sym (c.step.ensures own)) c.in-Err-PowerLost.ensures.ends) in
     record {
-      ends = (change-few n (g.met.N.Numbers.is_numbering own) g.N.Numbers.counted g.N.Numbers.too_many (g.met.N.Numbers.count_cost own) g.met.N.Numbers.stored_few before c.requires.here.clean c.args.name.now c.args.value.now c.args.first (c.args.first + n.step) c.requires.at pair refl, λ is. stops.other (stored-holds n (g.met.N.Numbers.is_numbering own) g.N.Numbers.counted g.N.Numbers.too_many (g.met.N.Numbers.count_cost own) g.met.N.Numbers.stored_few before c.requires.here.clean c.args.name.now c.args.value.now c.args.first (c.args.first + n.step) c.requires.at pair refl is));
-      cut = λ lost. change-cut n (g.met.N.Numbers.is_numbering own) g.N.Numbers.counted g.N.Numbers.too_many (g.met.N.Numbers.count_cost own) g.met.N.Numbers.stored_few before c.requires.here.clean c.args.name.now c.args.value.now c.args.first (c.args.first + n.step) c.requires.at pair refl (g.S.ItemStore.price k) (g.S.ItemStore.cap k) own.sectors d e after stops;
-      clean = λ kept. absurd {A = HasNoStrays n after} (false≢true (sym kept));
+      ends = (change-few n (g.met.N.IdLayout.is_numbering own) g.N.IdLayout.counted g.N.IdLayout.too_many (g.met.N.IdLayout.count_cost own) g.met.N.IdLayout.stored_few before c.requires.here.clean c.args.name.now c.args.value.now c.args.first (c.args.first + n.step) c.requires.at pair refl, λ is. stops.other (stored-holds n (g.met.N.IdLayout.is_numbering own) g.N.IdLayout.counted g.N.IdLayout.too_many (g.met.N.IdLayout.count_cost own) g.met.N.IdLayout.stored_few before c.requires.here.clean c.args.name.now c.args.value.now c.args.first (c.args.first + n.step) c.requires.at pair refl is));
+      cut = λ lost. change-cut n (g.met.N.IdLayout.is_numbering own) g.N.IdLayout.counted g.N.IdLayout.too_many (g.met.N.IdLayout.count_cost own) g.met.N.IdLayout.stored_few before c.requires.here.clean c.args.name.now c.args.value.now c.args.first (c.args.first + n.step) c.requires.at pair refl (g.S.ItemStore.price k) (g.S.ItemStore.cap k) own.sectors d e after stops;
+      clean = λ kept. absurd {A = HasNoOrphans n after} (false≢true (sym kept));
     }
 
 pub returns-in-Err-PowerLost-clause-others : goal.returns-in-Err-PowerLost-clause-others
@@ -132,7 +132,7 @@ returns-in-Err-PowerLost-clause-others g c =
     let d : Device = g.F.Flash.device c.args.flash.now in
     let e : Device = g.F.Flash.device c.write.new.flash in
     let own : Area = g.S.ItemStore.mounted_on c.args.store.now in
-    let n : Numbering = g.N.Numbers.numbers own in
+    let n : Numbering = g.N.IdLayout.numbering own in
     let k : Geometry = geometry_of d own in
     let before : Items = on g.S.ItemStore.contents d own in
     let after : Items = on g.S.ItemStore.contents e own in
@@ -154,24 +154,24 @@ returns-in-Err-NoSpace-clause-ends g c =
     let d : Device = g.F.Flash.device c.args.flash.now in
     let e : Device = g.F.Flash.device c.write.new.flash in
     let own : Area = g.S.ItemStore.mounted_on c.args.store.now in
-    let n : Numbering = g.N.Numbers.numbers own in
+    let n : Numbering = g.N.IdLayout.numbering own in
     let k : Geometry = geometry_of d own in
     let before : Items = on g.S.ItemStore.contents d own in
     let after : Items = on g.S.ItemStore.contents e own in
-    let pair : is_pair n c.args.first c.args.name.now c.args.value.now ≡ true = at-passes n before c.args.name.now c.args.first c.requires.at c.args.value.now c.requires.value.some (subst (λ (most : ℕ). length c.args.value.now ≤ most) (sym (g.met.N.Numbers.longest own)) c.requires.value.short) in
+    let pair : is_pair n c.args.first c.args.name.now c.args.value.now ≡ true = at-passes n before c.args.name.now c.args.first c.requires.at c.args.value.now c.requires.value.some (subst (λ (most : ℕ). length c.args.value.now ≤ most) (sym (g.met.N.IdLayout.longest own)) c.requires.value.short) in
     let finds : ends.FindsNoSpace (g.S.ItemStore.price k) (g.S.ItemStore.cap k) own.sectors before after (c.args.first + n.step) c.args.value.now c.in-Err-NoSpace.field-0-0 c.in-Err-NoSpace.field-0-1 =
     subst (λ (w : WriteFault). ends.WriteEnds {T = Unit {0}} (g.S.ItemStore.price k) (g.S.ItemStore.cap k) own.sectors d e before after (c.args.first + n.step) c.args.value.now (Err w)) c.in-Err-NoSpace.field-0-is
     (subst (λ (step : ℕ). ends.WriteEnds {T = Unit {0}} (g.S.ItemStore.price k) (g.S.ItemStore.cap k) own.sectors d e before after (c.args.first + step) c.args.value.now (Err c.in-Err-NoSpace.field-0)) (sym (c.step.ensures own)) c.in-Err-NoSpace.ensures.ends) in
     let still : set_lost {T = Unit {0}} (Err c.refused.result) ≡ false = ap (λ (w : SetFault). set_lost {T = Unit {0}} (Err w)) c.refused.ensures in
     let other : Area = g.S.ItemStore.mounted_on c.write.new.self in
     record {
-      ends = subst (λ (w : SetFault). SetEnds {T = Unit {0}} (room_in g.N.Numbers.counted g.N.Numbers.too_many g.S.ItemStore.price g.S.ItemStore.cap k) own.sectors d e (settings_in n before) (settings_in n after) c.args.name.now c.args.value.now (Err w)) (sym c.refused.ensures)
-          (change-refused n (g.met.N.Numbers.is_numbering own) g.N.Numbers.counted g.N.Numbers.too_many (g.met.N.Numbers.count_cost own) g.met.N.Numbers.stored_few before c.requires.here.clean c.args.name.now c.args.value.now c.args.first (c.args.first + n.step) c.requires.at pair refl (g.S.ItemStore.price k) (g.S.ItemStore.cap k) own.sectors d e after c.in-Err-NoSpace.field-0-0 c.in-Err-NoSpace.field-0-1 finds
-          c.price_of-need.result ((room_in g.N.Numbers.counted g.N.Numbers.too_many g.S.ItemStore.price g.S.ItemStore.cap (geometry_of e other)).cost (settings_in (g.N.Numbers.numbers other) (on g.S.ItemStore.contents e other)))
-          (c.price_of-need.ensures.value ∙ moved-price g.N.Numbers.numbers g.N.Numbers.counted g.N.Numbers.too_many g.S.ItemStore.contents own other c.write.ensures.area g.S.ItemStore.price d e (length c.args.value.now) c.write.ensures.touches.banks)
-          (moved-cost g.N.Numbers.numbers g.N.Numbers.counted g.N.Numbers.too_many g.S.ItemStore.contents own other c.write.ensures.area g.S.ItemStore.price g.S.ItemStore.cap d e (settings_in n before) c.write.ensures.touches.banks (ap (settings_in n) finds.items)));
+      ends = subst (λ (w : SetFault). SetEnds {T = Unit {0}} (room_in g.N.IdLayout.counted g.N.IdLayout.too_many g.S.ItemStore.price g.S.ItemStore.cap k) own.sectors d e (settings_in n before) (settings_in n after) c.args.name.now c.args.value.now (Err w)) (sym c.refused.ensures)
+          (change-refused n (g.met.N.IdLayout.is_numbering own) g.N.IdLayout.counted g.N.IdLayout.too_many (g.met.N.IdLayout.count_cost own) g.met.N.IdLayout.stored_few before c.requires.here.clean c.args.name.now c.args.value.now c.args.first (c.args.first + n.step) c.requires.at pair refl (g.S.ItemStore.price k) (g.S.ItemStore.cap k) own.sectors d e after c.in-Err-NoSpace.field-0-0 c.in-Err-NoSpace.field-0-1 finds
+          c.price_of-need.result ((room_in g.N.IdLayout.counted g.N.IdLayout.too_many g.S.ItemStore.price g.S.ItemStore.cap (geometry_of e other)).cost (settings_in (g.N.IdLayout.numbering other) (on g.S.ItemStore.contents e other)))
+          (c.price_of-need.ensures.value ∙ moved-price g.N.IdLayout.numbering g.N.IdLayout.counted g.N.IdLayout.too_many g.S.ItemStore.contents own other c.write.ensures.area g.S.ItemStore.price d e (length c.args.value.now) c.write.ensures.touches.banks)
+          (moved-cost g.N.IdLayout.numbering g.N.IdLayout.counted g.N.IdLayout.too_many g.S.ItemStore.contents own other c.write.ensures.area g.S.ItemStore.price g.S.ItemStore.cap d e (settings_in n before) c.write.ensures.touches.banks (ap (settings_in n) finds.items)));
       cut = λ lost. absurd {A = IsPut (settings_in n before) (settings_in n after) c.args.name.now c.args.value.now} (false≢true (sym still ∙ lost));
-      clean = λ kept. subst (HasNoStrays n) (sym finds.items) c.requires.here.clean;
+      clean = λ kept. subst (HasNoOrphans n) (sym finds.items) c.requires.here.clean;
     }
 
 pub returns-in-Err-NoSpace-clause-others : goal.returns-in-Err-NoSpace-clause-others
@@ -179,7 +179,7 @@ returns-in-Err-NoSpace-clause-others g c =
     let d : Device = g.F.Flash.device c.args.flash.now in
     let e : Device = g.F.Flash.device c.write.new.flash in
     let own : Area = g.S.ItemStore.mounted_on c.args.store.now in
-    let n : Numbering = g.N.Numbers.numbers own in
+    let n : Numbering = g.N.IdLayout.numbering own in
     let k : Geometry = geometry_of d own in
     let before : Items = on g.S.ItemStore.contents d own in
     let after : Items = on g.S.ItemStore.contents e own in

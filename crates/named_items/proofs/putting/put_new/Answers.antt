@@ -12,7 +12,7 @@ use Rattle.backend_api.specs.declared.backend.SetFault.{SetFault}
 use Rattle.backend_api.specs.Ends.{SetEnds, set_lost}
 use Rattle.flash_map.specs.On.{on}
 use Rattle.named_items.specs.Numbering.{Numbering}
-use Rattle.named_items.specs.Pairs.{count_in, is_pair, settings_in, HasNoStrays}
+use Rattle.named_items.specs.Pairs.{count_in, is_pair, settings_in, HasNoOrphans}
 use Rattle.named_items.specs.Ends.{AltersTwo, PutsPair}
 use Rattle.named_items.specs.Putting.{room_in, IsPut}
 use Rattle.named_items.proofs.ChangeSteps.{moved-clean, moved-lawful, moved-cost}
@@ -27,38 +27,38 @@ pub overflow_add-first : goal.overflow_add-first
 overflow_add-first g c =
     let d : Device = g.F.Flash.device c.args.flash.now in
     let own : Area = g.S.ItemStore.mounted_on c.args.store.now in
-    let n : Numbering = g.N.Numbers.numbers own in
+    let n : Numbering = g.N.IdLayout.numbering own in
     let k : Geometry = geometry_of d own in
     let before : Items = on g.S.ItemStore.contents d own in
-    let low : c.args.first + n.step < g.N.Numbers.top = inside-known n before c.args.first c.requires.place.inside g.N.Numbers.top (g.met.N.Numbers.within own) in
+    let low : c.args.first + n.step < g.N.IdLayout.top = inside-known n before c.args.first c.requires.place.inside g.N.IdLayout.top (g.met.N.IdLayout.within own) in
     let same : n.step ≡ c.step.result = c.step.ensures own in
-    omega (arith, low, same, g.met.N.Numbers.top_small)
+    omega (arith, low, same, g.met.N.IdLayout.top_small)
 
 pub put_pair-requires-clause-first : goal.put_pair-requires-clause-first
 put_pair-requires-clause-first g c =
     let d : Device = g.F.Flash.device c.args.flash.now in
     let own : Area = g.S.ItemStore.mounted_on c.args.store.now in
-    let n : Numbering = g.N.Numbers.numbers own in
+    let n : Numbering = g.N.IdLayout.numbering own in
     let k : Geometry = geometry_of d own in
     let before : Items = on g.S.ItemStore.contents d own in
-    let low : c.args.first + n.step < g.N.Numbers.top = inside-known n before c.args.first c.requires.place.inside g.N.Numbers.top (g.met.N.Numbers.within own) in
+    let low : c.args.first + n.step < g.N.IdLayout.top = inside-known n before c.args.first c.requires.place.inside g.N.IdLayout.top (g.met.N.IdLayout.within own) in
     c.requires.ids.all c.args.first (omega (arith, low))
 
 pub put_pair-requires-clause-second : goal.put_pair-requires-clause-second
 put_pair-requires-clause-second g c =
     let d : Device = g.F.Flash.device c.args.flash.now in
     let own : Area = g.S.ItemStore.mounted_on c.args.store.now in
-    let n : Numbering = g.N.Numbers.numbers own in
+    let n : Numbering = g.N.IdLayout.numbering own in
     let k : Geometry = geometry_of d own in
     let before : Items = on g.S.ItemStore.contents d own in
-    let low : c.args.first + n.step < g.N.Numbers.top = inside-known n before c.args.first c.requires.place.inside g.N.Numbers.top (g.met.N.Numbers.within own) in
+    let low : c.args.first + n.step < g.N.IdLayout.top = inside-known n before c.args.first c.requires.place.inside g.N.IdLayout.top (g.met.N.IdLayout.within own) in
     subst (λ (step : ℕ). g.S.ItemStore.is_id (c.args.first + step)) (c.step.ensures own) (c.requires.ids.all (c.args.first + n.step) low)
 
 pub put_pair-requires-clause-free : goal.put_pair-requires-clause-free
 put_pair-requires-clause-free g c =
     let d : Device = g.F.Flash.device c.args.flash.now in
     let own : Area = g.S.ItemStore.mounted_on c.args.store.now in
-    let n : Numbering = g.N.Numbers.numbers own in
+    let n : Numbering = g.N.IdLayout.numbering own in
     let k : Geometry = geometry_of d own in
     let before : Items = on g.S.ItemStore.contents d own in
     subst (λ (step : ℕ). get before (c.args.first + step) ≡ None) (c.step.ensures own) c.requires.place.free.1
@@ -68,7 +68,7 @@ refused-requires-clause-here g c =
     let d : Device = g.F.Flash.device c.args.flash.now in
     let e : Device = g.F.Flash.device c.put_pair.new.flash in
     let own : Area = g.S.ItemStore.mounted_on c.args.store.now in
-    let n : Numbering = g.N.Numbers.numbers own in
+    let n : Numbering = g.N.IdLayout.numbering own in
     let k : Geometry = geometry_of d own in
     let before : Items = on g.S.ItemStore.contents d own in
     let after : Items = on g.S.ItemStore.contents e own in
@@ -77,7 +77,7 @@ refused-requires-clause-here g c =
     record {
       lawful = moved-lawful own (g.S.ItemStore.mounted_on c.put_pair.new.store) c.put_pair.ensures.store.area d e c.put_pair.ensures.touches.banks c.requires.here.lawful;
       up = c.in-Err-NoSpace.ensures.store.up (ap (λ (w : WriteFault). write_lost {T = Unit {0}} (Err w)) c.in-Err-NoSpace.field-0-is);
-      clean = moved-clean g.N.Numbers.numbers g.N.Numbers.counted g.N.Numbers.too_many g.S.ItemStore.contents own (g.S.ItemStore.mounted_on c.put_pair.new.store) c.put_pair.ensures.store.area e (subst (HasNoStrays n) (sym puts.0) c.requires.here.clean);
+      clean = moved-clean g.N.IdLayout.numbering g.N.IdLayout.counted g.N.IdLayout.too_many g.S.ItemStore.contents own (g.S.ItemStore.mounted_on c.put_pair.new.store) c.put_pair.ensures.store.area e (subst (HasNoOrphans n) (sym puts.0) c.requires.here.clean);
     }
 
 pub returns-in-Ok-clause-store : goal.returns-in-Ok-clause-store
@@ -94,17 +94,17 @@ returns-in-Ok-clause-ends g c =
     let d : Device = g.F.Flash.device c.args.flash.now in
     let e : Device = g.F.Flash.device c.put_pair.new.flash in
     let own : Area = g.S.ItemStore.mounted_on c.args.store.now in
-    let n : Numbering = g.N.Numbers.numbers own in
+    let n : Numbering = g.N.IdLayout.numbering own in
     let k : Geometry = geometry_of d own in
     let before : Items = on g.S.ItemStore.contents d own in
     let after : Items = on g.S.ItemStore.contents e own in
-    let pair : is_pair n c.args.first c.args.name.now c.args.value.now ≡ true = all-pass n c.args.first c.args.name.now c.args.value.now c.price_of_pair-need.ensures.name c.requires.place.home c.requires.value.some (subst (λ (most : ℕ). length c.args.value.now ≤ most) (sym (g.met.N.Numbers.longest own)) c.requires.value.short) in
+    let pair : is_pair n c.args.first c.args.name.now c.args.value.now ≡ true = all-pass n c.args.first c.args.name.now c.args.value.now c.price_of_pair-need.ensures.name c.requires.place.candidate c.requires.value.some (subst (λ (most : ℕ). length c.args.value.now ≤ most) (sym (g.met.N.IdLayout.longest own)) c.requires.value.short) in
     let puts = subst (λ (step : ℕ). PutsPair {T = Unit {0}} (g.S.ItemStore.price k) (g.S.ItemStore.cap k) own.sectors before after c.args.first (c.args.first + step) c.args.name.now c.args.value.now (Ok tt)) (sym (c.step.ensures own)) c.in-Ok.ensures.ends in
     record {
-      ends = new-done n (g.met.N.Numbers.is_numbering own) g.N.Numbers.counted g.N.Numbers.too_many (g.met.N.Numbers.count_cost own) before c.requires.here.clean c.args.name.now c.args.value.now c.requires.place.absent c.args.first (c.args.first + n.step) c.requires.place.inside c.requires.place.free pair c.requires.place.few refl (g.S.ItemStore.price k) (g.S.ItemStore.cap k) d e after puts
+      ends = new-done n (g.met.N.IdLayout.is_numbering own) g.N.IdLayout.counted g.N.IdLayout.too_many (g.met.N.IdLayout.count_cost own) before c.requires.here.clean c.args.name.now c.args.value.now c.requires.place.absent c.args.first (c.args.first + n.step) c.requires.place.inside c.requires.place.free pair c.requires.place.few refl (g.S.ItemStore.price k) (g.S.ItemStore.cap k) d e after puts
           (λ changed. spends-some g.S.ItemStore.contents d e own (own ∷ []) (write_lost c.put_pair.result) c.put_pair.ensures.touches (λ same. changed (ap (settings_in n) same)));
       cut = λ lost. absurd {A = IsPut (settings_in n before) (settings_in n after) c.args.name.now c.args.value.now} (false≢true lost);
-      clean = λ kept. new-clean n (g.met.N.Numbers.is_numbering own) g.N.Numbers.counted g.N.Numbers.too_many (g.met.N.Numbers.count_cost own) before c.requires.here.clean c.args.name.now c.args.value.now c.requires.place.absent c.args.first (c.args.first + n.step) c.requires.place.inside c.requires.place.free pair c.requires.place.few refl after puts;
+      clean = λ kept. new-clean n (g.met.N.IdLayout.is_numbering own) g.N.IdLayout.counted g.N.IdLayout.too_many (g.met.N.IdLayout.count_cost own) before c.requires.here.clean c.args.name.now c.args.value.now c.requires.place.absent c.args.first (c.args.first + n.step) c.requires.place.inside c.requires.place.free pair c.requires.place.few refl after puts;
     }
 
 pub returns-in-Ok-clause-others : goal.returns-in-Ok-clause-others
@@ -112,7 +112,7 @@ returns-in-Ok-clause-others g c =
     let d : Device = g.F.Flash.device c.args.flash.now in
     let e : Device = g.F.Flash.device c.put_pair.new.flash in
     let own : Area = g.S.ItemStore.mounted_on c.args.store.now in
-    let n : Numbering = g.N.Numbers.numbers own in
+    let n : Numbering = g.N.IdLayout.numbering own in
     let k : Geometry = geometry_of d own in
     let before : Items = on g.S.ItemStore.contents d own in
     let after : Items = on g.S.ItemStore.contents e own in
@@ -133,17 +133,17 @@ returns-in-Err-PowerLost-clause-ends g c =
     let d : Device = g.F.Flash.device c.args.flash.now in
     let e : Device = g.F.Flash.device c.put_pair.new.flash in
     let own : Area = g.S.ItemStore.mounted_on c.args.store.now in
-    let n : Numbering = g.N.Numbers.numbers own in
+    let n : Numbering = g.N.IdLayout.numbering own in
     let k : Geometry = geometry_of d own in
     let before : Items = on g.S.ItemStore.contents d own in
     let after : Items = on g.S.ItemStore.contents e own in
-    let pair : is_pair n c.args.first c.args.name.now c.args.value.now ≡ true = all-pass n c.args.first c.args.name.now c.args.value.now c.price_of_pair-need.ensures.name c.requires.place.home c.requires.value.some (subst (λ (most : ℕ). length c.args.value.now ≤ most) (sym (g.met.N.Numbers.longest own)) c.requires.value.short) in
+    let pair : is_pair n c.args.first c.args.name.now c.args.value.now ≡ true = all-pass n c.args.first c.args.name.now c.args.value.now c.price_of_pair-need.ensures.name c.requires.place.candidate c.requires.value.some (subst (λ (most : ℕ). length c.args.value.now ≤ most) (sym (g.met.N.IdLayout.longest own)) c.requires.value.short) in
     let puts = subst (λ (w : WriteFault). PutsPair {T = Unit {0}} (g.S.ItemStore.price k) (g.S.ItemStore.cap k) own.sectors before after c.args.first (c.args.first + n.step) c.args.name.now c.args.value.now (Err w)) c.in-Err-PowerLost.field-0-is
     (subst (λ (step : ℕ). PutsPair {T = Unit {0}} (g.S.ItemStore.price k) (g.S.ItemStore.cap k) own.sectors before after c.args.first (c.args.first + step) c.args.name.now c.args.value.now (Err c.in-Err-PowerLost.field-0)) (sym (c.step.ensures own)) c.in-Err-PowerLost.ensures.ends) in
     record {
-      ends = (c.requires.place.few, not-stored n (g.met.N.Numbers.is_numbering own) g.N.Numbers.counted g.N.Numbers.too_many (g.met.N.Numbers.count_cost own) before c.requires.here.clean c.args.name.now c.args.value.now c.requires.place.absent);
-      cut = λ lost. new-cut n (g.met.N.Numbers.is_numbering own) g.N.Numbers.counted g.N.Numbers.too_many (g.met.N.Numbers.count_cost own) before c.requires.here.clean c.args.name.now c.args.value.now c.requires.place.absent c.args.first (c.args.first + n.step) c.requires.place.inside c.requires.place.free pair c.requires.place.few refl after puts;
-      clean = λ kept. absurd {A = HasNoStrays n after} (false≢true (sym kept));
+      ends = (c.requires.place.few, not-stored n (g.met.N.IdLayout.is_numbering own) g.N.IdLayout.counted g.N.IdLayout.too_many (g.met.N.IdLayout.count_cost own) before c.requires.here.clean c.args.name.now c.args.value.now c.requires.place.absent);
+      cut = λ lost. new-cut n (g.met.N.IdLayout.is_numbering own) g.N.IdLayout.counted g.N.IdLayout.too_many (g.met.N.IdLayout.count_cost own) before c.requires.here.clean c.args.name.now c.args.value.now c.requires.place.absent c.args.first (c.args.first + n.step) c.requires.place.inside c.requires.place.free pair c.requires.place.few refl after puts;
+      clean = λ kept. absurd {A = HasNoOrphans n after} (false≢true (sym kept));
     }
 
 pub returns-in-Err-PowerLost-clause-others : goal.returns-in-Err-PowerLost-clause-others
@@ -151,7 +151,7 @@ returns-in-Err-PowerLost-clause-others g c =
     let d : Device = g.F.Flash.device c.args.flash.now in
     let e : Device = g.F.Flash.device c.put_pair.new.flash in
     let own : Area = g.S.ItemStore.mounted_on c.args.store.now in
-    let n : Numbering = g.N.Numbers.numbers own in
+    let n : Numbering = g.N.IdLayout.numbering own in
     let k : Geometry = geometry_of d own in
     let before : Items = on g.S.ItemStore.contents d own in
     let after : Items = on g.S.ItemStore.contents e own in
@@ -173,11 +173,11 @@ returns-in-Err-NoSpace-clause-ends g c =
     let d : Device = g.F.Flash.device c.args.flash.now in
     let e : Device = g.F.Flash.device c.put_pair.new.flash in
     let own : Area = g.S.ItemStore.mounted_on c.args.store.now in
-    let n : Numbering = g.N.Numbers.numbers own in
+    let n : Numbering = g.N.IdLayout.numbering own in
     let k : Geometry = geometry_of d own in
     let before : Items = on g.S.ItemStore.contents d own in
     let after : Items = on g.S.ItemStore.contents e own in
-    let pair : is_pair n c.args.first c.args.name.now c.args.value.now ≡ true = all-pass n c.args.first c.args.name.now c.args.value.now c.price_of_pair-need.ensures.name c.requires.place.home c.requires.value.some (subst (λ (most : ℕ). length c.args.value.now ≤ most) (sym (g.met.N.Numbers.longest own)) c.requires.value.short) in
+    let pair : is_pair n c.args.first c.args.name.now c.args.value.now ≡ true = all-pass n c.args.first c.args.name.now c.args.value.now c.price_of_pair-need.ensures.name c.requires.place.candidate c.requires.value.some (subst (λ (most : ℕ). length c.args.value.now ≤ most) (sym (g.met.N.IdLayout.longest own)) c.requires.value.short) in
     let puts = subst (λ (w : WriteFault). PutsPair {T = Unit {0}} (g.S.ItemStore.price k) (g.S.ItemStore.cap k) own.sectors before after c.args.first (c.args.first + n.step) c.args.name.now c.args.value.now (Err w)) c.in-Err-NoSpace.field-0-is
     (subst (λ (step : ℕ). PutsPair {T = Unit {0}} (g.S.ItemStore.price k) (g.S.ItemStore.cap k) own.sectors before after c.args.first (c.args.first + step) c.args.name.now c.args.value.now (Err c.in-Err-NoSpace.field-0)) (sym (c.step.ensures own)) c.in-Err-NoSpace.ensures.ends) in
     let serves = g.met.S.ItemStore.stands_serves c.args.store.now k (sectors_of d own) c.requires.here.up in
@@ -187,12 +187,12 @@ returns-in-Err-NoSpace-clause-ends g c =
     let still : set_lost {T = Unit {0}} (Err c.refused.result) ≡ false = ap (λ (w : SetFault). set_lost {T = Unit {0}} (Err w)) c.refused.ensures in
     let other : Area = g.S.ItemStore.mounted_on c.put_pair.new.store in
     record {
-      ends = subst (λ (w : SetFault). SetEnds {T = Unit {0}} (room_in g.N.Numbers.counted g.N.Numbers.too_many g.S.ItemStore.price g.S.ItemStore.cap k) own.sectors d e (settings_in n before) (settings_in n after) c.args.name.now c.args.value.now (Err w)) (sym c.refused.ensures)
-          (new-refused n (g.met.N.Numbers.is_numbering own) g.N.Numbers.counted g.N.Numbers.too_many (g.met.N.Numbers.count_cost own) before c.requires.here.clean c.args.name.now c.args.value.now c.requires.place.absent c.args.first (c.args.first + n.step) c.requires.place.inside c.requires.place.free pair c.requires.place.few refl (g.S.ItemStore.price k) (g.S.ItemStore.cap k) own.sectors after puts.0 puts.1 fits_value fits_name
-          c.price_of_pair-need.result ((room_in g.N.Numbers.counted g.N.Numbers.too_many g.S.ItemStore.price g.S.ItemStore.cap (geometry_of e other)).cost (settings_in (g.N.Numbers.numbers other) (on g.S.ItemStore.contents e other))) c.price_of_pair-need.ensures.value
-          (moved-cost g.N.Numbers.numbers g.N.Numbers.counted g.N.Numbers.too_many g.S.ItemStore.contents own other c.put_pair.ensures.store.area g.S.ItemStore.price g.S.ItemStore.cap d e (settings_in n before) c.put_pair.ensures.touches.banks (ap (settings_in n) puts.0)));
+      ends = subst (λ (w : SetFault). SetEnds {T = Unit {0}} (room_in g.N.IdLayout.counted g.N.IdLayout.too_many g.S.ItemStore.price g.S.ItemStore.cap k) own.sectors d e (settings_in n before) (settings_in n after) c.args.name.now c.args.value.now (Err w)) (sym c.refused.ensures)
+          (new-refused n (g.met.N.IdLayout.is_numbering own) g.N.IdLayout.counted g.N.IdLayout.too_many (g.met.N.IdLayout.count_cost own) before c.requires.here.clean c.args.name.now c.args.value.now c.requires.place.absent c.args.first (c.args.first + n.step) c.requires.place.inside c.requires.place.free pair c.requires.place.few refl (g.S.ItemStore.price k) (g.S.ItemStore.cap k) own.sectors after puts.0 puts.1 fits_value fits_name
+          c.price_of_pair-need.result ((room_in g.N.IdLayout.counted g.N.IdLayout.too_many g.S.ItemStore.price g.S.ItemStore.cap (geometry_of e other)).cost (settings_in (g.N.IdLayout.numbering other) (on g.S.ItemStore.contents e other))) c.price_of_pair-need.ensures.value
+          (moved-cost g.N.IdLayout.numbering g.N.IdLayout.counted g.N.IdLayout.too_many g.S.ItemStore.contents own other c.put_pair.ensures.store.area g.S.ItemStore.price g.S.ItemStore.cap d e (settings_in n before) c.put_pair.ensures.touches.banks (ap (settings_in n) puts.0)));
       cut = λ lost. absurd {A = IsPut (settings_in n before) (settings_in n after) c.args.name.now c.args.value.now} (false≢true (sym still ∙ lost));
-      clean = λ kept. subst (HasNoStrays n) (sym puts.0) c.requires.here.clean;
+      clean = λ kept. subst (HasNoOrphans n) (sym puts.0) c.requires.here.clean;
     }
 
 pub returns-in-Err-NoSpace-clause-others : goal.returns-in-Err-NoSpace-clause-others
@@ -200,7 +200,7 @@ returns-in-Err-NoSpace-clause-others g c =
     let d : Device = g.F.Flash.device c.args.flash.now in
     let e : Device = g.F.Flash.device c.put_pair.new.flash in
     let own : Area = g.S.ItemStore.mounted_on c.args.store.now in
-    let n : Numbering = g.N.Numbers.numbers own in
+    let n : Numbering = g.N.IdLayout.numbering own in
     let k : Geometry = geometry_of d own in
     let before : Items = on g.S.ItemStore.contents d own in
     let after : Items = on g.S.ItemStore.contents e own in

@@ -5,14 +5,14 @@ use Rattle.named_items.specs.StoreEnds as items
 use Rattle.named_items.proofs.SpendSteps.{one-call, calls-within}
 use Rattle.named_items.proofs.putting.set_value.Goals as goal
 
-pub standing_place-requires-clause-lawful : goal.standing_place-requires-clause-lawful
-standing_place-requires-clause-lawful g c = c.requires.here.lawful
+pub id_of_name-requires-clause-lawful : goal.id_of_name-requires-clause-lawful
+id_of_name-requires-clause-lawful g c = c.requires.here.lawful
 
-pub standing_place-requires-clause-stands : goal.standing_place-requires-clause-stands
-standing_place-requires-clause-stands g c = c.requires.here.up
+pub id_of_name-requires-clause-stands : goal.id_of_name-requires-clause-stands
+id_of_name-requires-clause-stands g c = c.requires.here.up
 
-pub standing_place-requires-clause-clean : goal.standing_place-requires-clause-clean
-standing_place-requires-clause-clean g c = c.requires.here.clean
+pub id_of_name-requires-clause-clean : goal.id_of_name-requires-clause-clean
+id_of_name-requires-clause-clean g c = c.requires.here.clean
 
 pub change_value-requires-clause-at : goal.change_value-requires-clause-at
 change_value-requires-clause-at g c = c.in-Some.ensures
@@ -25,4 +25,4 @@ returns-in-Some-clause-at_most g c =
     let d : Device = g.F.Flash.device c.args.flash.now in
     let e : Device = g.F.Flash.device c.change_value.new.flash in
     let k = geometry_of d (g.S.ItemStore.mounted_on c.args.store.now) in
-    calls-within d e 1 k (omega arith) (one-call d e (items.most_units k) c.change_value.ensures.at_most)
+    calls-within d e 1 k (omega arith) (one-call d e (items.item_units k) c.change_value.ensures.at_most)

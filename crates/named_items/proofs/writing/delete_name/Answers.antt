@@ -11,7 +11,7 @@ use Rattle.named_items.specs.Pairs.{settings_in}
 use Rattle.named_items.specs.Ends.{AltersTwo, DeletesPair}
 use Rattle.named_items.proofs.ItemSteps.{delete-ends, delete-cut, delete-clean, delete-absent}
 use Rattle.named_items.proofs.OtherSteps.{deletes-alters}
-use Rattle.named_items.proofs.StraySteps.{same-place}
+use Rattle.named_items.proofs.OrphanSteps.{same-place}
 use Rattle.named_items.proofs.SpendSteps.{spends-some}
 use Rattle.named_items.proofs.writing.delete_name.Goals as goal
 
@@ -20,12 +20,12 @@ returns-in-Some-clause-ends g c =
     let d : Device = g.F.Flash.device c.args.flash.now in
     let e : Device = g.F.Flash.device c.delete_pair.new.flash in
     let area : Area = g.S.ItemStore.mounted_on c.args.store.now in
-    let n : Numbering = g.N.Numbers.numbers area in
+    let n : Numbering = g.N.IdLayout.numbering area in
     record {
-      ends = delete-ends n (g.met.N.Numbers.is_numbering area) (on g.S.ItemStore.contents d area) c.requires.here.clean c.args.name.now c.in-Some.place c.in-Some.ensures d e (on g.S.ItemStore.contents e area) c.delete_pair.result
+      ends = delete-ends n (g.met.N.IdLayout.is_numbering area) (on g.S.ItemStore.contents d area) c.requires.here.clean c.args.name.now c.in-Some.place c.in-Some.ensures d e (on g.S.ItemStore.contents e area) c.delete_pair.result
           (λ changed. spends-some g.S.ItemStore.contents d e area (area ∷ []) (is_err c.delete_pair.result) c.delete_pair.ensures.touches (λ same. changed (ap (settings_in n) same))) (subst (λ (k : ℕ). DeletesPair (on g.S.ItemStore.contents d area) (on g.S.ItemStore.contents e area) c.in-Some.place (c.in-Some.place + k) c.delete_pair.result) (sym (c.step.ensures area)) c.delete_pair.ensures.ends);
-      cut = λ lost. delete-cut n (g.met.N.Numbers.is_numbering area) (on g.S.ItemStore.contents d area) c.requires.here.clean c.args.name.now c.in-Some.place c.in-Some.ensures (on g.S.ItemStore.contents e area) c.delete_pair.result lost (subst (λ (k : ℕ). DeletesPair (on g.S.ItemStore.contents d area) (on g.S.ItemStore.contents e area) c.in-Some.place (c.in-Some.place + k) c.delete_pair.result) (sym (c.step.ensures area)) c.delete_pair.ensures.ends);
-      clean = λ kept. delete-clean n (g.met.N.Numbers.is_numbering area) (on g.S.ItemStore.contents d area) c.requires.here.clean c.args.name.now c.in-Some.place c.in-Some.ensures (on g.S.ItemStore.contents e area) c.delete_pair.result kept (subst (λ (k : ℕ). DeletesPair (on g.S.ItemStore.contents d area) (on g.S.ItemStore.contents e area) c.in-Some.place (c.in-Some.place + k) c.delete_pair.result) (sym (c.step.ensures area)) c.delete_pair.ensures.ends);
+      cut = λ lost. delete-cut n (g.met.N.IdLayout.is_numbering area) (on g.S.ItemStore.contents d area) c.requires.here.clean c.args.name.now c.in-Some.place c.in-Some.ensures (on g.S.ItemStore.contents e area) c.delete_pair.result lost (subst (λ (k : ℕ). DeletesPair (on g.S.ItemStore.contents d area) (on g.S.ItemStore.contents e area) c.in-Some.place (c.in-Some.place + k) c.delete_pair.result) (sym (c.step.ensures area)) c.delete_pair.ensures.ends);
+      clean = λ kept. delete-clean n (g.met.N.IdLayout.is_numbering area) (on g.S.ItemStore.contents d area) c.requires.here.clean c.args.name.now c.in-Some.place c.in-Some.ensures (on g.S.ItemStore.contents e area) c.delete_pair.result kept (subst (λ (k : ℕ). DeletesPair (on g.S.ItemStore.contents d area) (on g.S.ItemStore.contents e area) c.in-Some.place (c.in-Some.place + k) c.delete_pair.result) (sym (c.step.ensures area)) c.delete_pair.ensures.ends);
     }
 
 pub returns-in-None-clause-ends : goal.returns-in-None-clause-ends
@@ -33,7 +33,7 @@ returns-in-None-clause-ends g c =
     let d : Device = g.F.Flash.device c.args.flash.now in
     let area : Area = g.S.ItemStore.mounted_on c.args.store.now in
     record {
-      ends = delete-absent d (g.N.Numbers.numbers area) (on g.S.ItemStore.contents d area) c.args.name.now c.in-None.ensures;
+      ends = delete-absent d (g.N.IdLayout.numbering area) (on g.S.ItemStore.contents d area) c.args.name.now c.in-None.ensures;
       cut = λ lost. absurd (false≢true lost);
       clean = λ kept. c.requires.here.clean;
     }
@@ -54,7 +54,7 @@ returns-in-Some-clause-others g c = λ place at.
     let d : Device = g.F.Flash.device c.args.flash.now in
     let e : Device = g.F.Flash.device c.delete_pair.new.flash in
     let area : Area = g.S.ItemStore.mounted_on c.args.store.now in
-    let n : Numbering = g.N.Numbers.numbers area in
+    let n : Numbering = g.N.IdLayout.numbering area in
     let before : Items = on g.S.ItemStore.contents d area in
     let after : Items = on g.S.ItemStore.contents e area in
     let same : c.in-Some.place ≡ place = same-place n before c.args.name.now c.in-Some.place place c.in-Some.ensures at in
@@ -64,11 +64,11 @@ returns-in-Some-clause-others g c = λ place at.
 pub returns-in-None-clause-others : goal.returns-in-None-clause-others
 returns-in-None-clause-others g c = λ place at id one two. refl
 
-pub standing_place-requires-clause-lawful : goal.standing_place-requires-clause-lawful
-standing_place-requires-clause-lawful g c = c.requires.here.lawful
+pub id_of_name-requires-clause-lawful : goal.id_of_name-requires-clause-lawful
+id_of_name-requires-clause-lawful g c = c.requires.here.lawful
 
-pub standing_place-requires-clause-stands : goal.standing_place-requires-clause-stands
-standing_place-requires-clause-stands g c = c.requires.here.up
+pub id_of_name-requires-clause-stands : goal.id_of_name-requires-clause-stands
+id_of_name-requires-clause-stands g c = c.requires.here.up
 
-pub standing_place-requires-clause-clean : goal.standing_place-requires-clause-clean
-standing_place-requires-clause-clean g c = c.requires.here.clean
+pub id_of_name-requires-clause-clean : goal.id_of_name-requires-clause-clean
+id_of_name-requires-clause-clean g c = c.requires.here.clean

@@ -17,7 +17,7 @@ returns-clause-at_most g c =
     let area = g.S.ItemStore.mounted_on c.args.store.now in
     calls-within a e 2 (geometry_of a (g.S.ItemStore.mounted_on c.args.store.now)) (omega arith)
     (spends-calls a b e (g.S.ItemStore.mounted_on c.args.store.now) (g.S.ItemStore.mounted_on c.delete.new.self) 1 c.delete.ensures.touches.banks c.delete.ensures.area
-    (one-call a b (items.most_units (geometry_of a (g.S.ItemStore.mounted_on c.args.store.now))) c.delete.ensures.at_most) c.delete-2.ensures.at_most)
+    (one-call a b (items.item_units (geometry_of a (g.S.ItemStore.mounted_on c.args.store.now))) c.delete.ensures.at_most) c.delete-2.ensures.at_most)
 
 pub returns-clause-store : goal.returns-clause-store
 returns-clause-store g c =

@@ -145,9 +145,9 @@ returns-in-Ok-write-clause-at_most g c =
     let b : Device = g.F.Flash.device c.write.new.flash in
     let e : Device = g.F.Flash.device c.write-2.new.flash in
     let own : Area = g.S.ItemStore.mounted_on c.args.store.now in
-    let one = one-call a b (calls.most_units (geometry_of a own)) c.write.ensures.at_most in
+    let one = one-call a b (calls.item_units (geometry_of a own)) c.write.ensures.at_most in
     let two = spends-calls a b e own (g.S.ItemStore.mounted_on c.write.new.self) 1 c.write.ensures.touches.banks c.write.ensures.area one c.write-2.ensures.at_most in
-    calls-more a e 2 3 (calls.most_units (geometry_of a own)) (omega arith) two
+    calls-more a e 2 3 (calls.item_units (geometry_of a own)) (omega arith) two
 
 pub returns-in-Err-PowerLost-clause-at_most : goal.returns-in-Err-PowerLost-clause-at_most
 returns-in-Err-PowerLost-clause-at_most g c =
@@ -155,9 +155,9 @@ returns-in-Err-PowerLost-clause-at_most g c =
     let b : Device = g.F.Flash.device c.write.new.flash in
     let e : Device = g.F.Flash.device c.write-2.new.flash in
     let own : Area = g.S.ItemStore.mounted_on c.args.store.now in
-    let one = one-call a b (calls.most_units (geometry_of a own)) c.write.ensures.at_most in
+    let one = one-call a b (calls.item_units (geometry_of a own)) c.write.ensures.at_most in
     let two = spends-calls a b e own (g.S.ItemStore.mounted_on c.write.new.self) 1 c.write.ensures.touches.banks c.write.ensures.area one c.write-2.ensures.at_most in
-    calls-more a e 2 3 (calls.most_units (geometry_of a own)) (omega arith) two
+    calls-more a e 2 3 (calls.item_units (geometry_of a own)) (omega arith) two
 
 pub returns-in-Ok-delete-clause-at_most : goal.returns-in-Ok-delete-clause-at_most
 returns-in-Ok-delete-clause-at_most g c =
@@ -165,7 +165,7 @@ returns-in-Ok-delete-clause-at_most g c =
     let b : Device = g.F.Flash.device c.write.new.flash in
     let e : Device = g.F.Flash.device c.write-2.new.flash in
     let own : Area = g.S.ItemStore.mounted_on c.args.store.now in
-    let one = one-call a b (calls.most_units (geometry_of a own)) c.write.ensures.at_most in
+    let one = one-call a b (calls.item_units (geometry_of a own)) c.write.ensures.at_most in
     let two = spends-calls a b e own (g.S.ItemStore.mounted_on c.write.new.self) 1 c.write.ensures.touches.banks c.write.ensures.area one c.write-2.ensures.at_most in
     let f : Device = g.F.Flash.device c.delete.new.flash in
     spends-calls a e f own (g.S.ItemStore.mounted_on c.write-2.new.self) 2 (c.write-2.ensures.touches.banks ∙ c.write.ensures.touches.banks) (c.write-2.ensures.area ∙ c.write.ensures.area) two c.delete.ensures.at_most
@@ -176,7 +176,7 @@ returns-in-Err-delete-clause-at_most g c =
     let b : Device = g.F.Flash.device c.write.new.flash in
     let e : Device = g.F.Flash.device c.write-2.new.flash in
     let own : Area = g.S.ItemStore.mounted_on c.args.store.now in
-    let one = one-call a b (calls.most_units (geometry_of a own)) c.write.ensures.at_most in
+    let one = one-call a b (calls.item_units (geometry_of a own)) c.write.ensures.at_most in
     let two = spends-calls a b e own (g.S.ItemStore.mounted_on c.write.new.self) 1 c.write.ensures.touches.banks c.write.ensures.area one c.write-2.ensures.at_most in
     let f : Device = g.F.Flash.device c.delete.new.flash in
     spends-calls a e f own (g.S.ItemStore.mounted_on c.write-2.new.self) 2 (c.write-2.ensures.touches.banks ∙ c.write.ensures.touches.banks) (c.write-2.ensures.area ∙ c.write.ensures.area) two c.delete.ensures.at_most
@@ -187,7 +187,7 @@ returns-in-Ok-delete-2-clause-at_most g c =
     let b : Device = g.F.Flash.device c.write.new.flash in
     let e : Device = g.F.Flash.device c.write-2.new.flash in
     let own : Area = g.S.ItemStore.mounted_on c.args.store.now in
-    let one = one-call a b (calls.most_units (geometry_of a own)) c.write.ensures.at_most in
+    let one = one-call a b (calls.item_units (geometry_of a own)) c.write.ensures.at_most in
     let two = spends-calls a b e own (g.S.ItemStore.mounted_on c.write.new.self) 1 c.write.ensures.touches.banks c.write.ensures.area one c.write-2.ensures.at_most in
     let f : Device = g.F.Flash.device c.delete-in-Err-NoSpace.new.flash in
     spends-calls a e f own (g.S.ItemStore.mounted_on c.write-2.new.self) 2 (c.write-2.ensures.touches.banks ∙ c.write.ensures.touches.banks) (c.write-2.ensures.area ∙ c.write.ensures.area) two c.delete-in-Err-NoSpace.ensures.at_most
@@ -198,7 +198,7 @@ returns-in-Err-delete-2-clause-at_most g c =
     let b : Device = g.F.Flash.device c.write.new.flash in
     let e : Device = g.F.Flash.device c.write-2.new.flash in
     let own : Area = g.S.ItemStore.mounted_on c.args.store.now in
-    let one = one-call a b (calls.most_units (geometry_of a own)) c.write.ensures.at_most in
+    let one = one-call a b (calls.item_units (geometry_of a own)) c.write.ensures.at_most in
     let two = spends-calls a b e own (g.S.ItemStore.mounted_on c.write.new.self) 1 c.write.ensures.touches.banks c.write.ensures.area one c.write-2.ensures.at_most in
     let f : Device = g.F.Flash.device c.delete-in-Err-NoSpace.new.flash in
     spends-calls a e f own (g.S.ItemStore.mounted_on c.write-2.new.self) 2 (c.write-2.ensures.touches.banks ∙ c.write.ensures.touches.banks) (c.write-2.ensures.area ∙ c.write.ensures.area) two c.delete-in-Err-NoSpace.ensures.at_most

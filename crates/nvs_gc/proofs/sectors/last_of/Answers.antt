@@ -1,8 +1,8 @@
 use Rattle.std.proofs.Common.{Some, sym, ap, ◌∙◌, arith}
 use Rattle.std.specs.Option.{option_map}
 use Rattle.item_store.specs.declared.entry.Placed.{Placed}
-use Rattle.item_store.specs.Kind.{placed_at}
-use Rattle.nvs_format.specs.Kinds.{placed_of}
+use Rattle.item_store.specs.SectorFormat.{placed_at}
+use Rattle.nvs_format.specs.Formats.{placed_of}
 use Rattle.nvs_format.proofs.FindLemmas.{last_same, none-large}
 use Rattle.nvs_gc.proofs.sectors.last_of.Goals as goal
 

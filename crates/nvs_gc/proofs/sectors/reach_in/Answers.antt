@@ -1,7 +1,7 @@
 use Rattle.std.proofs.Common.{◌≡◌, ℕ, ◌+◌, ◌-◌, ◌*◌, ap, subst, ◌∙◌, arith}
 use Rattle.std.proofs.Math.Nat.{add-mul}
 use Rattle.nvs_store.specs.Geometry.{slot_size}
-use Rattle.nvs_format.specs.Kinds.{kind_in}
+use Rattle.nvs_format.specs.Formats.{format_in}
 use Rattle.nvs_format.proofs.FindLemmas.{named_from, other_named, out_of_range, others_more}
 use Rattle.item_store.specs.Lasts.{AreOthers}
 use Rattle.nvs_gc.proofs.sectors.reach_in.Goals as goal
@@ -37,5 +37,5 @@ returns c =
     let none : c.loop-left.left ≡ 0 = omega (arith, c.loop-left-test.false) in
     record {
       few = omega arith;
-      others = subst (λ (n : ℕ). AreOthers (kind_in c.args.unit) c.args.bytes.now n c.args.slots c.args.least c.args.most) none c.loop-left.invariant.others;
+      others = subst (λ (n : ℕ). AreOthers (format_in c.args.unit) c.args.bytes.now n c.args.slots c.args.least c.args.most) none c.loop-left.invariant.others;
     }

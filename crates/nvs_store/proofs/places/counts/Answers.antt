@@ -15,8 +15,8 @@ returns-after-has_gc_done g c =
     let shut : is_closed_at (reading unit) (sectors_of d c.args.area.now) (next (sectors_of d c.args.area.now) c.args.current) ≡ true =
     ap (is_closed_at (reading unit) (sectors_of d c.args.area.now)) (sym after) ∙ sym c.is_closed.ensures ∙ c.if-is_closed.true in
     elim c.if-has_gc_done.branch [
-      | then-has_gc_done w ↦ counts_closed (reading unit) (sectors_of d c.args.area.now) c.args.current c.args.place c.if-has_gc_done.hidden true shut (sym c.has_gc_done.ensures ∙ w.if-has_gc_done.true) (w.hidden-is ∙ after)
-      | else-has_gc_done w ↦ counts_closed (reading unit) (sectors_of d c.args.area.now) c.args.current c.args.place c.if-has_gc_done.hidden false shut (sym c.has_gc_done.ensures ∙ w.if-has_gc_done.false) w.hidden-is
+      | then-has_gc_done w ↦ counts_closed (reading unit) (sectors_of d c.args.area.now) c.args.current c.args.place c.if-has_gc_done.ignored true shut (sym c.has_gc_done.ensures ∙ w.if-has_gc_done.true) (w.ignored-is ∙ after)
+      | else-has_gc_done w ↦ counts_closed (reading unit) (sectors_of d c.args.area.now) c.args.current c.args.place c.if-has_gc_done.ignored false shut (sym c.has_gc_done.ensures ∙ w.if-has_gc_done.false) w.ignored-is
     ]
 
 pub returns-else-is_closed : goal.returns-else-is_closed

@@ -3,7 +3,7 @@ use Rattle.serde_json.specs.Data.{Data, string, object, no_members, put}
 use Rattle.serde_json.specs.View.{view, members_view}
 use Rattle.serde_json.specs.declared.value.Value as value
 use Rattle.serde_json.proofs.Views.{view-Object}
-use Rattle.script_lines.proofs.NameTexts.{whole_object, told_object, label_is_text, view-String}
+use Rattle.script_lines.proofs.NameTexts.{whole_object, reported_object, label_is_text, view-String}
 use Rattle.script_lines.proofs.answer.names_text.Goals as goal
 
 pub returns : goal.returns
@@ -17,4 +17,4 @@ returns c =
     (c.in_ok-label.ensures.ok (label_is_text active c.requires.label)) c.in_ok-names.ensures (view-Object c.in_ok-names.names)
     (c.in_ok-put.ensures.ok ∙ ap (λ (d : Data). put (codes "active") d (members_view c.new-members.result.entries)) (view-String c.in_ok-label.label) ∙ ap (λ es. put (codes "active") (string label) (members_view es)) c.new-members.ensures.empty)
     c.in_ok-put-2.ensures.ok in
-    told_object active pairs second c.object_text.result members c.object_text.ensures
+    reported_object active pairs second c.object_text.result members c.object_text.ensures

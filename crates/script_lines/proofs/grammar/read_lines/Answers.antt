@@ -2,7 +2,7 @@ use Rattle.std.proofs.Common.{◌≡◌, ℕ, ◌+◌, List, [], ◌∷◌, ◌+
 use Rattle.script_lines.specs.declared.why.LineWhy.{LineWhy}
 use Rattle.text_parts.specs.Parts.{parts, parts_of}
 use Rattle.script_lines.specs.Forms.{Row}
-use Rattle.script_lines.specs.Script.{SpellsAll, told, FirstRefused}
+use Rattle.script_lines.specs.Script.{SpellsAll, spoken, FirstRefused}
 use Rattle.script_lines.proofs.ScriptLemmas.{left, left_shorter, fine, found_step, refused_step, no_more, fault_of_whole}
 use Rattle.script_lines.proofs.grammar.read_lines.Goals as goal
 
@@ -17,8 +17,8 @@ loop-rest-preserved g c =
     let old : List Row = map g.L.ScriptLine.says c.loop-rest.lines.items in
     let new : List Row = map g.L.ScriptLine.says c.take_text.new.lines.items in
     record {
-      found = found_step g.L.ScriptLine.forms limit (told all) text rest old new c.in-Ok.ensures
-          (subst (λ (texts : List (List ℕ)). (more : List Row) → SpellsAll g.L.ScriptLine.forms limit (told texts) more → SpellsAll g.L.ScriptLine.forms limit (told all) (old ++ more)) cut so_far.found);
+      found = found_step g.L.ScriptLine.forms limit (spoken all) text rest old new c.in-Ok.ensures
+          (subst (λ (texts : List (List ℕ)). (more : List Row) → SpellsAll g.L.ScriptLine.forms limit (spoken texts) more → SpellsAll g.L.ScriptLine.forms limit (spoken all) (old ++ more)) cut so_far.found);
       refused = refused_step g.L.ScriptLine.forms limit all text rest c.loop-rest.number (fine g.L.ScriptLine.forms limit text old new c.in-Ok.ensures)
           (subst (λ (texts : List (List ℕ)). (k : ℕ) (why : LineWhy) → FirstRefused g.L.ScriptLine.forms limit texts k why → FirstRefused g.L.ScriptLine.forms limit all (c.loop-rest.number + k) why) cut so_far.refused);
       small = omega (arith, so_far.small, ap left c.in-Some.is, left_shorter _ _ c.cut_at.ensures.shorter);
@@ -26,7 +26,7 @@ loop-rest-preserved g c =
 
 pub returns : goal.returns
 returns g c =
-    no_more g.L.ScriptLine.forms c.args.limit _ _ (c.loop-rest.invariant.found [] (subst (λ rest. SpellsAll g.L.ScriptLine.forms c.args.limit (told (parts_of 10 rest)) []) (sym c.in_default.is) tt))
+    no_more g.L.ScriptLine.forms c.args.limit _ _ (c.loop-rest.invariant.found [] (subst (λ rest. SpellsAll g.L.ScriptLine.forms c.args.limit (spoken (parts_of 10 rest)) []) (sym c.in_default.is) tt))
 
 pub returns-in-Err : goal.returns-in-Err
 returns-in-Err g c =

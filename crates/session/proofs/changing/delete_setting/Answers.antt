@@ -9,7 +9,7 @@ use Rattle.settings_core.specs.declared.writing.DeleteFault.{DeleteFault}
 use Rattle.settings_core.specs.declared.writing.DeleteFault.TheVariants.{PowerLost as DeleteLost}
 use Rattle.settings_core.specs.Carrying.{as_save, save_lost}
 use Rattle.session_table.specs.Bench.{geometry_in}
-use Rattle.session.proofs.LineLemmas.{ended, told_at, delete_by_ok, delete_by_lost}
+use Rattle.session.proofs.LineLemmas.{ended, reported_at, delete_by_ok, delete_by_lost}
 use Rattle.flash_map.specs.declared.area.Area.{Area}
 use Rattle.flash_map.specs.On.{on}
 use Rattle.session.specs.OnMap.{active_area}
@@ -48,8 +48,8 @@ returns-in-Err-PowerLost-clause-done g c =
     let here = ended g.K.Backend.contents g.K.Backend.room g.K.Backend.chance g.K.Backend.tears old new (Del c.args.name.now ∷ []) up (g.K.Backend.mounted_on c.args.settings.now.backend) (active_area c.args.map.now old) (as_save c.delete-end.result) (Err PowerLost) (c.requires.here.mounted ∙ c.requires.here.active) end
     (record { touches = c.delete-end.ensures.touches; at_most = c.delete-end.ensures.at_most; count = c.delete-end.ensures.ends.0; ends = c.delete-end.ensures.ends.1 }) in
     let stays = active_beside g.K.Backend.serves c.args.map.now old new c.requires.map (g.met.B.Flash.is_lawful c.args.bench.now) (g.met.B.Flash.is_lawful c.delete-end.new.flash) here.touches.banks here.touches.outside in
-    let tells = told_at g.K.Backend.chance new c.args.area.now (active_area c.args.map.now old) c.spells_another.result c.requires.here.active c.spells_another.ensures in
-    λ registry pool. delete_by_lost g.K.Backend.contents g.K.Backend.room g.K.Backend.chance g.K.Backend.tears registry pool c.args.map.now c.args.name.now old new c.requires.here.powered stays up c.spent-before.result c.spent.result c.spent-before.ensures c.spent.ensures c.spells_another.result tells here
+    let reports = reported_at g.K.Backend.chance new c.args.area.now (active_area c.args.map.now old) c.spells_another.result c.requires.here.active c.spells_another.ensures in
+    λ registry pool. delete_by_lost g.K.Backend.contents g.K.Backend.room g.K.Backend.chance g.K.Backend.tears registry pool c.args.map.now c.args.name.now old new c.requires.here.powered stays up c.spent-before.result c.spent.result c.spent-before.ensures c.spent.ensures c.spells_another.result reports here
 
 pub returns-in-Ok-clause-sound : goal.returns-in-Ok-clause-sound
 returns-in-Ok-clause-sound g c = subst (λ (a : Area). on g.K.Backend.damage (g.B.Flash.device c.delete-end.new.flash) a ≡ None) c.requires.here.mounted (c.delete-end.ensures.sound c.requires.here.up)

@@ -8,7 +8,7 @@ use Rattle.settings_core.specs.Carrying.{command_of, save_lost}
 use Rattle.script_lines.specs.declared.line.Line.TheVariants.{Set}
 use Rattle.script_lines.specs.declared.answer.Answer.TheVariants.{Done, NoSpace as Full, TooMany, Lost}
 use Rattle.session_table.specs.Bench.{geometry_in}
-use Rattle.session.proofs.LineLemmas.{CarriedAt, ended, told_at, set_by_ok, set_by_many, set_by_full, set_by_lost}
+use Rattle.session.proofs.LineLemmas.{CarriedAt, ended, reported_at, set_by_ok, set_by_many, set_by_full, set_by_lost}
 use Rattle.flash_map.specs.declared.area.Area.{Area}
 use Rattle.flash_map.specs.On.{on}
 use Rattle.session.specs.OnMap.{active_area}
@@ -77,9 +77,9 @@ returns-in-Err-PowerLost-clause-done g c =
     let here = ended g.K.Backend.contents g.K.Backend.room g.K.Backend.chance g.K.Backend.tears old new (command_of c.args.name.now bytes ∷ []) up (g.K.Backend.mounted_on c.args.settings.now.backend) (active_area c.args.map.now old) c.save_one-end.result (Err PowerLost) (c.requires.here.mounted ∙ c.requires.here.active) end
     (record { touches = c.save_one-end.ensures.touches; at_most = c.save_one-end.ensures.at_most; count = c.save_one-end.ensures.ends.0; ends = c.save_one-end.ensures.ends.1 }) in
     let stays = active_beside g.K.Backend.serves c.args.map.now old new c.requires.map (g.met.B.Flash.is_lawful c.args.bench.now) (g.met.B.Flash.is_lawful c.save_one-end.new.flash) here.touches.banks here.touches.outside in
-    let tells = told_at g.K.Backend.chance new c.args.area.now (active_area c.args.map.now old) c.spells_another.result c.requires.here.active c.spells_another.ensures in
+    let reports = reported_at g.K.Backend.chance new c.args.area.now (active_area c.args.map.now old) c.spells_another.result c.requires.here.active c.spells_another.ensures in
     λ registry pool. subst (λ (value : List ℕ). CarriedAt g.K.Backend.contents g.K.Backend.room g.K.Backend.chance g.K.Backend.tears registry pool c.args.map.now (Set c.args.name.now value) (Lost (c.spent.result - c.spent-before.result) c.spells_another.result) old new) c.as_slice.ensures
-    (set_by_lost g.K.Backend.contents g.K.Backend.room g.K.Backend.chance g.K.Backend.tears registry pool c.args.map.now c.args.name.now bytes old new c.requires.here.powered stays up c.spent-before.result c.spent.result c.spent-before.ensures c.spent.ensures c.spells_another.result tells here)
+    (set_by_lost g.K.Backend.contents g.K.Backend.room g.K.Backend.chance g.K.Backend.tears registry pool c.args.map.now c.args.name.now bytes old new c.requires.here.powered stays up c.spent-before.result c.spent.result c.spent-before.ensures c.spent.ensures c.spells_another.result reports here)
 
 pub returns-in-Ok-clause-sound : goal.returns-in-Ok-clause-sound
 returns-in-Ok-clause-sound g c = subst (λ (a : Area). on g.K.Backend.damage (g.B.Flash.device c.save_one-end.new.flash) a ≡ None) c.requires.here.mounted (c.save_one-end.ensures.sound c.requires.here.up)

@@ -19,10 +19,10 @@ pub returns-in-Get-clause-done : goal.returns-in-Get-clause-done
 returns-in-Get-clause-done g c = beside_if (meanings g.K.Backend.contents g.K.Backend.room g.K.Backend.chance g.K.Backend.tears) c.args.map.now c.args.line.now _ (g.B.Flash.device c.args.bench.now) (g.B.Flash.device c.args.bench.now) _ _ c.in-Get.is c.get_setting.result c.get_setting.ensures
 
 pub returns-in-Direct-clause-done : goal.returns-in-Direct-clause-done
-returns-in-Direct-clause-done g c = beside_if (meanings g.K.Backend.contents g.K.Backend.room g.K.Backend.chance g.K.Backend.tears) c.args.map.now c.args.line.now _ (g.B.Flash.device c.args.bench.now) (g.B.Flash.device c.args.bench.now) _ _ c.in-Direct.is c.tell_settings.result c.tell_settings.ensures
+returns-in-Direct-clause-done g c = beside_if (meanings g.K.Backend.contents g.K.Backend.room g.K.Backend.chance g.K.Backend.tears) c.args.map.now c.args.line.now _ (g.B.Flash.device c.args.bench.now) (g.B.Flash.device c.args.bench.now) _ _ c.in-Direct.is c.report_settings.result c.report_settings.ensures
 
 pub returns-in-Names-clause-done : goal.returns-in-Names-clause-done
-returns-in-Names-clause-done g c = beside_if (meanings g.K.Backend.contents g.K.Backend.room g.K.Backend.chance g.K.Backend.tears) c.args.map.now c.args.line.now _ (g.B.Flash.device c.args.bench.now) (g.B.Flash.device c.args.bench.now) _ _ c.in-Names.is c.tell_all.result c.tell_all.ensures
+returns-in-Names-clause-done g c = beside_if (meanings g.K.Backend.contents g.K.Backend.room g.K.Backend.chance g.K.Backend.tears) c.args.map.now c.args.line.now _ (g.B.Flash.device c.args.bench.now) (g.B.Flash.device c.args.bench.now) _ _ c.in-Names.is c.report_all.result c.report_all.ensures
 
 pub set_setting-requires-clause-map : goal.set_setting-requires-clause-map
 set_setting-requires-clause-map g c = c.requires.map
@@ -47,17 +47,17 @@ get_setting-requires-clause-here g c = c.requires.here
 pub get_setting-requires-clause-lawful : goal.get_setting-requires-clause-lawful
 get_setting-requires-clause-lawful g c = subst (λ (a : Area). IsLawfulFor (g.B.Flash.device c.args.bench.now).banks a) (sym c.requires.here.active) (active-lawful g.K.Backend.serves c.args.map.now (g.B.Flash.device c.args.bench.now) c.requires.map)
 
-pub tell_settings-requires-clause-here : goal.tell_settings-requires-clause-here
-tell_settings-requires-clause-here g c = c.requires.here
+pub report_settings-requires-clause-here : goal.report_settings-requires-clause-here
+report_settings-requires-clause-here g c = c.requires.here
 
-pub tell_settings-requires-clause-lawful : goal.tell_settings-requires-clause-lawful
-tell_settings-requires-clause-lawful g c = subst (λ (a : Area). IsLawfulFor (g.B.Flash.device c.args.bench.now).banks a) (sym c.requires.here.active) (active-lawful g.K.Backend.serves c.args.map.now (g.B.Flash.device c.args.bench.now) c.requires.map)
+pub report_settings-requires-clause-lawful : goal.report_settings-requires-clause-lawful
+report_settings-requires-clause-lawful g c = subst (λ (a : Area). IsLawfulFor (g.B.Flash.device c.args.bench.now).banks a) (sym c.requires.here.active) (active-lawful g.K.Backend.serves c.args.map.now (g.B.Flash.device c.args.bench.now) c.requires.map)
 
-pub tell_all-requires-clause-here : goal.tell_all-requires-clause-here
-tell_all-requires-clause-here g c = c.requires.here
+pub report_all-requires-clause-here : goal.report_all-requires-clause-here
+report_all-requires-clause-here g c = c.requires.here
 
-pub tell_all-requires-clause-lawful : goal.tell_all-requires-clause-lawful
-tell_all-requires-clause-lawful g c = subst (λ (a : Area). IsLawfulFor (g.B.Flash.device c.args.bench.now).banks a) (sym c.requires.here.active) (active-lawful g.K.Backend.serves c.args.map.now (g.B.Flash.device c.args.bench.now) c.requires.map)
+pub report_all-requires-clause-lawful : goal.report_all-requires-clause-lawful
+report_all-requires-clause-lawful g c = subst (λ (a : Area). IsLawfulFor (g.B.Flash.device c.args.bench.now).banks a) (sym c.requires.here.active) (active-lawful g.K.Backend.serves c.args.map.now (g.B.Flash.device c.args.bench.now) c.requires.map)
 
 pub with_handlers-requires-clause-map : goal.with_handlers-requires-clause-map
 with_handlers-requires-clause-map g c = c.requires.map
@@ -102,10 +102,10 @@ pub returns-in-Get-clause-stops : goal.returns-in-Get-clause-stops
 returns-in-Get-clause-stops g c = never_changed c.args.line.now (g.B.Flash.device c.args.bench.now) c.get_setting.result (ap takes_memory c.in-Get.is)
 
 pub returns-in-Direct-clause-stops : goal.returns-in-Direct-clause-stops
-returns-in-Direct-clause-stops g c = never_changed c.args.line.now (g.B.Flash.device c.args.bench.now) c.tell_settings.result (ap takes_memory c.in-Direct.is)
+returns-in-Direct-clause-stops g c = never_changed c.args.line.now (g.B.Flash.device c.args.bench.now) c.report_settings.result (ap takes_memory c.in-Direct.is)
 
 pub returns-in-Names-clause-stops : goal.returns-in-Names-clause-stops
-returns-in-Names-clause-stops g c = never_changed c.args.line.now (g.B.Flash.device c.args.bench.now) c.tell_all.result (ap takes_memory c.in-Names.is)
+returns-in-Names-clause-stops g c = never_changed c.args.line.now (g.B.Flash.device c.args.bench.now) c.report_all.result (ap takes_memory c.in-Names.is)
 
 pub returns-in-Set-clause-handlers : goal.returns-in-Set-clause-handlers
 returns-in-Set-clause-handlers g c = c.requires.handlers

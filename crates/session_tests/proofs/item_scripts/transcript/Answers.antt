@@ -13,4 +13,4 @@ run_lines-requires-clause-lines g c =
     let fit = lines_are_served (ids_end c.args.ids) c.value_limit-limit.result c.as_bytes.result.now c.in-Ok.lines.items c.in-Ok.ensures in
     let within = subst (λ (n : ℕ). All (IsServed (ids_end c.args.ids) n) c.in-Ok.lines.items) c.value_limit-limit.ensures fit in
     let here = subst (λ (n : ℕ). All (IsServed n limit) c.in-Ok.lines.items) c.requires.ids within in
-    subst (λ (lines : List Line). All (IsServedOn g.T.SlotSectors.kind d c.args.area.now) lines) (sym c.as_slice.ensures.value) here
+    subst (λ (lines : List Line). All (IsServedOn g.T.SlotSectors.format_of d c.args.area.now) lines) (sym c.as_slice.ensures.value) here

@@ -1,4 +1,4 @@
-use Rattle.zms_format.proofs.KindLemmas.{first_entry_is_known as known}
+use Rattle.zms_format.proofs.FormatLemmas.{first_entry_is_known as known}
 use Rattle.zms_format.proofs.laws.first_entry_is_known.Goals as goal
 
 pub returns : goal.returns

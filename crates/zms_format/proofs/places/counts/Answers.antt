@@ -16,8 +16,8 @@ returns-after-marks_at-2 g c =
     let shut : is_closed_at plain sectors (next sectors c.args.current) ≡ true = ap (is_closed_at plain sectors) (sym after) ∙ sym (ap (λ (m : Marks). m.closed) c.marks_at.ensures) ∙ c.if-marks_at.true in
     let done = ap (λ (m : Marks). m.gc_done) c.marks_at-then-marks_at.ensures in
     elim c.if-marks_at-2.branch [
-      | then-marks_at-2 w ↦ counts_closed sectors c.args.current c.args.place c.if-marks_at-2.hidden true shut (sym done ∙ w.if-marks_at-2.true) (w.hidden-is ∙ after)
-      | else-marks_at-2 w ↦ counts_closed sectors c.args.current c.args.place c.if-marks_at-2.hidden false shut (sym done ∙ w.if-marks_at-2.false) w.hidden-is
+      | then-marks_at-2 w ↦ counts_closed sectors c.args.current c.args.place c.if-marks_at-2.ignored true shut (sym done ∙ w.if-marks_at-2.true) (w.ignored-is ∙ after)
+      | else-marks_at-2 w ↦ counts_closed sectors c.args.current c.args.place c.if-marks_at-2.ignored false shut (sym done ∙ w.if-marks_at-2.false) w.ignored-is
     ]
 
 pub returns-else-marks_at : goal.returns-else-marks_at

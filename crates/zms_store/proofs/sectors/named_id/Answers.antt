@@ -7,7 +7,7 @@ use Rattle.zms_cycle.specs.declared.reading.SlotEntry.{SlotEntry}
 use Rattle.zms_cycle.specs.Entries.{entry_of as fields_of}
 use Rattle.zms_cycle.specs.Sector.{slot_of, entry_in}
 use Rattle.zms_cycle.proofs.SlotSearch.{entry_in-cases}
-use Rattle.zms_format.specs.Kinds.{entry_of}
+use Rattle.zms_format.specs.Formats.{entry_of}
 use Rattle.zms_store.proofs.sectors.named_id.Goals as goal
 
 -- an entry has the id of its slot's bytes

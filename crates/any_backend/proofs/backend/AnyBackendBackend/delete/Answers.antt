@@ -11,7 +11,7 @@ use Rattle.flash_map.specs.Touches.{Touches}
 use Rattle.backend_api.specs.Commands.{StopsAt}
 use Rattle.backend_api.specs.Commands.Command.{Del}
 use Rattle.backend_api.specs.Ends.{DeleteEnds}
-use Rattle.backend_api.specs.Room.{most_units}
+use Rattle.backend_api.specs.Room.{command_units}
 use Rattle.any_backend.specs.declared.backend.AnyBackend.{AnyBackend}
 use Rattle.any_backend.specs.declared.backend.AnyBackend.TheVariants.{Nvs, Zms, Fcb}
 use Rattle.any_backend.specs.ByRole.{chance_as, contents_as, damage_as, tears_as}
@@ -51,7 +51,7 @@ pub returns-in-Nvs-clause-at_most : goal.returns-in-Nvs-clause-at_most
 returns-in-Nvs-clause-at_most g c =
     let d : Device = g.F.Flash.device c.args.flash.now in
     let e : Device = g.F.Flash.device c.delete.new.flash in
-    subst (λ (s : AnyBackend). SpendsAtMost d e (most_units (geometry_of d (area_of s)))) (sym c.in-Nvs.is) c.delete.ensures.at_most
+    subst (λ (s : AnyBackend). SpendsAtMost d e (command_units (geometry_of d (area_of s)))) (sym c.in-Nvs.is) c.delete.ensures.at_most
 
 pub returns-in-Nvs-clause-sound : goal.returns-in-Nvs-clause-sound
 returns-in-Nvs-clause-sound g c =
@@ -112,7 +112,7 @@ pub returns-in-Zms-clause-at_most : goal.returns-in-Zms-clause-at_most
 returns-in-Zms-clause-at_most g c =
     let d : Device = g.F.Flash.device c.args.flash.now in
     let e : Device = g.F.Flash.device c.delete-in-Zms.new.flash in
-    subst (λ (s : AnyBackend). SpendsAtMost d e (most_units (geometry_of d (area_of s)))) (sym c.in-Zms.is) c.delete-in-Zms.ensures.at_most
+    subst (λ (s : AnyBackend). SpendsAtMost d e (command_units (geometry_of d (area_of s)))) (sym c.in-Zms.is) c.delete-in-Zms.ensures.at_most
 
 pub returns-in-Zms-clause-sound : goal.returns-in-Zms-clause-sound
 returns-in-Zms-clause-sound g c =
@@ -173,7 +173,7 @@ pub returns-in-Fcb-clause-at_most : goal.returns-in-Fcb-clause-at_most
 returns-in-Fcb-clause-at_most g c =
     let d : Device = g.F.Flash.device c.args.flash.now in
     let e : Device = g.F.Flash.device c.delete-in-Fcb.new.flash in
-    subst (λ (s : AnyBackend). SpendsAtMost d e (most_units (geometry_of d (area_of s)))) (sym c.in-Fcb.is) c.delete-in-Fcb.ensures.spends.at_most
+    subst (λ (s : AnyBackend). SpendsAtMost d e (command_units (geometry_of d (area_of s)))) (sym c.in-Fcb.is) c.delete-in-Fcb.ensures.spends.at_most
 
 pub returns-in-Fcb-clause-sound : goal.returns-in-Fcb-clause-sound
 returns-in-Fcb-clause-sound g c =

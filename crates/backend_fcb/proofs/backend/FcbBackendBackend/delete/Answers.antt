@@ -9,7 +9,7 @@ use Rattle.flash_map.proofs.SpendingLemmas.{spends_none, most_weaker}
 use Rattle.fcb_ring.specs.declared.ring.Ring.{Ring}
 use Rattle.fcb_ring.specs.declared.writing.AppendFault.TheVariants.{PowerLost}
 use Rattle.backend_api.proofs.MapLemmas.{remove-absent}
-use Rattle.backend_api.specs.Room.{most_units}
+use Rattle.backend_api.specs.Room.{command_units}
 use Rattle.backend_api.specs.Commands.Command.{Del}
 use Rattle.backend_fcb.specs.Changing.{HasNoPlace, PutEnds, SpendsCost, SpendsUpToCost, collect_units}
 use Rattle.record_settings.specs.Numbers.{put_cost}
@@ -51,7 +51,7 @@ pub returns-then-is_none-clause-spends : goal.returns-then-is_none-clause-spends
 returns-then-is_none-clause-spends g c = record {
   at_most =
       let d : Device = g.F.Flash.device c.args.flash.now in
-      none-more d (most_units (geometry_of d c.args.self.now.ring.area));
+      none-more d (command_units (geometry_of d c.args.self.now.ring.area));
   exact =
       λ changes.
       let d : Device = g.F.Flash.device c.args.flash.now in
@@ -95,7 +95,7 @@ returns-in-Ok-clause-spends g c = record {
       let e : Device = g.F.Flash.device c.put.new.flash in
       let body : c.as_slice.result.now ≡ body_of c.args.name.now [] = c.as_slice.ensures.value ∙ c.body_of-body.ensures.items in
       let few = two-rounds d ring c.requires.lawful.several in
-      most_weaker d e ((1 + 1) * collect_units d ring) (most_units (geometry_of d area)) few c.in-Ok.ensures.at_most;
+      most_weaker d e ((1 + 1) * collect_units d ring) (command_units (geometry_of d area)) few c.in-Ok.ensures.at_most;
   exact =
       λ changes.
       let d : Device = g.F.Flash.device c.args.flash.now in
@@ -144,7 +144,7 @@ returns-in-Err-PowerLost-clause-spends g c =
           let e : Device = g.F.Flash.device c.put.new.flash in
           let body : c.as_slice.result.now ≡ body_of c.args.name.now [] = c.as_slice.ensures.value ∙ c.body_of-body.ensures.items in
           let few = two-rounds d ring c.requires.lawful.several in
-          most_weaker d e ((1 + 1) * collect_units d ring) (most_units (geometry_of d area)) few c.in-Err-PowerLost.ensures.at_most;
+          most_weaker d e ((1 + 1) * collect_units d ring) (command_units (geometry_of d area)) few c.in-Err-PowerLost.ensures.at_most;
       exact = tt;
       no_more = λ lost. subst (λ (b : List ℕ). SpendsUpToCost d e ring b 0) body ends.1;
       few = c.in-Err-PowerLost.ensures.at_most;

@@ -14,7 +14,7 @@ use Rattle.fcb_ring.specs.Writing.{record_cost}
 use Rattle.fcb_ring.specs.declared.writing.AppendFault.TheVariants.{PowerLost}
 use Rattle.fcb_ring.proofs.AppendLemmas.{unit-after}
 use Rattle.backend_api.proofs.MapLemmas.{insert-stored}
-use Rattle.backend_api.specs.Room.{most_units}
+use Rattle.backend_api.specs.Room.{command_units}
 use Rattle.backend_api.specs.Commands.Command.{Put}
 use Rattle.backend_fcb.specs.Changing.{HasNoPlace, PutEnds, SpendsCost, SpendsUpToCost, collect_units}
 use Rattle.record_settings.specs.Numbers.{pair_cost}
@@ -53,7 +53,7 @@ pub returns-then-holds-clause-spends : goal.returns-then-holds-clause-spends
 returns-then-holds-clause-spends g c = record {
   at_most =
       let d : Device = g.F.Flash.device c.args.flash.now in
-      none-more d (most_units (geometry_of d c.args.self.now.ring.area));
+      none-more d (command_units (geometry_of d c.args.self.now.ring.area));
   exact =
       λ changes.
       let d : Device = g.F.Flash.device c.args.flash.now in
@@ -119,7 +119,7 @@ returns-in-Ok-clause-spends g c =
           let other = c.holds.ensures.not_it c.if-holds.false in
           let sectors : c.geometry-geometry.result.sectors ≡ area.sectors = ap (λ (x : Geometry). x.sectors) c.geometry-geometry.ensures ∙ ap (λ (x : Area). x.sectors) c.area.ensures in
           let few = few-rounds d ring (c.geometry-geometry.result.sectors - 1) (omega (arith, c.requires.lawful.several)) in
-          most_weaker d e ((c.geometry-geometry.result.sectors - 1 + 1) * collect_units d ring) (most_units (geometry_of d area)) few c.in-Ok.ensures.at_most;
+          most_weaker d e ((c.geometry-geometry.result.sectors - 1 + 1) * collect_units d ring) (command_units (geometry_of d area)) few c.in-Ok.ensures.at_most;
       exact =
           λ changes.
           let d : Device = g.F.Flash.device c.args.flash.now in
@@ -171,7 +171,7 @@ returns-in-Err-PowerLost-clause-spends g c =
           let other = c.holds.ensures.not_it c.if-holds.false in
           let sectors : c.geometry-geometry.result.sectors ≡ area.sectors = ap (λ (x : Geometry). x.sectors) c.geometry-geometry.ensures ∙ ap (λ (x : Area). x.sectors) c.area.ensures in
           let few = few-rounds d ring (c.geometry-geometry.result.sectors - 1) (omega (arith, c.requires.lawful.several)) in
-          most_weaker d e ((c.geometry-geometry.result.sectors - 1 + 1) * collect_units d ring) (most_units (geometry_of d area)) few c.in-Err-PowerLost.ensures.at_most;
+          most_weaker d e ((c.geometry-geometry.result.sectors - 1 + 1) * collect_units d ring) (command_units (geometry_of d area)) few c.in-Err-PowerLost.ensures.at_most;
       exact = tt;
       no_more =
           λ lost.
@@ -214,7 +214,7 @@ returns-in-Err-Full-clause-spends g c =
           let other = c.holds.ensures.not_it c.if-holds.false in
           let sectors : c.geometry-geometry.result.sectors ≡ area.sectors = ap (λ (x : Geometry). x.sectors) c.geometry-geometry.ensures ∙ ap (λ (x : Area). x.sectors) c.area.ensures in
           let few = few-rounds d ring (c.geometry-geometry.result.sectors - 1) (omega (arith, c.requires.lawful.several)) in
-          most_weaker d e ((c.geometry-geometry.result.sectors - 1 + 1) * collect_units d ring) (most_units (geometry_of d area)) few c.in-Err-Full.ensures.at_most;
+          most_weaker d e ((c.geometry-geometry.result.sectors - 1 + 1) * collect_units d ring) (command_units (geometry_of d area)) few c.in-Err-Full.ensures.at_most;
       exact = tt;
       no_more =
           λ lost.

@@ -2,9 +2,9 @@ use Rattle.std.proofs.Common.{sym, subst}
 use Rattle.flash_sim.specs.Device.{Device}
 use Rattle.flash_map.specs.declared.area.Area.{Area}
 use Rattle.flash_map.specs.On.{on}
-use Rattle.named_items.specs.Pairs.{HasNoStrays}
+use Rattle.named_items.specs.Pairs.{HasNoOrphans}
 use Rattle.named_items.specs.NvsStore.{nvs_items}
-use Rattle.backend_nvs.specs.Numbers.{numbers_in}
+use Rattle.backend_nvs.specs.IdLayout.{numbering_of}
 use Rattle.backend_nvs.proofs.backend.NvsBackendBackend.mount.Goals as goal
 
 pub returns-in-Ok-clause-stands : goal.returns-in-Ok-clause-stands
@@ -12,7 +12,7 @@ returns-in-Ok-clause-stands g c =
     let e : Device = g.F.Flash.device c.mount_store.new.flash in
     record {
       store = c.in-Ok.ensures.store.up;
-      clean = subst (λ (x : Area). HasNoStrays (numbers_in x) (on nvs_items e x)) (sym c.in-Ok.ensures.store.on_it) c.in-Ok.ensures.store.clean;
+      clean = subst (λ (x : Area). HasNoOrphans (numbering_of x) (on nvs_items e x)) (sym c.in-Ok.ensures.store.on_it) c.in-Ok.ensures.store.clean;
     }
 
 pub returns-in-Ok-clause-on : goal.returns-in-Ok-clause-on

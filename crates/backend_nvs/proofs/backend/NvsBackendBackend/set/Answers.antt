@@ -3,9 +3,9 @@ use Rattle.flash_sim.specs.Device.{Device}
 use Rattle.flash_map.specs.declared.area.Area.{Area}
 use Rattle.flash_map.specs.On.{on}
 use Rattle.flash_map.specs.Touches.{Ends, IsCut}
-use Rattle.named_items.specs.Pairs.{HasNoStrays}
+use Rattle.named_items.specs.Pairs.{HasNoOrphans}
 use Rattle.named_items.specs.NvsStore.{nvs_items}
-use Rattle.backend_nvs.specs.Numbers.{numbers_in}
+use Rattle.backend_nvs.specs.IdLayout.{numbering_of}
 use Rattle.backend_nvs.proofs.backend.NvsBackendBackend.set.Goals as goal
 
 pub set_value-requires-clause-here : goal.set_value-requires-clause-here
@@ -41,5 +41,5 @@ returns-clause-stands g c = λ kept.
     let e : Device = g.F.Flash.device c.set_value.new.flash in
     record {
       store = c.set_value.ensures.store.up kept;
-      clean = subst (λ (x : Area). HasNoStrays (numbers_in x) (on nvs_items e x)) (sym c.set_value.ensures.store.area) (c.set_value.ensures.ends.clean kept);
+      clean = subst (λ (x : Area). HasNoOrphans (numbering_of x) (on nvs_items e x)) (sym c.set_value.ensures.store.area) (c.set_value.ensures.ends.clean kept);
     }

@@ -3,9 +3,9 @@ use Rattle.flash_sim.specs.Device.{Device}
 use Rattle.flash_map.specs.declared.area.Area.{Area}
 use Rattle.flash_map.specs.On.{on}
 use Rattle.flash_map.specs.Touches.{Ends, IsCut}
-use Rattle.named_items.specs.Pairs.{HasNoStrays}
+use Rattle.named_items.specs.Pairs.{HasNoOrphans}
 use Rattle.named_items.specs.ZmsStore.{zms_items}
-use Rattle.backend_zms.specs.Numbers.{numbers_in}
+use Rattle.backend_zms.specs.IdLayout.{numbering_of}
 use Rattle.backend_zms.proofs.backend.ZmsBackendBackend.delete.Goals as goal
 
 pub delete_name-requires-clause-here : goal.delete_name-requires-clause-here
@@ -38,5 +38,5 @@ returns-clause-stands g c = λ kept.
     let e : Device = g.F.Flash.device c.delete_name.new.flash in
     record {
       store = c.delete_name.ensures.store.up kept;
-      clean = subst (λ (x : Area). HasNoStrays (numbers_in x) (on zms_items e x)) (sym c.delete_name.ensures.store.area) (c.delete_name.ensures.ends.clean kept);
+      clean = subst (λ (x : Area). HasNoOrphans (numbering_of x) (on zms_items e x)) (sym c.delete_name.ensures.store.area) (c.delete_name.ensures.ends.clean kept);
     }

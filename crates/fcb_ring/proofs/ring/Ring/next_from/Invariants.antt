@@ -10,8 +10,8 @@ invariant-loop-at g l = record {
   within : l.at ≤ l.self.area.sectors;
   aligned : l.offset % unit_of (g.F.Flash.device l.flash) l.self.area ≡ 0;
   in_sector : l.offset ≤ sector_size (g.F.Flash.device l.flash) l.self.area;
-  same : find (begins_with (g.F.Flash.device l.flash) l.self.area l.front) (following_on (g.F.Flash.device l.flash) l.self l.at l.offset)
-      ≡ find (begins_with (g.F.Flash.device l.flash) l.self.area l.front) (following_on (g.F.Flash.device l.flash) l.self l.further l.from);
+  same : find (begins_with (g.F.Flash.device l.flash) l.self.area l.prefix) (following_on (g.F.Flash.device l.flash) l.self l.at l.offset)
+      ≡ find (begins_with (g.F.Flash.device l.flash) l.self.area l.prefix) (following_on (g.F.Flash.device l.flash) l.self l.further l.from);
 }
 
 abbrev pub decreases-loop-at : goal.decreases-loop-at

@@ -24,11 +24,11 @@ returns-in-Some g c =
     let d : Device = g.F.Flash.device c.args.flash.now in
     let area : Area = c.args.self.now.area in
     let view : List ℕ = c.sector_view-sector.result.now in
-    let found : c.next_checked.result ≡ first_passing (unit_of d area) (sector_bytes d area c.args.place) c.args.front.now c.args.from =
+    let found : c.next_checked.result ≡ first_passing (unit_of d area) (sector_bytes d area c.args.place) c.args.prefix.now c.args.from =
     c.next_checked.ensures
-    ∙ ap (λ (geometry : Geometry). first_passing geometry.unit view c.args.front.now c.args.from) c.geometry-unit.ensures
-    ∙ ap (λ (l : List ℕ). first_passing (unit_of d area) l c.args.front.now c.args.from) c.sector_view-sector.ensures.bytes in
-    sym (first-with (sector_bytes d area c.args.place) c.args.front.now c.args.place (begins_with d area c.args.front.now) (λ r. refl) (walk (record_at (unit_of d area) (sector_bytes d area c.args.place)) (length (sector_bytes d area c.args.place)) c.args.from)
+    ∙ ap (λ (geometry : Geometry). first_passing geometry.unit view c.args.prefix.now c.args.from) c.geometry-unit.ensures
+    ∙ ap (λ (l : List ℕ). first_passing (unit_of d area) l c.args.prefix.now c.args.from) c.sector_view-sector.ensures.bytes in
+    sym (first-with (sector_bytes d area c.args.place) c.args.prefix.now c.args.place (begins_with d area c.args.prefix.now) (λ r. refl) (walk (record_at (unit_of d area) (sector_bytes d area c.args.place)) (length (sector_bytes d area c.args.place)) c.args.from)
     ∙ ap (λ (o : Option Record). option_map (placed c.args.place) o) (sym found ∙ c.in-Some.is))
 
 pub returns-in-None : goal.returns-in-None
@@ -36,9 +36,9 @@ returns-in-None g c =
     let d : Device = g.F.Flash.device c.args.flash.now in
     let area : Area = c.args.self.now.area in
     let view : List ℕ = c.sector_view-sector.result.now in
-    let found : c.next_checked.result ≡ first_passing (unit_of d area) (sector_bytes d area c.args.place) c.args.front.now c.args.from =
+    let found : c.next_checked.result ≡ first_passing (unit_of d area) (sector_bytes d area c.args.place) c.args.prefix.now c.args.from =
     c.next_checked.ensures
-    ∙ ap (λ (geometry : Geometry). first_passing geometry.unit view c.args.front.now c.args.from) c.geometry-unit.ensures
-    ∙ ap (λ (l : List ℕ). first_passing (unit_of d area) l c.args.front.now c.args.from) c.sector_view-sector.ensures.bytes in
-    sym (first-with (sector_bytes d area c.args.place) c.args.front.now c.args.place (begins_with d area c.args.front.now) (λ r. refl) (walk (record_at (unit_of d area) (sector_bytes d area c.args.place)) (length (sector_bytes d area c.args.place)) c.args.from)
+    ∙ ap (λ (geometry : Geometry). first_passing geometry.unit view c.args.prefix.now c.args.from) c.geometry-unit.ensures
+    ∙ ap (λ (l : List ℕ). first_passing (unit_of d area) l c.args.prefix.now c.args.from) c.sector_view-sector.ensures.bytes in
+    sym (first-with (sector_bytes d area c.args.place) c.args.prefix.now c.args.place (begins_with d area c.args.prefix.now) (λ r. refl) (walk (record_at (unit_of d area) (sector_bytes d area c.args.place)) (length (sector_bytes d area c.args.place)) c.args.from)
     ∙ ap (λ (o : Option Record). option_map (placed c.args.place) o) (sym found ∙ c.in-None.is))

@@ -84,8 +84,8 @@ returns-in-None-clause-next g c =
     let ring = c.args.self.now in
     let size = has_size d ring.area (g.met.F.Flash.is_lawful c.args.flash.now) c.requires.stands.area in
     let from = c.padded.ensures.value ∙ ap (λ (geometry : Geometry). padded geometry.unit 8) c.geometry-unit.ensures in
-    let is = first-is (unit_of d ring.area) (sector_size d ring.area) (sectors_of d ring.area) size ring c.requires.stands.sectors ring.area.sectors (sym (count-sectors d ring.area)) c.args.front.now c.next_from.result (c.next_from.ensures ∙ ap (λ (n : ℕ). find (begins_with d ring.area c.args.front.now) (following_on d ring 0 n)) from) in
-    subst (λ (o : Option RecordAt). IsNextWith (entries_on d ring.area) c.args.front.now o c.next_from.result) (sym c.in-None.is) is
+    let is = first-is (unit_of d ring.area) (sector_size d ring.area) (sectors_of d ring.area) size ring c.requires.stands.sectors ring.area.sectors (sym (count-sectors d ring.area)) c.args.prefix.now c.next_from.result (c.next_from.ensures ∙ ap (λ (n : ℕ). find (begins_with d ring.area c.args.prefix.now) (following_on d ring 0 n)) from) in
+    subst (λ (o : Option RecordAt). IsNextWith (entries_on d ring.area) c.args.prefix.now o c.next_from.result) (sym c.in-None.is) is
 
 pub returns-in-Some-clause-next : goal.returns-in-Some-clause-next
 returns-in-Some-clause-next g c =
@@ -93,9 +93,9 @@ returns-in-Some-clause-next g c =
     let ring = c.args.self.now in
     let size = has_size d ring.area (g.met.F.Flash.is_lawful c.args.flash.now) c.requires.stands.area in
     let e = after-is (unit_of d ring.area) c.geometry-unit.result c.in-Some.record c.padded-in-Some.result (ap (λ (geometry : Geometry). geometry.unit) c.geometry-unit.ensures) c.padded-in-Some.ensures.value in
-    let is = later-is (unit_of d ring.area) (sector_size d ring.area) (sectors_of d ring.area) size ring c.requires.stands.sectors ring.area.sectors (sym (count-sectors d ring.area)) c.args.front.now c.in-Some.record c.distance-further.result c.next_from-in-Some.result c.distance-further.ensures.value
-    (c.next_from-in-Some.ensures ∙ ap (λ (n : ℕ). find (begins_with d ring.area c.args.front.now) (following_on d ring c.distance-further.result n)) e) in
-    subst (λ (o : Option RecordAt). IsNextWith (entries_on d ring.area) c.args.front.now o c.next_from-in-Some.result) (sym c.in-Some.is) is
+    let is = later-is (unit_of d ring.area) (sector_size d ring.area) (sectors_of d ring.area) size ring c.requires.stands.sectors ring.area.sectors (sym (count-sectors d ring.area)) c.args.prefix.now c.in-Some.record c.distance-further.result c.next_from-in-Some.result c.distance-further.ensures.value
+    (c.next_from-in-Some.ensures ∙ ap (λ (n : ℕ). find (begins_with d ring.area c.args.prefix.now) (following_on d ring c.distance-further.result n)) e) in
+    subst (λ (o : Option RecordAt). IsNextWith (entries_on d ring.area) c.args.prefix.now o c.next_from-in-Some.result) (sym c.in-Some.is) is
 
 pub returns-in-None-clause-listed : goal.returns-in-None-clause-listed
 returns-in-None-clause-listed g c =
@@ -103,8 +103,8 @@ returns-in-None-clause-listed g c =
     let ring = c.args.self.now in
     let size = has_size d ring.area (g.met.F.Flash.is_lawful c.args.flash.now) c.requires.stands.area in
     let from = c.padded.ensures.value ∙ ap (λ (geometry : Geometry). padded geometry.unit 8) c.geometry-unit.ensures in
-    let is = first-is (unit_of d ring.area) (sector_size d ring.area) (sectors_of d ring.area) size ring c.requires.stands.sectors ring.area.sectors (sym (count-sectors d ring.area)) c.args.front.now c.next_from.result (c.next_from.ensures ∙ ap (λ (n : ℕ). find (begins_with d ring.area c.args.front.now) (following_on d ring 0 n)) from) in
-    found-listed (unit_of d ring.area) (sector_size d ring.area) (sectors_of d ring.area) size ring c.requires.stands.sectors ring.area.sectors (sym (count-sectors d ring.area)) c.args.front.now 0 c.next_from.result is
+    let is = first-is (unit_of d ring.area) (sector_size d ring.area) (sectors_of d ring.area) size ring c.requires.stands.sectors ring.area.sectors (sym (count-sectors d ring.area)) c.args.prefix.now c.next_from.result (c.next_from.ensures ∙ ap (λ (n : ℕ). find (begins_with d ring.area c.args.prefix.now) (following_on d ring 0 n)) from) in
+    found-listed (unit_of d ring.area) (sector_size d ring.area) (sectors_of d ring.area) size ring c.requires.stands.sectors ring.area.sectors (sym (count-sectors d ring.area)) c.args.prefix.now 0 c.next_from.result is
 
 pub returns-in-Some-clause-listed : goal.returns-in-Some-clause-listed
 returns-in-Some-clause-listed g c =
@@ -112,7 +112,7 @@ returns-in-Some-clause-listed g c =
     let ring = c.args.self.now in
     let size = has_size d ring.area (g.met.F.Flash.is_lawful c.args.flash.now) c.requires.stands.area in
     let e = after-is (unit_of d ring.area) c.geometry-unit.result c.in-Some.record c.padded-in-Some.result (ap (λ (geometry : Geometry). geometry.unit) c.geometry-unit.ensures) c.padded-in-Some.ensures.value in
-    let is = later-is (unit_of d ring.area) (sector_size d ring.area) (sectors_of d ring.area) size ring c.requires.stands.sectors ring.area.sectors (sym (count-sectors d ring.area)) c.args.front.now c.in-Some.record c.distance-further.result c.next_from-in-Some.result c.distance-further.ensures.value
-    (c.next_from-in-Some.ensures ∙ ap (λ (n : ℕ). find (begins_with d ring.area c.args.front.now) (following_on d ring c.distance-further.result n)) e) in
+    let is = later-is (unit_of d ring.area) (sector_size d ring.area) (sectors_of d ring.area) size ring c.requires.stands.sectors ring.area.sectors (sym (count-sectors d ring.area)) c.args.prefix.now c.in-Some.record c.distance-further.result c.next_from-in-Some.result c.distance-further.ensures.value
+    (c.next_from-in-Some.ensures ∙ ap (λ (n : ℕ). find (begins_with d ring.area c.args.prefix.now) (following_on d ring c.distance-further.result n)) e) in
     let at = contained_at (record_places (entries_on d ring.area)) c.in-Some.record (c.requires.after c.in-Some.record c.in-Some.is) in
-    found-listed (unit_of d ring.area) (sector_size d ring.area) (sectors_of d ring.area) size ring c.requires.stands.sectors ring.area.sectors (sym (count-sectors d ring.area)) c.args.front.now (at.0 + 1) c.next_from-in-Some.result (is at.0 at.1)
+    found-listed (unit_of d ring.area) (sector_size d ring.area) (sectors_of d ring.area) size ring c.requires.stands.sectors ring.area.sectors (sym (count-sectors d ring.area)) c.args.prefix.now (at.0 + 1) c.next_from-in-Some.result (is at.0 at.1)

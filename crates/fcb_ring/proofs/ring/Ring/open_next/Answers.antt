@@ -12,7 +12,7 @@ use Rattle.fcb_ring.specs.Writing.{header_image}
 use Rattle.fcb_ring.proofs.AreaLemmas.{has_size, count-sectors}
 use Rattle.fcb_ring.proofs.OpenLemmas.{open-place}
 use Rattle.fcb_ring.proofs.RecordLemmas.{header_fits}
-use Rattle.fcb_ring.proofs.OpeningLemmas.{header-16, header-front, can-header, opened-stands, opened-list, opened-fresh, opened-empty, lost-list, lost-form, header-loss, header-spends, header-most}
+use Rattle.fcb_ring.proofs.OpeningLemmas.{header-16, header-prefix, can-header, opened-stands, opened-list, opened-fresh, opened-empty, lost-list, lost-form, header-loss, header-spends, header-most}
 use Rattle.fcb_ring.proofs.OthersLemmas.{others_set}
 use Rattle.fcb_ring.proofs.ring.Ring.open_next.Goals as goal
 
@@ -53,7 +53,7 @@ area_program-requires-clause-can g c =
     let end-is : c.padded-end.result ≡ padded unit 8 = c.padded-end.ensures.value ∙ ap (λ (x : Geometry). padded x.unit 8) c.geometry-unit.ensures in
     let header : List ℕ = take c.padded-end.result c.header_image-header.result in
     let is : header ≡ header_image unit id =
-    ap (take c.padded-end.result) c.header_image-header.ensures ∙ ap (λ (n : ℕ). take n (header_image 16 id)) end-is ∙ header-front unit id (has_size d ring.area lawful c.requires.stands.area).is_unit in
+    ap (take c.padded-end.result) c.header_image-header.ensures ∙ ap (λ (n : ℕ). take n (header_image 16 id)) end-is ∙ header-prefix unit id (has_size d ring.area lawful c.requires.stands.area).is_unit in
     can-header d ring lawful c.requires.stands c.requires.ready id c.next_id-id.ensures c.place-place.result c.place-place.ensures.value header is
 
 pub returns-in_err-area_program-clause-list : goal.returns-in_err-area_program-clause-list
@@ -66,7 +66,7 @@ returns-in_err-area_program-clause-list g c =
     let end-is : c.padded-end.result ≡ padded unit 8 = c.padded-end.ensures.value ∙ ap (λ (x : Geometry). padded x.unit 8) c.geometry-unit.ensures in
     let header : List ℕ = take c.padded-end.result c.header_image-header.result in
     let is : header ≡ header_image unit id =
-    ap (take c.padded-end.result) c.header_image-header.ensures ∙ ap (λ (n : ℕ). take n (header_image 16 id)) end-is ∙ header-front unit id (has_size d ring.area lawful c.requires.stands.area).is_unit in
+    ap (take c.padded-end.result) c.header_image-header.ensures ∙ ap (λ (n : ℕ). take n (header_image 16 id)) end-is ∙ header-prefix unit id (has_size d ring.area lawful c.requires.stands.area).is_unit in
     let new : Device = g.F.Flash.device c.area_program.new.flash in
     lost-list d ring lawful c.requires.stands c.requires.ready id c.next_id-id.ensures c.place-place.result c.place-place.ensures.value header is new c.in_err-area_program.ensures.touches.banks c.in_err-area_program.ensures.part
 
@@ -80,7 +80,7 @@ returns-in_err-area_program-clause-stopped g c =
     let end-is : c.padded-end.result ≡ padded unit 8 = c.padded-end.ensures.value ∙ ap (λ (x : Geometry). padded x.unit 8) c.geometry-unit.ensures in
     let header : List ℕ = take c.padded-end.result c.header_image-header.result in
     let is : header ≡ header_image unit id =
-    ap (take c.padded-end.result) c.header_image-header.ensures ∙ ap (λ (n : ℕ). take n (header_image 16 id)) end-is ∙ header-front unit id (has_size d ring.area lawful c.requires.stands.area).is_unit in
+    ap (take c.padded-end.result) c.header_image-header.ensures ∙ ap (λ (n : ℕ). take n (header_image 16 id)) end-is ∙ header-prefix unit id (has_size d ring.area lawful c.requires.stands.area).is_unit in
     let new : Device = g.F.Flash.device c.area_program.new.flash in
     on_err c.from_residual.result (record {
       ring = record {
@@ -103,7 +103,7 @@ returns-clause-list g c =
     let end-is : c.padded-end.result ≡ padded unit 8 = c.padded-end.ensures.value ∙ ap (λ (x : Geometry). padded x.unit 8) c.geometry-unit.ensures in
     let header : List ℕ = take c.padded-end.result c.header_image-header.result in
     let is : header ≡ header_image unit id =
-    ap (take c.padded-end.result) c.header_image-header.ensures ∙ ap (λ (n : ℕ). take n (header_image 16 id)) end-is ∙ header-front unit id (has_size d ring.area lawful c.requires.stands.area).is_unit in
+    ap (take c.padded-end.result) c.header_image-header.ensures ∙ ap (λ (n : ℕ). take n (header_image 16 id)) end-is ∙ header-prefix unit id (has_size d ring.area lawful c.requires.stands.area).is_unit in
     let new : Device = g.F.Flash.device c.area_program.new.flash in
     opened-list d ring lawful c.requires.stands c.requires.ready id c.next_id-id.ensures c.place-place.result c.place-place.ensures.value header is new c.in_ok-area_program.ensures.touches.banks c.args.next c.requires.fits c.in_ok-area_program.ensures.written
 
@@ -117,7 +117,7 @@ returns-clause-opened g c =
     let end-is : c.padded-end.result ≡ padded unit 8 = c.padded-end.ensures.value ∙ ap (λ (x : Geometry). padded x.unit 8) c.geometry-unit.ensures in
     let header : List ℕ = take c.padded-end.result c.header_image-header.result in
     let is : header ≡ header_image unit id =
-    ap (take c.padded-end.result) c.header_image-header.ensures ∙ ap (λ (n : ℕ). take n (header_image 16 id)) end-is ∙ header-front unit id (has_size d ring.area lawful c.requires.stands.area).is_unit in
+    ap (take c.padded-end.result) c.header_image-header.ensures ∙ ap (λ (n : ℕ). take n (header_image 16 id)) end-is ∙ header-prefix unit id (has_size d ring.area lawful c.requires.stands.area).is_unit in
     let new : Device = g.F.Flash.device c.area_program.new.flash in
     record {
       ring = record {

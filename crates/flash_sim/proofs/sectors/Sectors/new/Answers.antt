@@ -16,8 +16,8 @@ same-count n count le ge = omega arith
 more-fits : (n count : ℕ) → n < count → count < 18446744073709551616 → Fits w64 (n + 1)
 more-fits n count lt fits = omega arith
 
-front_of_sum : (a b n : ℕ) → a + b ≤ n → a ≤ n
-front_of_sum a b n le = omega arith
+prefix_of_sum : (a b n : ℕ) → a + b ≤ n → a ≤ n
+prefix_of_sum a b n le = omega arith
 
 no-starts : (size : ℕ) (l : List ℕ) → l ≡ [] → (s : ℕ) → s < length l → (get_or l s 0 ≡ 0 → ⊥) → get_or l s 0 ≡ (s + 1) * size
 no-starts size l is s lt other = let none : length l ≡ 0 = ap (λ (l : List ℕ). length l) is in absurd (omega arith)
@@ -41,7 +41,7 @@ pub overflow_mul-sector : goal.overflow_mul-sector
 overflow_mul-sector c =
     let buffer = filled c.args.size c.args.bytes.now c.in_ok-buffer.buffer.items c.extend_from_slice.new.self.items (c.in_ok-buffer.ensures.items_if_clones_equal (λ y h. h)) c.in_ok-extend_from_slice.ensures.items in
     let room = next-place c.args.size c.args.count c.loop-sector.sector c.args.bytes.now c.extend_from_slice.new.self.items c.requires.whole buffer c.loop-sector-test.true in
-    fits-within c.extend_from_slice.new.self ((c.loop-sector.sector + 1) * c.args.size) (front_of_sum ((c.loop-sector.sector + 1) * c.args.size) c.args.size (length c.extend_from_slice.new.self.items) room)
+    fits-within c.extend_from_slice.new.self ((c.loop-sector.sector + 1) * c.args.size) (prefix_of_sum ((c.loop-sector.sector + 1) * c.args.size) c.args.size (length c.extend_from_slice.new.self.items) room)
 
 pub start_in-requires : goal.start_in-requires
 start_in-requires c =

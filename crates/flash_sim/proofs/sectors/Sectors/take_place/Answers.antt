@@ -5,8 +5,8 @@ use Rattle.flash_sim.proofs.Shaped.{place-fits, place-is, taken-shaped}
 use Rattle.flash_sim.proofs.Vecs.{in_vec, within_vec, after-fits, fits-within}
 use Rattle.flash_sim.proofs.sectors.Sectors.take_place.Goals as goal
 
-front_of_sum : (a b n : ℕ) → a + b ≤ n → a ≤ n
-front_of_sum a b n le = omega arith
+prefix_of_sum : (a b n : ℕ) → a + b ≤ n → a ≤ n
+prefix_of_sum a b n le = omega arith
 
 pub returns-then-index-eq0-clause-same : goal.returns-then-index-eq0-clause-same
 returns-then-index-eq0-clause-same c =
@@ -23,7 +23,7 @@ pub overflow_mul-place : goal.overflow_mul-place
 overflow_mul-place c =
     let s = c.args.self.now in
     let fits = place-fits s.size s.buffer.items s.starts.items s.shaped c.args.sector c.requires in
-    fits-within s.buffer ((c.args.sector + 1) * s.size) (front_of_sum ((c.args.sector + 1) * s.size) s.size (length s.buffer.items) fits)
+    fits-within s.buffer ((c.args.sector + 1) * s.size) (prefix_of_sum ((c.args.sector + 1) * s.size) s.size (length s.buffer.items) fits)
 
 pub index-requires : goal.index-requires
 index-requires c = in_vec c.args.self.now.starts c.args.sector c.requires

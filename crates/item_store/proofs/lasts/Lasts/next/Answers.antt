@@ -8,18 +8,18 @@ use Rattle.flash_map.proofs.MapLemmas.{not_some}
 use Rattle.item_laws.proofs.AreaReads.{length-sectors, next_there, previous_there}
 use Rattle.item_laws.proofs.Places.{after, before, after-within}
 use Rattle.item_store.specs.declared.entry.Placed.{Placed}
-use Rattle.item_store.specs.Kind.{Kind, IsKind}
+use Rattle.item_store.specs.SectorFormat.{SectorFormat, IsSectorFormat}
 use Rattle.item_store.specs.Lasts.{sectors_left, slots_left}
 use Rattle.item_store.proofs.Areas.{unit_is, open_inside}
 use Rattle.item_store.proofs.CostSteps.{left, fewer_left}
-use Rattle.item_store.proofs.LastsWalk.{all-told, last-same, told-more, tells-next, last-stands, here-fewer, here-most, back-most, fewer-then, most-then}
+use Rattle.item_store.proofs.LastsWalk.{all-covered, last-same, covered-more, knows-next, last-stands, here-fewer, here-most, back-most, fewer-then, most-then}
 use Rattle.item_store.proofs.lasts.Lasts.next.Goals as goal
 
 pub next-oldest-requires : goal.next-oldest-requires
 next-oldest-requires g c =
     let d : Device = g.F.Flash.device c.args.flash.now in
     let area : Area = c.args.area.now in
-    let k : Kind = g.T.SlotSectors.kind (geometry_of d area) in
+    let k : SectorFormat = g.T.SlotSectors.format_of (geometry_of d area) in
     open_inside k d area c.args.current c.requires.area.lawful c.requires.current
 
 pub loop-found-init : goal.loop-found-init
@@ -31,7 +31,7 @@ loop-found-init g c =
       range = here.range;
       ends = here.ends;
       next = here.next;
-      told = here.told;
+      covered = here.covered;
       fewer = here-fewer area.sectors c.args.current c.args.self.now c.next_here-found.new.self c.next_here-found.result here.place here.fewer;
       most = here-most area.sectors c.args.current c.args.self.now c.next_here-found.new.self c.next_here-found.result here.place here.ends here.fewer;
     }
@@ -50,7 +50,7 @@ pub loop-found-smaller : goal.loop-found-smaller
 loop-found-smaller g c =
     let d : Device = g.F.Flash.device c.args.flash.now in
     let area : Area = c.args.area.now in
-    let k : Kind = g.T.SlotSectors.kind (geometry_of d area) in
+    let k : SectorFormat = g.T.SlotSectors.format_of (geometry_of d area) in
     let sectors : List (List ℕ) = sectors_of d area in
     let long = length-sectors d area in
     let within = open_inside k d area c.args.current c.requires.area.lawful c.requires.current in
@@ -65,7 +65,7 @@ pub loop-found-preserved : goal.loop-found-preserved
 loop-found-preserved g c =
     let d : Device = g.F.Flash.device c.args.flash.now in
     let area : Area = c.args.area.now in
-    let k : Kind = g.T.SlotSectors.kind (geometry_of d area) in
+    let k : SectorFormat = g.T.SlotSectors.format_of (geometry_of d area) in
     let sectors : List (List ℕ) = sectors_of d area in
     let long = length-sectors d area in
     let within = open_inside k d area c.args.current c.requires.area.lawful c.requires.current in
@@ -87,7 +87,7 @@ loop-found-preserved g c =
       range = (here.range.0 ∙ mid.range.0 ∙ now.range.0, here.range.1 ∙ mid.range.1 ∙ now.range.1);
       ends = here.ends;
       next = last-same k sectors c.args.current c.args.self.now c.step_back.new.self (mid.range.0 ∙ now.range.0, mid.range.1 ∙ now.range.1) c.next_here-found-in-loop-found.result here.next;
-      told = told-more k sectors c.args.current c.args.self.now c.loop-found.self c.step_back.new.self c.next_here-found-in-loop-found.new.self c.loop-found.found c.next_here-found-in-loop-found.result none now.told mid.told here.told;
+      covered = covered-more k sectors c.args.current c.args.self.now c.loop-found.self c.step_back.new.self c.next_here-found-in-loop-found.new.self c.loop-found.found c.next_here-found-in-loop-found.result none now.covered mid.covered here.covered;
       fewer = fewer-then (slots_left area.sectors c.args.current c.next_here-found-in-loop-found.new.self) (slots_left area.sectors c.args.current c.step_back.new.self) (slots_left area.sectors c.args.current c.args.self.now) c.next_here-found-in-loop-found.result
           (here-fewer area.sectors c.args.current c.step_back.new.self c.next_here-found-in-loop-found.new.self c.next_here-found-in-loop-found.result here.place here.fewer) so_far;
       most = most-then (slots_left area.sectors c.args.current c.next_here-found-in-loop-found.new.self) (slots_left area.sectors c.args.current c.step_back.new.self) (slots_left area.sectors c.args.current c.args.self.now)
@@ -106,9 +106,9 @@ pub returns-else-self-oldest-clause-placed : goal.returns-else-self-oldest-claus
 returns-else-self-oldest-clause-placed g c =
     let d : Device = g.F.Flash.device c.args.flash.now in
     let area : Area = c.args.area.now in
-    let k : Kind = g.T.SlotSectors.kind (geometry_of d area) in
+    let k : SectorFormat = g.T.SlotSectors.format_of (geometry_of d area) in
     let sectors : List (List ℕ) = sectors_of d area in
-    let law : IsKind (g.T.SlotSectors.kind (geometry_of d area)) = g.met.T.SlotSectors.lawful (geometry_of d area) (unit_is d area (g.met.F.Flash.is_lawful c.args.flash.now) c.requires.area.lawful) in
+    let law : IsSectorFormat (g.T.SlotSectors.format_of (geometry_of d area)) = g.met.T.SlotSectors.lawful (geometry_of d area) (unit_is d area (g.met.F.Flash.is_lawful c.args.flash.now) c.requires.area.lawful) in
     let long = length-sectors d area in
     let within = open_inside k d area c.args.current c.requires.area.lawful c.requires.current in
     let low : c.args.current < length sectors = omega arith in
@@ -118,7 +118,7 @@ pub returns-else-self-oldest-clause-next : goal.returns-else-self-oldest-clause-
 returns-else-self-oldest-clause-next g c =
     let d : Device = g.F.Flash.device c.args.flash.now in
     let area : Area = c.args.area.now in
-    let k : Kind = g.T.SlotSectors.kind (geometry_of d area) in
+    let k : SectorFormat = g.T.SlotSectors.format_of (geometry_of d area) in
     let sectors : List (List ℕ) = sectors_of d area in
     let long = length-sectors d area in
     let within = open_inside k d area c.args.current c.requires.area.lawful c.requires.current in
@@ -126,8 +126,8 @@ returns-else-self-oldest-clause-next g c =
     let high : after (length sectors) c.args.current < length sectors = after-within (length sectors) c.args.current low in
     let oldest : c.loop-found.self.place ≡ after (length sectors) c.args.current = c.if-self-oldest.false ∙ c.next-oldest.ensures.value ∙ next_there d area c.args.current in
     let now = c.loop-found.invariant in
-    tells-next k sectors c.args.current c.args.self.now c.loop-found.self c.loop-found.found now.next now.told
-    (λ none. all-told k sectors c.args.current c.args.self.now c.loop-found.self low high c.requires.current oldest (now.ends none) now.range)
+    knows-next k sectors c.args.current c.args.self.now c.loop-found.self c.loop-found.found now.next now.covered
+    (λ none. all-covered k sectors c.args.current c.args.self.now c.loop-found.self low high c.requires.current oldest (now.ends none) now.range)
 
 pub returns-else-self-oldest-clause-fewer : goal.returns-else-self-oldest-clause-fewer
 returns-else-self-oldest-clause-fewer g c =
@@ -145,9 +145,9 @@ pub returns-after-loop-found-clause-placed : goal.returns-after-loop-found-claus
 returns-after-loop-found-clause-placed g c =
     let d : Device = g.F.Flash.device c.args.flash.now in
     let area : Area = c.args.area.now in
-    let k : Kind = g.T.SlotSectors.kind (geometry_of d area) in
+    let k : SectorFormat = g.T.SlotSectors.format_of (geometry_of d area) in
     let sectors : List (List ℕ) = sectors_of d area in
-    let law : IsKind (g.T.SlotSectors.kind (geometry_of d area)) = g.met.T.SlotSectors.lawful (geometry_of d area) (unit_is d area (g.met.F.Flash.is_lawful c.args.flash.now) c.requires.area.lawful) in
+    let law : IsSectorFormat (g.T.SlotSectors.format_of (geometry_of d area)) = g.met.T.SlotSectors.lawful (geometry_of d area) (unit_is d area (g.met.F.Flash.is_lawful c.args.flash.now) c.requires.area.lawful) in
     let long = length-sectors d area in
     let within = open_inside k d area c.args.current c.requires.area.lawful c.requires.current in
     let low : c.args.current < length sectors = omega arith in
@@ -157,11 +157,11 @@ pub returns-after-loop-found-clause-next : goal.returns-after-loop-found-clause-
 returns-after-loop-found-clause-next g c =
     let d : Device = g.F.Flash.device c.args.flash.now in
     let area : Area = c.args.area.now in
-    let k : Kind = g.T.SlotSectors.kind (geometry_of d area) in
+    let k : SectorFormat = g.T.SlotSectors.format_of (geometry_of d area) in
     let sectors : List (List ℕ) = sectors_of d area in
     let now = c.loop-found.invariant in
     let some : is_some c.loop-found.found ≡ true = c.is_none.ensures ∙ ap not c.loop-found-test.false in
-    tells-next k sectors c.args.current c.args.self.now c.loop-found.self c.loop-found.found now.next now.told
+    knows-next k sectors c.args.current c.args.self.now c.loop-found.self c.loop-found.found now.next now.covered
     (λ none. absurd (false≢true (sym (ap (λ (o : Option Placed). is_some o) none) ∙ some)))
 
 pub returns-after-loop-found-clause-fewer : goal.returns-after-loop-found-clause-fewer

@@ -1,19 +1,19 @@
 use Rattle.std.proofs.Common.{◌≡◌, ◌⊎◌, ◌<◌, ◌≤◌, Some, None, IfSome}
 use Rattle.flash_map.specs.Area.{sectors_of}
 use Rattle.item_store.specs.declared.entry.Placed.{Placed as PlacedEntry}
-use Rattle.item_store.specs.Lasts.{slots_left, IsAt, SameRange, WasTold, IsLastIn}
-use Rattle.item_store.specs.Listed.{kind_on}
+use Rattle.item_store.specs.Lasts.{slots_left, IsAt, SameRange, WasGiven, IsLastIn}
+use Rattle.item_store.specs.Listed.{format_on}
 use Rattle.item_store.proofs.CostSteps.{left}
 use Rattle.item_store.proofs.lasts.Lasts.next.Given as goal
 
 abbrev pub invariant-loop-found : goal.invariant-loop-found
 invariant-loop-found g l = record {
-  at : IsAt (kind_on g.T.SlotSectors.kind (g.F.Flash.device l.flash) l.area) (sectors_of (g.F.Flash.device l.flash) l.area) l.current l.self;
+  at : IsAt (format_on g.T.SlotSectors.format_of (g.F.Flash.device l.flash) l.area) (sectors_of (g.F.Flash.device l.flash) l.area) l.current l.self;
   range : SameRange l.fn.self l.self;
   ends : l.found ≡ None → l.self.left ≡ 0;
-  next : IfSome l.found (IsLastIn (kind_on g.T.SlotSectors.kind (g.F.Flash.device l.flash) l.area) (sectors_of (g.F.Flash.device l.flash) l.area) l.fn.self);
-  told : let k = kind_on g.T.SlotSectors.kind (g.F.Flash.device l.flash) l.area in let sectors = sectors_of (g.F.Flash.device l.flash) l.area in
-      (p : PlacedEntry) → WasTold k sectors l.current l.self p → (Some p ≡ l.found) ⊎ WasTold k sectors l.current l.fn.self p;
+  next : IfSome l.found (IsLastIn (format_on g.T.SlotSectors.format_of (g.F.Flash.device l.flash) l.area) (sectors_of (g.F.Flash.device l.flash) l.area) l.fn.self);
+  covered : let k = format_on g.T.SlotSectors.format_of (g.F.Flash.device l.flash) l.area in let sectors = sectors_of (g.F.Flash.device l.flash) l.area in
+      (p : PlacedEntry) → WasGiven k sectors l.current l.self p → (Some p ≡ l.found) ⊎ WasGiven k sectors l.current l.fn.self p;
   fewer : IfSome l.found (λ _. slots_left l.area.sectors l.current l.self < slots_left l.area.sectors l.current l.fn.self);
   most : slots_left l.area.sectors l.current l.self ≤ slots_left l.area.sectors l.current l.fn.self;
 }

@@ -2,19 +2,19 @@ use Rattle.std.proofs.Common.{ℕ, List, refl, ◌∙◌, inl, inr, arith}
 use Rattle.flash_sim.specs.Device.{Device}
 use Rattle.flash_map.specs.declared.area.Area.{Area}
 use Rattle.flash_map.specs.Area.{geometry_of, sectors_of}
-use Rattle.item_store.specs.Kind.{Kind}
-use Rattle.item_store.proofs.LastsSlots.{told-before, some-fewer}
+use Rattle.item_store.specs.SectorFormat.{SectorFormat}
+use Rattle.item_store.proofs.LastsSlots.{covered-before, some-fewer}
 use Rattle.item_store.proofs.LastsWalk.{last-same}
 use Rattle.item_store.proofs.lasts.Lasts.next_here.Goals as goal
 
 pub loop-self-init : goal.loop-self-init
-loop-self-init g c = record { at = c.requires.at; range = (refl, refl); place = refl; fewer = omega arith; told = λ p told. told }
+loop-self-init g c = record { at = c.requires.at; range = (refl, refl); place = refl; fewer = omega arith; covered = λ p covered. covered }
 
 pub loop-self-preserved : goal.loop-self-preserved
 loop-self-preserved g c =
     let d : Device = g.F.Flash.device c.args.flash.now in
     let area : Area = c.args.area.now in
-    let k : Kind = g.T.SlotSectors.kind (geometry_of d area) in
+    let k : SectorFormat = g.T.SlotSectors.format_of (geometry_of d area) in
     let sectors : List (List ℕ) = sectors_of d area in
     let now = c.loop-self.invariant in
     let step = c.look_at_slot-found.ensures in
@@ -23,7 +23,7 @@ loop-self-preserved g c =
       range = (step.range.0 ∙ now.range.0, step.range.1 ∙ now.range.1);
       place = step.place ∙ now.place;
       fewer = omega (arith, step.fewer, now.fewer);
-      told = λ p told. now.told p (told-before k sectors c.args.current c.loop-self.self p c.look_at_slot-found.result c.is_some.result c.is_some.ensures c.if-is_some.false (step.told p told));
+      covered = λ p covered. now.covered p (covered-before k sectors c.args.current c.loop-self.self p c.look_at_slot-found.result c.is_some.result c.is_some.ensures c.if-is_some.false (step.covered p covered));
     }
 
 pub returns-then-is_some-clause-fewer : goal.returns-then-is_some-clause-fewer
@@ -34,17 +34,17 @@ pub returns-then-is_some-clause-next : goal.returns-then-is_some-clause-next
 returns-then-is_some-clause-next g c =
     let d : Device = g.F.Flash.device c.args.flash.now in
     let area : Area = c.args.area.now in
-    let k : Kind = g.T.SlotSectors.kind (geometry_of d area) in
+    let k : SectorFormat = g.T.SlotSectors.format_of (geometry_of d area) in
     let sectors : List (List ℕ) = sectors_of d area in
     last-same k sectors c.args.current c.args.self.now c.loop-self.self c.loop-self.invariant.range c.look_at_slot-found.result c.look_at_slot-found.ensures.next
 
-pub returns-then-is_some-clause-told : goal.returns-then-is_some-clause-told
-returns-then-is_some-clause-told g c =
-    λ p told. elim (c.look_at_slot-found.ensures.told p told) [
+pub returns-then-is_some-clause-covered : goal.returns-then-is_some-clause-covered
+returns-then-is_some-clause-covered g c =
+    λ p covered. elim (c.look_at_slot-found.ensures.covered p covered) [
       | inl here ↦ inl here
-      | inr was ↦ inr (c.loop-self.invariant.told p was)
+      | inr was ↦ inr (c.loop-self.invariant.covered p was)
     ]
 
-pub returns-clause-told : goal.returns-clause-told
-returns-clause-told g c =
-    λ p told. inr (c.loop-self.invariant.told p told)
+pub returns-clause-covered : goal.returns-clause-covered
+returns-clause-covered g c =
+    λ p covered. inr (c.loop-self.invariant.covered p covered)

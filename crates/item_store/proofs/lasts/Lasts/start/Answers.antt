@@ -3,7 +3,7 @@ use Rattle.flash_sim.specs.Device.{Device}
 use Rattle.flash_map.specs.declared.area.Area.{Area}
 use Rattle.flash_map.specs.Area.{geometry_of, sectors_of}
 use Rattle.item_laws.proofs.AreaReads.{length-sectors}
-use Rattle.item_store.specs.Kind.{Kind}
+use Rattle.item_store.specs.SectorFormat.{SectorFormat}
 use Rattle.item_store.proofs.Areas.{open_inside}
 use Rattle.item_store.proofs.LastsWalk.{start-at, start-none}
 use Rattle.item_store.proofs.lasts.Lasts.start.Goals as goal
@@ -12,21 +12,21 @@ pub reach_counting-requires-clause-current : goal.reach_counting-requires-clause
 reach_counting-requires-clause-current g c =
     let d : Device = g.F.Flash.device c.args.flash.now in
     let area : Area = c.args.area.now in
-    let k : Kind = g.T.SlotSectors.kind (geometry_of d area) in
+    let k : SectorFormat = g.T.SlotSectors.format_of (geometry_of d area) in
     open_inside k d area c.args.current c.requires.area.lawful c.requires.current
 
 pub reach_counting-requires-clause-inside : goal.reach_counting-requires-clause-inside
 reach_counting-requires-clause-inside g c =
     let d : Device = g.F.Flash.device c.args.flash.now in
     let area : Area = c.args.area.now in
-    let k : Kind = g.T.SlotSectors.kind (geometry_of d area) in
+    let k : SectorFormat = g.T.SlotSectors.format_of (geometry_of d area) in
     open_inside k d area c.args.current c.requires.area.lawful c.requires.current
 
 pub returns-clause-at : goal.returns-clause-at
 returns-clause-at g c =
     let d : Device = g.F.Flash.device c.args.flash.now in
     let area : Area = c.args.area.now in
-    let k : Kind = g.T.SlotSectors.kind (geometry_of d area) in
+    let k : SectorFormat = g.T.SlotSectors.format_of (geometry_of d area) in
     let sectors : List (List ℕ) = sectors_of d area in
     let long = length-sectors d area in
     let within = open_inside k d area c.args.current c.requires.area.lawful c.requires.current in
@@ -37,7 +37,7 @@ pub returns-clause-none : goal.returns-clause-none
 returns-clause-none g c =
     let d : Device = g.F.Flash.device c.args.flash.now in
     let area : Area = c.args.area.now in
-    let k : Kind = g.T.SlotSectors.kind (geometry_of d area) in
+    let k : SectorFormat = g.T.SlotSectors.format_of (geometry_of d area) in
     let sectors : List (List ℕ) = sectors_of d area in
     let long = length-sectors d area in
     let within = open_inside k d area c.args.current c.requires.area.lawful c.requires.current in

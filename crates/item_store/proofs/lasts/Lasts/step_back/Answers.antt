@@ -4,9 +4,9 @@ use Rattle.flash_map.specs.declared.area.Area.{Area}
 use Rattle.flash_map.specs.Area.{geometry_of, sectors_of}
 use Rattle.item_laws.proofs.AreaReads.{length-sectors, previous_there}
 use Rattle.item_laws.proofs.Places.{before}
-use Rattle.item_store.specs.Kind.{Kind}
+use Rattle.item_store.specs.SectorFormat.{SectorFormat}
 use Rattle.item_store.proofs.Areas.{open_inside}
-use Rattle.item_store.proofs.LastsWalk.{back-at, back-told}
+use Rattle.item_store.proofs.LastsWalk.{back-at, back-covered}
 use Rattle.item_store.proofs.lasts.Lasts.step_back.Goals as goal
 
 pub previous-self-requires : goal.previous-self-requires
@@ -18,14 +18,14 @@ pub reach_counting-self-requires-clause-current : goal.reach_counting-self-requi
 reach_counting-self-requires-clause-current g c =
     let d : Device = g.F.Flash.device c.args.flash.now in
     let area : Area = c.args.area.now in
-    let k : Kind = g.T.SlotSectors.kind (geometry_of d area) in
+    let k : SectorFormat = g.T.SlotSectors.format_of (geometry_of d area) in
     open_inside k d area c.args.current c.requires.area.lawful c.requires.current
 
 pub returns-clause-at : goal.returns-clause-at
 returns-clause-at g c =
     let d : Device = g.F.Flash.device c.args.flash.now in
     let area : Area = c.args.area.now in
-    let k : Kind = g.T.SlotSectors.kind (geometry_of d area) in
+    let k : SectorFormat = g.T.SlotSectors.format_of (geometry_of d area) in
     let sectors : List (List ℕ) = sectors_of d area in
     let long = length-sectors d area in
     let within = open_inside k d area c.args.current c.requires.area.lawful c.requires.current in
@@ -38,15 +38,15 @@ pub returns-clause-place : goal.returns-clause-place
 returns-clause-place g c =
     c.previous-self.ensures.value ∙ previous_there (g.F.Flash.device c.args.flash.now) c.args.area.now c.args.self.now.place
 
-pub returns-clause-told : goal.returns-clause-told
-returns-clause-told g c =
+pub returns-clause-covered : goal.returns-clause-covered
+returns-clause-covered g c =
     let d : Device = g.F.Flash.device c.args.flash.now in
     let area : Area = c.args.area.now in
-    let k : Kind = g.T.SlotSectors.kind (geometry_of d area) in
+    let k : SectorFormat = g.T.SlotSectors.format_of (geometry_of d area) in
     let sectors : List (List ℕ) = sectors_of d area in
     let long = length-sectors d area in
     let within = open_inside k d area c.args.current c.requires.area.lawful c.requires.current in
     let low : c.args.current < length sectors = omega arith in
     let back : c.previous-self.result ≡ before (length sectors) c.args.self.now.place = c.previous-self.ensures.value ∙ previous_there d area c.args.self.now.place in
     let reach = c.reach_counting-self.ensures in
-    back-told k sectors c.args.current low c.args.self.now c.requires.at c.requires.none_left c.requires.further c.previous-self.result c.reach_counting-self.result back reach.few reach.small reach.others
+    back-covered k sectors c.args.current low c.args.self.now c.requires.at c.requires.none_left c.requires.further c.previous-self.result c.reach_counting-self.result back reach.few reach.small reach.others

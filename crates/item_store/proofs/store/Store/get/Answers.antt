@@ -8,7 +8,7 @@ use Rattle.item_laws.specs.Area.{open_sector}
 use Rattle.item_laws.specs.Live.{all_placed}
 use Rattle.item_store.specs.declared.entry.Placed.{Placed}
 use Rattle.item_store.specs.Cached.{latest_of}
-use Rattle.item_store.specs.Kind.{Kind, IsKind, slots}
+use Rattle.item_store.specs.SectorFormat.{SectorFormat, IsSectorFormat, slots}
 use Rattle.item_store.specs.Listed.{IsPlaced}
 use Rattle.item_store.proofs.Areas.{unit_is}
 use Rattle.item_store.proofs.ReadFacts.{some_sectors, value_by}
@@ -19,11 +19,11 @@ pub returns-in_err-latest-clause-value : goal.returns-in_err-latest-clause-value
 returns-in_err-latest-clause-value g c =
     let d : Device = g.F.Flash.device c.args.flash.now in
     let area : Area = c.args.self.now.area in
-    let k : Kind = g.T.SlotSectors.kind (geometry_of d area) in
+    let k : SectorFormat = g.T.SlotSectors.format_of (geometry_of d area) in
     let sectors : List (List ℕ) = sectors_of d area in
-    let law : IsKind (g.T.SlotSectors.kind (geometry_of d area)) = g.met.T.SlotSectors.lawful (geometry_of d area) (unit_is d area (g.met.F.Flash.is_lawful c.args.flash.now) c.requires.area.lawful) in
+    let law : IsSectorFormat (g.T.SlotSectors.format_of (geometry_of d area)) = g.met.T.SlotSectors.lawful (geometry_of d area) (unit_is d area (g.met.F.Flash.is_lawful c.args.flash.now) c.requires.area.lawful) in
     ap (option_map (λ bytes. bytes.now)) c.from_residual.ensures
-    ∙ sym (value_by g.T.SlotSectors.role g.T.SlotSectors.kind g.T.SlotSectors.kept d c.args.self.now law (g.met.F.Flash.is_lawful c.args.flash.now) c.requires None c.args.id (sym (latest-none c.args.id (all_placed (slots k) sectors) (sym c.in_err-latest.ensures.entry))))
+    ∙ sym (value_by g.T.SlotSectors.role g.T.SlotSectors.format_of g.T.SlotSectors.kept d c.args.self.now law (g.met.F.Flash.is_lawful c.args.flash.now) c.requires None c.args.id (sym (latest-none c.args.id (all_placed (slots k) sectors) (sym c.in_err-latest.ensures.entry))))
 
 pub returns-in_err-latest-clause-none : goal.returns-in_err-latest-clause-none
 returns-in_err-latest-clause-none g c = λ _. c.in_err-latest.ensures.none refl
@@ -32,47 +32,47 @@ pub returns-in_err-latest-clause-few : goal.returns-in_err-latest-clause-few
 returns-in_err-latest-clause-few g c =
     let d : Device = g.F.Flash.device c.args.flash.now in
     let area : Area = c.args.self.now.area in
-    let k : Kind = g.T.SlotSectors.kind (geometry_of d area) in
+    let k : SectorFormat = g.T.SlotSectors.format_of (geometry_of d area) in
     let sectors : List (List ℕ) = sectors_of d area in
-    let law : IsKind (g.T.SlotSectors.kind (geometry_of d area)) = g.met.T.SlotSectors.lawful (geometry_of d area) (unit_is d area (g.met.F.Flash.is_lawful c.args.flash.now) c.requires.area.lawful) in
+    let law : IsSectorFormat (g.T.SlotSectors.format_of (geometry_of d area)) = g.met.T.SlotSectors.lawful (geometry_of d area) (unit_is d area (g.met.F.Flash.is_lawful c.args.flash.now) c.requires.area.lawful) in
     subst (λ (o : Option Placed). IfSome o (λ p. p.id ≡ c.args.id → c.latest.new.steps ≤ c.args.steps.now + 2)) c.in_err-latest.ensures.entry tt
 
 pub bytes_at-requires-clause-placed : goal.bytes_at-requires-clause-placed
 bytes_at-requires-clause-placed g c =
     let d : Device = g.F.Flash.device c.args.flash.now in
     let area : Area = c.args.self.now.area in
-    let k : Kind = g.T.SlotSectors.kind (geometry_of d area) in
+    let k : SectorFormat = g.T.SlotSectors.format_of (geometry_of d area) in
     let sectors : List (List ℕ) = sectors_of d area in
-    let law : IsKind (g.T.SlotSectors.kind (geometry_of d area)) = g.met.T.SlotSectors.lawful (geometry_of d area) (unit_is d area (g.met.F.Flash.is_lawful c.args.flash.now) c.requires.area.lawful) in
+    let law : IsSectorFormat (g.T.SlotSectors.format_of (geometry_of d area)) = g.met.T.SlotSectors.lawful (geometry_of d area) (unit_is d area (g.met.F.Flash.is_lawful c.args.flash.now) c.requires.area.lawful) in
     subst (λ (j : ℕ). IsPlaced k sectors j c.in_ok-latest.latest) (sym c.requires.current)
-    (subst (λ (o : Option Placed). IfSome o (IsPlaced k sectors (open_sector k.reading sectors))) (sym c.in_ok-latest.ensures.entry) (latest-placed k law sectors (c.args.id % 64) (some_sectors g.T.SlotSectors.role g.T.SlotSectors.kind g.T.SlotSectors.kept d c.args.self.now law (g.met.F.Flash.is_lawful c.args.flash.now) c.requires)))
+    (subst (λ (o : Option Placed). IfSome o (IsPlaced k sectors (open_sector k.reading sectors))) (sym c.in_ok-latest.ensures.entry) (latest-placed k law sectors (c.args.id % 64) (some_sectors g.T.SlotSectors.role g.T.SlotSectors.format_of g.T.SlotSectors.kept d c.args.self.now law (g.met.F.Flash.is_lawful c.args.flash.now) c.requires)))
 
 pub returns-then-latest-id-clause-value : goal.returns-then-latest-id-clause-value
 returns-then-latest-id-clause-value g c =
     let d : Device = g.F.Flash.device c.args.flash.now in
     let area : Area = c.args.self.now.area in
-    let k : Kind = g.T.SlotSectors.kind (geometry_of d area) in
+    let k : SectorFormat = g.T.SlotSectors.format_of (geometry_of d area) in
     let sectors : List (List ℕ) = sectors_of d area in
-    let law : IsKind (g.T.SlotSectors.kind (geometry_of d area)) = g.met.T.SlotSectors.lawful (geometry_of d area) (unit_is d area (g.met.F.Flash.is_lawful c.args.flash.now) c.requires.area.lawful) in
+    let law : IsSectorFormat (g.T.SlotSectors.format_of (geometry_of d area)) = g.met.T.SlotSectors.lawful (geometry_of d area) (unit_is d area (g.met.F.Flash.is_lawful c.args.flash.now) c.requires.area.lawful) in
     c.bytes_at.ensures.value
-    ∙ sym (value_by g.T.SlotSectors.role g.T.SlotSectors.kind g.T.SlotSectors.kept d c.args.self.now law (g.met.F.Flash.is_lawful c.args.flash.now) c.requires (Some c.in_ok-latest.latest) c.args.id (sym (latest-some c.args.id (all_placed (slots k) sectors) c.in_ok-latest.latest (sym c.in_ok-latest.ensures.entry) c.if-latest-id.true)))
+    ∙ sym (value_by g.T.SlotSectors.role g.T.SlotSectors.format_of g.T.SlotSectors.kept d c.args.self.now law (g.met.F.Flash.is_lawful c.args.flash.now) c.requires (Some c.in_ok-latest.latest) c.args.id (sym (latest-some c.args.id (all_placed (slots k) sectors) c.in_ok-latest.latest (sym c.in_ok-latest.ensures.entry) c.if-latest-id.true)))
 
 pub returns-then-latest-id-clause-none : goal.returns-then-latest-id-clause-none
 returns-then-latest-id-clause-none g c =
     let d : Device = g.F.Flash.device c.args.flash.now in
     let area : Area = c.args.self.now.area in
-    let k : Kind = g.T.SlotSectors.kind (geometry_of d area) in
+    let k : SectorFormat = g.T.SlotSectors.format_of (geometry_of d area) in
     let sectors : List (List ℕ) = sectors_of d area in
-    let law : IsKind (g.T.SlotSectors.kind (geometry_of d area)) = g.met.T.SlotSectors.lawful (geometry_of d area) (unit_is d area (g.met.F.Flash.is_lawful c.args.flash.now) c.requires.area.lawful) in
+    let law : IsSectorFormat (g.T.SlotSectors.format_of (geometry_of d area)) = g.met.T.SlotSectors.lawful (geometry_of d area) (unit_is d area (g.met.F.Flash.is_lawful c.args.flash.now) c.requires.area.lawful) in
     some_or (latest_of (c.args.id % 64) (all_placed (slots k) sectors)) c.in_ok-latest.latest _ (sym c.in_ok-latest.ensures.entry)
 
 pub returns-then-latest-id-clause-few : goal.returns-then-latest-id-clause-few
 returns-then-latest-id-clause-few g c =
     let d : Device = g.F.Flash.device c.args.flash.now in
     let area : Area = c.args.self.now.area in
-    let k : Kind = g.T.SlotSectors.kind (geometry_of d area) in
+    let k : SectorFormat = g.T.SlotSectors.format_of (geometry_of d area) in
     let sectors : List (List ℕ) = sectors_of d area in
-    let law : IsKind (g.T.SlotSectors.kind (geometry_of d area)) = g.met.T.SlotSectors.lawful (geometry_of d area) (unit_is d area (g.met.F.Flash.is_lawful c.args.flash.now) c.requires.area.lawful) in
+    let law : IsSectorFormat (g.T.SlotSectors.format_of (geometry_of d area)) = g.met.T.SlotSectors.lawful (geometry_of d area) (unit_is d area (g.met.F.Flash.is_lawful c.args.flash.now) c.requires.area.lawful) in
     let one = c.in_ok-latest.ensures.step in
     let two = c.bytes_at.ensures.step in
     subst (λ (o : Option Placed). IfSome o (λ p. p.id ≡ c.args.id → c.bytes_at.new.steps ≤ c.args.steps.now + 2)) c.in_ok-latest.ensures.entry (λ _. omega arith)
@@ -84,18 +84,18 @@ pub returns-clause-none : goal.returns-clause-none
 returns-clause-none g c =
     let d : Device = g.F.Flash.device c.args.flash.now in
     let area : Area = c.args.self.now.area in
-    let k : Kind = g.T.SlotSectors.kind (geometry_of d area) in
+    let k : SectorFormat = g.T.SlotSectors.format_of (geometry_of d area) in
     let sectors : List (List ℕ) = sectors_of d area in
-    let law : IsKind (g.T.SlotSectors.kind (geometry_of d area)) = g.met.T.SlotSectors.lawful (geometry_of d area) (unit_is d area (g.met.F.Flash.is_lawful c.args.flash.now) c.requires.area.lawful) in
+    let law : IsSectorFormat (g.T.SlotSectors.format_of (geometry_of d area)) = g.met.T.SlotSectors.lawful (geometry_of d area) (unit_is d area (g.met.F.Flash.is_lawful c.args.flash.now) c.requires.area.lawful) in
     some_or (latest_of (c.args.id % 64) (all_placed (slots k) sectors)) c.in_ok-latest.latest _ (sym c.in_ok-latest.ensures.entry)
 
 pub returns-clause-few : goal.returns-clause-few
 returns-clause-few g c =
     let d : Device = g.F.Flash.device c.args.flash.now in
     let area : Area = c.args.self.now.area in
-    let k : Kind = g.T.SlotSectors.kind (geometry_of d area) in
+    let k : SectorFormat = g.T.SlotSectors.format_of (geometry_of d area) in
     let sectors : List (List ℕ) = sectors_of d area in
-    let law : IsKind (g.T.SlotSectors.kind (geometry_of d area)) = g.met.T.SlotSectors.lawful (geometry_of d area) (unit_is d area (g.met.F.Flash.is_lawful c.args.flash.now) c.requires.area.lawful) in
+    let law : IsSectorFormat (g.T.SlotSectors.format_of (geometry_of d area)) = g.met.T.SlotSectors.lawful (geometry_of d area) (unit_is d area (g.met.F.Flash.is_lawful c.args.flash.now) c.requires.area.lawful) in
     subst (λ (o : Option Placed). IfSome o (λ p. p.id ≡ c.args.id → c.search.new.steps ≤ c.args.steps.now + 2)) c.in_ok-latest.ensures.entry (λ same. absurd (c.if-latest-id.false same))
 
 pub search-requires-clause-latest : goal.search-requires-clause-latest

@@ -4,10 +4,10 @@ use Rattle.flash_sim.specs.Device.{Device}
 use Rattle.flash_map.specs.declared.area.Area.{Area}
 use Rattle.flash_map.specs.Area.{geometry_of, sectors_of}
 use Rattle.item_store.specs.declared.entry.Placed.{Placed}
-use Rattle.item_store.specs.Kind.{Kind, IsKind}
-use Rattle.item_store.specs.Lasts.{slots_left, WasTold, IsLastIn, TellsNext}
+use Rattle.item_store.specs.SectorFormat.{SectorFormat, IsSectorFormat}
+use Rattle.item_store.specs.Lasts.{slots_left, WasGiven, IsLastIn, GivesNext}
 use Rattle.item_store.proofs.Areas.{unit_is}
-use Rattle.item_store.proofs.AskingSteps.{has-bytes, told-all, told-more}
+use Rattle.item_store.proofs.AskingSteps.{has-bytes, covered-all, covered-more}
 use Rattle.item_store.proofs.store.Store.id_of.Goals as goal
 
 pub loop-placed-init : goal.loop-placed-init
@@ -15,7 +15,7 @@ loop-placed-init g c = record {
   at = c.start-lasts.ensures.at;
   from = c.start-lasts.ensures.least;
   to = c.start-lasts.ensures.most;
-  none = λ t. c.start-lasts.ensures.none t.placed t.told;
+  none = λ t. c.start-lasts.ensures.none t.placed t.covered;
 }
 
 pub next-requires-clause-at : goal.next-requires-clause-at
@@ -25,13 +25,13 @@ pub returns-then-has_bytes : goal.returns-then-has_bytes
 returns-then-has_bytes g c =
     let d : Device = g.F.Flash.device c.args.flash.now in
     let area : Area = c.args.self.now.area in
-    let k : Kind = g.T.SlotSectors.kind (geometry_of d area) in
+    let k : SectorFormat = g.T.SlotSectors.format_of (geometry_of d area) in
     let sectors : List (List ℕ) = sectors_of d area in
-    let law : IsKind (g.T.SlotSectors.kind (geometry_of d area)) = g.met.T.SlotSectors.lawful (geometry_of d area) (unit_is d area (g.met.F.Flash.is_lawful c.args.flash.now) c.requires.stands.area.lawful) in
+    let law : IsSectorFormat (g.T.SlotSectors.format_of (geometry_of d area)) = g.met.T.SlotSectors.lawful (geometry_of d area) (unit_is d area (g.met.F.Flash.is_lawful c.args.flash.now) c.requires.stands.area.lawful) in
     let now = c.loop-placed.invariant in
-    let last : IsLastIn k sectors c.loop-placed.lasts c.in-Some.placed × ((q : Placed) → WasTold k sectors c.args.self.now.current c.next.new.self q → (q ≡ c.in-Some.placed) ⊎ WasTold k sectors c.args.self.now.current c.loop-placed.lasts q) =
-    subst (TellsNext k sectors c.args.self.now.current c.loop-placed.lasts c.next.new.self) c.in-Some.is c.next.ensures.next in
-    has-bytes g.T.SlotSectors.role g.T.SlotSectors.kind g.T.SlotSectors.kept d c.args.self.now law (g.met.F.Flash.is_lawful c.args.flash.now) c.requires.stands c.loop-placed.lasts c.args.least c.args.most now.from now.to
+    let last : IsLastIn k sectors c.loop-placed.lasts c.in-Some.placed × ((q : Placed) → WasGiven k sectors c.args.self.now.current c.next.new.self q → (q ≡ c.in-Some.placed) ⊎ WasGiven k sectors c.args.self.now.current c.loop-placed.lasts q) =
+    subst (GivesNext k sectors c.args.self.now.current c.loop-placed.lasts c.next.new.self) c.in-Some.is c.next.ensures.next in
+    has-bytes g.T.SlotSectors.role g.T.SlotSectors.format_of g.T.SlotSectors.kept d c.args.self.now law (g.met.F.Flash.is_lawful c.args.flash.now) c.requires.stands c.loop-placed.lasts c.args.least c.args.most now.from now.to
     c.in-Some.placed last.0 c.args.bytes.now (c.has_bytes.ensures.yes_it c.if-has_bytes.true)
 
 pub loop-placed-smaller : goal.loop-placed-smaller
@@ -42,17 +42,17 @@ pub loop-placed-preserved : goal.loop-placed-preserved
 loop-placed-preserved g c =
     let d : Device = g.F.Flash.device c.args.flash.now in
     let area : Area = c.args.self.now.area in
-    let k : Kind = g.T.SlotSectors.kind (geometry_of d area) in
+    let k : SectorFormat = g.T.SlotSectors.format_of (geometry_of d area) in
     let sectors : List (List ℕ) = sectors_of d area in
-    let law : IsKind (g.T.SlotSectors.kind (geometry_of d area)) = g.met.T.SlotSectors.lawful (geometry_of d area) (unit_is d area (g.met.F.Flash.is_lawful c.args.flash.now) c.requires.stands.area.lawful) in
+    let law : IsSectorFormat (g.T.SlotSectors.format_of (geometry_of d area)) = g.met.T.SlotSectors.lawful (geometry_of d area) (unit_is d area (g.met.F.Flash.is_lawful c.args.flash.now) c.requires.stands.area.lawful) in
     let now = c.loop-placed.invariant in
-    let last : IsLastIn k sectors c.loop-placed.lasts c.in-Some.placed × ((q : Placed) → WasTold k sectors c.args.self.now.current c.next.new.self q → (q ≡ c.in-Some.placed) ⊎ WasTold k sectors c.args.self.now.current c.loop-placed.lasts q) =
-    subst (TellsNext k sectors c.args.self.now.current c.loop-placed.lasts c.next.new.self) c.in-Some.is c.next.ensures.next in
+    let last : IsLastIn k sectors c.loop-placed.lasts c.in-Some.placed × ((q : Placed) → WasGiven k sectors c.args.self.now.current c.next.new.self q → (q ≡ c.in-Some.placed) ⊎ WasGiven k sectors c.args.self.now.current c.loop-placed.lasts q) =
+    subst (GivesNext k sectors c.args.self.now.current c.loop-placed.lasts c.next.new.self) c.in-Some.is c.next.ensures.next in
     record {
       at = c.next.ensures.at;
       from = c.next.ensures.range.0 ∙ now.from;
       to = c.next.ensures.range.1 ∙ now.to;
-      none = λ t. elim (told-more g.T.SlotSectors.role g.T.SlotSectors.kind g.T.SlotSectors.kept d c.args.self.now law (g.met.F.Flash.is_lawful c.args.flash.now) c.requires.stands c.loop-placed.lasts c.next.new.self c.in-Some.placed last.1 c.args.bytes.now t) [
+      none = λ t. elim (covered-more g.T.SlotSectors.role g.T.SlotSectors.format_of g.T.SlotSectors.kept d c.args.self.now law (g.met.F.Flash.is_lawful c.args.flash.now) c.requires.stands c.loop-placed.lasts c.next.new.self c.in-Some.placed last.1 c.args.bytes.now t) [
         | inl is ↦ c.has_bytes.ensures.not_it c.if-has_bytes.false is
         | inr before ↦ now.none before
       ];
@@ -62,10 +62,10 @@ pub returns : goal.returns
 returns g c =
     let d : Device = g.F.Flash.device c.args.flash.now in
     let area : Area = c.args.self.now.area in
-    let k : Kind = g.T.SlotSectors.kind (geometry_of d area) in
+    let k : SectorFormat = g.T.SlotSectors.format_of (geometry_of d area) in
     let sectors : List (List ℕ) = sectors_of d area in
-    let law : IsKind (g.T.SlotSectors.kind (geometry_of d area)) = g.met.T.SlotSectors.lawful (geometry_of d area) (unit_is d area (g.met.F.Flash.is_lawful c.args.flash.now) c.requires.stands.area.lawful) in
+    let law : IsSectorFormat (g.T.SlotSectors.format_of (geometry_of d area)) = g.met.T.SlotSectors.lawful (geometry_of d area) (unit_is d area (g.met.F.Flash.is_lawful c.args.flash.now) c.requires.stands.area.lawful) in
     let now = c.loop-placed.invariant in
-    let all : (p : Placed) → IsLastIn k sectors c.loop-placed.lasts p → WasTold k sectors c.args.self.now.current c.loop-placed.lasts p =
-    subst (TellsNext k sectors c.args.self.now.current c.loop-placed.lasts c.next.new.self) c.in_default.is c.next.ensures.next in
-    λ id has. now.none (told-all g.T.SlotSectors.role g.T.SlotSectors.kind g.T.SlotSectors.kept d c.args.self.now law (g.met.F.Flash.is_lawful c.args.flash.now) c.requires.stands c.loop-placed.lasts c.args.least c.args.most now.from now.to all id c.args.bytes.now has)
+    let all : (p : Placed) → IsLastIn k sectors c.loop-placed.lasts p → WasGiven k sectors c.args.self.now.current c.loop-placed.lasts p =
+    subst (GivesNext k sectors c.args.self.now.current c.loop-placed.lasts c.next.new.self) c.in_default.is c.next.ensures.next in
+    λ id has. now.none (covered-all g.T.SlotSectors.role g.T.SlotSectors.format_of g.T.SlotSectors.kept d c.args.self.now law (g.met.F.Flash.is_lawful c.args.flash.now) c.requires.stands c.loop-placed.lasts c.args.least c.args.most now.from now.to all id c.args.bytes.now has)

@@ -1,16 +1,16 @@
 use Rattle.std.proofs.Common.{◌≡◌}
 use Rattle.flash_map.specs.Area.{sectors_of}
 use Rattle.item_store.specs.Lasts.{slots_left, IsAt}
-use Rattle.item_store.specs.Listed.{kind_on}
-use Rattle.item_store.proofs.AskingSteps.{ToldBytes}
+use Rattle.item_store.specs.Listed.{format_on}
+use Rattle.item_store.proofs.AskingSteps.{KnownBytes}
 use Rattle.item_store.proofs.store.Store.id_of.Given as goal
 
 abbrev pub invariant-loop-placed : goal.invariant-loop-placed
 invariant-loop-placed g l = record {
-  at : IsAt (kind_on g.T.SlotSectors.kind (g.F.Flash.device l.flash) l.self.area) (sectors_of (g.F.Flash.device l.flash) l.self.area) l.self.current l.lasts;
+  at : IsAt (format_on g.T.SlotSectors.format_of (g.F.Flash.device l.flash) l.self.area) (sectors_of (g.F.Flash.device l.flash) l.self.area) l.self.current l.lasts;
   from : l.lasts.least ≡ l.least;
   to : l.lasts.most ≡ l.most;
-  none : ToldBytes g.T.SlotSectors.role g.T.SlotSectors.kind g.T.SlotSectors.kept (g.F.Flash.device l.flash) l.self l.lasts l.bytes → ⊥;
+  none : KnownBytes g.T.SlotSectors.role g.T.SlotSectors.format_of g.T.SlotSectors.kept (g.F.Flash.device l.flash) l.self l.lasts l.bytes → ⊥;
 }
 
 abbrev pub decreases-loop-placed : goal.decreases-loop-placed

@@ -10,7 +10,7 @@ use Rattle.item_store.proofs.ReadFacts.{current_on, costs_on}
 use Rattle.flash_sim.specs.Device.{Device}
 use Rattle.flash_map.specs.declared.area.Area.{Area}
 use Rattle.flash_map.specs.Area.{geometry_of, sectors_of}
-use Rattle.item_store.specs.Kind.{Kind, IsKind}
+use Rattle.item_store.specs.SectorFormat.{SectorFormat, IsSectorFormat}
 use Rattle.item_store.proofs.Areas.{unit_is}
 use Rattle.item_store.proofs.store.Store.live_cost.Goals as goal
 
@@ -18,20 +18,20 @@ pub next-oldest-requires : goal.next-oldest-requires
 next-oldest-requires g c =
     let d : Device = g.F.Flash.device c.args.flash.now in
     let area : Area = c.args.self.now.area in
-    let k : Kind = g.T.SlotSectors.kind (geometry_of d area) in
+    let k : SectorFormat = g.T.SlotSectors.format_of (geometry_of d area) in
     let sectors : List (List ℕ) = sectors_of d area in
-    let law : IsKind (g.T.SlotSectors.kind (geometry_of d area)) = g.met.T.SlotSectors.lawful (geometry_of d area) (unit_is d area (g.met.F.Flash.is_lawful c.args.flash.now) c.requires.area.lawful) in
-    current_on g.T.SlotSectors.role g.T.SlotSectors.kind g.T.SlotSectors.kept d c.args.self.now law (g.met.F.Flash.is_lawful c.args.flash.now) c.requires
+    let law : IsSectorFormat (g.T.SlotSectors.format_of (geometry_of d area)) = g.met.T.SlotSectors.lawful (geometry_of d area) (unit_is d area (g.met.F.Flash.is_lawful c.args.flash.now) c.requires.area.lawful) in
+    current_on g.T.SlotSectors.role g.T.SlotSectors.format_of g.T.SlotSectors.kept d c.args.self.now law (g.met.F.Flash.is_lawful c.args.flash.now) c.requires
 
 pub loop-place-init : goal.loop-place-init
 loop-place-init g c =
     let d : Device = g.F.Flash.device c.args.flash.now in
     let area : Area = c.args.self.now.area in
-    let k : Kind = g.T.SlotSectors.kind (geometry_of d area) in
+    let k : SectorFormat = g.T.SlotSectors.format_of (geometry_of d area) in
     let sectors : List (List ℕ) = sectors_of d area in
-    let law : IsKind (g.T.SlotSectors.kind (geometry_of d area)) = g.met.T.SlotSectors.lawful (geometry_of d area) (unit_is d area (g.met.F.Flash.is_lawful c.args.flash.now) c.requires.area.lawful) in
+    let law : IsSectorFormat (g.T.SlotSectors.format_of (geometry_of d area)) = g.met.T.SlotSectors.lawful (geometry_of d area) (unit_is d area (g.met.F.Flash.is_lawful c.args.flash.now) c.requires.area.lawful) in
     let long = length-sectors d area in
-    let low : c.args.self.now.current < length sectors = (let within = current_on g.T.SlotSectors.role g.T.SlotSectors.kind g.T.SlotSectors.kept d c.args.self.now law (g.met.F.Flash.is_lawful c.args.flash.now) c.requires in omega arith) in
+    let low : c.args.self.now.current < length sectors = (let within = current_on g.T.SlotSectors.role g.T.SlotSectors.format_of g.T.SlotSectors.kept d c.args.self.now law (g.met.F.Flash.is_lawful c.args.flash.now) c.requires in omega arith) in
     let old : c.next-oldest.result ≡ after (length sectors) c.args.self.now.current = c.next-oldest.ensures.value ∙ next_there d area c.args.self.now.current in
     record {
       within = omega arith;
@@ -56,11 +56,11 @@ pub overflow_add-cost : goal.overflow_add-cost
 overflow_add-cost g c =
     let d : Device = g.F.Flash.device c.args.flash.now in
     let area : Area = c.args.self.now.area in
-    let k : Kind = g.T.SlotSectors.kind (geometry_of d area) in
+    let k : SectorFormat = g.T.SlotSectors.format_of (geometry_of d area) in
     let sectors : List (List ℕ) = sectors_of d area in
-    let law : IsKind (g.T.SlotSectors.kind (geometry_of d area)) = g.met.T.SlotSectors.lawful (geometry_of d area) (unit_is d area (g.met.F.Flash.is_lawful c.args.flash.now) c.requires.area.lawful) in
+    let law : IsSectorFormat (g.T.SlotSectors.format_of (geometry_of d area)) = g.met.T.SlotSectors.lawful (geometry_of d area) (unit_is d area (g.met.F.Flash.is_lawful c.args.flash.now) c.requires.area.lawful) in
     let long = length-sectors d area in
-    let low : c.args.self.now.current < length sectors = (let within = current_on g.T.SlotSectors.role g.T.SlotSectors.kind g.T.SlotSectors.kept d c.args.self.now law (g.met.F.Flash.is_lawful c.args.flash.now) c.requires in omega arith) in
+    let low : c.args.self.now.current < length sectors = (let within = current_on g.T.SlotSectors.role g.T.SlotSectors.format_of g.T.SlotSectors.kept d c.args.self.now law (g.met.F.Flash.is_lawful c.args.flash.now) c.requires in omega arith) in
     let old : c.next-oldest.result ≡ after (length sectors) c.args.self.now.current = c.next-oldest.ensures.value ∙ next_there d area c.args.self.now.current in
     omega (arith, c.loop-place.invariant.small, c.cost_in-cost.ensures.small, c.requires.area.lawful.few)
 
@@ -68,11 +68,11 @@ pub loop-place-preserved : goal.loop-place-preserved
 loop-place-preserved g c =
     let d : Device = g.F.Flash.device c.args.flash.now in
     let area : Area = c.args.self.now.area in
-    let k : Kind = g.T.SlotSectors.kind (geometry_of d area) in
+    let k : SectorFormat = g.T.SlotSectors.format_of (geometry_of d area) in
     let sectors : List (List ℕ) = sectors_of d area in
-    let law : IsKind (g.T.SlotSectors.kind (geometry_of d area)) = g.met.T.SlotSectors.lawful (geometry_of d area) (unit_is d area (g.met.F.Flash.is_lawful c.args.flash.now) c.requires.area.lawful) in
+    let law : IsSectorFormat (g.T.SlotSectors.format_of (geometry_of d area)) = g.met.T.SlotSectors.lawful (geometry_of d area) (unit_is d area (g.met.F.Flash.is_lawful c.args.flash.now) c.requires.area.lawful) in
     let long = length-sectors d area in
-    let low : c.args.self.now.current < length sectors = (let within = current_on g.T.SlotSectors.role g.T.SlotSectors.kind g.T.SlotSectors.kept d c.args.self.now law (g.met.F.Flash.is_lawful c.args.flash.now) c.requires in omega arith) in
+    let low : c.args.self.now.current < length sectors = (let within = current_on g.T.SlotSectors.role g.T.SlotSectors.format_of g.T.SlotSectors.kept d c.args.self.now law (g.met.F.Flash.is_lawful c.args.flash.now) c.requires in omega arith) in
     let old : c.next-oldest.result ≡ after (length sectors) c.args.self.now.current = c.next-oldest.ensures.value ∙ next_there d area c.args.self.now.current in
     let now = c.loop-place.invariant in
     let inside : c.loop-place.place < length sectors = omega (arith, now.within) in
@@ -91,11 +91,11 @@ pub loop-place-smaller : goal.loop-place-smaller
 loop-place-smaller g c =
     let d : Device = g.F.Flash.device c.args.flash.now in
     let area : Area = c.args.self.now.area in
-    let k : Kind = g.T.SlotSectors.kind (geometry_of d area) in
+    let k : SectorFormat = g.T.SlotSectors.format_of (geometry_of d area) in
     let sectors : List (List ℕ) = sectors_of d area in
-    let law : IsKind (g.T.SlotSectors.kind (geometry_of d area)) = g.met.T.SlotSectors.lawful (geometry_of d area) (unit_is d area (g.met.F.Flash.is_lawful c.args.flash.now) c.requires.area.lawful) in
+    let law : IsSectorFormat (g.T.SlotSectors.format_of (geometry_of d area)) = g.met.T.SlotSectors.lawful (geometry_of d area) (unit_is d area (g.met.F.Flash.is_lawful c.args.flash.now) c.requires.area.lawful) in
     let long = length-sectors d area in
-    let low : c.args.self.now.current < length sectors = (let within = current_on g.T.SlotSectors.role g.T.SlotSectors.kind g.T.SlotSectors.kept d c.args.self.now law (g.met.F.Flash.is_lawful c.args.flash.now) c.requires in omega arith) in
+    let low : c.args.self.now.current < length sectors = (let within = current_on g.T.SlotSectors.role g.T.SlotSectors.format_of g.T.SlotSectors.kept d c.args.self.now law (g.met.F.Flash.is_lawful c.args.flash.now) c.requires in omega arith) in
     let old : c.next-oldest.result ≡ after (length sectors) c.args.self.now.current = c.next-oldest.ensures.value ∙ next_there d area c.args.self.now.current in
     let now = c.loop-place.invariant in
     let inside : c.loop-place.place < length sectors = omega (arith, now.within) in
@@ -108,11 +108,11 @@ pub overflow_add-result : goal.overflow_add-result
 overflow_add-result g c =
     let d : Device = g.F.Flash.device c.args.flash.now in
     let area : Area = c.args.self.now.area in
-    let k : Kind = g.T.SlotSectors.kind (geometry_of d area) in
+    let k : SectorFormat = g.T.SlotSectors.format_of (geometry_of d area) in
     let sectors : List (List ℕ) = sectors_of d area in
-    let law : IsKind (g.T.SlotSectors.kind (geometry_of d area)) = g.met.T.SlotSectors.lawful (geometry_of d area) (unit_is d area (g.met.F.Flash.is_lawful c.args.flash.now) c.requires.area.lawful) in
+    let law : IsSectorFormat (g.T.SlotSectors.format_of (geometry_of d area)) = g.met.T.SlotSectors.lawful (geometry_of d area) (unit_is d area (g.met.F.Flash.is_lawful c.args.flash.now) c.requires.area.lawful) in
     let long = length-sectors d area in
-    let low : c.args.self.now.current < length sectors = (let within = current_on g.T.SlotSectors.role g.T.SlotSectors.kind g.T.SlotSectors.kept d c.args.self.now law (g.met.F.Flash.is_lawful c.args.flash.now) c.requires in omega arith) in
+    let low : c.args.self.now.current < length sectors = (let within = current_on g.T.SlotSectors.role g.T.SlotSectors.format_of g.T.SlotSectors.kept d c.args.self.now law (g.met.F.Flash.is_lawful c.args.flash.now) c.requires in omega arith) in
     let old : c.next-oldest.result ≡ after (length sectors) c.args.self.now.current = c.next-oldest.ensures.value ∙ next_there d area c.args.self.now.current in
     omega (arith, c.loop-place.invariant.small, c.cost_in.ensures.small, c.requires.area.lawful.few)
 
@@ -120,11 +120,11 @@ pub returns : goal.returns
 returns g c =
     let d : Device = g.F.Flash.device c.args.flash.now in
     let area : Area = c.args.self.now.area in
-    let k : Kind = g.T.SlotSectors.kind (geometry_of d area) in
+    let k : SectorFormat = g.T.SlotSectors.format_of (geometry_of d area) in
     let sectors : List (List ℕ) = sectors_of d area in
-    let law : IsKind (g.T.SlotSectors.kind (geometry_of d area)) = g.met.T.SlotSectors.lawful (geometry_of d area) (unit_is d area (g.met.F.Flash.is_lawful c.args.flash.now) c.requires.area.lawful) in
+    let law : IsSectorFormat (g.T.SlotSectors.format_of (geometry_of d area)) = g.met.T.SlotSectors.lawful (geometry_of d area) (unit_is d area (g.met.F.Flash.is_lawful c.args.flash.now) c.requires.area.lawful) in
     let long = length-sectors d area in
-    let low : c.args.self.now.current < length sectors = (let within = current_on g.T.SlotSectors.role g.T.SlotSectors.kind g.T.SlotSectors.kept d c.args.self.now law (g.met.F.Flash.is_lawful c.args.flash.now) c.requires in omega arith) in
+    let low : c.args.self.now.current < length sectors = (let within = current_on g.T.SlotSectors.role g.T.SlotSectors.format_of g.T.SlotSectors.kept d c.args.self.now law (g.met.F.Flash.is_lawful c.args.flash.now) c.requires in omega arith) in
     let old : c.next-oldest.result ≡ after (length sectors) c.args.self.now.current = c.next-oldest.ensures.value ∙ next_there d area c.args.self.now.current in
     let at : c.loop-place.place ≡ after (length sectors) c.args.self.now.current = c.loop-place-test.false ∙ old in
     let high : after (length sectors) c.args.self.now.current < length sectors = (let within = c.next-oldest.ensures.within in omega arith) in
@@ -132,17 +132,17 @@ returns g c =
     let own : c.cost_in.result ≡ sector_costs k sectors (after (length sectors) c.args.self.now.current) = c.cost_in.ensures.cost ∙ ap (sector_costs k sectors) old in
     let all = all_cost k sectors c.args.self.now.current low high in
     let sum : c.loop-place.cost + c.cost_in.result ≡ sum_by (sector_costs k sectors) (range_with_len 0 (length sectors)) = omega arith in
-    sum ∙ sym (costs_on g.T.SlotSectors.role g.T.SlotSectors.kind g.T.SlotSectors.kept d c.args.self.now law (g.met.F.Flash.is_lawful c.args.flash.now) c.requires)
+    sum ∙ sym (costs_on g.T.SlotSectors.role g.T.SlotSectors.format_of g.T.SlotSectors.kept d c.args.self.now law (g.met.F.Flash.is_lawful c.args.flash.now) c.requires)
 
 pub cost_in-requires-clause-seen : goal.cost_in-requires-clause-seen
 cost_in-requires-clause-seen g c =
     let d : Device = g.F.Flash.device c.args.flash.now in
     let area : Area = c.args.self.now.area in
-    let k : Kind = g.T.SlotSectors.kind (geometry_of d area) in
+    let k : SectorFormat = g.T.SlotSectors.format_of (geometry_of d area) in
     let sectors : List (List ℕ) = sectors_of d area in
-    let law : IsKind (g.T.SlotSectors.kind (geometry_of d area)) = g.met.T.SlotSectors.lawful (geometry_of d area) (unit_is d area (g.met.F.Flash.is_lawful c.args.flash.now) c.requires.area.lawful) in
+    let law : IsSectorFormat (g.T.SlotSectors.format_of (geometry_of d area)) = g.met.T.SlotSectors.lawful (geometry_of d area) (unit_is d area (g.met.F.Flash.is_lawful c.args.flash.now) c.requires.area.lawful) in
     let long = length-sectors d area in
-    let low : c.args.self.now.current < length sectors = (let within = current_on g.T.SlotSectors.role g.T.SlotSectors.kind g.T.SlotSectors.kept d c.args.self.now law (g.met.F.Flash.is_lawful c.args.flash.now) c.requires in omega arith) in
+    let low : c.args.self.now.current < length sectors = (let within = current_on g.T.SlotSectors.role g.T.SlotSectors.format_of g.T.SlotSectors.kept d c.args.self.now law (g.met.F.Flash.is_lawful c.args.flash.now) c.requires in omega arith) in
     let old : c.next-oldest.result ≡ after (length sectors) c.args.self.now.current = c.next-oldest.ensures.value ∙ next_there d area c.args.self.now.current in
     let at : c.loop-place.place ≡ c.next-oldest.result = c.loop-place-test.false in
     subst (λ (p : ℕ). HasSeen k.ids c.loop-place.seen (behind k sectors c.args.self.now.current p)) at c.loop-place.invariant.seen

@@ -4,7 +4,7 @@ use Rattle.flash_map.specs.declared.area.Area.{Area}
 use Rattle.flash_map.specs.Area.{geometry_of, sectors_of}
 use Rattle.item_laws.specs.Live.{all_placed}
 use Rattle.item_laws.proofs.LastLemmas.{none_by}
-use Rattle.item_store.specs.Kind.{Kind, IsKind, slots}
+use Rattle.item_store.specs.SectorFormat.{SectorFormat, IsSectorFormat, slots}
 use Rattle.item_store.specs.Listed.{entries_on}
 use Rattle.item_store.proofs.Areas.{unit_is}
 use Rattle.item_store.proofs.CacheSteps.{noted-some, no-latest, latest-none}
@@ -15,16 +15,16 @@ pub returns-clause-none : goal.returns-clause-none
 returns-clause-none g c =
     λ d bank stands not_there.
     let area : Area = c.args.self.now.area in
-    let k : Kind = g.T.SlotSectors.kind (geometry_of d area) in
+    let k : SectorFormat = g.T.SlotSectors.format_of (geometry_of d area) in
     let sectors : List (List ℕ) = sectors_of d area in
-    let law : IsKind (g.T.SlotSectors.kind (geometry_of d area)) = g.met.T.SlotSectors.lawful (geometry_of d area) (unit_is d area bank stands.area.lawful) in
-    let some = some_sectors g.T.SlotSectors.role g.T.SlotSectors.kind g.T.SlotSectors.kept d c.args.self.now law bank stands in
+    let law : IsSectorFormat (g.T.SlotSectors.format_of (geometry_of d area)) = g.met.T.SlotSectors.lawful (geometry_of d area) (unit_is d area bank stands.area.lawful) in
+    let some = some_sectors g.T.SlotSectors.role g.T.SlotSectors.format_of g.T.SlotSectors.kept d c.args.self.now law bank stands in
     let start : c.start_of.result ≡ None = none_by c.start_of.result (sym c.is_some.ensures ∙ not_there) in
-    value_by g.T.SlotSectors.role g.T.SlotSectors.kind g.T.SlotSectors.kept d c.args.self.now law bank stands None c.args.id
+    value_by g.T.SlotSectors.role g.T.SlotSectors.format_of g.T.SlotSectors.kept d c.args.self.now law bank stands None c.args.id
     (sym (latest-none c.args.id (all_placed (slots k) sectors) (no-latest k law sectors c.args.self.now.cache stands.cached some c.args.id (sym c.start_of.ensures ∙ start))))
 
 pub returns-clause-exactly : goal.returns-clause-exactly
 returns-clause-exactly g c =
     λ d stands.
     c.is_some.ensures ∙ ap is_some c.start_of.ensures
-    ∙ noted-some c.args.self.now.cache (entries_on g.T.SlotSectors.kind d c.args.self.now.area) stands.cached c.args.id
+    ∙ noted-some c.args.self.now.cache (entries_on g.T.SlotSectors.format_of d c.args.self.now.area) stands.cached c.args.id

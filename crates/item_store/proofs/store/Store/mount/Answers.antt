@@ -8,7 +8,7 @@ use Rattle.item_store.proofs.store.Store.mount.Goals as goal
 pub returns-in-Err-clause-at_most : goal.returns-in-Err-clause-at_most
 returns-in-Err-clause-at_most g c =
     let a : Device = g.F.Flash.device c.args.flash.now in
-    mount-nothing a ((g.T.SlotSectors.kind (geometry_of a c.args.area)).units.mount (sector_size a c.args.area))
+    mount-nothing a ((g.T.SlotSectors.format_of (geometry_of a c.args.area)).units.mount (sector_size a c.args.area))
 
 pub returns-in-Err-clause-written : goal.returns-in-Err-clause-written
 returns-in-Err-clause-written g c =

@@ -3,7 +3,7 @@ use Rattle.flash_sim.specs.Device.{Device}
 use Rattle.flash_map.specs.declared.area.Area.{Area}
 use Rattle.flash_map.specs.Area.{geometry_of, sector_size, sectors_of}
 use Rattle.item_laws.specs.Forms.{AtRest}
-use Rattle.item_store.specs.Kind.{Kind, IsKind}
+use Rattle.item_store.specs.SectorFormat.{SectorFormat, IsSectorFormat}
 use Rattle.item_store.specs.Collecting.{redo_of, redo_list, redo_units, KeepsOrRedoes}
 use Rattle.item_store.specs.Standing.{list_of, SpendsIn, SpendsUpTo}
 use Rattle.item_store.proofs.Areas.{unit_is}
@@ -18,16 +18,16 @@ returns-in-Ok-redo-clause-ends g c =
     let a : Device = g.F.Flash.device c.args.flash.now in
     let d : Device = g.F.Flash.device c.redo.new.flash in
     let area : Area = c.args.area in
-    let k : Kind = g.T.SlotSectors.kind (geometry_of a area) in
-    let law : IsKind (g.T.SlotSectors.kind (geometry_of a area)) = g.met.T.SlotSectors.lawful (geometry_of a area) (unit_is a area (g.met.F.Flash.is_lawful c.args.flash.now) c.requires.area.lawful) in
+    let k : SectorFormat = g.T.SlotSectors.format_of (geometry_of a area) in
+    let law : IsSectorFormat (g.T.SlotSectors.format_of (geometry_of a area)) = g.met.T.SlotSectors.lawful (geometry_of a area) (unit_is a area (g.met.F.Flash.is_lawful c.args.flash.now) c.requires.area.lawful) in
     let found = c.in-Ok.ensures in
     let did = c.in-Ok-redo.ensures in (
       found.undamaged,
-      stands_with g.T.SlotSectors.role g.T.SlotSectors.kind g.T.SlotSectors.kept d area c.in-Ok.current c.redo.new.opened c.fill.new.cache (stands g.T.SlotSectors.role g.T.SlotSectors.kind g.T.SlotSectors.kept a d area c.in-Ok.current c.redo.new.opened law did.touches.banks c.requires.area did.ends.rested did.ends.kept) c.fill.ensures,
+      stands_with g.T.SlotSectors.role g.T.SlotSectors.format_of g.T.SlotSectors.kept d area c.in-Ok.current c.redo.new.opened c.fill.new.cache (stands g.T.SlotSectors.role g.T.SlotSectors.format_of g.T.SlotSectors.kept a d area c.in-Ok.current c.redo.new.opened law did.touches.banks c.requires.area did.ends.rested did.ends.kept) c.fill.ensures,
       refl,
       did.items,
       subst (λ (p : ℕ). SpendsIn a d (redo_units k (sectors_of a area) p (redo_of k (sectors_of a area) p))) found.opened did.ends.spends,
-      λ rest. did.same (subst (λ (p : ℕ). AtRest (g.T.SlotSectors.kind (geometry_of a area)).reading (sectors_of a area) p) (sym found.opened) rest),
+      λ rest. did.same (subst (λ (p : ℕ). AtRest (g.T.SlotSectors.format_of (geometry_of a area)).reading (sectors_of a area) p) (sym found.opened) rest),
       subst (λ (p : ℕ). list_of k (sectors_of d area) ≡ redo_list k (sectors_of a area) p (redo_of k (sectors_of a area) p)) found.opened did.ends.list,
     )
 
@@ -36,13 +36,13 @@ returns-in-Err-redo-clause-ends g c =
     let a : Device = g.F.Flash.device c.args.flash.now in
     let d : Device = g.F.Flash.device c.redo.new.flash in
     let area : Area = c.args.area in
-    let k : Kind = g.T.SlotSectors.kind (geometry_of a area) in
+    let k : SectorFormat = g.T.SlotSectors.format_of (geometry_of a area) in
     let found = c.in-Ok.ensures in
     let did = c.in-Err-redo.ensures in (
       found.undamaged,
       did.items,
       subst (λ (p : ℕ). SpendsUpTo a d (redo_units k (sectors_of a area) p (redo_of k (sectors_of a area) p))) found.opened did.ends.spends_lost,
-      λ rest. did.ends.busy (subst (λ (p : ℕ). AtRest (g.T.SlotSectors.kind (geometry_of a area)).reading (sectors_of a area) p) (sym found.opened) rest),
+      λ rest. did.ends.busy (subst (λ (p : ℕ). AtRest (g.T.SlotSectors.format_of (geometry_of a area)).reading (sectors_of a area) p) (sym found.opened) rest),
       subst (λ (p : ℕ). KeepsOrRedoes k (sectors_of a area) (sectors_of d area) p) found.opened did.ends.list_lost,
     )
 
@@ -51,33 +51,33 @@ returns-in-Ok-redo-clause-at_most g c =
     let a : Device = g.F.Flash.device c.args.flash.now in
     let law = g.met.T.SlotSectors.lawful (geometry_of a c.args.area) (unit_is a c.args.area (g.met.F.Flash.is_lawful c.args.flash.now) c.requires.area.lawful) in
     let found = c.in-Ok.ensures in
-    mount-most (g.T.SlotSectors.kind (geometry_of a c.args.area)) law g.T.SlotSectors.role a c.args.area (g.met.F.Flash.is_lawful c.args.flash.now) c.requires.area found.undamaged c.in-Ok.current found.opened (g.F.Flash.device c.redo.new.flash) c.in-Ok-redo.ensures.ends.spends
+    mount-most (g.T.SlotSectors.format_of (geometry_of a c.args.area)) law g.T.SlotSectors.role a c.args.area (g.met.F.Flash.is_lawful c.args.flash.now) c.requires.area found.undamaged c.in-Ok.current found.opened (g.F.Flash.device c.redo.new.flash) c.in-Ok-redo.ensures.ends.spends
 
 pub returns-in-Err-redo-clause-at_most : goal.returns-in-Err-redo-clause-at_most
 returns-in-Err-redo-clause-at_most g c =
     let a : Device = g.F.Flash.device c.args.flash.now in
     let law = g.met.T.SlotSectors.lawful (geometry_of a c.args.area) (unit_is a c.args.area (g.met.F.Flash.is_lawful c.args.flash.now) c.requires.area.lawful) in
     let found = c.in-Ok.ensures in
-    mount-most_lost (g.T.SlotSectors.kind (geometry_of a c.args.area)) law g.T.SlotSectors.role a c.args.area (g.met.F.Flash.is_lawful c.args.flash.now) c.requires.area found.undamaged c.in-Ok.current found.opened (g.F.Flash.device c.redo.new.flash) c.in-Err-redo.ensures.ends.spends_lost
+    mount-most_lost (g.T.SlotSectors.format_of (geometry_of a c.args.area)) law g.T.SlotSectors.role a c.args.area (g.met.F.Flash.is_lawful c.args.flash.now) c.requires.area found.undamaged c.in-Ok.current found.opened (g.F.Flash.device c.redo.new.flash) c.in-Err-redo.ensures.ends.spends_lost
 
 pub returns-in-Err-clause-at_most : goal.returns-in-Err-clause-at_most
 returns-in-Err-clause-at_most g c =
     let a : Device = g.F.Flash.device c.args.flash.now in
-    mount-nothing a ((g.T.SlotSectors.kind (geometry_of a c.args.area)).units.mount (sector_size a c.args.area))
+    mount-nothing a ((g.T.SlotSectors.format_of (geometry_of a c.args.area)).units.mount (sector_size a c.args.area))
 
 pub returns-in-Ok-redo-clause-written : goal.returns-in-Ok-redo-clause-written
 returns-in-Ok-redo-clause-written g c =
     let a : Device = g.F.Flash.device c.args.flash.now in
     let area : Area = c.args.area in
     let d : Device = g.F.Flash.device c.redo.new.flash in
-    stays-written (g.T.SlotSectors.kind (geometry_of a area)) a d area c.in-Ok-redo.ensures.written
+    stays-written (g.T.SlotSectors.format_of (geometry_of a area)) a d area c.in-Ok-redo.ensures.written
 
 pub returns-in-Err-redo-clause-written : goal.returns-in-Err-redo-clause-written
 returns-in-Err-redo-clause-written g c =
     let a : Device = g.F.Flash.device c.args.flash.now in
     let area : Area = c.args.area in
     let d : Device = g.F.Flash.device c.redo.new.flash in
-    stays-written (g.T.SlotSectors.kind (geometry_of a area)) a d area c.in-Err-redo.ensures.written
+    stays-written (g.T.SlotSectors.format_of (geometry_of a area)) a d area c.in-Err-redo.ensures.written
 
 pub returns-in-Ok-redo-clause-changed : goal.returns-in-Ok-redo-clause-changed
 returns-in-Ok-redo-clause-changed g c =
@@ -100,27 +100,27 @@ fill-requires-clause-area g c =
     let a : Device = g.F.Flash.device c.args.flash.now in
     let d : Device = g.F.Flash.device c.redo.new.flash in
     let area : Area = c.args.area in
-    let law : IsKind (g.T.SlotSectors.kind (geometry_of a area)) = g.met.T.SlotSectors.lawful (geometry_of a area) (unit_is a area (g.met.F.Flash.is_lawful c.args.flash.now) c.requires.area.lawful) in
+    let law : IsSectorFormat (g.T.SlotSectors.format_of (geometry_of a area)) = g.met.T.SlotSectors.lawful (geometry_of a area) (unit_is a area (g.met.F.Flash.is_lawful c.args.flash.now) c.requires.area.lawful) in
     let did = c.in-Ok-redo.ensures in
-    (stands g.T.SlotSectors.role g.T.SlotSectors.kind g.T.SlotSectors.kept a d area c.in-Ok.current c.redo.new.opened law did.touches.banks c.requires.area did.ends.rested did.ends.kept).area
+    (stands g.T.SlotSectors.role g.T.SlotSectors.format_of g.T.SlotSectors.kept a d area c.in-Ok.current c.redo.new.opened law did.touches.banks c.requires.area did.ends.rested did.ends.kept).area
 
 pub fill-requires-clause-kept : goal.fill-requires-clause-kept
 fill-requires-clause-kept g c =
     let a : Device = g.F.Flash.device c.args.flash.now in
     let d : Device = g.F.Flash.device c.redo.new.flash in
     let area : Area = c.args.area in
-    let law : IsKind (g.T.SlotSectors.kind (geometry_of a area)) = g.met.T.SlotSectors.lawful (geometry_of a area) (unit_is a area (g.met.F.Flash.is_lawful c.args.flash.now) c.requires.area.lawful) in
+    let law : IsSectorFormat (g.T.SlotSectors.format_of (geometry_of a area)) = g.met.T.SlotSectors.lawful (geometry_of a area) (unit_is a area (g.met.F.Flash.is_lawful c.args.flash.now) c.requires.area.lawful) in
     let did = c.in-Ok-redo.ensures in
-    (stands g.T.SlotSectors.role g.T.SlotSectors.kind g.T.SlotSectors.kept a d area c.in-Ok.current c.redo.new.opened law did.touches.banks c.requires.area did.ends.rested did.ends.kept).opened
+    (stands g.T.SlotSectors.role g.T.SlotSectors.format_of g.T.SlotSectors.kept a d area c.in-Ok.current c.redo.new.opened law did.touches.banks c.requires.area did.ends.rested did.ends.kept).opened
 
 pub fill-requires-clause-current : goal.fill-requires-clause-current
 fill-requires-clause-current g c =
     let a : Device = g.F.Flash.device c.args.flash.now in
     let d : Device = g.F.Flash.device c.redo.new.flash in
     let area : Area = c.args.area in
-    let law : IsKind (g.T.SlotSectors.kind (geometry_of a area)) = g.met.T.SlotSectors.lawful (geometry_of a area) (unit_is a area (g.met.F.Flash.is_lawful c.args.flash.now) c.requires.area.lawful) in
+    let law : IsSectorFormat (g.T.SlotSectors.format_of (geometry_of a area)) = g.met.T.SlotSectors.lawful (geometry_of a area) (unit_is a area (g.met.F.Flash.is_lawful c.args.flash.now) c.requires.area.lawful) in
     let did = c.in-Ok-redo.ensures in
-    (stands g.T.SlotSectors.role g.T.SlotSectors.kind g.T.SlotSectors.kept a d area c.in-Ok.current c.redo.new.opened law did.touches.banks c.requires.area did.ends.rested did.ends.kept).current
+    (stands g.T.SlotSectors.role g.T.SlotSectors.format_of g.T.SlotSectors.kept a d area c.in-Ok.current c.redo.new.opened law did.touches.banks c.requires.area did.ends.rested did.ends.kept).current
 
 pub fill-requires-clause-slots : goal.fill-requires-clause-slots
 fill-requires-clause-slots g c =

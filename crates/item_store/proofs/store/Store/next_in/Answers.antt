@@ -6,7 +6,7 @@ use Rattle.item_store.proofs.NextSteps.{pairs_to, least_start, least_step, least
 use Rattle.flash_sim.specs.Device.{Device}
 use Rattle.flash_map.specs.declared.area.Area.{Area}
 use Rattle.flash_map.specs.Area.{geometry_of, sectors_of, sector_at}
-use Rattle.item_store.specs.Kind.{Kind, IsKind}
+use Rattle.item_store.specs.SectorFormat.{SectorFormat, IsSectorFormat}
 use Rattle.item_store.proofs.Areas.{unit_is}
 use Rattle.item_store.proofs.store.Store.next_in.Goals as goal
 
@@ -18,7 +18,7 @@ pub entry_in-placed-requires-clause-listed : goal.entry_in-placed-requires-claus
 entry_in-placed-requires-clause-listed g c =
     let d : Device = g.F.Flash.device c.args.flash.now in
     let area : Area = c.args.self.now.area in
-    let k : Kind = g.T.SlotSectors.kind (geometry_of d area) in
+    let k : SectorFormat = g.T.SlotSectors.format_of (geometry_of d area) in
     let sectors : List (List ℕ) = sectors_of d area in
     let count : c.slots-slots.result ≡ k.count (sector_at sectors c.args.place) = c.slots-slots.ensures.value in
     let first : c.first_slot-first.result ≡ k.first = c.first_slot-first.ensures.value (geometry_of d area) in
@@ -28,7 +28,7 @@ pub loop-slot-init : goal.loop-slot-init
 loop-slot-init g c =
     let d : Device = g.F.Flash.device c.args.flash.now in
     let area : Area = c.args.self.now.area in
-    let k : Kind = g.T.SlotSectors.kind (geometry_of d area) in
+    let k : SectorFormat = g.T.SlotSectors.format_of (geometry_of d area) in
     let sectors : List (List ℕ) = sectors_of d area in
     let count : c.slots-slots.result ≡ k.count (sector_at sectors c.args.place) = c.slots-slots.ensures.value in
     let first : c.first_slot-first.result ≡ k.first = c.first_slot-first.ensures.value (geometry_of d area) in
@@ -37,14 +37,14 @@ loop-slot-init g c =
       some = c.requires.some;
       small = c.requires.small;
       kept = at_most_self c.args.least;
-      least = subst (λ (n : ℕ). IsLeastOf (items_on g.T.SlotSectors.kind d area) c.args.after (pairs_to k (sector_at sectors c.args.place) n) c.args.least) none (least_start k (items_on g.T.SlotSectors.kind d area) c.args.after (sector_at sectors c.args.place) c.args.least);
+      least = subst (λ (n : ℕ). IsLeastOf (items_on g.T.SlotSectors.format_of d area) c.args.after (pairs_to k (sector_at sectors c.args.place) n) c.args.least) none (least_start k (items_on g.T.SlotSectors.format_of d area) c.args.after (sector_at sectors c.args.place) c.args.least);
     }
 
 pub loop-slot-preserved : goal.loop-slot-preserved
 loop-slot-preserved g c =
     let d : Device = g.F.Flash.device c.args.flash.now in
     let area : Area = c.args.self.now.area in
-    let k : Kind = g.T.SlotSectors.kind (geometry_of d area) in
+    let k : SectorFormat = g.T.SlotSectors.format_of (geometry_of d area) in
     let sectors : List (List ℕ) = sectors_of d area in
     let count : c.slots-slots.result ≡ k.count (sector_at sectors c.args.place) = c.slots-slots.ensures.value in
     let first : c.first_slot-first.result ≡ k.first = c.first_slot-first.ensures.value (geometry_of d area) in
@@ -55,18 +55,18 @@ loop-slot-preserved g c =
       some = c.lesser_of-next.ensures.some;
       small = c.lesser_of-next.ensures.small;
       kept = kept_then c.args.least c.loop-slot.next c.lesser_of-next.result c.loop-slot.invariant.kept c.lesser_of-next.ensures.kept;
-      least = subst (λ (n : ℕ). IsLeastOf (items_on g.T.SlotSectors.kind d area) c.args.after (pairs_to k (sector_at sectors c.args.place) n) c.lesser_of-next.result) up
-          (least_step k (items_on g.T.SlotSectors.kind d area) c.args.after (sector_at sectors c.args.place) c.args.place (c.loop-slot.slot - c.first_slot-first.result) c.loop-slot.slot c.entry_in-placed.result c.loop-slot.next c.lesser_of-next.result at c.entry_in-placed.ensures.entry c.lesser_of-next.ensures.kept c.lesser_of-next.ensures.id c.loop-slot.invariant.least);
+      least = subst (λ (n : ℕ). IsLeastOf (items_on g.T.SlotSectors.format_of d area) c.args.after (pairs_to k (sector_at sectors c.args.place) n) c.lesser_of-next.result) up
+          (least_step k (items_on g.T.SlotSectors.format_of d area) c.args.after (sector_at sectors c.args.place) c.args.place (c.loop-slot.slot - c.first_slot-first.result) c.loop-slot.slot c.entry_in-placed.result c.loop-slot.next c.lesser_of-next.result at c.entry_in-placed.ensures.entry c.lesser_of-next.ensures.kept c.lesser_of-next.ensures.id c.loop-slot.invariant.least);
     }
 
 pub returns-clause-least : goal.returns-clause-least
 returns-clause-least g c =
     let d : Device = g.F.Flash.device c.args.flash.now in
     let area : Area = c.args.self.now.area in
-    let k : Kind = g.T.SlotSectors.kind (geometry_of d area) in
+    let k : SectorFormat = g.T.SlotSectors.format_of (geometry_of d area) in
     let sectors : List (List ℕ) = sectors_of d area in
-    let law : IsKind (g.T.SlotSectors.kind (geometry_of d area)) = g.met.T.SlotSectors.lawful (geometry_of d area) (unit_is d area (g.met.F.Flash.is_lawful c.args.flash.now) c.requires.stands.area.lawful) in
+    let law : IsSectorFormat (g.T.SlotSectors.format_of (geometry_of d area)) = g.met.T.SlotSectors.lawful (geometry_of d area) (unit_is d area (g.met.F.Flash.is_lawful c.args.flash.now) c.requires.stands.area.lawful) in
     let count : c.slots-slots.result ≡ k.count (sector_at sectors c.args.place) = c.slots-slots.ensures.value in
     let first : c.first_slot-first.result ≡ k.first = c.first_slot-first.ensures.value (geometry_of d area) in
     let all : c.loop-slot.slot - c.first_slot-first.result ≡ k.count (sector_at sectors c.args.place) = omega arith in
-    least_end k law (items_on g.T.SlotSectors.kind d area) c.args.after (sector_at sectors c.args.place) (c.loop-slot.slot - c.first_slot-first.result) c.loop-slot.next all c.loop-slot.invariant.least
+    least_end k law (items_on g.T.SlotSectors.format_of d area) c.args.after (sector_at sectors c.args.place) (c.loop-slot.slot - c.first_slot-first.result) c.loop-slot.next all c.loop-slot.invariant.least

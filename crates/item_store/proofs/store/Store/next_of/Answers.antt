@@ -5,11 +5,11 @@ use Rattle.flash_sim.specs.Device.{Device}
 use Rattle.flash_map.specs.declared.area.Area.{Area}
 use Rattle.flash_map.specs.Area.{geometry_of, sectors_of}
 use Rattle.item_store.specs.declared.entry.Placed.{Placed}
-use Rattle.item_store.specs.Kind.{Kind, IsKind}
-use Rattle.item_store.specs.Lasts.{slots_left, WasTold, IsLastIn, TellsNext}
+use Rattle.item_store.specs.SectorFormat.{SectorFormat, IsSectorFormat}
+use Rattle.item_store.specs.Lasts.{slots_left, WasGiven, IsLastIn, GivesNext}
 use Rattle.item_store.specs.Listed.{items_on}
 use Rattle.item_store.proofs.Areas.{unit_is}
-use Rattle.item_store.proofs.AskingSteps.{IsLeastTo, ToldBytes, least-step, least-end, value, has-bytes, told-all, told-more}
+use Rattle.item_store.proofs.AskingSteps.{IsLeastTo, KnownBytes, least-step, least-end, value, has-bytes, covered-all, covered-more}
 use Rattle.item_store.proofs.store.Store.next_of.Goals as goal
 
 pub loop-placed-init : goal.loop-placed-init
@@ -17,7 +17,7 @@ loop-placed-init g c = record {
   at = c.start-lasts.ensures.at;
   from = c.start-lasts.ensures.least;
   to = c.start-lasts.ensures.most;
-  so_far = λ bytes t. absurd (c.start-lasts.ensures.none t.placed t.told);
+  so_far = λ bytes t. absurd (c.start-lasts.ensures.none t.placed t.covered);
 }
 
 pub next-requires-clause-at : goal.next-requires-clause-at
@@ -31,24 +31,24 @@ pub loop-placed-preserved : goal.loop-placed-preserved
 loop-placed-preserved g c =
     let d : Device = g.F.Flash.device c.args.flash.now in
     let area : Area = c.args.self.now.area in
-    let k : Kind = g.T.SlotSectors.kind (geometry_of d area) in
+    let k : SectorFormat = g.T.SlotSectors.format_of (geometry_of d area) in
     let sectors : List (List ℕ) = sectors_of d area in
-    let law : IsKind (g.T.SlotSectors.kind (geometry_of d area)) = g.met.T.SlotSectors.lawful (geometry_of d area) (unit_is d area (g.met.F.Flash.is_lawful c.args.flash.now) c.requires.stands.area.lawful) in
+    let law : IsSectorFormat (g.T.SlotSectors.format_of (geometry_of d area)) = g.met.T.SlotSectors.lawful (geometry_of d area) (unit_is d area (g.met.F.Flash.is_lawful c.args.flash.now) c.requires.stands.area.lawful) in
     let now = c.loop-placed.invariant in
-    let last : IsLastIn k sectors c.loop-placed.lasts c.in-Some.placed × ((q : Placed) → WasTold k sectors c.args.self.now.current c.next.new.self q → (q ≡ c.in-Some.placed) ⊎ WasTold k sectors c.args.self.now.current c.loop-placed.lasts q) =
-    subst (TellsNext k sectors c.args.self.now.current c.loop-placed.lasts c.next.new.self) c.in-Some.is c.next.ensures.next in
+    let last : IsLastIn k sectors c.loop-placed.lasts c.in-Some.placed × ((q : Placed) → WasGiven k sectors c.args.self.now.current c.next.new.self q → (q ≡ c.in-Some.placed) ⊎ WasGiven k sectors c.args.self.now.current c.loop-placed.lasts q) =
+    subst (GivesNext k sectors c.args.self.now.current c.loop-placed.lasts c.next.new.self) c.in-Some.is c.next.ensures.next in
     record {
       at = c.next.ensures.at;
       from = c.next.ensures.range.0 ∙ now.from;
       to = c.next.ensures.range.1 ∙ now.to;
-      so_far = subst (IsLeastTo c.args.least c.args.most (items_on g.T.SlotSectors.kind d area) (option_map (λ other. other.now) c.args.after)
-          (ToldBytes g.T.SlotSectors.role g.T.SlotSectors.kind g.T.SlotSectors.kept d c.args.self.now c.next.new.self)) (sym c.lesser_bytes-found.ensures)
-          (least-step c.args.least c.args.most (items_on g.T.SlotSectors.kind d area) (option_map (λ other. other.now) c.args.after)
-          (ToldBytes g.T.SlotSectors.role g.T.SlotSectors.kind g.T.SlotSectors.kept d c.args.self.now c.loop-placed.lasts)
-          (ToldBytes g.T.SlotSectors.role g.T.SlotSectors.kind g.T.SlotSectors.kept d c.args.self.now c.next.new.self)
-          (value g.T.SlotSectors.role g.T.SlotSectors.kind g.T.SlotSectors.kept d c.args.self.now c.in-Some.placed) (option_map (λ bytes. bytes.now) c.loop-placed.found)
-          (λ bytes is. (c.in-Some.placed.id, has-bytes g.T.SlotSectors.role g.T.SlotSectors.kind g.T.SlotSectors.kept d c.args.self.now law (g.met.F.Flash.is_lawful c.args.flash.now) c.requires.stands c.loop-placed.lasts c.args.least c.args.most now.from now.to c.in-Some.placed last.0 bytes is))
-          (told-more g.T.SlotSectors.role g.T.SlotSectors.kind g.T.SlotSectors.kept d c.args.self.now law (g.met.F.Flash.is_lawful c.args.flash.now) c.requires.stands c.loop-placed.lasts c.next.new.self c.in-Some.placed last.1)
+      so_far = subst (IsLeastTo c.args.least c.args.most (items_on g.T.SlotSectors.format_of d area) (option_map (λ other. other.now) c.args.after)
+          (KnownBytes g.T.SlotSectors.role g.T.SlotSectors.format_of g.T.SlotSectors.kept d c.args.self.now c.next.new.self)) (sym c.lesser_bytes-found.ensures)
+          (least-step c.args.least c.args.most (items_on g.T.SlotSectors.format_of d area) (option_map (λ other. other.now) c.args.after)
+          (KnownBytes g.T.SlotSectors.role g.T.SlotSectors.format_of g.T.SlotSectors.kept d c.args.self.now c.loop-placed.lasts)
+          (KnownBytes g.T.SlotSectors.role g.T.SlotSectors.format_of g.T.SlotSectors.kept d c.args.self.now c.next.new.self)
+          (value g.T.SlotSectors.role g.T.SlotSectors.format_of g.T.SlotSectors.kept d c.args.self.now c.in-Some.placed) (option_map (λ bytes. bytes.now) c.loop-placed.found)
+          (λ bytes is. (c.in-Some.placed.id, has-bytes g.T.SlotSectors.role g.T.SlotSectors.format_of g.T.SlotSectors.kept d c.args.self.now law (g.met.F.Flash.is_lawful c.args.flash.now) c.requires.stands c.loop-placed.lasts c.args.least c.args.most now.from now.to c.in-Some.placed last.0 bytes is))
+          (covered-more g.T.SlotSectors.role g.T.SlotSectors.format_of g.T.SlotSectors.kept d c.args.self.now law (g.met.F.Flash.is_lawful c.args.flash.now) c.requires.stands c.loop-placed.lasts c.next.new.self c.in-Some.placed last.1)
           now.so_far);
     }
 
@@ -56,12 +56,12 @@ pub returns : goal.returns
 returns g c =
     let d : Device = g.F.Flash.device c.args.flash.now in
     let area : Area = c.args.self.now.area in
-    let k : Kind = g.T.SlotSectors.kind (geometry_of d area) in
+    let k : SectorFormat = g.T.SlotSectors.format_of (geometry_of d area) in
     let sectors : List (List ℕ) = sectors_of d area in
-    let law : IsKind (g.T.SlotSectors.kind (geometry_of d area)) = g.met.T.SlotSectors.lawful (geometry_of d area) (unit_is d area (g.met.F.Flash.is_lawful c.args.flash.now) c.requires.stands.area.lawful) in
+    let law : IsSectorFormat (g.T.SlotSectors.format_of (geometry_of d area)) = g.met.T.SlotSectors.lawful (geometry_of d area) (unit_is d area (g.met.F.Flash.is_lawful c.args.flash.now) c.requires.stands.area.lawful) in
     let now = c.loop-placed.invariant in
-    let all : (p : Placed) → IsLastIn k sectors c.loop-placed.lasts p → WasTold k sectors c.args.self.now.current c.loop-placed.lasts p =
-    subst (TellsNext k sectors c.args.self.now.current c.loop-placed.lasts c.next.new.self) c.in_default.is c.next.ensures.next in
-    least-end c.args.least c.args.most (items_on g.T.SlotSectors.kind d area) (option_map (λ other. other.now) c.args.after)
-    (ToldBytes g.T.SlotSectors.role g.T.SlotSectors.kind g.T.SlotSectors.kept d c.args.self.now c.loop-placed.lasts) (option_map (λ bytes. bytes.now) c.loop-placed.found)
-    (told-all g.T.SlotSectors.role g.T.SlotSectors.kind g.T.SlotSectors.kept d c.args.self.now law (g.met.F.Flash.is_lawful c.args.flash.now) c.requires.stands c.loop-placed.lasts c.args.least c.args.most now.from now.to all) now.so_far
+    let all : (p : Placed) → IsLastIn k sectors c.loop-placed.lasts p → WasGiven k sectors c.args.self.now.current c.loop-placed.lasts p =
+    subst (GivesNext k sectors c.args.self.now.current c.loop-placed.lasts c.next.new.self) c.in_default.is c.next.ensures.next in
+    least-end c.args.least c.args.most (items_on g.T.SlotSectors.format_of d area) (option_map (λ other. other.now) c.args.after)
+    (KnownBytes g.T.SlotSectors.role g.T.SlotSectors.format_of g.T.SlotSectors.kept d c.args.self.now c.loop-placed.lasts) (option_map (λ bytes. bytes.now) c.loop-placed.found)
+    (covered-all g.T.SlotSectors.role g.T.SlotSectors.format_of g.T.SlotSectors.kept d c.args.self.now law (g.met.F.Flash.is_lawful c.args.flash.now) c.requires.stands c.loop-placed.lasts c.args.least c.args.most now.from now.to all) now.so_far

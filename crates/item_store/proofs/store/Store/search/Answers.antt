@@ -10,7 +10,7 @@ use Rattle.item_laws.specs.Live.{counted_in, last_of, last_placed}
 use Rattle.item_laws.specs.RoundParts.{places_before}
 use Rattle.item_laws.proofs.AreaReads.{length-sectors}
 use Rattle.item_store.specs.declared.entry.Placed.{Placed}
-use Rattle.item_store.specs.Kind.{Kind, IsKind, slots}
+use Rattle.item_store.specs.SectorFormat.{SectorFormat, IsSectorFormat, slots}
 use Rattle.item_store.specs.Listed.{IsPlaced}
 use Rattle.item_store.proofs.Areas.{unit_is}
 use Rattle.item_store.proofs.CacheSteps.{latest-placed}
@@ -22,20 +22,20 @@ pub find_up_to-requires-clause-current : goal.find_up_to-requires-clause-current
 find_up_to-requires-clause-current g c =
     let d : Device = g.F.Flash.device c.args.flash.now in
     let area : Area = c.args.self.now.area in
-    let k : Kind = g.T.SlotSectors.kind (geometry_of d area) in
+    let k : SectorFormat = g.T.SlotSectors.format_of (geometry_of d area) in
     let sectors : List (List ℕ) = sectors_of d area in
-    let law : IsKind (g.T.SlotSectors.kind (geometry_of d area)) = g.met.T.SlotSectors.lawful (geometry_of d area) (unit_is d area (g.met.F.Flash.is_lawful c.args.flash.now) c.requires.stands.area.lawful) in
-    current_on g.T.SlotSectors.role g.T.SlotSectors.kind g.T.SlotSectors.kept d c.args.self.now law (g.met.F.Flash.is_lawful c.args.flash.now) c.requires.stands
+    let law : IsSectorFormat (g.T.SlotSectors.format_of (geometry_of d area)) = g.met.T.SlotSectors.lawful (geometry_of d area) (unit_is d area (g.met.F.Flash.is_lawful c.args.flash.now) c.requires.stands.area.lawful) in
+    current_on g.T.SlotSectors.role g.T.SlotSectors.format_of g.T.SlotSectors.kept d c.args.self.now law (g.met.F.Flash.is_lawful c.args.flash.now) c.requires.stands
 
 pub find_up_to-requires-clause-inside : goal.find_up_to-requires-clause-inside
 find_up_to-requires-clause-inside g c =
     let d : Device = g.F.Flash.device c.args.flash.now in
     let area : Area = c.args.self.now.area in
-    let k : Kind = g.T.SlotSectors.kind (geometry_of d area) in
+    let k : SectorFormat = g.T.SlotSectors.format_of (geometry_of d area) in
     let sectors : List (List ℕ) = sectors_of d area in
-    let law : IsKind (g.T.SlotSectors.kind (geometry_of d area)) = g.met.T.SlotSectors.lawful (geometry_of d area) (unit_is d area (g.met.F.Flash.is_lawful c.args.flash.now) c.requires.stands.area.lawful) in
+    let law : IsSectorFormat (g.T.SlotSectors.format_of (geometry_of d area)) = g.met.T.SlotSectors.lawful (geometry_of d area) (unit_is d area (g.met.F.Flash.is_lawful c.args.flash.now) c.requires.stands.area.lawful) in
     let stands : IsPlaced k sectors (open_sector k.reading sectors) c.args.latest.now =
-    subst (λ (o : Option Placed). IfSome o (IsPlaced k sectors (open_sector k.reading sectors))) (sym c.requires.latest) (latest-placed k law sectors (c.args.id % 64) (some_sectors g.T.SlotSectors.role g.T.SlotSectors.kind g.T.SlotSectors.kept d c.args.self.now law (g.met.F.Flash.is_lawful c.args.flash.now) c.requires.stands)) in
+    subst (λ (o : Option Placed). IfSome o (IsPlaced k sectors (open_sector k.reading sectors))) (sym c.requires.latest) (latest-placed k law sectors (c.args.id % 64) (some_sectors g.T.SlotSectors.role g.T.SlotSectors.format_of g.T.SlotSectors.kept d c.args.self.now law (g.met.F.Flash.is_lawful c.args.flash.now) c.requires.stands)) in
     let within = stands.listed.within in
     omega (arith, length-sectors d area)
 
@@ -43,42 +43,42 @@ pub returns-in_err-placed : goal.returns-in_err-placed
 returns-in_err-placed g c =
     let d : Device = g.F.Flash.device c.args.flash.now in
     let area : Area = c.args.self.now.area in
-    let k : Kind = g.T.SlotSectors.kind (geometry_of d area) in
+    let k : SectorFormat = g.T.SlotSectors.format_of (geometry_of d area) in
     let sectors : List (List ℕ) = sectors_of d area in
-    let law : IsKind (g.T.SlotSectors.kind (geometry_of d area)) = g.met.T.SlotSectors.lawful (geometry_of d area) (unit_is d area (g.met.F.Flash.is_lawful c.args.flash.now) c.requires.stands.area.lawful) in
+    let law : IsSectorFormat (g.T.SlotSectors.format_of (geometry_of d area)) = g.met.T.SlotSectors.lawful (geometry_of d area) (unit_is d area (g.met.F.Flash.is_lawful c.args.flash.now) c.requires.stands.area.lawful) in
     let stands : IsPlaced k sectors (open_sector k.reading sectors) c.args.latest.now =
-    subst (λ (o : Option Placed). IfSome o (IsPlaced k sectors (open_sector k.reading sectors))) (sym c.requires.latest) (latest-placed k law sectors (c.args.id % 64) (some_sectors g.T.SlotSectors.role g.T.SlotSectors.kind g.T.SlotSectors.kept d c.args.self.now law (g.met.F.Flash.is_lawful c.args.flash.now) c.requires.stands)) in
+    subst (λ (o : Option Placed). IfSome o (IsPlaced k sectors (open_sector k.reading sectors))) (sym c.requires.latest) (latest-placed k law sectors (c.args.id % 64) (some_sectors g.T.SlotSectors.role g.T.SlotSectors.format_of g.T.SlotSectors.kept d c.args.self.now law (g.met.F.Flash.is_lawful c.args.flash.now) c.requires.stands)) in
     let within = stands.listed.within in
     let enough : last_of (slots k) c.args.id (flat_map (counted_in (slots k) sectors c.args.self.now.current) (places_before (length sectors) c.args.self.now.current c.args.latest.now.sector ++ c.args.latest.now.sector ∷ [])) ≡ last_placed (slots k) sectors c.args.id =
-    search-enough k law sectors c.args.self.now.current c.args.latest.now.sector c.args.id c.requires.stands.current (let low = current_on g.T.SlotSectors.role g.T.SlotSectors.kind g.T.SlotSectors.kept d c.args.self.now law (g.met.F.Flash.is_lawful c.args.flash.now) c.requires.stands in omega (arith, length-sectors d area)) within c.args.latest.now (sym c.requires.latest) refl in
+    search-enough k law sectors c.args.self.now.current c.args.latest.now.sector c.args.id c.requires.stands.current (let low = current_on g.T.SlotSectors.role g.T.SlotSectors.format_of g.T.SlotSectors.kept d c.args.self.now law (g.met.F.Flash.is_lawful c.args.flash.now) c.requires.stands in omega (arith, length-sectors d area)) within c.args.latest.now (sym c.requires.latest) refl in
     ap (option_map (λ bytes. bytes.now)) c.from_residual.ensures
-    ∙ sym (value_by g.T.SlotSectors.role g.T.SlotSectors.kind g.T.SlotSectors.kept d c.args.self.now law (g.met.F.Flash.is_lawful c.args.flash.now) c.requires.stands None c.args.id (c.in_err-placed.ensures ∙ enough))
+    ∙ sym (value_by g.T.SlotSectors.role g.T.SlotSectors.format_of g.T.SlotSectors.kept d c.args.self.now law (g.met.F.Flash.is_lawful c.args.flash.now) c.requires.stands None c.args.id (c.in_err-placed.ensures ∙ enough))
 
 pub bytes_at-requires-clause-placed : goal.bytes_at-requires-clause-placed
 bytes_at-requires-clause-placed g c =
     let d : Device = g.F.Flash.device c.args.flash.now in
     let area : Area = c.args.self.now.area in
-    let k : Kind = g.T.SlotSectors.kind (geometry_of d area) in
+    let k : SectorFormat = g.T.SlotSectors.format_of (geometry_of d area) in
     let sectors : List (List ℕ) = sectors_of d area in
-    let law : IsKind (g.T.SlotSectors.kind (geometry_of d area)) = g.met.T.SlotSectors.lawful (geometry_of d area) (unit_is d area (g.met.F.Flash.is_lawful c.args.flash.now) c.requires.stands.area.lawful) in
+    let law : IsSectorFormat (g.T.SlotSectors.format_of (geometry_of d area)) = g.met.T.SlotSectors.lawful (geometry_of d area) (unit_is d area (g.met.F.Flash.is_lawful c.args.flash.now) c.requires.stands.area.lawful) in
     let stands : IsPlaced k sectors (open_sector k.reading sectors) c.args.latest.now =
-    subst (λ (o : Option Placed). IfSome o (IsPlaced k sectors (open_sector k.reading sectors))) (sym c.requires.latest) (latest-placed k law sectors (c.args.id % 64) (some_sectors g.T.SlotSectors.role g.T.SlotSectors.kind g.T.SlotSectors.kept d c.args.self.now law (g.met.F.Flash.is_lawful c.args.flash.now) c.requires.stands)) in
+    subst (λ (o : Option Placed). IfSome o (IsPlaced k sectors (open_sector k.reading sectors))) (sym c.requires.latest) (latest-placed k law sectors (c.args.id % 64) (some_sectors g.T.SlotSectors.role g.T.SlotSectors.format_of g.T.SlotSectors.kept d c.args.self.now law (g.met.F.Flash.is_lawful c.args.flash.now) c.requires.stands)) in
     let within = stands.listed.within in
     let enough : last_of (slots k) c.args.id (flat_map (counted_in (slots k) sectors c.args.self.now.current) (places_before (length sectors) c.args.self.now.current c.args.latest.now.sector ++ c.args.latest.now.sector ∷ [])) ≡ last_placed (slots k) sectors c.args.id =
-    search-enough k law sectors c.args.self.now.current c.args.latest.now.sector c.args.id c.requires.stands.current (let low = current_on g.T.SlotSectors.role g.T.SlotSectors.kind g.T.SlotSectors.kept d c.args.self.now law (g.met.F.Flash.is_lawful c.args.flash.now) c.requires.stands in omega (arith, length-sectors d area)) within c.args.latest.now (sym c.requires.latest) refl in
-    last_placed_on g.T.SlotSectors.role g.T.SlotSectors.kind g.T.SlotSectors.kept d c.args.self.now law (g.met.F.Flash.is_lawful c.args.flash.now) c.requires.stands (Some c.in_ok-placed.placed) c.args.id (c.in_ok-placed.ensures ∙ enough)
+    search-enough k law sectors c.args.self.now.current c.args.latest.now.sector c.args.id c.requires.stands.current (let low = current_on g.T.SlotSectors.role g.T.SlotSectors.format_of g.T.SlotSectors.kept d c.args.self.now law (g.met.F.Flash.is_lawful c.args.flash.now) c.requires.stands in omega (arith, length-sectors d area)) within c.args.latest.now (sym c.requires.latest) refl in
+    last_placed_on g.T.SlotSectors.role g.T.SlotSectors.format_of g.T.SlotSectors.kept d c.args.self.now law (g.met.F.Flash.is_lawful c.args.flash.now) c.requires.stands (Some c.in_ok-placed.placed) c.args.id (c.in_ok-placed.ensures ∙ enough)
 
 pub returns : goal.returns
 returns g c =
     let d : Device = g.F.Flash.device c.args.flash.now in
     let area : Area = c.args.self.now.area in
-    let k : Kind = g.T.SlotSectors.kind (geometry_of d area) in
+    let k : SectorFormat = g.T.SlotSectors.format_of (geometry_of d area) in
     let sectors : List (List ℕ) = sectors_of d area in
-    let law : IsKind (g.T.SlotSectors.kind (geometry_of d area)) = g.met.T.SlotSectors.lawful (geometry_of d area) (unit_is d area (g.met.F.Flash.is_lawful c.args.flash.now) c.requires.stands.area.lawful) in
+    let law : IsSectorFormat (g.T.SlotSectors.format_of (geometry_of d area)) = g.met.T.SlotSectors.lawful (geometry_of d area) (unit_is d area (g.met.F.Flash.is_lawful c.args.flash.now) c.requires.stands.area.lawful) in
     let stands : IsPlaced k sectors (open_sector k.reading sectors) c.args.latest.now =
-    subst (λ (o : Option Placed). IfSome o (IsPlaced k sectors (open_sector k.reading sectors))) (sym c.requires.latest) (latest-placed k law sectors (c.args.id % 64) (some_sectors g.T.SlotSectors.role g.T.SlotSectors.kind g.T.SlotSectors.kept d c.args.self.now law (g.met.F.Flash.is_lawful c.args.flash.now) c.requires.stands)) in
+    subst (λ (o : Option Placed). IfSome o (IsPlaced k sectors (open_sector k.reading sectors))) (sym c.requires.latest) (latest-placed k law sectors (c.args.id % 64) (some_sectors g.T.SlotSectors.role g.T.SlotSectors.format_of g.T.SlotSectors.kept d c.args.self.now law (g.met.F.Flash.is_lawful c.args.flash.now) c.requires.stands)) in
     let within = stands.listed.within in
     let enough : last_of (slots k) c.args.id (flat_map (counted_in (slots k) sectors c.args.self.now.current) (places_before (length sectors) c.args.self.now.current c.args.latest.now.sector ++ c.args.latest.now.sector ∷ [])) ≡ last_placed (slots k) sectors c.args.id =
-    search-enough k law sectors c.args.self.now.current c.args.latest.now.sector c.args.id c.requires.stands.current (let low = current_on g.T.SlotSectors.role g.T.SlotSectors.kind g.T.SlotSectors.kept d c.args.self.now law (g.met.F.Flash.is_lawful c.args.flash.now) c.requires.stands in omega (arith, length-sectors d area)) within c.args.latest.now (sym c.requires.latest) refl in
+    search-enough k law sectors c.args.self.now.current c.args.latest.now.sector c.args.id c.requires.stands.current (let low = current_on g.T.SlotSectors.role g.T.SlotSectors.format_of g.T.SlotSectors.kept d c.args.self.now law (g.met.F.Flash.is_lawful c.args.flash.now) c.requires.stands in omega (arith, length-sectors d area)) within c.args.latest.now (sym c.requires.latest) refl in
     c.bytes_at.ensures.value
-    ∙ sym (value_by g.T.SlotSectors.role g.T.SlotSectors.kind g.T.SlotSectors.kept d c.args.self.now law (g.met.F.Flash.is_lawful c.args.flash.now) c.requires.stands (Some c.in_ok-placed.placed) c.args.id (c.in_ok-placed.ensures ∙ enough))
+    ∙ sym (value_by g.T.SlotSectors.role g.T.SlotSectors.format_of g.T.SlotSectors.kept d c.args.self.now law (g.met.F.Flash.is_lawful c.args.flash.now) c.requires.stands (Some c.in_ok-placed.placed) c.args.id (c.in_ok-placed.ensures ∙ enough))

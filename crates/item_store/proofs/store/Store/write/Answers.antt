@@ -4,7 +4,7 @@ use Rattle.flash_map.specs.declared.area.Area.{Area}
 use Rattle.flash_map.specs.declared.area.Geometry.{Geometry}
 use Rattle.flash_map.specs.Area.{geometry_of, sector_size, sectors_of}
 use Rattle.item_laws.specs.PairRounds.{live_cost}
-use Rattle.item_store.specs.Kind.{IsKind}
+use Rattle.item_store.specs.SectorFormat.{IsSectorFormat}
 use Rattle.item_store.specs.Standing.{list_of}
 use Rattle.item_store.proofs.Areas.{unit_is}
 use Rattle.item_store.proofs.CallFacts.{to_geometry}
@@ -30,59 +30,59 @@ pub returns-then-is_too_long-clause-ends : goal.returns-then-is_too_long-clause-
 returns-then-is_too_long-clause-ends g c =
     let a : Device = g.F.Flash.device c.args.flash.now in
     let area : Area = c.args.self.now.area in
-    (long-by g.T.SlotSectors.kind a area c.geometry-g.result (length c.args.bytes.now) c.is_too_long.result c.geometry-g.ensures c.is_too_long.ensures c.if-is_too_long.true, refl)
+    (long-by g.T.SlotSectors.format_of a area c.geometry-g.result (length c.args.bytes.now) c.is_too_long.result c.geometry-g.ensures c.is_too_long.ensures c.if-is_too_long.true, refl)
 
 pub returns-then-holds-clause-ends : goal.returns-then-holds-clause-ends
 returns-then-holds-clause-ends g c =
     let a : Device = g.F.Flash.device c.args.flash.now in
     let area : Area = c.args.self.now.area in
-    let law : IsKind (g.T.SlotSectors.kind (geometry_of a area)) = g.met.T.SlotSectors.lawful (geometry_of a area) (unit_is a area (g.met.F.Flash.is_lawful c.args.flash.now) c.requires.stands.area.lawful) in
-    let on = at_of g.T.SlotSectors.role g.T.SlotSectors.kind g.T.SlotSectors.kept a c.args.self.now c.requires.stands in
-    let form = rest_open g.T.SlotSectors.role g.T.SlotSectors.kind g.T.SlotSectors.kept a area c.args.self.now.current c.args.self.now.opened law (g.met.F.Flash.is_lawful c.args.flash.now) on in
-    let short = short-by g.T.SlotSectors.kind a area c.geometry-g.result (length c.args.bytes.now) c.is_too_long.result c.geometry-g.ensures c.is_too_long.ensures c.if-is_too_long.false in
-    write_held (g.T.SlotSectors.kind (geometry_of a area)) law a area form c.args.id c.args.bytes.now c.requires.some short c.if-holds.ensures
+    let law : IsSectorFormat (g.T.SlotSectors.format_of (geometry_of a area)) = g.met.T.SlotSectors.lawful (geometry_of a area) (unit_is a area (g.met.F.Flash.is_lawful c.args.flash.now) c.requires.stands.area.lawful) in
+    let on = at_of g.T.SlotSectors.role g.T.SlotSectors.format_of g.T.SlotSectors.kept a c.args.self.now c.requires.stands in
+    let form = rest_open g.T.SlotSectors.role g.T.SlotSectors.format_of g.T.SlotSectors.kept a area c.args.self.now.current c.args.self.now.opened law (g.met.F.Flash.is_lawful c.args.flash.now) on in
+    let short = short-by g.T.SlotSectors.format_of a area c.geometry-g.result (length c.args.bytes.now) c.is_too_long.result c.geometry-g.ensures c.is_too_long.ensures c.if-is_too_long.false in
+    write_held (g.T.SlotSectors.format_of (geometry_of a area)) law a area form c.args.id c.args.bytes.now c.requires.some short c.if-holds.ensures
 
 pub append-requires-clause-stands : goal.append-requires-clause-stands
 append-requires-clause-stands g c =
     let a : Device = g.F.Flash.device c.args.flash.now in
     let area : Area = c.args.self.now.area in
-    at_of g.T.SlotSectors.role g.T.SlotSectors.kind g.T.SlotSectors.kept a c.args.self.now c.requires.stands
+    at_of g.T.SlotSectors.role g.T.SlotSectors.format_of g.T.SlotSectors.kept a c.args.self.now c.requires.stands
 
 pub append-requires-clause-narrow : goal.append-requires-clause-narrow
 append-requires-clause-narrow g c =
     let a : Device = g.F.Flash.device c.args.flash.now in
     let area : Area = c.args.self.now.area in
-    let law : IsKind (g.T.SlotSectors.kind (geometry_of a area)) = g.met.T.SlotSectors.lawful (geometry_of a area) (unit_is a area (g.met.F.Flash.is_lawful c.args.flash.now) c.requires.stands.area.lawful) in
-    let short = short-by g.T.SlotSectors.kind a area c.geometry-g.result (length c.args.bytes.now) c.is_too_long.result c.geometry-g.ensures c.is_too_long.ensures c.if-is_too_long.false in
-    let narrow = narrow-by (g.T.SlotSectors.kind (geometry_of a area)) law (sector_size a area) (length c.args.bytes.now) c.requires.stands.area.lawful.at_most short in
+    let law : IsSectorFormat (g.T.SlotSectors.format_of (geometry_of a area)) = g.met.T.SlotSectors.lawful (geometry_of a area) (unit_is a area (g.met.F.Flash.is_lawful c.args.flash.now) c.requires.stands.area.lawful) in
+    let short = short-by g.T.SlotSectors.format_of a area c.geometry-g.result (length c.args.bytes.now) c.is_too_long.result c.geometry-g.ensures c.is_too_long.ensures c.if-is_too_long.false in
+    let narrow = narrow-by (g.T.SlotSectors.format_of (geometry_of a area)) law (sector_size a area) (length c.args.bytes.now) c.requires.stands.area.lawful.at_most short in
     narrow
 
 pub append-requires-clause-short : goal.append-requires-clause-short
 append-requires-clause-short g c =
     let a : Device = g.F.Flash.device c.args.flash.now in
     let area : Area = c.args.self.now.area in
-    let short = short-by g.T.SlotSectors.kind a area c.geometry-g.result (length c.args.bytes.now) c.is_too_long.result c.geometry-g.ensures c.is_too_long.ensures c.if-is_too_long.false in
+    let short = short-by g.T.SlotSectors.format_of a area c.geometry-g.result (length c.args.bytes.now) c.is_too_long.result c.geometry-g.ensures c.is_too_long.ensures c.if-is_too_long.false in
     λ _. short
 
 pub returns-in-Err-clause-ends : goal.returns-in-Err-clause-ends
 returns-in-Err-clause-ends g c =
     let a : Device = g.F.Flash.device c.args.flash.now in
     let area : Area = c.args.self.now.area in
-    let law : IsKind (g.T.SlotSectors.kind (geometry_of a area)) = g.met.T.SlotSectors.lawful (geometry_of a area) (unit_is a area (g.met.F.Flash.is_lawful c.args.flash.now) c.requires.stands.area.lawful) in
-    let on = at_of g.T.SlotSectors.role g.T.SlotSectors.kind g.T.SlotSectors.kept a c.args.self.now c.requires.stands in
-    let form = rest_open g.T.SlotSectors.role g.T.SlotSectors.kind g.T.SlotSectors.kept a area c.args.self.now.current c.args.self.now.opened law (g.met.F.Flash.is_lawful c.args.flash.now) on in
-    let short = short-by g.T.SlotSectors.kind a area c.geometry-g.result (length c.args.bytes.now) c.is_too_long.result c.geometry-g.ensures c.is_too_long.ensures c.if-is_too_long.false in
-    write_stops (g.T.SlotSectors.kind (geometry_of a area)) law a area form (g.F.Flash.device c.append.new.flash) c.args.id c.args.bytes.now c.requires.some short c.if-holds.ensures c.in-Err.ensures.ends
+    let law : IsSectorFormat (g.T.SlotSectors.format_of (geometry_of a area)) = g.met.T.SlotSectors.lawful (geometry_of a area) (unit_is a area (g.met.F.Flash.is_lawful c.args.flash.now) c.requires.stands.area.lawful) in
+    let on = at_of g.T.SlotSectors.role g.T.SlotSectors.format_of g.T.SlotSectors.kept a c.args.self.now c.requires.stands in
+    let form = rest_open g.T.SlotSectors.role g.T.SlotSectors.format_of g.T.SlotSectors.kept a area c.args.self.now.current c.args.self.now.opened law (g.met.F.Flash.is_lawful c.args.flash.now) on in
+    let short = short-by g.T.SlotSectors.format_of a area c.geometry-g.result (length c.args.bytes.now) c.is_too_long.result c.geometry-g.ensures c.is_too_long.ensures c.if-is_too_long.false in
+    write_stops (g.T.SlotSectors.format_of (geometry_of a area)) law a area form (g.F.Flash.device c.append.new.flash) c.args.id c.args.bytes.now c.requires.some short c.if-holds.ensures c.in-Err.ensures.ends
 
 pub returns-in-Ok-true-clause-ends : goal.returns-in-Ok-true-clause-ends
 returns-in-Ok-true-clause-ends g c =
     let a : Device = g.F.Flash.device c.args.flash.now in
     let area : Area = c.args.self.now.area in
-    let law : IsKind (g.T.SlotSectors.kind (geometry_of a area)) = g.met.T.SlotSectors.lawful (geometry_of a area) (unit_is a area (g.met.F.Flash.is_lawful c.args.flash.now) c.requires.stands.area.lawful) in
-    let on = at_of g.T.SlotSectors.role g.T.SlotSectors.kind g.T.SlotSectors.kept a c.args.self.now c.requires.stands in
-    let form = rest_open g.T.SlotSectors.role g.T.SlotSectors.kind g.T.SlotSectors.kept a area c.args.self.now.current c.args.self.now.opened law (g.met.F.Flash.is_lawful c.args.flash.now) on in
-    let short = short-by g.T.SlotSectors.kind a area c.geometry-g.result (length c.args.bytes.now) c.is_too_long.result c.geometry-g.ensures c.is_too_long.ensures c.if-is_too_long.false in
-    write_done (g.T.SlotSectors.kind (geometry_of a area)) law a area form (g.F.Flash.device c.append.new.flash) c.args.id c.args.bytes.now c.requires.some short c.if-holds.ensures (ends_true (g.T.SlotSectors.kind (geometry_of a area)) a (g.F.Flash.device c.append.new.flash) area c.args.id c.args.bytes.now c.in-Ok-true.field-0 c.in-Ok-true.field-0-test c.in-Ok-true.ensures.ends)
+    let law : IsSectorFormat (g.T.SlotSectors.format_of (geometry_of a area)) = g.met.T.SlotSectors.lawful (geometry_of a area) (unit_is a area (g.met.F.Flash.is_lawful c.args.flash.now) c.requires.stands.area.lawful) in
+    let on = at_of g.T.SlotSectors.role g.T.SlotSectors.format_of g.T.SlotSectors.kept a c.args.self.now c.requires.stands in
+    let form = rest_open g.T.SlotSectors.role g.T.SlotSectors.format_of g.T.SlotSectors.kept a area c.args.self.now.current c.args.self.now.opened law (g.met.F.Flash.is_lawful c.args.flash.now) on in
+    let short = short-by g.T.SlotSectors.format_of a area c.geometry-g.result (length c.args.bytes.now) c.is_too_long.result c.geometry-g.ensures c.is_too_long.ensures c.if-is_too_long.false in
+    write_done (g.T.SlotSectors.format_of (geometry_of a area)) law a area form (g.F.Flash.device c.append.new.flash) c.args.id c.args.bytes.now c.requires.some short c.if-holds.ensures (ends_true (g.T.SlotSectors.format_of (geometry_of a area)) a (g.F.Flash.device c.append.new.flash) area c.args.id c.args.bytes.now c.in-Ok-true.field-0 c.in-Ok-true.field-0-test c.in-Ok-true.ensures.ends)
 
 pub cost-need-requires-clause-unit : goal.cost-need-requires-clause-unit
 cost-need-requires-clause-unit g c =
@@ -94,18 +94,18 @@ pub cost-need-requires-clause-short : goal.cost-need-requires-clause-short
 cost-need-requires-clause-short g c =
     let a : Device = g.F.Flash.device c.args.flash.now in
     let area : Area = c.args.self.now.area in
-    let law : IsKind (g.T.SlotSectors.kind (geometry_of a area)) = g.met.T.SlotSectors.lawful (geometry_of a area) (unit_is a area (g.met.F.Flash.is_lawful c.args.flash.now) c.requires.stands.area.lawful) in
-    let short = short-by g.T.SlotSectors.kind a area c.geometry-g.result (length c.args.bytes.now) c.is_too_long.result c.geometry-g.ensures c.is_too_long.ensures c.if-is_too_long.false in
-    let narrow = narrow-by (g.T.SlotSectors.kind (geometry_of a area)) law (sector_size a area) (length c.args.bytes.now) c.requires.stands.area.lawful.at_most short in
+    let law : IsSectorFormat (g.T.SlotSectors.format_of (geometry_of a area)) = g.met.T.SlotSectors.lawful (geometry_of a area) (unit_is a area (g.met.F.Flash.is_lawful c.args.flash.now) c.requires.stands.area.lawful) in
+    let short = short-by g.T.SlotSectors.format_of a area c.geometry-g.result (length c.args.bytes.now) c.is_too_long.result c.geometry-g.ensures c.is_too_long.ensures c.if-is_too_long.false in
+    let narrow = narrow-by (g.T.SlotSectors.format_of (geometry_of a area)) law (sector_size a area) (length c.args.bytes.now) c.requires.stands.area.lawful.at_most short in
     narrow
 
 pub overflow_cast-bytes : goal.overflow_cast-bytes
 overflow_cast-bytes g c =
     let a : Device = g.F.Flash.device c.args.flash.now in
     let area : Area = c.args.self.now.area in
-    let law : IsKind (g.T.SlotSectors.kind (geometry_of a area)) = g.met.T.SlotSectors.lawful (geometry_of a area) (unit_is a area (g.met.F.Flash.is_lawful c.args.flash.now) c.requires.stands.area.lawful) in
-    let short = short-by g.T.SlotSectors.kind a area c.geometry-g.result (length c.args.bytes.now) c.is_too_long.result c.geometry-g.ensures c.is_too_long.ensures c.if-is_too_long.false in
-    let narrow = narrow-by (g.T.SlotSectors.kind (geometry_of a area)) law (sector_size a area) (length c.args.bytes.now) c.requires.stands.area.lawful.at_most short in
+    let law : IsSectorFormat (g.T.SlotSectors.format_of (geometry_of a area)) = g.met.T.SlotSectors.lawful (geometry_of a area) (unit_is a area (g.met.F.Flash.is_lawful c.args.flash.now) c.requires.stands.area.lawful) in
+    let short = short-by g.T.SlotSectors.format_of a area c.geometry-g.result (length c.args.bytes.now) c.is_too_long.result c.geometry-g.ensures c.is_too_long.ensures c.if-is_too_long.false in
+    let narrow = narrow-by (g.T.SlotSectors.format_of (geometry_of a area)) law (sector_size a area) (length c.args.bytes.now) c.requires.stands.area.lawful.at_most short in
     let small = narrow in
     omega arith
 
@@ -113,12 +113,12 @@ pub returns-in-Ok-false-clause-ends : goal.returns-in-Ok-false-clause-ends
 returns-in-Ok-false-clause-ends g c =
     let a : Device = g.F.Flash.device c.args.flash.now in
     let area : Area = c.args.self.now.area in
-    let law : IsKind (g.T.SlotSectors.kind (geometry_of a area)) = g.met.T.SlotSectors.lawful (geometry_of a area) (unit_is a area (g.met.F.Flash.is_lawful c.args.flash.now) c.requires.stands.area.lawful) in
-    let on = at_of g.T.SlotSectors.role g.T.SlotSectors.kind g.T.SlotSectors.kept a c.args.self.now c.requires.stands in
-    let form = rest_open g.T.SlotSectors.role g.T.SlotSectors.kind g.T.SlotSectors.kept a area c.args.self.now.current c.args.self.now.opened law (g.met.F.Flash.is_lawful c.args.flash.now) on in
-    let short = short-by g.T.SlotSectors.kind a area c.geometry-g.result (length c.args.bytes.now) c.is_too_long.result c.geometry-g.ensures c.is_too_long.ensures c.if-is_too_long.false in
-    write_full (g.T.SlotSectors.kind (geometry_of a area)) law a area form (g.F.Flash.device c.append.new.flash) c.args.id c.args.bytes.now c.cost-need.result c.live_cost-live.result short c.if-holds.ensures (ends_false (g.T.SlotSectors.kind (geometry_of a area)) a (g.F.Flash.device c.append.new.flash) area c.args.id c.args.bytes.now c.in-Ok-false.field-0 c.in-Ok-false.field-0-test c.in-Ok-false.ensures.ends) (need-by g.T.SlotSectors.kind a area c.geometry-g.result (length c.args.bytes.now) c.cost-need.result c.geometry-g.ensures c.cost-need.ensures.value)
-    (to_geometry (λ u. c.live_cost-live.result ≡ live_cost (g.T.SlotSectors.kind u).cost (list_of (g.T.SlotSectors.kind u) (sectors_of (g.F.Flash.device c.append.new.flash) area))) a (g.F.Flash.device c.append.new.flash) area c.in-Ok-false.ensures.touches.banks c.live_cost-live.ensures)
+    let law : IsSectorFormat (g.T.SlotSectors.format_of (geometry_of a area)) = g.met.T.SlotSectors.lawful (geometry_of a area) (unit_is a area (g.met.F.Flash.is_lawful c.args.flash.now) c.requires.stands.area.lawful) in
+    let on = at_of g.T.SlotSectors.role g.T.SlotSectors.format_of g.T.SlotSectors.kept a c.args.self.now c.requires.stands in
+    let form = rest_open g.T.SlotSectors.role g.T.SlotSectors.format_of g.T.SlotSectors.kept a area c.args.self.now.current c.args.self.now.opened law (g.met.F.Flash.is_lawful c.args.flash.now) on in
+    let short = short-by g.T.SlotSectors.format_of a area c.geometry-g.result (length c.args.bytes.now) c.is_too_long.result c.geometry-g.ensures c.is_too_long.ensures c.if-is_too_long.false in
+    write_full (g.T.SlotSectors.format_of (geometry_of a area)) law a area form (g.F.Flash.device c.append.new.flash) c.args.id c.args.bytes.now c.cost-need.result c.live_cost-live.result short c.if-holds.ensures (ends_false (g.T.SlotSectors.format_of (geometry_of a area)) a (g.F.Flash.device c.append.new.flash) area c.args.id c.args.bytes.now c.in-Ok-false.field-0 c.in-Ok-false.field-0-test c.in-Ok-false.ensures.ends) (need-by g.T.SlotSectors.format_of a area c.geometry-g.result (length c.args.bytes.now) c.cost-need.result c.geometry-g.ensures c.cost-need.ensures.value)
+    (to_geometry (λ u. c.live_cost-live.result ≡ live_cost (g.T.SlotSectors.format_of u).cost (list_of (g.T.SlotSectors.format_of u) (sectors_of (g.F.Flash.device c.append.new.flash) area))) a (g.F.Flash.device c.append.new.flash) area c.in-Ok-false.ensures.touches.banks c.live_cost-live.ensures)
 
 pub returns-then-is_too_long-clause-written : goal.returns-then-is_too_long-clause-written
 returns-then-is_too_long-clause-written g c =
@@ -143,14 +143,14 @@ returns-in-Ok-false-clause-written g c =
 pub returns-in-Ok-true-clause-stands : goal.returns-in-Ok-true-clause-stands
 returns-in-Ok-true-clause-stands g c = λ _.
     let did = c.in-Ok-true.ensures in
-    stands_with g.T.SlotSectors.role g.T.SlotSectors.kind g.T.SlotSectors.kept (g.F.Flash.device c.append.new.flash) c.args.self.now.area c.append.new.current c.append.new.opened c.append.new.cache did.stands did.cached
+    stands_with g.T.SlotSectors.role g.T.SlotSectors.format_of g.T.SlotSectors.kept (g.F.Flash.device c.append.new.flash) c.args.self.now.area c.append.new.current c.append.new.opened c.append.new.cache did.stands did.cached
 
 pub returns-in-Ok-false-clause-stands : goal.returns-in-Ok-false-clause-stands
 returns-in-Ok-false-clause-stands g c = λ _.
     let did = c.in-Ok-false.ensures in
-    stands_with g.T.SlotSectors.role g.T.SlotSectors.kind g.T.SlotSectors.kept (g.F.Flash.device c.append.new.flash) c.args.self.now.area c.append.new.current c.append.new.opened c.append.new.cache did.stands did.cached
+    stands_with g.T.SlotSectors.role g.T.SlotSectors.format_of g.T.SlotSectors.kept (g.F.Flash.device c.append.new.flash) c.args.self.now.area c.append.new.current c.append.new.opened c.append.new.cache did.stands did.cached
 
 pub live_cost-live-requires : goal.live_cost-live-requires
 live_cost-live-requires g c =
     let did = c.in-Ok-false.ensures in
-    stands_with g.T.SlotSectors.role g.T.SlotSectors.kind g.T.SlotSectors.kept (g.F.Flash.device c.append.new.flash) c.args.self.now.area c.append.new.current c.append.new.opened c.append.new.cache did.stands did.cached
+    stands_with g.T.SlotSectors.role g.T.SlotSectors.format_of g.T.SlotSectors.kept (g.F.Flash.device c.append.new.flash) c.args.self.now.area c.append.new.current c.append.new.opened c.append.new.cache did.stands did.cached

@@ -2,7 +2,7 @@ use Rattle.std.proofs.Common.{◌≡◌, ◌+◌, ℕ, true, false, [], ◌∷�
 use Rattle.flash_sim.specs.Device.{Device}
 use Rattle.flash_map.specs.Area.{geometry_of}
 use Rattle.flash_map.proofs.Touches.{first_of_two, second_of_two, then}
-use Rattle.backend_api.specs.Room.{most_units}
+use Rattle.backend_api.specs.Room.{command_units}
 use Rattle.mirror.proofs.BothSteps.{most-both-on, most-first}
 use Rattle.mirror.proofs.MirrorEnds.{delete-ends, delete-mirror, first-cut, other-stands, removed-fit}
 use Rattle.mirror.proofs.mirror.Mirror.delete.Goals as goal
@@ -23,7 +23,7 @@ pub returns-in-Err-clause-at_most : goal.returns-in-Err-clause-at_most
 returns-in-Err-clause-at_most g c =
     let d : Device = g.F.Flash.device c.args.flash.now in
     let m : Device = g.F.Flash.device c.take.new.flash in
-    most-first d m (most_units (geometry_of d c.args.self.now.trusted.area)) (most_units (geometry_of d c.args.self.now.other.area)) c.take.ensures.at_most
+    most-first d m (command_units (geometry_of d c.args.self.now.trusted.area)) (command_units (geometry_of d c.args.self.now.other.area)) c.take.ensures.at_most
 
 pub take-requires-2 : goal.take-requires-2
 take-requires-2 g c =

@@ -3,7 +3,7 @@ use Rattle.flash_sim.specs.Device.{Device}
 use Rattle.flash_map.specs.Area.{geometry_of, value_limit}
 use Rattle.flash_map.specs.On.{on}
 use Rattle.flash_map.proofs.Touches.{first_of_two, second_of_two, then}
-use Rattle.backend_api.specs.Room.{most_units}
+use Rattle.backend_api.specs.Room.{command_units}
 use Rattle.migrator.specs.Migrating.{room_on}
 use Rattle.migrator.proofs.Values.{limit-same}
 use Rattle.mirror.specs.Room.{prices_on}
@@ -34,7 +34,7 @@ pub returns-in-Err-clause-at_most : goal.returns-in-Err-clause-at_most
 returns-in-Err-clause-at_most g c =
     let d : Device = g.F.Flash.device c.args.flash.now in
     let m : Device = g.F.Flash.device c.put.new.flash in
-    most-first d m (most_units (geometry_of d c.args.self.now.trusted.area)) (most_units (geometry_of d c.args.self.now.other.area)) c.put.ensures.at_most
+    most-first d m (command_units (geometry_of d c.args.self.now.trusted.area)) (command_units (geometry_of d c.args.self.now.other.area)) c.put.ensures.at_most
 
 pub put-requires-2-clause-stands : goal.put-requires-2-clause-stands
 put-requires-2-clause-stands g c =

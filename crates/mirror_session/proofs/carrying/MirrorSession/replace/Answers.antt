@@ -15,10 +15,10 @@ use Rattle.mirror_session.proofs.carrying.MirrorSession.replace.Goals as goal
 
 -- where the store area with a label is found
 found : (map : List Area) (label text : List ℕ) (result place : Option ℕ) → result ≡ labelled map text → text ≡ label → result ≡ place → labelled map label ≡ place
-found map label text result place told same is = ap (labelled map) (sym same) ∙ (sym told ∙ is)
+found map label text result place reported same is = ap (labelled map) (sym same) ∙ (sym reported ∙ is)
 
 dark_by : (is_on whole result : Bool) → result ≡ is_on → result ≡ false → (is_on && whole) ≡ false
-dark_by is_on whole result told is = ap (λ (b : Bool). b && whole) (sym told ∙ is)
+dark_by is_on whole result reported is = ap (λ (b : Bool). b && whole) (sym reported ∙ is)
 
 pub returns-in_default-clause-done : goal.returns-in_default-clause-done
 returns-in_default-clause-done g c =

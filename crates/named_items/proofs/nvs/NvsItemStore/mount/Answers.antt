@@ -2,43 +2,43 @@ use Rattle.flash_map.specs.Area.{geometry_of}
 use Rattle.flash_map.specs.declared.area.Role.TheVariants.{Nvs as NvsRole}
 use Rattle.nvs_gc.specs.declared.nvs.Nvs.{Nvs}
 use Rattle.nvs_gc.specs.Standing.{kept}
-use Rattle.nvs_format.specs.Kinds.{kind}
+use Rattle.nvs_format.specs.Formats.{format_of}
 use Rattle.named_items.proofs.NvsSteps.{nvs-law, nvs-frugal, nvs-erased}
 use Rattle.named_items.proofs.RingSteps.{ring-mounts, ring-sound, ring-keeps, ring-mounted, ring-up, ring-idle, ring-mount-most, ring-changed}
 use Rattle.named_items.proofs.nvs.NvsItemStore.mount.Goals as goal
 
 pub returns-clause-ends : goal.returns-clause-ends
 returns-clause-ends g c =
-    ring-mounts NvsRole kind kept (λ (nvs : Nvs). nvs.store) (g.F.Flash.device c.args.flash.now) (g.F.Flash.device c.mount.new.flash) c.args.area c.mount.ensures.touches.banks c.mount.result c.mount.ensures.ends
+    ring-mounts NvsRole format_of kept (λ (nvs : Nvs). nvs.store) (g.F.Flash.device c.args.flash.now) (g.F.Flash.device c.mount.new.flash) c.args.area c.mount.ensures.touches.banks c.mount.result c.mount.ensures.ends
 
 pub returns-clause-sound : goal.returns-clause-sound
 returns-clause-sound g c =
-    ring-sound NvsRole kind kept (λ (nvs : Nvs). nvs.store) (g.F.Flash.device c.args.flash.now) (g.F.Flash.device c.mount.new.flash) c.args.area c.mount.ensures.touches.banks c.mount.result c.mount.ensures.ends
+    ring-sound NvsRole format_of kept (λ (nvs : Nvs). nvs.store) (g.F.Flash.device c.args.flash.now) (g.F.Flash.device c.mount.new.flash) c.args.area c.mount.ensures.touches.banks c.mount.result c.mount.ensures.ends
 
 pub returns-clause-keeps : goal.returns-clause-keeps
 returns-clause-keeps g c =
-    ring-keeps NvsRole kind kept (λ (nvs : Nvs). nvs.store) (g.F.Flash.device c.args.flash.now) (g.F.Flash.device c.mount.new.flash) c.args.area c.mount.ensures.touches.banks c.mount.result c.mount.ensures.ends
+    ring-keeps NvsRole format_of kept (λ (nvs : Nvs). nvs.store) (g.F.Flash.device c.args.flash.now) (g.F.Flash.device c.mount.new.flash) c.args.area c.mount.ensures.touches.banks c.mount.result c.mount.ensures.ends
 
 pub returns-clause-rests : goal.returns-clause-rests
 returns-clause-rests g c =
-    ring-idle NvsRole kind kept (λ (nvs : Nvs). nvs.store) (g.F.Flash.device c.args.flash.now) (g.F.Flash.device c.mount.new.flash) c.args.area c.mount.ensures.touches.banks
+    ring-idle NvsRole format_of kept (λ (nvs : Nvs). nvs.store) (g.F.Flash.device c.args.flash.now) (g.F.Flash.device c.mount.new.flash) c.args.area c.mount.ensures.touches.banks
     (nvs-law (g.F.Flash.device c.args.flash.now) c.args.area (g.met.F.Flash.is_lawful c.args.flash.now) c.requires.lawful) c.requires.lawful c.mount.result c.mount.ensures.ends
 
 pub returns-clause-written : goal.returns-clause-written
 returns-clause-written g c =
     let geometry = geometry_of (g.F.Flash.device c.args.flash.now) c.args.area in
-    ring-changed (kind geometry) (nvs-erased geometry) (g.F.Flash.device c.args.flash.now) (g.F.Flash.device c.mount.new.flash) c.args.area c.mount.ensures.changed
+    ring-changed (format_of geometry) (nvs-erased geometry) (g.F.Flash.device c.args.flash.now) (g.F.Flash.device c.mount.new.flash) c.args.area c.mount.ensures.changed
 
 pub returns-clause-at_most : goal.returns-clause-at_most
 returns-clause-at_most g c =
     let geometry = geometry_of (g.F.Flash.device c.args.flash.now) c.args.area in
-    ring-mount-most (kind geometry) (g.F.Flash.device c.args.flash.now) (g.F.Flash.device c.mount.new.flash) c.args.area c.requires.lawful.several
+    ring-mount-most (format_of geometry) (g.F.Flash.device c.args.flash.now) (g.F.Flash.device c.mount.new.flash) c.args.area c.requires.lawful.several
     (nvs-frugal (g.F.Flash.device c.args.flash.now) c.args.area (g.met.F.Flash.is_lawful c.args.flash.now) c.requires.lawful) c.mount.ensures.at_most
 
 pub returns-clause-on : goal.returns-clause-on
 returns-clause-on g c =
-    ring-mounted NvsRole kind kept (λ (nvs : Nvs). nvs.store) (g.F.Flash.device c.args.flash.now) (g.F.Flash.device c.mount.new.flash) c.args.area c.mount.ensures.touches.banks c.mount.result c.mount.ensures.ends
+    ring-mounted NvsRole format_of kept (λ (nvs : Nvs). nvs.store) (g.F.Flash.device c.args.flash.now) (g.F.Flash.device c.mount.new.flash) c.args.area c.mount.ensures.touches.banks c.mount.result c.mount.ensures.ends
 
 pub returns-clause-stands : goal.returns-clause-stands
 returns-clause-stands g c =
-    ring-up NvsRole kind kept (λ (nvs : Nvs). nvs.store) (g.F.Flash.device c.args.flash.now) (g.F.Flash.device c.mount.new.flash) c.args.area c.mount.ensures.touches.banks c.mount.result c.mount.ensures.ends
+    ring-up NvsRole format_of kept (λ (nvs : Nvs). nvs.store) (g.F.Flash.device c.args.flash.now) (g.F.Flash.device c.mount.new.flash) c.args.area c.mount.ensures.touches.banks c.mount.result c.mount.ensures.ends

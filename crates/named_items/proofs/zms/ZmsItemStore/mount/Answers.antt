@@ -1,43 +1,43 @@
 use Rattle.flash_map.specs.Area.{geometry_of}
 use Rattle.flash_map.specs.declared.area.Role.TheVariants.{Zms as ZmsRole}
 use Rattle.zms_store.specs.Standing.{kept}
-use Rattle.zms_format.specs.Kinds.{kind}
+use Rattle.zms_format.specs.Formats.{format_of}
 use Rattle.named_items.proofs.ZmsSteps.{zms-law, zms-frugal, zms-erased}
 use Rattle.named_items.proofs.RingSteps.{ring-mounts, ring-sound, ring-keeps, ring-mounted, ring-up, ring-idle, ring-mount-most, ring-changed}
 use Rattle.named_items.proofs.zms.ZmsItemStore.mount.Goals as goal
 
 pub returns-clause-ends : goal.returns-clause-ends
 returns-clause-ends g c =
-    ring-mounts ZmsRole kind kept (λ zms. zms.store) (g.F.Flash.device c.args.flash.now) (g.F.Flash.device c.mount.new.flash) c.args.area c.mount.ensures.touches.banks c.mount.result c.mount.ensures.ends
+    ring-mounts ZmsRole format_of kept (λ zms. zms.store) (g.F.Flash.device c.args.flash.now) (g.F.Flash.device c.mount.new.flash) c.args.area c.mount.ensures.touches.banks c.mount.result c.mount.ensures.ends
 
 pub returns-clause-sound : goal.returns-clause-sound
 returns-clause-sound g c =
-    ring-sound ZmsRole kind kept (λ zms. zms.store) (g.F.Flash.device c.args.flash.now) (g.F.Flash.device c.mount.new.flash) c.args.area c.mount.ensures.touches.banks c.mount.result c.mount.ensures.ends
+    ring-sound ZmsRole format_of kept (λ zms. zms.store) (g.F.Flash.device c.args.flash.now) (g.F.Flash.device c.mount.new.flash) c.args.area c.mount.ensures.touches.banks c.mount.result c.mount.ensures.ends
 
 pub returns-clause-keeps : goal.returns-clause-keeps
 returns-clause-keeps g c =
-    ring-keeps ZmsRole kind kept (λ zms. zms.store) (g.F.Flash.device c.args.flash.now) (g.F.Flash.device c.mount.new.flash) c.args.area c.mount.ensures.touches.banks c.mount.result c.mount.ensures.ends
+    ring-keeps ZmsRole format_of kept (λ zms. zms.store) (g.F.Flash.device c.args.flash.now) (g.F.Flash.device c.mount.new.flash) c.args.area c.mount.ensures.touches.banks c.mount.result c.mount.ensures.ends
 
 pub returns-clause-rests : goal.returns-clause-rests
 returns-clause-rests g c =
-    ring-idle ZmsRole kind kept (λ zms. zms.store) (g.F.Flash.device c.args.flash.now) (g.F.Flash.device c.mount.new.flash) c.args.area c.mount.ensures.touches.banks
+    ring-idle ZmsRole format_of kept (λ zms. zms.store) (g.F.Flash.device c.args.flash.now) (g.F.Flash.device c.mount.new.flash) c.args.area c.mount.ensures.touches.banks
     (zms-law (geometry_of (g.F.Flash.device c.args.flash.now) c.args.area)) c.requires.lawful c.mount.result c.mount.ensures.ends
 
 pub returns-clause-written : goal.returns-clause-written
 returns-clause-written g c =
     let geometry = geometry_of (g.F.Flash.device c.args.flash.now) c.args.area in
-    ring-changed (kind geometry) (zms-erased geometry) (g.F.Flash.device c.args.flash.now) (g.F.Flash.device c.mount.new.flash) c.args.area c.mount.ensures.changed
+    ring-changed (format_of geometry) (zms-erased geometry) (g.F.Flash.device c.args.flash.now) (g.F.Flash.device c.mount.new.flash) c.args.area c.mount.ensures.changed
 
 pub returns-clause-at_most : goal.returns-clause-at_most
 returns-clause-at_most g c =
     let geometry = geometry_of (g.F.Flash.device c.args.flash.now) c.args.area in
-    ring-mount-most (kind geometry) (g.F.Flash.device c.args.flash.now) (g.F.Flash.device c.mount.new.flash) c.args.area c.requires.lawful.several
+    ring-mount-most (format_of geometry) (g.F.Flash.device c.args.flash.now) (g.F.Flash.device c.mount.new.flash) c.args.area c.requires.lawful.several
     (zms-frugal (g.F.Flash.device c.args.flash.now) c.args.area c.requires.lawful c.requires.serves) c.mount.ensures.at_most
 
 pub returns-clause-on : goal.returns-clause-on
 returns-clause-on g c =
-    ring-mounted ZmsRole kind kept (λ zms. zms.store) (g.F.Flash.device c.args.flash.now) (g.F.Flash.device c.mount.new.flash) c.args.area c.mount.ensures.touches.banks c.mount.result c.mount.ensures.ends
+    ring-mounted ZmsRole format_of kept (λ zms. zms.store) (g.F.Flash.device c.args.flash.now) (g.F.Flash.device c.mount.new.flash) c.args.area c.mount.ensures.touches.banks c.mount.result c.mount.ensures.ends
 
 pub returns-clause-stands : goal.returns-clause-stands
 returns-clause-stands g c =
-    ring-up ZmsRole kind kept (λ zms. zms.store) (g.F.Flash.device c.args.flash.now) (g.F.Flash.device c.mount.new.flash) c.args.area c.mount.ensures.touches.banks c.mount.result c.mount.ensures.ends
+    ring-up ZmsRole format_of kept (λ zms. zms.store) (g.F.Flash.device c.args.flash.now) (g.F.Flash.device c.mount.new.flash) c.args.area c.mount.ensures.touches.banks c.mount.result c.mount.ensures.ends

@@ -11,11 +11,11 @@ use Rattle.item_laws.proofs.Lists.{there}
 use Rattle.nvs_store.proofs.ScanLemmas.{erased-replicate}
 use Rattle.item_store.specs.Steps.{Clears}
 use Rattle.item_store.proofs.Areas.{size_there}
-use Rattle.nvs_format.specs.Kinds.{kind_in}
+use Rattle.nvs_format.specs.Formats.{format_in}
 use Rattle.nvs_format.proofs.StepLemmas.{stops_clearing}
 use Rattle.nvs_gc.proofs.sectors.NvsOpenSlotSectors.clear.Goals as goal
 
-emptied : (unit : ℕ) (old new : List (List ℕ)) (place size : ℕ) → place < length old → length (sector_at old place) ≡ size → new ≡ set old place (replicate size 255) → Clears (kind_in unit) (sector_at old place) (sector_at new place)
+emptied : (unit : ℕ) (old new : List (List ℕ)) (place size : ℕ) → place < length old → length (sector_at old place) ≡ size → new ≡ set old place (replicate size 255) → Clears (format_in unit) (sector_at old place) (sector_at new place)
 emptied unit old new place size within long is =
     let here : sector_at new place ≡ replicate size 255 = ap (λ (s : List (List ℕ)). sector_at s place) is ∙ there old place (replicate size 255) within in
     record { clean = ap is_erased here ∙ erased-replicate size; ready = refl; long = ap length here ∙ length-replicate size 255 ∙ sym long }

@@ -9,7 +9,7 @@ use Rattle.nvs_store.specs.Scans.{ClosesAt}
 use Rattle.item_store.specs.Steps.{Keeps, Closes}
 use Rattle.item_store.proofs.Areas.{only_none}
 use Rattle.item_store.proofs.CopyLoop.{either}
-use Rattle.nvs_format.specs.Kinds.{kind_in}
+use Rattle.nvs_format.specs.Formats.{format_in}
 use Rattle.nvs_format.proofs.StepLemmas.{closes, keeps_same}
 use Rattle.nvs_gc.proofs.sectors.NvsOpenSlotSectors.close.Goals as goal
 
@@ -17,8 +17,8 @@ cut_only : (unit : ℕ) (old new : List (List ℕ)) (place : ℕ) → (new ≡ o
 cut_only unit old new place (inl same) = only_none old new place same
 cut_only unit old new place (inr at) = at.only
 
-cut_closes : (unit : ℕ) (old new : List (List ℕ)) (place : ℕ) → (new ≡ old) ⊎ ClosesAt unit old new place → ((h : ClosesAt unit old new place) → Closes (kind_in unit) (sector_at old place) (sector_at new place))
-    → Keeps (kind_in unit) (sector_at old place) (sector_at new place) ⊎ Closes (kind_in unit) (sector_at old place) (sector_at new place)
+cut_closes : (unit : ℕ) (old new : List (List ℕ)) (place : ℕ) → (new ≡ old) ⊎ ClosesAt unit old new place → ((h : ClosesAt unit old new place) → Closes (format_in unit) (sector_at old place) (sector_at new place))
+    → Keeps (format_in unit) (sector_at old place) (sector_at new place) ⊎ Closes (format_in unit) (sector_at old place) (sector_at new place)
 cut_closes unit old new place (inl same) done = inl (keeps_same unit (sector_at old place) (sector_at new place) (ap (λ (s : List (List ℕ)). sector_at s place) same))
 cut_closes unit old new place (inr at) done = inr (done at)
 

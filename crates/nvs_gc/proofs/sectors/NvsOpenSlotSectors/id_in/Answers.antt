@@ -7,7 +7,7 @@ use Rattle.nvs_store.specs.Geometry.{slot_size}
 use Rattle.nvs_store.proofs.Lookups.{used_inside}
 use Rattle.nvs_store.proofs.SlotReads.{slot_size_bounds}
 use Rattle.nvs_store.proofs.Views.{unit_is}
-use Rattle.nvs_format.specs.Kinds.{kind_in}
+use Rattle.nvs_format.specs.Formats.{format_in}
 use Rattle.nvs_gc.proofs.sectors.NvsOpenSlotSectors.id_in.Goals as goal
 
 pub named_id-requires-clause-inside : goal.named_id-requires-clause-inside
@@ -27,8 +27,8 @@ pub returns-clause-id : goal.returns-clause-id
 returns-clause-id g c =
     let d : Device = g.F.Flash.device c.args.flash.now in
     let unit : ℕ = unit_of d c.args.area.now in
-    subst (λ (xs : List ℕ). IfSome ((kind_in unit).in_slot xs c.args.slot) (λ e. e.id ≡ c.named_id.result)) c.sector_view.ensures.bytes
-    (subst (λ (x : Geometry). IfSome ((kind_in x.unit).in_slot c.sector_view.result.now c.args.slot) (λ e. e.id ≡ c.named_id.result)) c.geometry-unit.ensures c.named_id.ensures.named)
+    subst (λ (xs : List ℕ). IfSome ((format_in unit).in_slot xs c.args.slot) (λ e. e.id ≡ c.named_id.result)) c.sector_view.ensures.bytes
+    (subst (λ (x : Geometry). IfSome ((format_in x.unit).in_slot c.sector_view.result.now c.args.slot) (λ e. e.id ≡ c.named_id.result)) c.geometry-unit.ensures c.named_id.ensures.named)
 
 pub returns-clause-small : goal.returns-clause-small
 returns-clause-small g c =

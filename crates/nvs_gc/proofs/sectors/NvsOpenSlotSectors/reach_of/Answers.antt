@@ -7,7 +7,7 @@ use Rattle.nvs_store.specs.Geometry.{slot_size}
 use Rattle.nvs_store.proofs.Lookups.{used_inside}
 use Rattle.nvs_store.proofs.SlotReads.{slot_size_bounds}
 use Rattle.nvs_store.proofs.Views.{unit_is}
-use Rattle.nvs_format.specs.Kinds.{kind_in}
+use Rattle.nvs_format.specs.Formats.{format_in}
 use Rattle.nvs_gc.proofs.sectors.NvsOpenSlotSectors.reach_of.Goals as goal
 
 pub reach_in-requires-clause-inside : goal.reach_in-requires-clause-inside
@@ -26,5 +26,5 @@ pub returns-clause-others : goal.returns-clause-others
 returns-clause-others g c =
     let d : Device = g.F.Flash.device c.args.flash.now in
     let unit : ℕ = unit_of d c.args.area.now in
-    subst (λ (xs : List ℕ). AreOthers (kind_in unit) xs c.reach_in.result c.args.slots c.args.least c.args.most) c.sector_view.ensures.bytes
-    (subst (λ (x : Geometry). AreOthers (kind_in x.unit) c.sector_view.result.now c.reach_in.result c.args.slots c.args.least c.args.most) c.geometry-unit.ensures c.reach_in.ensures.others)
+    subst (λ (xs : List ℕ). AreOthers (format_in unit) xs c.reach_in.result c.args.slots c.args.least c.args.most) c.sector_view.ensures.bytes
+    (subst (λ (x : Geometry). AreOthers (format_in x.unit) c.sector_view.result.now c.reach_in.result c.args.slots c.args.least c.args.most) c.geometry-unit.ensures c.reach_in.ensures.others)

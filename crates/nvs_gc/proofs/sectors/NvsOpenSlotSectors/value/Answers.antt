@@ -7,7 +7,7 @@ use Rattle.nvs_store.specs.Geometry.{slot_size}
 use Rattle.nvs_store.proofs.Lookups.{used_inside}
 use Rattle.nvs_store.proofs.SlotReads.{slot_size_bounds}
 use Rattle.nvs_store.proofs.Views.{unit_is}
-use Rattle.nvs_format.specs.Kinds.{kind_in}
+use Rattle.nvs_format.specs.Formats.{format_in}
 use Rattle.nvs_gc.proofs.sectors.NvsOpenSlotSectors.value.Goals as goal
 
 pub sector_view-requires-clause-has_sector : goal.sector_view-requires-clause-has_sector
@@ -32,5 +32,5 @@ pub returns-clause-bytes : goal.returns-clause-bytes
 returns-clause-bytes g c =
     let d : Device = g.F.Flash.device c.args.flash.now in
     let unit : ℕ = unit_of d c.args.area.now in
-    c.bytes_in.ensures ∙ ap (λ (x : Geometry). (kind_in x.unit).bytes c.sector_view.result.now c.args.placed.now.slot) c.geometry-unit.ensures
-    ∙ ap (λ (xs : List ℕ). (kind_in unit).bytes xs c.args.placed.now.slot) c.sector_view.ensures.bytes
+    c.bytes_in.ensures ∙ ap (λ (x : Geometry). (format_in x.unit).bytes c.sector_view.result.now c.args.placed.now.slot) c.geometry-unit.ensures
+    ∙ ap (λ (xs : List ℕ). (format_in unit).bytes xs c.args.placed.now.slot) c.sector_view.ensures.bytes

@@ -9,8 +9,8 @@ some_bytes : (n : ℕ) → eqb n 0 ≡ false → 1 ≤ n
 some_bytes zero none = absurd (let same : true ≡ false = none in cc)
 some_bytes (suc n) none = omega arith
 
-behind_front : (subtree front rest : List ℕ) → front ≡ subtree → eqb (length rest) 0 ≡ false → front ++ 0x2F ∷ rest ≡ joined_text subtree rest
-behind_front subtree front rest same some =
+behind_prefix : (subtree prefix rest : List ℕ) → prefix ≡ subtree → eqb (length rest) 0 ≡ false → prefix ++ 0x2F ∷ rest ≡ joined_text subtree rest
+behind_prefix subtree prefix rest same some =
     ap (λ text. text ++ 0x2F ∷ rest) same ∙ sym (joined_text-some subtree rest (some_bytes (length rest) some))
 
 pub returns-then-is_empty-clause-reads : goal.returns-then-is_empty-clause-reads
@@ -31,7 +31,7 @@ pub returns-in_err-with_slash-clause-reads : goal.returns-in_err-with_slash-clau
 returns-in_err-with_slash-clause-reads c =
     let refused : c.from_residual.result ≡ Err c.in_err-with_slash.field-0.0 = search rules in
     let text : c.bytes.result.now ++ 0x2F ∷ c.args.rest.now ≡ joined_text c.args.subtree.now c.args.rest.now =
-    behind_front c.args.subtree.now c.bytes.result.now c.args.rest.now c.bytes.ensures.value (sym c.is_empty.ensures ∙ c.if-is_empty.false) in
+    behind_prefix c.args.subtree.now c.bytes.result.now c.args.rest.now c.bytes.ensures.value (sym c.is_empty.ensures ∙ c.if-is_empty.false) in
     subst (Reads (joined_text c.args.subtree.now c.args.rest.now)) (sym refused)
     (reads_along (c.bytes.result.now ++ 0x2F ∷ c.args.rest.now) (joined_text c.args.subtree.now c.args.rest.now)
     (Err c.in_err-with_slash.field-0.0) text c.in_err-with_slash.ensures)
@@ -43,7 +43,7 @@ returns-in_err-with_slash-clause-names c =
 pub returns-clause-reads : goal.returns-clause-reads
 returns-clause-reads c =
     let text : c.bytes.result.now ++ 0x2F ∷ c.args.rest.now ≡ joined_text c.args.subtree.now c.args.rest.now =
-    behind_front c.args.subtree.now c.bytes.result.now c.args.rest.now c.bytes.ensures.value (sym c.is_empty.ensures ∙ c.if-is_empty.false) in
+    behind_prefix c.args.subtree.now c.bytes.result.now c.args.rest.now c.bytes.ensures.value (sym c.is_empty.ensures ∙ c.if-is_empty.false) in
     reads_along c.in_ok-with_slash.field-0.items (joined_text c.args.subtree.now c.args.rest.now) c.from_text.result
     (c.in_ok-with_slash.ensures ∙ text) c.from_text.ensures
 

@@ -1,7 +1,7 @@
 use Rattle.std.proofs.Common.{[], ◌∷◌, refl, sym, ◌∙◌, true≢false}
 use Rattle.flash_map.specs.Area.{geometry_of, sectors_of}
 use Rattle.flash_map.proofs.Touches.{untouched}
-use Rattle.backend_api.specs.Room.{most_units}
+use Rattle.backend_api.specs.Room.{command_units}
 use Rattle.settings_core.proofs.CallLemmas.{spends_nothing}
 use Rattle.settings_core.proofs.settings.Settings.delete.Goals as goal
 
@@ -17,7 +17,7 @@ returns-then-not-is_up-clause-ends g c = (0, (sym c.is_up.ensures ∙ c.if-not-i
 pub returns-then-not-is_up-clause-at_most : goal.returns-then-not-is_up-clause-at_most
 returns-then-not-is_up-clause-at_most g c =
     let d = g.F.Flash.device c.args.flash.now in
-    spends_nothing d (most_units (geometry_of d (g.K.Backend.mounted_on c.args.self.now.backend)))
+    spends_nothing d (command_units (geometry_of d (g.K.Backend.mounted_on c.args.self.now.backend)))
 
 pub returns-then-not-is_up-clause-sound : goal.returns-then-not-is_up-clause-sound
 returns-then-not-is_up-clause-sound g c = λ up. absurd (true≢false (sym up ∙ sym c.is_up.ensures ∙ c.if-not-is_up.true))

@@ -3,21 +3,21 @@ use Rattle.std.specs.FinMap as finite
 use Rattle.flash_map.specs.Area.{geometry_of, sectors_of}
 use Rattle.flash_map.specs.On.{on}
 use Rattle.backend_api.specs.Map.{next_name}
-use Rattle.settings_core.proofs.DirectLemmas.{none_told, next_told, all_told, room_told, fewer_told}
+use Rattle.settings_core.proofs.DirectLemmas.{none_reported, next_reported, all_reported, room_reported, fewer_reported}
 use Rattle.settings_core.proofs.settings.Settings.load_direct.Goals as goal
 
 pub loop-name-init : goal.loop-name-init
-loop-name-init g c = none_told _ _ _
+loop-name-init g c = none_reported _ _ _
 
-pub tell-told-requires-clause-room : goal.tell-told-requires-clause-room
-tell-told-requires-clause-room g c =
+pub report_name-reported-requires-clause-room : goal.report_name-reported-requires-clause-room
+report_name-reported-requires-clause-room g c =
     let area = g.K.Backend.mounted_on c.args.self.now.backend in
     let d = g.F.Flash.device c.args.flash.now in
     let settings = on g.K.Backend.contents d area in
     let up : g.K.Backend.runs c.args.self.now.backend ≡ true = search rules in
     let next : next_name settings c.loop-name.after ≡ Some c.in-Some.name = ap (next_name settings) (sym c.as_ref.ensures.value) ∙ sym c.next_name.ensures ∙ c.in-Some.is in
     let few : finite.len settings < 2 ^ 32 = (g.met.K.Backend.reads_settings d area (g.met.F.Flash.is_lawful c.args.flash.now) c.requires.lawful (g.met.K.Backend.stands_serves c.args.self.now.backend (geometry_of d area) (sectors_of d area) (c.requires.stands up)) (g.met.K.Backend.stands_reads c.args.self.now.backend (geometry_of d area) (sectors_of d area) (c.requires.stands up))).few in
-    room_told _ _ _ settings c.loop-name.after c.loop-name.count c.in-Some.name next few c.loop-name.invariant
+    room_reported _ _ _ settings c.loop-name.after c.loop-name.count c.in-Some.name next few c.loop-name.invariant
 
 pub loop-name-smaller : goal.loop-name-smaller
 loop-name-smaller g c =
@@ -25,7 +25,7 @@ loop-name-smaller g c =
     let d = g.F.Flash.device c.args.flash.now in
     let settings = on g.K.Backend.contents d area in
     let next : next_name settings c.loop-name.after ≡ Some c.in-Some.name = ap (next_name settings) (sym c.as_ref.ensures.value) ∙ sym c.next_name.ensures ∙ c.in-Some.is in
-    fewer_told _ _ _ settings c.loop-name.after c.loop-name.count c.in-Some.name next c.loop-name.invariant
+    fewer_reported _ _ _ settings c.loop-name.after c.loop-name.count c.in-Some.name next c.loop-name.invariant
 
 pub loop-name-preserved : goal.loop-name-preserved
 loop-name-preserved g c =
@@ -33,7 +33,7 @@ loop-name-preserved g c =
     let d = g.F.Flash.device c.args.flash.now in
     let settings = on g.K.Backend.contents d area in
     let next : next_name settings c.loop-name.after ≡ Some c.in-Some.name = ap (next_name settings) (sym c.as_ref.ensures.value) ∙ sym c.next_name.ensures ∙ c.in-Some.is in
-    next_told _ _ _ settings c.loop-name.after c.loop-name.count _ c.tell-told.new.count c.in-Some.name next c.in-Ok.ensures c.loop-name.invariant
+    next_reported _ _ _ settings c.loop-name.after c.loop-name.count _ c.report_name-reported.new.count c.in-Some.name next c.in-Ok.ensures c.loop-name.invariant
 
 pub returns : goal.returns
 returns g c =
@@ -42,5 +42,5 @@ returns g c =
     let settings = on g.K.Backend.contents d area in
     let up : g.K.Backend.runs c.args.self.now.backend ≡ true = search rules in
     let next : next_name settings c.loop-name.after ≡ None = ap (next_name settings) (sym c.as_ref.ensures.value) ∙ sym c.next_name.ensures ∙ c.in_default.is in
-    let all = all_told _ _ _ settings c.loop-name.after c.loop-name.count next c.loop-name.invariant in
+    let all = all_reported _ _ _ settings c.loop-name.after c.loop-name.count next c.loop-name.invariant in
     (up, all.0, all.1)

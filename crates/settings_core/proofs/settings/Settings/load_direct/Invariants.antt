@@ -3,14 +3,14 @@ use Rattle.std.specs.List.{filter}
 use Rattle.std.specs.FinMap as finite
 use Rattle.flash_map.specs.On.{on}
 use Rattle.backend_api.specs.Map.{is_behind}
-use Rattle.settings_core.proofs.DirectLemmas.{ToldSoFar}
+use Rattle.settings_core.proofs.DirectLemmas.{ReportedSoFar}
 use Rattle.settings_core.proofs.settings.Settings.load_direct.Given as goal
 
 abbrev pub invariant-loop-name : goal.invariant-loop-name
 invariant-loop-name g l =
     let area = g.K.Backend.mounted_on l.self.backend in
     let d = g.F.Flash.device l.flash in
-    ToldSoFar (g.E.Each.had l.fn.each) (g.E.Each.had l.each) (option_map (λ name. name.now) l.subtree) (on g.K.Backend.contents d area) l.after l.count
+    ReportedSoFar (g.E.Each.had l.fn.each) (g.E.Each.had l.each) (option_map (λ name. name.now) l.subtree) (on g.K.Backend.contents d area) l.after l.count
 
 abbrev pub decreases-loop-name : goal.decreases-loop-name
 decreases-loop-name g l =

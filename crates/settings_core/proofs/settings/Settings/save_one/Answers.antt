@@ -3,7 +3,7 @@ use Rattle.std.proofs.lemmas.Bool.{cases_Bool}
 use Rattle.flash_map.specs.Area.{geometry_of, sectors_of}
 use Rattle.flash_map.proofs.Touches.{untouched}
 use Rattle.backend_api.specs.Commands.{Command}
-use Rattle.backend_api.specs.Room.{most_units}
+use Rattle.backend_api.specs.Room.{command_units}
 use Rattle.settings_core.specs.Carrying.{command_of, CarryEndsOn, save_lost}
 use Rattle.settings_core.specs.declared.writing.SaveFault.TheVariants.{PowerLost}
 use Rattle.settings_core.proofs.CallLemmas.{spends_nothing, some_bytes}
@@ -22,7 +22,7 @@ returns-then-not-is_up-clause-ends g c = (0, (sym c.is_up.ensures ∙ c.if-not-i
 pub returns-then-not-is_up-clause-at_most : goal.returns-then-not-is_up-clause-at_most
 returns-then-not-is_up-clause-at_most g c =
     let d = g.F.Flash.device c.args.flash.now in
-    spends_nothing d (most_units (geometry_of d (g.K.Backend.mounted_on c.args.self.now.backend)))
+    spends_nothing d (command_units (geometry_of d (g.K.Backend.mounted_on c.args.self.now.backend)))
 
 pub returns-then-not-is_up-clause-sound : goal.returns-then-not-is_up-clause-sound
 returns-then-not-is_up-clause-sound g c = λ up. absurd (true≢false (sym up ∙ sym c.is_up.ensures ∙ c.if-not-is_up.true))

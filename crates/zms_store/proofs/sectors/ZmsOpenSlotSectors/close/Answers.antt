@@ -8,7 +8,7 @@ use Rattle.item_store.proofs.Areas.{large_there}
 use Rattle.zms_format.proofs.Roomy.{not_clean_cycle, roomy_of}
 use Rattle.zms_format.proofs.StepLemmas.{open_closable, closes, keeps, close_cut}
 use Rattle.zms_cycle.specs.Sector.{cycle_of}
-use Rattle.zms_format.proofs.KindLemmas.{some_flag}
+use Rattle.zms_format.proofs.FormatLemmas.{some_flag}
 use Rattle.zms_store.proofs.OpenLemmas.{kept_some, kept_opened}
 use Rattle.flash_map.specs.declared.area.Role.TheVariants.{Zms as zms_role}
 use Rattle.zms_store.proofs.sectors.ZmsOpenSlotSectors.close.Goals as goal

@@ -12,7 +12,7 @@ use Rattle.zms_cycle.specs.declared.reading.SlotEntry.{SlotEntry}
 use Rattle.zms_cycle.specs.OnArea.{next_guard}
 use Rattle.zms_cycle.specs.Sector.{cost, free, entry_len, pair_at}
 use Rattle.zms_format.proofs.Roomy.{roomy_of}
-use Rattle.zms_format.specs.Kinds.{entry_units}
+use Rattle.zms_format.specs.Formats.{entry_units}
 use Rattle.zms_format.proofs.StepLemmas.{is_there, ready_may, ready_cycle, ready_spends, adds_copy, copied_len}
 use Rattle.flash_map.specs.declared.area.Role.TheVariants.{Zms as zms_role}
 use Rattle.zms_store.proofs.OpenLemmas.{kept_some, kept_opened, cost_above, kept_few, end_room, kept_added}

@@ -6,7 +6,7 @@ use Rattle.flash_map.specs.Area.{geometry_of, sectors_of, sector_at}
 use Rattle.zms_format.proofs.StepLemmas.{last_same}
 use Rattle.std.specs.Option.{option_map}
 use Rattle.zms_cycle.specs.Sector.{entries}
-use Rattle.zms_format.specs.Kinds.{placed_of}
+use Rattle.zms_format.specs.Formats.{placed_of}
 use Rattle.zms_format.specs.Area.{placed_at as zms_placed_at, last_in}
 use Rattle.zms_store.proofs.sectors.ZmsOpenSlotSectors.find_in.Goals as goal
 

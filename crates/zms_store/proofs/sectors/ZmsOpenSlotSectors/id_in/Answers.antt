@@ -4,7 +4,7 @@ use Rattle.std.specs.Option.{option_map}
 use Rattle.flash_sim.specs.Device.{Device}
 use Rattle.flash_map.specs.Area.{sectors_of, sector_at}
 use Rattle.zms_cycle.specs.Sector.{slot_of, entry_in}
-use Rattle.zms_format.specs.Kinds.{entry_of}
+use Rattle.zms_format.specs.Formats.{entry_of}
 use Rattle.zms_format.proofs.Sectors.{read_room}
 use Rattle.zms_store.proofs.sectors.ZmsOpenSlotSectors.id_in.Goals as goal
 

@@ -6,7 +6,7 @@ use Rattle.flash_map.specs.Area.{geometry_of, sectors_of, sector_at}
 use Rattle.item_store.specs.declared.entry.Placed.{Placed}
 use Rattle.item_store.specs.Older.{IsNextOlder, newest_before}
 use Rattle.zms_format.specs.Area.{IsListed}
-use Rattle.zms_store.specs.Standing.{entries_on, kind_on}
+use Rattle.zms_store.specs.Standing.{entries_on, format_on}
 use Rattle.zms_store.proofs.Places.{placed_there}
 use Rattle.zms_store.proofs.store.Zms.walk.Goals as goal
 
@@ -27,11 +27,11 @@ pub returns-in-Some-clause-before : goal.returns-in-Some-clause-before
 returns-in-Some-clause-before g c =
     let d : Device = g.F.Flash.device c.args.flash.now in
     let area : Area = c.args.self.now.store.area in
-    subst (λ (o : Option Placed). IfSome c.args.after (λ place. o ≡ newest_before (kind_on d area) (sectors_of d area) place))
+    subst (λ (o : Option Placed). IfSome c.args.after (λ place. o ≡ newest_before (format_on d area) (sectors_of d area) place))
     (c.in-Some.is ∙ ap (λ (p : Placed). Some p) (sym c.entry_at.ensures.same)) c.walk.ensures.before
 
 pub returns-in-None-clause-before : goal.returns-in-None-clause-before
 returns-in-None-clause-before g c =
     let d : Device = g.F.Flash.device c.args.flash.now in
     let area : Area = c.args.self.now.store.area in
-    subst (λ (o : Option Placed). IfSome c.args.after (λ place. o ≡ newest_before (kind_on d area) (sectors_of d area) place)) c.in-None.is c.walk.ensures.before
+    subst (λ (o : Option Placed). IfSome c.args.after (λ place. o ≡ newest_before (format_on d area) (sectors_of d area) place)) c.in-None.is c.walk.ensures.before

@@ -1,6 +1,0 @@
-use Rattle.std.proofs.Common.{◌≡◌, ◌<◌, take}
-use Rattle.backend_fcb.specs.Gathering.{mark}
-use Rattle.backend_fcb.proofs.gathering.mark_of.Given as goal
-
-abbrev pub invariant-loop-byte : goal.invariant-loop-byte
-invariant-loop-byte l = record { small : l.mark < 65536; is : l.mark ≡ mark (take l.byte-index l.name) }

@@ -1,0 +1,47 @@
+use Rattle.std.proofs.Common.{refl}
+use Rattle.std.proofs.lemmas.Bool.{false≢true}
+use Rattle.flash_sim.specs.Device.{Device}
+use Rattle.flash_map.specs.declared.area.Area.{Area}
+use Rattle.flash_map.specs.Area.{geometry_of, sectors_of, value_limit}
+use Rattle.flash_map.specs.On.{on}
+use Rattle.item_laws.specs.Items.{Items}
+use Rattle.named_items.specs.Pairs.{settings_in}
+use Rattle.named_items.specs.Putting.{IsPut}
+use Rattle.backend_zms.specs.IdLayout.{numbering_of}
+use Rattle.backend_zms.proofs.GroupLemmas.{group-full, group-free}
+use Rattle.backend_zms.proofs.numbering.ZmsIdLayoutNewNames.put_name.Goals as goal
+
+-- there is an id left
+pub put_new-requires-clause-place : goal.put_new-requires-clause-place
+put_new-requires-clause-place g c =
+    let area : Area = g.S.ItemStore.mounted_on c.args.store.now in
+    let before : Items = on g.S.ItemStore.contents (g.F.Flash.device c.args.flash.now) area in
+    record {
+      absent = c.requires.absent;
+      few = group-free (value_limit area) before c.args.name.now c.requires.here.clean c.in-Some.free c.in-Some.ensures.place;
+      inside = c.in-Some.ensures.place.0.inside;
+      candidate = c.in-Some.ensures.place.0.candidate;
+      free = c.in-Some.ensures.place.1;
+    }
+
+-- there is none
+pub returns-clause-ends : goal.returns-clause-ends
+returns-clause-ends g c =
+    let area : Area = g.S.ItemStore.mounted_on c.args.store.now in
+    let before : Items = on g.S.ItemStore.contents (g.F.Flash.device c.args.flash.now) area in
+    record {
+      ends = (group-full (value_limit area) before c.args.name.now c.requires.here.clean c.requires.absent c.in-None.ensures.place, refl);
+      cut = λ lost. absurd {A = IsPut (settings_in (numbering_of area) before) (settings_in (numbering_of area) before) c.args.name.now c.args.value.now} (false≢true lost);
+      clean = λ kept. c.requires.here.clean;
+    }
+
+pub returns-clause-store : goal.returns-clause-store
+returns-clause-store g c =
+    let d : Device = g.F.Flash.device c.args.flash.now in
+    let area : Area = g.S.ItemStore.mounted_on c.args.store.now in
+    record {
+      area = refl;
+      sound = g.met.S.ItemStore.stands_reads c.args.store.now (geometry_of d area) (sectors_of d area) c.requires.here.up;
+      up = λ kept. c.requires.here.up;
+      down = λ lost. absurd (false≢true lost);
+    }

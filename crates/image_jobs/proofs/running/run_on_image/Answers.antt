@@ -1,0 +1,69 @@
+use Rattle.std.proofs.Common.{◌∷◌, ◌∙◌, sym, ap, subst, refl}
+use Rattle.std.specs.Prelude.{All}
+use Rattle.flash_sim.specs.Contents.{contents}
+use Rattle.flash_sim.specs.Device.{Device}
+use Rattle.image_file.specs.Format.{plain}
+use Rattle.script_lines.specs.declared.line.Line.TheVariants.{Mount}
+use Rattle.script_lines.specs.Answer.{CanReport}
+use Rattle.session.specs.OnMap.{IsServedMap, meanings}
+use Rattle.image_jobs.proofs.MapLemmas.{stays_image}
+use Rattle.image_jobs.specs.Images.{begun}
+use Rattle.image_jobs.specs.Inputs.{reported_by}
+use Rattle.image_jobs.specs.Jobs.{file_of}
+use Rattle.image_jobs.specs.Stages.{stores}
+use Rattle.image_jobs.proofs.Endings.{job_done, stopped, wanted}
+use Rattle.image_jobs.proofs.Labels.{reports}
+use Rattle.image_jobs.proofs.running.run_on_image.Goals as goal
+
+pub run-ran-requires-clause-map : goal.run-ran-requires-clause-map
+run-ran-requires-clause-map g c =
+    let bench = g.B.Flash.device c.args.bench.now in
+    subst (λ (d : Device). IsServedMap g.K.Backend.serves c.args.image.map d) (sym c.in_ok-load.ensures.ok)
+    (c.requires.serves c.args.image.map (begun (plain c.args.image) bench) c.requires.image)
+
+pub returns-in-Err : goal.returns-in-Err
+returns-in-Err g c = λ outside begins gives.
+    let k = stores g.K.Backend.contents g.K.Backend.room g.K.Backend.chance g.K.Backend.tears g.K.Backend.damage g.K.Backend.rests in
+    let bench = g.B.Flash.device c.args.bench.now in
+    let first = g.B.Flash.device c.load.new.self in
+    let bench' = g.B.Flash.device c.run-ran.new.bench in
+    stopped k _ c.args.job.now outside c.args.image.banks.items (contents c.args.image.bytes.items) c.args.image.map c.args.lines.now bench bench' _ _ begins gives first c.in_ok-load.ensures.ok c.in-Err.fault c.stop_of.result c.in-Err.ensures.ends c.in-Err.ensures.serves c.stop_of.ensures
+
+pub report_text-requires : goal.report_text-requires
+report_text-requires g c =
+    let bench = g.B.Flash.device c.args.bench.now in
+    subst (All CanReport) (sym c.as_slice.ensures)
+    (reports (meanings g.K.Backend.contents g.K.Backend.room g.K.Backend.chance g.K.Backend.tears) g.K.Backend.damage c.args.image.map (begun (plain c.args.image) bench) c.requires.image (Mount ∷ c.args.lines.now) c.in-Ok.answers _ _ c.in-Ok.ensures.ends.1.in_turn)
+
+pub returns-in-Err-report_text : goal.returns-in-Err-report_text
+returns-in-Err-report_text g c = λ outside begins gives.
+    let k = stores g.K.Backend.contents g.K.Backend.room g.K.Backend.chance g.K.Backend.tears g.K.Backend.damage g.K.Backend.rests in
+    let bench = g.B.Flash.device c.args.bench.now in
+    let first = g.B.Flash.device c.load.new.self in
+    let bench' = g.B.Flash.device c.run-ran.new.bench in
+    wanted k _ c.args.job.now outside c.args.image.banks.items (contents c.args.image.bytes.items) c.args.image.map c.args.lines.now bench bench' _ _ begins gives first c.in_ok-load.ensures.ok c.in-Ok.answers c.in-Ok.ensures.ends.0 c.in-Ok.ensures.ends.1
+
+pub file_left-requires : goal.file_left-requires
+file_left-requires g c =
+    let bench = g.B.Flash.device c.args.bench.now in
+    stays_image c.args.image.map (begun (plain c.args.image) bench) (g.B.Flash.device c.run-ran.new.bench) c.requires.image
+    (c.in-Ok.ensures.ends.1.whole.keeps.banks ∙ ap (λ (d : Device). d.banks) c.in_ok-load.ensures.ok) (g.met.B.Flash.is_lawful c.run-ran.new.bench)
+
+pub returns-in-Err-file_left : goal.returns-in-Err-file_left
+returns-in-Err-file_left g c = λ outside begins gives.
+    let k = stores g.K.Backend.contents g.K.Backend.room g.K.Backend.chance g.K.Backend.tears g.K.Backend.damage g.K.Backend.rests in
+    let bench = g.B.Flash.device c.args.bench.now in
+    let first = g.B.Flash.device c.load.new.self in
+    let bench' = g.B.Flash.device c.run-ran.new.bench in
+    wanted k _ c.args.job.now outside c.args.image.banks.items (contents c.args.image.bytes.items) c.args.image.map c.args.lines.now bench bench' _ _ begins gives first c.in_ok-load.ensures.ok c.in-Ok.answers c.in-Ok.ensures.ends.0 c.in-Ok.ensures.ends.1
+
+pub returns : goal.returns
+returns g c = λ outside begins gives.
+    let k = stores g.K.Backend.contents g.K.Backend.room g.K.Backend.chance g.K.Backend.tears g.K.Backend.damage g.K.Backend.rests in
+    let bench = g.B.Flash.device c.args.bench.now in
+    let first = g.B.Flash.device c.load.new.self in
+    let bench' = g.B.Flash.device c.run-ran.new.bench in (
+      job_done k _ c.args.job.now outside c.args.image.banks.items (contents c.args.image.bytes.items) c.args.image.map c.args.lines.now bench bench' _ _ begins gives first c.in_ok-load.ensures.ok c.in-Ok.answers c.in-Ok.ensures.ends.0 c.in-Ok-report_text.text.items (file_of c.in-Ok-file_left.file)
+          c.in-Ok.ensures.ends.1 c.in-Ok.ensures.undamaged c.in-Ok.ensures.rests (c.in-Ok-report_text.ensures ∙ ap (reported_by c.args.job.now.report c.args.lines.now) c.as_slice.ensures) c.in-Ok-file_left.ensures,
+      refl,
+    )

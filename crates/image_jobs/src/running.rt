@@ -1,0 +1,168 @@
+// Carrying out lines on an image.
+ghost use Rattle.std.specs.Prelude.{◌≡◌, ℕ, ◌<◌, ◌∷◌, [], true, None, All, List, IfErr, OnOk};
+ghost use Rattle.flash_sim.specs.Device.{Device};
+ghost use Rattle.flash_map.specs.declared.area.Area.{Area as area};
+ghost use Rattle.zs_host.specs.Outside.{Outside};
+ghost use Rattle.handlers.specs.Registry.{registered};
+ghost use Rattle.image_file.specs.Format.{plain};
+ghost use Rattle.image_file.specs.Lawful.{IsImage};
+ghost use Rattle.script_lines.specs.declared.line.Line.TheVariants.{Mount};
+ghost use Rattle.session_table.specs.Bench.{area_at};
+ghost use Rattle.session.specs.declared.fault.SessionFault.TheVariants.{NoMemory as WantsMemory};
+ghost use Rattle.session.specs.OnMap.{IsAtRest, IsFresh, IsServed, IsServedMap, RunEnds, damage_in, kinds, limit_of, meanings, moment};
+ghost use Rattle.image_jobs.specs.Held.{held};
+ghost use Rattle.image_jobs.specs.Inputs.{BeginsWith, GivesLines};
+ghost use Rattle.image_jobs.specs.Jobs.{IsStop, JobEnds};
+ghost use Rattle.image_jobs.specs.Stages.{stage, stores};
+
+use crate::inputs::{open_start, read_source};
+use crate::jobs::Job;
+use crate::loading::{file_left, longest_value};
+use crate::outcome::Outcome;
+use crate::report::report_text;
+use crate::stops::{Refusal, Stop};
+use arrayvec::ArrayString;
+use backend_api::Backend;
+use flash_map::FlashMap;
+use flash_sim::{Bench, Steps};
+use handlers::{Handler, Registry};
+use image_file::Image;
+use script_lines::Line;
+use session::{Answers, SessionFault, run_lines};
+use std::alloc::Global;
+use std::marker::Brand;
+use std::sync::ledger::{Blank, Ledger};
+use zs_host::Host;
+
+/// The label of the area at this place; none where there is no area.
+pub fn label_at(areas: &FlashMap, place: usize) -> ArrayString<8>
+    ensures { result.bytes ≡ (area_at areas.now place).label.bytes }
+{
+    match areas.at(place) {
+        Some(area) => area.label,
+        None => ArrayString::new(),
+    }
+}
+
+// Why the lines stopped.
+fn stop_of<'a>(areas: &FlashMap, fault: SessionFault) -> Stop<'a>
+    ensures { IsStop areas.now fault result }
+{
+    match fault {
+        SessionFault::Damaged { area, damage } => {
+            let label = label_at(areas, area);
+            Stop::Refused(Refusal::BadArea { label, damage })
+        }
+        SessionFault::NoMemory => Stop::NoMemory,
+    }
+}
+
+// Carries out the lines, and counts steps for it.
+fn run<K: Backend, B: Bench, L: Ledger>(
+    alloc: Global,
+    areas: &FlashMap,
+    lines: &[Line],
+    bench: &mut B,
+    pool: Vec<Box<dyn Handler>>,
+    registry: &mut Registry,
+    blank: Blank,
+) -> Result<Answers, SessionFault>
+    requires map { IsServedMap K.serves areas.now (B.device bench.old) }
+    requires lines { All (IsServed (limit_of areas.now)) lines.now }
+    requires pool { All (IsFresh state) pool.items }
+    requires registry { registered state registry.old ≡ [] }
+    requires name { blank.name ≡ L.name }
+    requires parts { blank.parts ≡ L.parts }
+    requires some { 0 < L.parts }
+    ensures ends { let d = B.device bench.old in let e = B.device bench.new in
+        RunEnds (meanings K.contents K.room K.chance K.tears) K.damage areas.now (Mount ∷ lines.now)
+        (moment d (registered state registry.old) (kinds state pool.items)) e
+        (registered state registry.new) result }
+    ensures undamaged { damage_in K.damage areas.now (B.device bench.old) ≡ None
+        → damage_in K.damage areas.now (B.device bench.new) ≡ None }
+    ensures serves { damage_in K.damage areas.now (B.device bench.old) ≡ None
+        → IfErr result (λ fault. fault ≡ WantsMemory) }
+    ensures rests { OnOk result
+        ((B.device bench.new).is_on ≡ true → IsAtRest K.rests areas.now (B.device bench.new)) }
+{
+    let mut steps = Steps::<L>::new(blank);
+    run_lines::<K, B, L>(alloc, lines, bench, areas, pool, registry, &mut steps)
+}
+
+// Carries out the lines on the image.
+fn run_on_image<'a, K: Backend, B: Bench>(
+    alloc: Global,
+    job: &Job<'a>,
+    image: Image,
+    lines: &[Line],
+    bench: &mut B,
+    pool: Vec<Box<dyn Handler>>,
+    registry: &mut Registry,
+) -> Result<Outcome<'a>, Stop<'a>>
+    requires serves { (areas : List area) (d : Device) → IsImage (held areas d)
+        → IsServedMap K.serves areas d }
+    requires image { IsImage (plain image) }
+    requires lines { All (IsServed (limit_of image.map)) lines.now }
+    requires pool { All (IsFresh state) pool.items }
+    requires registry { registered state registry.old ≡ [] }
+    ensures { (outside : Outside) → BeginsWith job.now.start outside (plain image)
+        → GivesLines job.now.source (limit_of image.map) outside lines.now
+        → let k = stores K.contents K.room K.chance K.tears K.damage K.rests in
+        JobEnds k (kinds state pool.items) job.now outside outside
+        (stage (B.device bench.old) (registered state registry.old))
+        (stage (B.device bench.new) (registered state registry.new)) result }
+{
+    let Image { banks, map, bytes } = image;
+    bench.load(alloc, banks, bytes)?;
+    let ran = run::<K, B, Brand>(alloc, &map, lines, bench, pool, registry, Blank::new(1));
+    let answers = match ran {
+        Ok(answers) => answers,
+        Err(fault) => return Err(stop_of(&map, fault)),
+    };
+    let text = match report_text(alloc, job.report, lines, answers.as_slice()) {
+        Ok(text) => text,
+        Err(_) => return Err(Stop::NoMemory),
+    };
+    let file = match file_left(alloc, &job.output, &map, bench) {
+        Ok(file) => file,
+        Err(_) => return Err(Stop::NoMemory),
+    };
+    Ok(Outcome { text, file })
+}
+
+/// Runs a job: reads the image and the lines, loads the bench, carries out the opening mount and the
+/// lines, and says what is to be printed and written. Nothing is printed or written, and files
+/// stay.
+///
+/// # Errors
+/// Refused where there is no image, then where there are no lines, then where a mount finds damage. The host failed: nothing
+/// was carried out. There was not enough memory: nothing was carried out, or the lines were carried out up to some one of them.
+#[inline(never)]
+pub fn run_job<'a, K: Backend, H: Host, B: Bench>(
+    alloc: Global,
+    job: &Job<'a>,
+    host: &mut H,
+    bench: &mut B,
+    pool: Vec<Box<dyn Handler>>,
+    registry: &mut Registry,
+) -> Result<Outcome<'a>, Stop<'a>>
+    requires serves { (areas : List area) (d : Device) → IsImage (held areas d)
+        → IsServedMap K.serves areas d }
+    requires pool { All (IsFresh state) pool.items }
+    requires registry { registered state registry.old ≡ [] }
+    ensures { let k = stores K.contents K.room K.chance K.tears K.damage K.rests in
+        JobEnds k (kinds state pool.items) job.now (H.outside host.old) (H.outside host.new)
+        (stage (B.device bench.old) (registered state registry.old))
+        (stage (B.device bench.new) (registered state registry.new)) result }
+{
+    let image = match open_start(alloc, &job.start, host) {
+        Ok(image) => image,
+        Err(stop) => return Err(stop),
+    };
+    let limit = longest_value(&image.map);
+    let lines = match read_source(alloc, &job.source, limit, host) {
+        Ok(lines) => lines,
+        Err(stop) => return Err(stop),
+    };
+    run_on_image::<K, B>(alloc, job, image, lines.as_slice(), bench, pool, registry)
+}

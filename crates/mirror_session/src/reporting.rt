@@ -1,0 +1,141 @@
+// Lines that ask for settings, with power on.
+ghost use Rattle.std.specs.Prelude.{◌≡◌, [], true, map, unwrap_or, IfOk};
+ghost use Rattle.std.specs.FinMap.{entries, get};
+ghost use Rattle.flash_map.specs.On.{on};
+ghost use Rattle.mirror.specs.Mirrored.{IsMirror};
+ghost use Rattle.mirror.specs.Trusted.{IsMirrorMap};
+ghost use Rattle.session_table.specs.Step.{as_pair};
+ghost use Rattle.mirror_session.specs.declared.line.Line.TheVariants.{Get, Names};
+ghost use Rattle.mirror_session.specs.Bench.{meanings, moment};
+ghost use Rattle.mirror_session.specs.LineDone.{LineDone};
+ghost use Rattle.mirror_session.specs.Standing.{IsHeld};
+
+use crate::answer::Answer;
+use flash_map::{Area, FlashMap};
+use flash_sim::{Bench, Flash, NoMemory, Steps};
+use migrator::area_at;
+use mirror::{Mirror, Priced};
+use script_lines::{Answer as SettingsAnswer, Bytes, Label, Pair, Pairs};
+use setting_name::Name;
+use std::alloc::Global;
+use std::sync::ledger::Ledger;
+
+// The same bytes.
+fn copied(alloc: Global, bytes: &[u8]) -> Result<Bytes, NoMemory>
+    ensures { IfOk result (λ copy. copy ≡ bytes.now) }
+{
+    match Vec::from_slice(alloc, bytes) {
+        Ok(items) => Ok(Bytes::from_vec(items)),
+        Err(_) => Err(NoMemory),
+    }
+}
+
+// The value of a name.
+pub fn get_setting<K: Priced, B: Bench, L: Ledger>(
+    alloc: Global,
+    bench: &B,
+    mirror: &Mirror<K>,
+    map: &FlashMap,
+    name: &Name,
+    steps: &mut Steps<L>,
+) -> Result<Answer, NoMemory>
+    requires map { IsMirrorMap K.serves map.now (B.device bench.now) }
+    requires on { (B.device bench.now).is_on ≡ true }
+    requires held { let m = meanings K.damage K.contents K.room K.prices in
+        IsHeld K.mounted_on K.stands m map.now (B.device bench.now) mirror.now }
+    ensures { let m = meanings K.damage K.contents K.room K.prices in let d = B.device bench.now in
+        IfOk result
+        (λ answer. LineDone m map.now (Get name.now) answer (moment d true) (moment d true)) }
+{
+    match mirror.get(bench, name, steps) {
+        Some(bytes) => {
+            let value = copied(alloc, bytes)?;
+            Ok(Answer::Plain {
+                answer: SettingsAnswer::Value { value },
+            })
+        }
+        None => Ok(Answer::Plain {
+            answer: SettingsAnswer::Absent,
+        }),
+    }
+}
+
+// A setting that the mirror has, by its name.
+fn pair_of<K: Priced, B: Bench, L: Ledger>(
+    alloc: Global,
+    bench: &B,
+    mirror: &Mirror<K>,
+    name: &Name,
+    steps: &mut Steps<L>,
+) -> Result<Pair, NoMemory>
+    requires mirrors { let d = B.device bench.now in
+        IsMirror K.mounted_on K.stands K.contents K.room K.prices d mirror.now.trusted
+        mirror.now.other }
+    ensures { let settings = on K.contents (B.device bench.now) mirror.now.trusted.area in
+        IfOk result (λ pair. pair ≡ as_pair (name.now, unwrap_or (get settings name.now) [])) }
+{
+    let value = match mirror.get(bench, name, steps) {
+        Some(bytes) => copied(alloc, bytes)?,
+        None => Bytes::new(alloc),
+    };
+    Ok(Pair {
+        name: name.copy(),
+        value,
+    })
+}
+
+// All settings, in the byte order of their names.
+fn all_settings<K: Priced, B: Bench, L: Ledger>(
+    alloc: Global,
+    bench: &B,
+    mirror: &Mirror<K>,
+    steps: &mut Steps<L>,
+) -> Result<Pairs, NoMemory>
+    requires mirrors { let d = B.device bench.now in
+        IsMirror K.mounted_on K.stands K.contents K.room K.prices d mirror.now.trusted
+        mirror.now.other }
+    ensures { let settings = on K.contents (B.device bench.now) mirror.now.trusted.area in
+        IfOk result (λ pairs. pairs ≡ map as_pair (entries settings)) }
+{
+    let mut pairs = Pairs::new(alloc);
+    let mut after = None;
+    while let Some(name) = mirror.next_name(bench, after.as_ref(), steps) {
+        let pair = pair_of(alloc, bench, mirror, &name, steps)?;
+        pairs.push(pair)?;
+        after = Some(name);
+    }
+    Ok(pairs)
+}
+
+// The label of the area.
+fn label_of(alloc: Global, area: &Area) -> Result<Label, NoMemory>
+    ensures { IfOk result (λ label. label ≡ area.now.label.bytes) }
+{
+    match Vec::from_slice(alloc, area.label.as_str().as_bytes()) {
+        Ok(bytes) => Ok(Label::from_vec(bytes)),
+        Err(_) => Err(NoMemory),
+    }
+}
+
+// The label of the trusted area and all settings.
+pub fn report_all<K: Priced, B: Bench, L: Ledger>(
+    alloc: Global,
+    bench: &B,
+    mirror: &Mirror<K>,
+    map: &FlashMap,
+    steps: &mut Steps<L>,
+) -> Result<Answer, NoMemory>
+    requires map { IsMirrorMap K.serves map.now (B.device bench.now) }
+    requires on { (B.device bench.now).is_on ≡ true }
+    requires held { let m = meanings K.damage K.contents K.room K.prices in
+        IsHeld K.mounted_on K.stands m map.now (B.device bench.now) mirror.now }
+    ensures { let m = meanings K.damage K.contents K.room K.prices in let d = B.device bench.now in
+        IfOk result (λ answer. LineDone m map.now Names answer (moment d true) (moment d true)) }
+{
+    let area = area_at(map, mirror.trusted());
+    let active = label_of(alloc, &area)?;
+    let pairs = all_settings(alloc, bench, mirror, steps)?;
+    Ok(Answer::Plain {
+        answer: SettingsAnswer::Names { active, pairs },
+    })
+}

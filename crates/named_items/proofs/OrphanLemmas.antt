@@ -1,0 +1,284 @@
+-- Which items belong to no setting that counts, and what stays where one of them is removed.
+use Rattle.std.proofs.Common.{◌≡◌, ◌⊎◌, ℕ, zero, suc, ◌+◌, ◌-◌, ◌<◌, ◌≤◌, Bool, true, false, List, Option, Some, None, refl, sym, ap, subst, ◌∙◌, inl, inr, arith}
+use Rattle.std.specs.FinMap.{get}
+use Rattle.std.proofs.lemmas.Bool.{cases_Bool, cases_eq, cases_lt, false≢true}
+use Rattle.backend_api.proofs.MapLemmas.{ties_itself, ties_same}
+use Rattle.item_laws.specs.Items.{Items}
+use Rattle.named_items.specs.Numbering.{Numbering, IsNumbering}
+use Rattle.named_items.specs.Pairs.{count_in, pair_of, pair_at, settings_in, HasName, IsInside, IsLowest, IsAt, IsCount, IsPart, IsKept, HasNoOrphans, AltersOnly}
+use Rattle.named_items.proofs.RangePairs.{Pair, tie}
+use Rattle.named_items.proofs.PairLemmas.{Makes, pair-made, no-name, no-value, has-pair, one-name, pair-stays, count-stays, pairs-stay, place-bare, place-ignored, place-count, others-stay}
+
+-- ---- a name on a range
+
+has-or : (o : Option Pair) (name : List ℕ) → HasName o name ⊎ ¬ HasName o name
+has-or None name = inr (λ has. has)
+has-or (Some pair) name =
+    elim (cases_Bool (tie pair.0 name)) [
+      | inl here ↦ inl (ties_same pair.0 name here)
+      | inr apart ↦ inr (λ (e : pair.0 ≡ name). false≢true (sym apart ∙ ap (λ (t : List ℕ). tie t name) e ∙ ties_itself name))
+    ]
+
+-- one of the places has it, or none
+pub seek : (f : ℕ → Option Pair) (name : List ℕ) (a m : ℕ) → ((k : ℕ) × (a ≤ k) × (k < a + m) × HasName (f k) name) ⊎ ((k : ℕ) → a ≤ k → k < a + m → ¬ HasName (f k) name)
+seek f name a zero = inr (λ k from to. absurd (omega arith))
+seek f name a (suc m) =
+    elim (has-or (f a) name) [
+      | inl here ↦ inl (a, omega arith, omega arith, here)
+      | inr apart ↦ elim (seek f name (a + 1) m) [
+        | inl later ↦
+            let low : a + 1 ≤ later.0 = later.1 in
+            let high : later.0 < a + 1 + m = later.2 in
+            inl (later.0, omega arith, omega arith, later.3)
+        | inr none ↦ inr (λ k from to. elim (cases_eq k a) [
+          | inl e ↦ λ (has : HasName (f k) name). apart (subst (λ (j : ℕ). HasName (f j) name) e has)
+          | inr later ↦ none k (omega arith) (omega arith)
+        ])
+      ]
+    ]
+
+-- ---- the removal of one item
+
+module _ (n : Numbering) (laws : IsNumbering n) (old new : Items) (id : ℕ) (only : AltersOnly old new id) (gone : get new id ≡ None) where
+  -- a place loses its pair, or keeps it
+  gone-or-same : (place : ℕ) → (pair_at n new place ≡ None) ⊎ (pair_at n new place ≡ pair_at n old place)
+  gone-or-same place =
+      elim (cases_eq place id) [
+        | inl e ↦ inl (no-name n place (get new place) (get new (place + n.step)) (ap (get new) e ∙ gone))
+        | inr a ↦ elim (cases_eq (place + n.step) id) [
+          | inl e ↦ inl (no-value n place (get new place) (get new (place + n.step)) (ap (get new) e ∙ gone))
+          | inr b ↦ inr (pair-stays n old new id only place a b)
+        ]
+      ]
+
+  pub has-before : (place : ℕ) (name : List ℕ) → HasName (pair_at n new place) name → HasName (pair_at n old place) name
+  has-before place name has =
+      elim (gone-or-same place) [
+        | inl none ↦ let h : ⊥ = subst (λ (o : Option Pair). HasName o name) none has in absurd h
+        | inr same ↦ subst (λ (o : Option Pair). HasName o name) same has
+      ]
+
+  module _ (orphan : ¬ IsKept n old id) where
+    pub orphan-count : count_in n new ≡ count_in n old
+    orphan-count =
+        elim (cases_eq id n.count_id) [
+          | inr apart ↦ count-stays n old new id only apart
+          | inl is ↦ elim (cases_Bool (n.is_count (get old id))) [
+            | inl counts ↦ absurd (orphan (inl (record { is = is; counts = counts })))
+            | inr other ↦ ap n.count_of (ap (get new) (sym is) ∙ gone) ∙ sym (laws.other (get old id) other) ∙ ap (λ (k : ℕ). n.count_of (get old k)) is
+          ]
+        ]
+
+    place-gone : (place : ℕ) → IsInside n old place → (id ≡ place) ⊎ (id ≡ place + n.step) → settings_in n new ≡ settings_in n old
+    place-gone place inside is =
+        let after : pair_at n new place ≡ None = elim is [
+          | inl e ↦ no-name n place (get new place) (get new (place + n.step)) (ap (get new) (sym e) ∙ gone)
+          | inr e ↦ no-value n place (get new place) (get new (place + n.step)) (ap (get new) (sym e) ∙ gone)
+        ] in
+        elim (has-pair (pair_at n old place)) [
+          | inl before ↦ place-bare n old new id only laws place inside is before after
+          | inr has ↦
+              let from : n.first ≤ place = inside.from in
+              elim (seek (pair_at n old) has.0 n.first (place - n.first)) [
+                | inl lower ↦
+                    let high : lower.0 < n.first + (place - n.first) = lower.2 in
+                    place-ignored n old new id only laws place inside is has.0 lower.0 has.1 after lower.1 (omega arith) lower.3
+                | inr none ↦ absurd (orphan (inr (record { name = has.0; place = place; at = record { inside = inside; here = has.1; lowest = λ other low high. none other low (omega arith) }; is = is })))
+              ]
+        ]
+
+    elsewhere : ((place : ℕ) → IsInside n old place → ¬ (place ≡ id)) → ((place : ℕ) → IsInside n old place → ¬ (place + n.step ≡ id)) → settings_in n new ≡ settings_in n old
+    elsewhere a b = pairs-stay n old new id only laws orphan-count (λ place inside. pair-stays n old new id only place (a place inside) (b place inside))
+
+    -- The removal of an orphan leaves the map.
+    pub orphan-removed : settings_in n new ≡ settings_in n old
+    orphan-removed =
+        elim (cases_lt id n.first) [
+          | inl low ↦ elsewhere (λ place inside e. let f : n.first ≤ place = inside.from in absurd (omega arith)) (λ place inside e. let f : n.first ≤ place = inside.from in absurd (omega arith))
+          | inr from ↦ elim (cases_lt id (n.first + count_in n old)) [
+            | inl to ↦ place-gone id (record { from = from; to = to }) (inl refl)
+            | inr above ↦ elim (cases_lt id (n.first + n.step)) [
+              | inl between ↦ elsewhere (λ place inside e. let t : place < n.first + count_in n old = inside.to in absurd (omega arith)) (λ place inside e. let f : n.first ≤ place = inside.from in absurd (omega arith))
+              | inr values ↦ elim (cases_lt id (n.first + n.step + count_in n old)) [
+                | inl under ↦ place-gone (id - n.step) (record { from = omega arith; to = omega arith }) (inr (omega arith))
+                | inr over ↦ elsewhere (λ place inside e. let t : place < n.first + count_in n old = inside.to in absurd (omega arith)) (λ place inside e. let t : place < n.first + count_in n old = inside.to in absurd (omega arith))
+              ]
+            ]
+          ]
+        ]
+
+    -- what is kept stays kept
+    pub kept-stays : (other : ℕ) → ¬ (other ≡ id) → IsKept n old other → IsKept n new other
+    kept-stays other apart kept =
+        elim kept [
+          | inl count ↦ inl (record { is = count.is; counts = subst (λ (o : Option (List ℕ)). n.is_count o ≡ true) (sym (only other apart)) count.counts })
+          | inr part ↦
+              let a : ¬ (part.place ≡ id) = λ (e : part.place ≡ id). orphan (inr (record { name = part.name; place = part.place; at = part.at; is = inl (sym e) })) in
+              let b : ¬ (part.place + n.step ≡ id) = λ (e : part.place + n.step ≡ id). orphan (inr (record { name = part.name; place = part.place; at = part.at; is = inr (sym e) })) in
+              inr (record {
+                name = part.name;
+                place = part.place;
+                at = record {
+                  inside = record { from = part.at.inside.from; to = subst (λ (c : ℕ). part.place < n.first + c) (sym orphan-count) part.at.inside.to };
+                  here = subst (λ (o : Option Pair). HasName o part.name) (sym (pair-stays n old new id only part.place a b)) part.at.here;
+                  lowest = λ k from to has. part.at.lowest k from to (has-before k part.name has);
+                };
+                is = part.is;
+              })
+        ]
+
+-- ---- where there are no orphans
+
+module _ (n : Numbering) (laws : IsNumbering n) (items : Items) (clean : HasNoOrphans n items) where
+  -- each pair counts
+  pub kept-place : (place : ℕ) (name : List ℕ) → IsInside n items place → HasName (pair_at n items place) name → IsAt n items name place
+  kept-place place name inside has =
+      let made = pair-made n place name (get items place) (get items (place + n.step)) has in
+      elim (clean place) [
+        | inl none ↦ absurd (some_none name (sym made.is_name ∙ none))
+        | inr kept ↦ elim kept [
+          | inl count ↦
+              let e : place ≡ n.count_id = count.is in
+              let f : n.first ≤ place = inside.from in
+              let b : n.count_id < n.first = laws.below in
+              absurd (omega arith)
+          | inr part ↦ elim part.is [
+            | inl e ↦
+                let same : part.name ≡ name = one-name (pair_at n items place) part.name name (subst (λ (k : ℕ). HasName (pair_at n items k) part.name) (sym e) part.at.here) has in
+                subst (λ (t : List ℕ). IsAt n items t place) same (subst (λ (k : ℕ). IsAt n items part.name k) (sym e) part.at)
+            | inr e ↦
+                let f : n.first ≤ part.place = part.at.inside.from in
+                let t : place < n.first + count_in n items = inside.to in
+                let few : count_in n items ≤ n.step = laws.few (get items n.count_id) in
+                absurd (omega arith)
+          ]
+        ]
+      ]
+    where
+      some_none : (x : List ℕ) → Some x ≡ None → ⊥
+      some_none x e = cc
+
+  -- a name that a pair has stands at one place
+  pub one-place : (name : List ℕ) (a b : ℕ) → IsInside n items a → IsInside n items b → HasName (pair_at n items a) name → HasName (pair_at n items b) name → a ≡ b
+  one-place name a b ina inb hasa hasb =
+      let lowa = kept-place a name ina hasa in
+      let lowb = kept-place b name inb hasb in
+      elim (cases_lt a b) [
+        | inl less ↦ absurd (lowb.lowest a ina.from less hasa)
+        | inr le ↦ elim (cases_lt b a) [
+          | inl less ↦ absurd (lowa.lowest b inb.from less hasb)
+          | inr ge ↦ omega arith
+        ]
+      ]
+
+-- ---- what a whole command makes of it
+
+module _ (n : Numbering) (laws : IsNumbering n) (old new : Items) (place : ℕ) (inside : IsInside n old place) (only : (id : ℕ) → ¬ (id ≡ place) → ¬ (id ≡ place + n.step) → get new id ≡ get old id) where
+  both-count : count_in n new ≡ count_in n old
+  both-count =
+      let f : n.first ≤ place = inside.from in
+      let b : n.count_id < n.first = laws.below in
+      ap n.count_of (only n.count_id (λ (e : n.count_id ≡ place). absurd (omega arith)) (λ (e : n.count_id ≡ place + n.step). absurd (omega arith)))
+
+  both-others : (other : ℕ) → IsInside n old other → ¬ (other ≡ place) → pair_at n new other ≡ pair_at n old other
+  both-others other within apart =
+      let f : n.first ≤ place = inside.from in
+      let t : place < n.first + count_in n old = inside.to in
+      let g : n.first ≤ other = within.from in
+      let u : other < n.first + count_in n old = within.to in
+      let few : count_in n old ≤ n.step = laws.few (get old n.count_id) in
+      ap (λ (o : Option (List ℕ)). pair_of n other o (get new (other + n.step))) (only other apart (λ (e : other ≡ place + n.step). absurd (omega arith)))
+      ∙ ap (λ (o : Option (List ℕ)). pair_of n other (get old other) o) (only (other + n.step) (λ (e : other + n.step ≡ place). absurd (omega arith)) (λ (e : other + n.step ≡ place + n.step). apart (omega arith)))
+
+  -- the other items are kept, where the place gets no name that another has
+  both-kept : ((name : List ℕ) (other : ℕ) → IsInside n old other → HasName (pair_at n old other) name → HasName (pair_at n new place) name → other ≡ place) → (id : ℕ) → ¬ (id ≡ place) → ¬ (id ≡ place + n.step) → IsKept n old id → IsKept n new id
+  both-kept alone id a b kept =
+      elim kept [
+        | inl count ↦ inl (record { is = count.is; counts = subst (λ (o : Option (List ℕ)). n.is_count o ≡ true) (sym (only id a b)) count.counts })
+        | inr part ↦
+            let apart : ¬ (part.place ≡ place) = λ (e : part.place ≡ place). elim part.is [ inl i ↦ a (i ∙ e) | inr i ↦ b (i ∙ ap (λ (k : ℕ). k + n.step) e) ] in
+            let high : part.place < n.first + count_in n old = part.at.inside.to in
+            inr (record {
+              name = part.name;
+              place = part.place;
+              at = record {
+                inside = record { from = part.at.inside.from; to = subst (λ (c : ℕ). part.place < n.first + c) (sym both-count) part.at.inside.to };
+                here = subst (λ (o : Option Pair). HasName o part.name) (sym (both-others part.place part.at.inside apart)) part.at.here;
+                lowest = λ k from to has. elim (cases_eq k place) [
+                  | inl e ↦ apart (alone part.name part.place part.at.inside part.at.here (subst (λ (j : ℕ). HasName (pair_at n new j) part.name) e has))
+                  | inr other ↦ part.at.lowest k from to (subst (λ (o : Option Pair). HasName o part.name) (both-others k (record { from = from; to = omega arith }) other) has)
+                ];
+              };
+              is = part.is;
+            })
+      ]
+
+  both-clean : ((name : List ℕ) (other : ℕ) → IsInside n old other → HasName (pair_at n old other) name → HasName (pair_at n new place) name → other ≡ place)
+      → ((get new place ≡ None) ⊎ IsKept n new place) → ((get new (place + n.step) ≡ None) ⊎ IsKept n new (place + n.step)) → HasNoOrphans n old → HasNoOrphans n new
+  both-clean alone name value clean id =
+      elim (cases_eq id place) [
+        | inl e ↦ subst (λ (k : ℕ). (get new k ≡ None) ⊎ IsKept n new k) (sym e) name
+        | inr a ↦ elim (cases_eq id (place + n.step)) [
+          | inl e ↦ subst (λ (k : ℕ). (get new k ≡ None) ⊎ IsKept n new k) (sym e) value
+          | inr b ↦ elim (clean id) [
+            | inl none ↦ inl (only id a b ∙ none)
+            | inr kept ↦ inr (both-kept alone id a b kept)
+          ]
+        ]
+      ]
+
+  -- the place has neither name nor value any more
+  pub taken-clean : get new place ≡ None → get new (place + n.step) ≡ None → HasNoOrphans n old → HasNoOrphans n new
+  taken-clean name value clean =
+      both-clean (λ t other within here has. let none : ⊥ = subst (λ (o : Option Pair). HasName o t) (no-name n place (get new place) (get new (place + n.step)) name) has in absurd none) (inl name) (inl value) clean
+
+  -- the place has this setting, and no other place has the name
+  pub put-clean : (name value : List ℕ) → pair_at n new place ≡ Some (name, value) → ((other : ℕ) → IsInside n old other → HasName (pair_at n old other) name → other ≡ place) → HasNoOrphans n old → HasNoOrphans n new
+  put-clean name value is alone clean =
+      let here : HasName (pair_at n new place) name = subst (λ (o : Option Pair). HasName o name) (sym is) refl in
+      let at : IsAt n new name place = record {
+        inside = record { from = inside.from; to = subst (λ (c : ℕ). place < n.first + c) (sym both-count) inside.to };
+        here = here;
+        lowest = λ k from to has.
+            let t : place < n.first + count_in n old = inside.to in
+            let within : IsInside n old k = record { from = from; to = omega arith } in
+            let apart : ¬ (k ≡ place) = λ (e : k ≡ place). absurd (omega arith) in
+            apart (alone k within (subst (λ (o : Option Pair). HasName o name) (both-others k within apart) has));
+      } in
+      both-clean (λ t other within before after. alone other within (subst (λ (x : List ℕ). HasName (pair_at n old other) x) (one-name (pair_at n new place) t name after here) before))
+      (inr (inr (record { name = name; place = place; at = at; is = inl refl }))) (inr (inr (record { name = name; place = place; at = at; is = inr refl }))) clean
+
+-- the count is raised by one
+module _ (n : Numbering) (laws : IsNumbering n) (old new : Items) (only : AltersOnly old new n.count_id) (counts : n.is_count (get new n.count_id) ≡ true) (raised : count_in n old ≤ count_in n new) where
+  pub raised-clean : HasNoOrphans n old → HasNoOrphans n new
+  raised-clean clean id =
+      elim (cases_eq id n.count_id) [
+        | inl e ↦ inr (inl (record { is = e; counts = subst (λ (k : ℕ). n.is_count (get new k) ≡ true) (sym e) counts }))
+        | inr apart ↦ elim (clean id) [
+          | inl none ↦ inl (only id apart ∙ none)
+          | inr kept ↦ inr (elim kept [
+            | inl count ↦ absurd (apart count.is)
+            | inr part ↦ inr (stays part)
+          ])
+        ]
+      ]
+    where
+      same : (place : ℕ) → n.first ≤ place → pair_at n new place ≡ pair_at n old place
+      same place from =
+          let b : n.count_id < n.first = laws.below in
+          pair-stays n old new n.count_id only place (λ (e : place ≡ n.count_id). absurd (omega arith)) (λ (e : place + n.step ≡ n.count_id). absurd (omega arith))
+
+      stays : IsPart n old id → IsPart n new id
+      stays part =
+          let from : n.first ≤ part.place = part.at.inside.from in
+          let to : part.place < n.first + count_in n old = part.at.inside.to in
+          record {
+            name = part.name;
+            place = part.place;
+            at = record {
+              inside = record { from = from; to = omega arith };
+              here = subst (λ (o : Option Pair). HasName o part.name) (sym (same part.place from)) part.at.here;
+              lowest = λ k low high has. part.at.lowest k low high (subst (λ (o : Option Pair). HasName o part.name) (same k low) has);
+            };
+            is = part.is;
+          }

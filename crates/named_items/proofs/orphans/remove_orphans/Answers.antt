@@ -1,0 +1,201 @@
+-- In the loop the store's area is that of the start by an equation alone, so each fact of a step is moved along it.
+use Rattle.std.proofs.Common.{◌≡◌, ℕ, ◌<◌, ◌∷◌, [], Bool, false, true, Option, Some, None, refl, sym, ap, subst, ◌∙◌, inr}
+use Rattle.std.specs.Prelude.{IfSome}
+use Rattle.std.specs.FinMap.{get}
+use Rattle.std.proofs.lemmas.Bool.{false≢true}
+use Rattle.std.proofs.lemmas.Option.{IfSome_then}
+use Rattle.flash_sim.specs.Device.{Device}
+use Rattle.flash_map.specs.declared.area.Area.{Area}
+use Rattle.flash_map.specs.declared.area.Geometry.{Geometry}
+use Rattle.flash_map.specs.Area.{geometry_of, sectors_of}
+use Rattle.flash_map.specs.Spending.{SpendsAtMost}
+use Rattle.flash_map.specs.Touches.{Touches}
+use Rattle.flash_map.proofs.Touches.{then, untouched}
+use Rattle.flash_map.specs.On.{on}
+use Rattle.named_items.specs.Pairs.{settings_in, AltersOnly, HasNoOrphans, IsKept}
+use Rattle.named_items.specs.StoreEnds.{IsNextId}
+use Rattle.backend_api.specs.Room.{removal_units}
+use Rattle.backend_api.specs.Written.{StaysWritten}
+use Rattle.named_items.specs.Orphans.{KeepsEach, OnlyRemoves, Removes, SpendsPerItem, StaysKept, StopsAt}
+use Rattle.named_items.proofs.RemovalUnits.{per-none, per-most, per-then, per-cut}
+use Rattle.named_items.proofs.RemovedSteps.{StaysAhead, gone-then, ahead-start, ahead-step, stops-at, removal-cut}
+use Rattle.named_items.proofs.SpendSteps.{geometry-stays}
+use Rattle.named_items.proofs.SoFar.{HasNoneBefore, ids_left}
+use Rattle.named_items.proofs.OrphanSteps.{kept-more, stays-more, orphans-start, orphans-step, orphans-end, left-smaller}
+use Rattle.named_items.proofs.orphans.remove_orphans.Goals as goal
+
+pub loop-at-init : goal.loop-at-init
+loop-at-init g c =
+    let a : Device = g.F.Flash.device c.args.flash.now in
+    let own : Area = g.S.ItemStore.mounted_on c.args.store.now in
+    record {
+      touches = untouched (own ∷ []) a;
+      area = refl;
+      stands = c.requires.stands;
+      describes = c.fill_index.ensures;
+      sound = g.met.S.ItemStore.stands_reads c.args.store.now (geometry_of a own) (sectors_of a own) c.requires.stands;
+      keeps = refl;
+      kept = λ id is. (is, refl);
+      gone = λ id. inr refl;
+      ahead = ahead-start (on g.S.ItemStore.contents a own) c.next_by-at.result;
+      same = λ clean. refl;
+      written = λ blank. blank;
+      so_far = orphans-start (g.N.IdLayout.numbering own) (on g.S.ItemStore.contents a own) c.next_by-at.result c.next_by-at.ensures.next;
+      per_item = per-none (removal_units (geometry_of a own)) a (on g.S.ItemStore.contents a own);
+      known = IfSome_then c.next_by-at.result c.next_by-at.ensures.known (λ id is. c.requires.ids.only id is);
+    }
+
+pub remove_if_orphan-requires-clause-known : goal.remove_if_orphan-requires-clause-known
+remove_if_orphan-requires-clause-known g c = subst (λ (o : Option ℕ). IfSome o (λ id. id < g.N.IdLayout.top)) c.in-Some.is c.loop-at.invariant.known
+
+pub loop-at-preserved : goal.loop-at-preserved
+loop-at-preserved g c =
+    let a : Device = g.F.Flash.device c.args.flash.now in
+    let b : Device = g.F.Flash.device c.loop-at.flash in
+    let e : Device = g.F.Flash.device c.remove_if_orphan.new.flash in
+    let own : Area = g.S.ItemStore.mounted_on c.args.store.now in
+    let kept = c.loop-at.invariant in
+    let step = c.in_ok-remove_if_orphan.ensures in
+    let area : g.S.ItemStore.mounted_on c.remove_if_orphan.new.store ≡ own = step.store.area ∙ kept.area in
+    record {
+      touches = then kept.touches (subst (λ (x : Area). Touches (x ∷ []) b e false) kept.area step.touches);
+      area = area;
+      stands = step.store.up refl;
+      describes = step.describes refl;
+      sound = subst (λ (x : Area). on g.S.ItemStore.damage e x ≡ None) kept.area step.store.sound;
+      keeps = subst (λ (x : Area). settings_in (g.N.IdLayout.numbering x) (on g.S.ItemStore.contents e x) ≡ settings_in (g.N.IdLayout.numbering x) (on g.S.ItemStore.contents b x)) kept.area step.keeps.settings ∙ kept.keeps;
+      kept = stays-more (g.N.IdLayout.numbering own) (on g.S.ItemStore.contents a own) (on g.S.ItemStore.contents b own) (on g.S.ItemStore.contents e own) kept.kept c.in-Some.id
+          (subst (λ (x : Area). Removes (g.N.IdLayout.numbering x) (on g.S.ItemStore.contents b x) (on g.S.ItemStore.contents e x) c.in-Some.id) kept.area (step.ends.removes refl))
+          (subst (λ (x : Area). KeepsEach (g.N.IdLayout.numbering x) (on g.S.ItemStore.contents b x) (on g.S.ItemStore.contents e x)) kept.area step.keeps.kept)
+          (λ is. ap (λ (d : Device). on g.S.ItemStore.contents d own) (step.ends.idle (subst (λ (x : Area). IsKept (g.N.IdLayout.numbering x) (on g.S.ItemStore.contents b x) c.in-Some.id) (sym kept.area) is)));
+      gone = gone-then (on g.S.ItemStore.contents a own) (on g.S.ItemStore.contents b own) (on g.S.ItemStore.contents e own) kept.gone
+          (subst (λ (x : Area). OnlyRemoves (on g.S.ItemStore.contents b x) (on g.S.ItemStore.contents e x)) kept.area step.keeps.gone);
+      ahead = ahead-step (on g.S.ItemStore.contents a own) (on g.S.ItemStore.contents b own) (on g.S.ItemStore.contents e own) c.in-Some.id
+          (subst (λ (x : Area). AltersOnly (on g.S.ItemStore.contents b x) (on g.S.ItemStore.contents e x) c.in-Some.id) kept.area step.ends.others)
+          (subst (λ (o : Option ℕ). StaysAhead (on g.S.ItemStore.contents a own) (on g.S.ItemStore.contents b own) o) c.in-Some.is kept.ahead)
+          c.next_by-at-in-Some.result
+          (subst (λ (x : Area). IsNextId (on g.S.ItemStore.contents e x) (Some c.in-Some.id) c.next_by-at-in-Some.result) area c.next_by-at-in-Some.ensures.next);
+      same = λ clean.
+          let same = kept.same clean in
+          step.ends.rests (subst (λ (x : Area). HasNoOrphans (g.N.IdLayout.numbering x) (on g.S.ItemStore.contents b x)) (sym kept.area) (subst (λ (d : Device). HasNoOrphans (g.N.IdLayout.numbering own) (on g.S.ItemStore.contents d own)) (sym same) clean)) ∙ same;
+      written = λ blank. kept.written (subst (λ (x : Area). StaysWritten b e x) kept.area step.written blank);
+      so_far = orphans-step (g.N.IdLayout.numbering own) (on g.S.ItemStore.contents b own) (on g.S.ItemStore.contents e own) c.in-Some.id c.next_by-at-in-Some.result
+          (subst (λ (x : Area). Removes (g.N.IdLayout.numbering x) (on g.S.ItemStore.contents b x) (on g.S.ItemStore.contents e x) c.in-Some.id) kept.area (step.ends.removes refl))
+          (subst (λ (x : Area). IsNextId (on g.S.ItemStore.contents e x) (Some c.in-Some.id) c.next_by-at-in-Some.result) area c.next_by-at-in-Some.ensures.next)
+          (subst (λ (o : Option ℕ). HasNoneBefore (g.N.IdLayout.numbering own) (on g.S.ItemStore.contents b own) o) c.in-Some.is kept.so_far);
+      per_item = per-then (removal_units (geometry_of a own)) a b e (on g.S.ItemStore.contents a own) (on g.S.ItemStore.contents b own) kept.per_item (on g.S.ItemStore.contents e own)
+          (subst (λ (k : Geometry). SpendsPerItem (removal_units k) b e (on g.S.ItemStore.contents b own) (on g.S.ItemStore.contents e own)) (geometry-stays a b own kept.touches.banks)
+          (subst (λ (x : Area). SpendsPerItem (removal_units (geometry_of b x)) b e (on g.S.ItemStore.contents b x) (on g.S.ItemStore.contents e x)) kept.area (step.units.per_item refl)));
+      known = IfSome_then c.next_by-at-in-Some.result c.next_by-at-in-Some.ensures.known (λ id is. c.requires.ids.only id is);
+    }
+
+pub loop-at-smaller : goal.loop-at-smaller
+loop-at-smaller g c =
+    let e : Device = g.F.Flash.device c.remove_if_orphan.new.flash in
+    let known : IfSome c.next_by-at-in-Some.result (λ id. id < g.N.IdLayout.top) = IfSome_then c.next_by-at-in-Some.result c.next_by-at-in-Some.ensures.known (λ id is. c.requires.ids.only id is) in
+    subst (λ (o : Option ℕ). ids_left c.next_by-at-in-Some.result < ids_left o) (sym c.in-Some.is)
+    (left-smaller g.N.IdLayout.top (on g.S.ItemStore.contents e (g.S.ItemStore.mounted_on c.remove_if_orphan.new.store)) c.in-Some.id c.next_by-at-in-Some.result g.met.N.IdLayout.top_small known
+    (subst (λ (o : Option ℕ). IfSome o (λ id. id < g.N.IdLayout.top)) c.in-Some.is c.loop-at.invariant.known) c.next_by-at-in-Some.ensures.next)
+
+pub returns-in_err-remove_if_orphan-clause-touches : goal.returns-in_err-remove_if_orphan-clause-touches
+returns-in_err-remove_if_orphan-clause-touches g c =
+    let b : Device = g.F.Flash.device c.loop-at.flash in
+    let e : Device = g.F.Flash.device c.remove_if_orphan.new.flash in
+    let kept = c.loop-at.invariant in
+    subst (λ (lost : Bool). Touches (g.S.ItemStore.mounted_on c.args.store.now ∷ []) (g.F.Flash.device c.args.flash.now) e lost) (sym c.from_residual.ensures.0) (then kept.touches (subst (λ (x : Area). Touches (x ∷ []) b e true) kept.area c.in_err-remove_if_orphan.ensures.touches))
+
+pub returns-in_err-remove_if_orphan-clause-rests : goal.returns-in_err-remove_if_orphan-clause-rests
+returns-in_err-remove_if_orphan-clause-rests g c = λ clean.
+    let b : Device = g.F.Flash.device c.loop-at.flash in
+    let own : Area = g.S.ItemStore.mounted_on c.args.store.now in
+    let kept = c.loop-at.invariant in
+    let same = kept.same clean in
+    c.in_err-remove_if_orphan.ensures.ends.rests (subst (λ (x : Area). HasNoOrphans (g.N.IdLayout.numbering x) (on g.S.ItemStore.contents b x)) (sym kept.area) (subst (λ (d : Device). HasNoOrphans (g.N.IdLayout.numbering own) (on g.S.ItemStore.contents d own)) (sym same) clean)) ∙ same
+
+pub returns-clause-at_most : goal.returns-clause-at_most
+returns-clause-at_most g c =
+    let a : Device = g.F.Flash.device c.args.flash.now in
+    let b : Device = g.F.Flash.device c.loop-at.flash in
+    let own : Area = g.S.ItemStore.mounted_on c.args.store.now in
+    per-most (removal_units (geometry_of a own)) a b (on g.S.ItemStore.contents a own) (on g.S.ItemStore.contents b own) c.loop-at.invariant.per_item
+
+pub returns-in_err-remove_if_orphan-clause-at_most : goal.returns-in_err-remove_if_orphan-clause-at_most
+returns-in_err-remove_if_orphan-clause-at_most g c =
+    let a : Device = g.F.Flash.device c.args.flash.now in
+    let b : Device = g.F.Flash.device c.loop-at.flash in
+    let e : Device = g.F.Flash.device c.remove_if_orphan.new.flash in
+    let own : Area = g.S.ItemStore.mounted_on c.args.store.now in
+    let kept = c.loop-at.invariant in
+    per-cut (removal_units (geometry_of a own)) a b e (on g.S.ItemStore.contents a own) (on g.S.ItemStore.contents b own) kept.per_item c.in-Some.id
+    (subst (λ (x : Area). ¬ (get (on g.S.ItemStore.contents b x) c.in-Some.id ≡ None)) kept.area (c.in_err-remove_if_orphan.ensures.ends.present refl))
+    (subst (λ (k : Geometry). SpendsAtMost b e (removal_units k)) (geometry-stays a b own kept.touches.banks)
+    (subst (λ (x : Area). SpendsAtMost b e (removal_units (geometry_of b x))) kept.area c.in_err-remove_if_orphan.ensures.units.at_most))
+
+pub returns-in_err-remove_if_orphan-clause-written : goal.returns-in_err-remove_if_orphan-clause-written
+returns-in_err-remove_if_orphan-clause-written g c = λ blank.
+    let b : Device = g.F.Flash.device c.loop-at.flash in
+    let e : Device = g.F.Flash.device c.remove_if_orphan.new.flash in
+    c.loop-at.invariant.written (subst (λ (x : Area). StaysWritten b e x) c.loop-at.invariant.area c.in_err-remove_if_orphan.ensures.written blank)
+
+pub returns-in_err-remove_if_orphan-clause-store : goal.returns-in_err-remove_if_orphan-clause-store
+returns-in_err-remove_if_orphan-clause-store g c =
+    let e : Device = g.F.Flash.device c.remove_if_orphan.new.flash in
+    let step = c.in_err-remove_if_orphan.ensures in
+    record {
+      area = step.store.area ∙ c.loop-at.invariant.area;
+      sound = subst (λ (x : Area). on g.S.ItemStore.damage e x ≡ None) c.loop-at.invariant.area step.store.sound;
+      up = λ kept. absurd (false≢true (sym kept ∙ c.from_residual.ensures.0));
+      down = λ lost. step.store.down refl;
+    }
+
+pub returns-in_err-remove_if_orphan-clause-keeps : goal.returns-in_err-remove_if_orphan-clause-keeps
+returns-in_err-remove_if_orphan-clause-keeps g c =
+    let a : Device = g.F.Flash.device c.args.flash.now in
+    let b : Device = g.F.Flash.device c.loop-at.flash in
+    let e : Device = g.F.Flash.device c.remove_if_orphan.new.flash in
+    let own : Area = g.S.ItemStore.mounted_on c.args.store.now in
+    let kept = c.loop-at.invariant in
+    let step = c.in_err-remove_if_orphan.ensures in
+    record {
+      settings = subst (λ (x : Area). settings_in (g.N.IdLayout.numbering x) (on g.S.ItemStore.contents e x) ≡ settings_in (g.N.IdLayout.numbering x) (on g.S.ItemStore.contents b x)) kept.area step.keeps.settings ∙ kept.keeps;
+      kept = kept-more (g.N.IdLayout.numbering own) (on g.S.ItemStore.contents a own) (on g.S.ItemStore.contents b own) (on g.S.ItemStore.contents e own) kept.kept (subst (λ (x : Area). KeepsEach (g.N.IdLayout.numbering x) (on g.S.ItemStore.contents b x) (on g.S.ItemStore.contents e x)) kept.area c.in_err-remove_if_orphan.ensures.keeps.kept);
+      gone = gone-then (on g.S.ItemStore.contents a own) (on g.S.ItemStore.contents b own) (on g.S.ItemStore.contents e own) kept.gone (subst (λ (x : Area). OnlyRemoves (on g.S.ItemStore.contents b x) (on g.S.ItemStore.contents e x)) kept.area c.in_err-remove_if_orphan.ensures.keeps.gone);
+    }
+
+pub returns-in_err-remove_if_orphan-clause-ends : goal.returns-in_err-remove_if_orphan-clause-ends
+returns-in_err-remove_if_orphan-clause-ends g c =
+    let a : Device = g.F.Flash.device c.args.flash.now in
+    let b : Device = g.F.Flash.device c.loop-at.flash in
+    let e : Device = g.F.Flash.device c.remove_if_orphan.new.flash in
+    let own : Area = g.S.ItemStore.mounted_on c.args.store.now in
+    let kept = c.loop-at.invariant in
+    let n = g.N.IdLayout.numbering own in
+    let stops : StopsAt n (on g.S.ItemStore.contents a own) (on g.S.ItemStore.contents e own) c.in-Some.id =
+    stops-at (on g.S.ItemStore.contents a own) (on g.S.ItemStore.contents b own) (on g.S.ItemStore.contents e own) c.in-Some.id
+    (subst (λ (x : Area). AltersOnly (on g.S.ItemStore.contents b x) (on g.S.ItemStore.contents e x) c.in-Some.id) kept.area c.in_err-remove_if_orphan.ensures.ends.others)
+    (subst (λ (o : Option ℕ). StaysAhead (on g.S.ItemStore.contents a own) (on g.S.ItemStore.contents b own) o) c.in-Some.is kept.ahead)
+    n
+    (subst (λ (x : Area). StaysKept (g.N.IdLayout.numbering x) (on g.S.ItemStore.contents b x) (on g.S.ItemStore.contents e x)) kept.area c.in_err-remove_if_orphan.ensures.ends.still)
+    (subst (λ (o : Option ℕ). HasNoneBefore n (on g.S.ItemStore.contents b own) o) c.in-Some.is kept.so_far) in
+    removal-cut n (on g.S.ItemStore.contents a own) (on g.S.ItemStore.contents e own) c.from_residual.result c.from_residual.ensures.0 (c.in-Some.id, stops)
+
+pub returns-clause-store : goal.returns-clause-store
+returns-clause-store g c = record {
+  area = c.loop-at.invariant.area;
+  sound = c.loop-at.invariant.sound;
+  up = λ kept. c.loop-at.invariant.stands;
+  down = λ lost. absurd (false≢true lost);
+}
+
+pub returns-clause-keeps : goal.returns-clause-keeps
+returns-clause-keeps g c = record {
+  settings = c.loop-at.invariant.keeps;
+  kept = λ id is. (c.loop-at.invariant.kept id is).1;
+  gone = c.loop-at.invariant.gone;
+}
+
+pub returns-clause-ends : goal.returns-clause-ends
+returns-clause-ends g c =
+    let b : Device = g.F.Flash.device c.loop-at.flash in
+    let own : Area = g.S.ItemStore.mounted_on c.args.store.now in
+    orphans-end (g.N.IdLayout.numbering own) (on g.S.ItemStore.contents b own) (subst (λ (o : Option ℕ). HasNoneBefore (g.N.IdLayout.numbering own) (on g.S.ItemStore.contents b own) o) c.in_default.is c.loop-at.invariant.so_far)

@@ -1,0 +1,135 @@
+// The trait of a numbering.
+ghost use Rattle.std.specs.Prelude.{◌≡◌, ◌+◌, ◌^◌, ◌<◌, ◌≤◌, ℕ, Bool, List, Option, None, true, false};
+ghost use Rattle.std.specs.FinMap as finite;
+ghost use Rattle.flash_map.specs.declared.area.Area.{Area as area_type};
+ghost use Rattle.flash_map.specs.Area.{geometry_of, value_limit};
+ghost use Rattle.flash_map.specs.Lawful.{IsLawfulFor};
+ghost use Rattle.flash_map.specs.On.{on, HoldsOn, StandsOn};
+ghost use Rattle.backend_api.specs.Map.{Map};
+ghost use Rattle.named_items.specs.Numbering.{Numbering, IsNumbering};
+ghost use Rattle.named_items.specs.PairRoom.{IsCountCost};
+ghost use Rattle.named_items.specs.Pairs.{settings_in, IsKept, IsIdOfName, HasNoOrphans};
+ghost use Rattle.named_items.specs.CandidateIds.{AreOfNames, HasCandidates, HasOnlyCandidates, HasAllCandidates, HasOnlyPlaces};
+ghost use Rattle.named_items.specs.Looking.{HasIds};
+ghost use Rattle.named_items.specs.Putting.{room_in};
+
+use crate::candidates::Ids;
+use crate::store::ItemStore;
+use flash_sim::{Flash, Steps};
+use setting_name::Name;
+use std::sync::ledger::Ledger;
+
+/// At which ids a backend has the names and the values of its settings.
+pub trait IdLayout {
+    /// How they are numbered in an area.
+    ghost numbering: { area_type → Numbering };
+
+    /// A store has just the ids below this one.
+    ghost top: { ℕ };
+
+    /// What a count costs, by the price of bytes.
+    ghost counted: { (ℕ → ℕ) → ℕ };
+
+    /// The name would be one too many.
+    ghost too_many: { Map → List ℕ → Bool };
+
+    /// From the id of a name to that of its value.
+    fn step() -> u32
+        ensures { (area : area_type) → (numbering area).step ≡ result };
+
+    /// The ids at which a name may stand.
+    fn candidates_of(name: &Name) -> Ids
+        ensures ids { (area : area_type) → AreOfNames (numbering area) top result }
+        ensures candidates { (area : area_type) → HasCandidates (numbering area) name.now result }
+        ensures only { (area : area_type) → HasOnlyCandidates (numbering area) name.now result };
+
+    /// The ids at which any name may stand.
+    fn all_candidates() -> Ids
+        ensures ids { (area : area_type) → AreOfNames (numbering area) top result }
+        ensures candidates { (area : area_type) → HasAllCandidates (numbering area) result }
+        ensures only { (area : area_type) → HasOnlyPlaces (numbering area) result };
+
+    /// Whether a name may have a value: where it answers `false`, the name has none. It makes no
+    /// index.
+    fn may_have<S: ItemStore, F: Flash, L: Ledger>(
+        store: &S,
+        flash: &F,
+        name: &Name,
+        steps: &mut Steps<L>,
+    ) -> bool
+        requires ids { HasIds top S.is_id }
+        requires lawful { IsLawfulFor (F.device flash.now).banks (S.mounted_on store.now) }
+        requires stands { StandsOn S.mounted_on S.stands (F.device flash.now) store.now }
+        ensures { let area = S.mounted_on store.now in
+            result ≡ false
+            → IsIdOfName (numbering area) (on S.contents (F.device flash.now) area) name.now None };
+
+    /// Where the setting of a name stands, if the name has a value, also where items are orphans. It
+    /// looks at each id of the name up to there.
+    fn place_of<S: ItemStore, F: Flash, L: Ledger>(
+        store: &S,
+        flash: &F,
+        index: &S::Index,
+        name: &Name,
+        steps: &mut Steps<L>,
+    ) -> Option<u32>
+        requires ids { HasIds top S.is_id }
+        requires lawful { IsLawfulFor (F.device flash.now).banks (S.mounted_on store.now) }
+        requires stands { StandsOn S.mounted_on S.stands (F.device flash.now) store.now }
+        requires describes { HoldsOn (S.describes index.now) (F.device flash.now)
+            (S.mounted_on store.now) }
+        ensures { let area = S.mounted_on store.now in
+            IsIdOfName (numbering area) (on S.contents (F.device flash.now) area) name.now result };
+
+    /// Whether an item is a count, or a part of a setting that counts.
+    fn is_kept<S: ItemStore, F: Flash, L: Ledger>(
+        store: &S,
+        flash: &F,
+        index: &S::Index,
+        id: u32,
+        steps: &mut Steps<L>,
+    ) -> bool
+        requires ids { HasIds top S.is_id }
+        requires lawful { IsLawfulFor (F.device flash.now).banks (S.mounted_on store.now) }
+        requires stands { StandsOn S.mounted_on S.stands (F.device flash.now) store.now }
+        requires describes { HoldsOn (S.describes index.now) (F.device flash.now)
+            (S.mounted_on store.now) }
+        requires known { id < top }
+        ensures yes_it { let area = S.mounted_on store.now in
+            result ≡ true → IsKept (numbering area) (on S.contents (F.device flash.now) area) id }
+        ensures not_it { let area = S.mounted_on store.now in
+            result ≡ false → IsKept (numbering area) (on S.contents (F.device flash.now) area) id
+            → ⊥ };
+
+    /// What all settings cost by the numbers of room, in bytes.
+    fn settings_cost<S: ItemStore, F: Flash, L: Ledger>(
+        store: &S,
+        flash: &F,
+        steps: &mut Steps<L>,
+    ) -> u64
+        requires ids { HasIds top S.is_id }
+        requires lawful { IsLawfulFor (F.device flash.now).banks (S.mounted_on store.now) }
+        requires stands { StandsOn S.mounted_on S.stands (F.device flash.now) store.now }
+        requires clean { let area = S.mounted_on store.now in
+            HasNoOrphans (numbering area) (on S.contents (F.device flash.now) area) }
+        ensures { let d = F.device flash.now in let area = S.mounted_on store.now in
+            result
+            ≡ (room_in counted too_many S.price S.cap (geometry_of d area)).cost
+            (settings_in (numbering area) (on S.contents d area)) };
+
+    // The count, the names and the values have ids of their own, and all of them are ids of the
+    // store.
+    ghost is_numbering: { (area : area_type) → IsNumbering (numbering area) };
+
+    ghost within: { (area : area_type) (count : Option (List ℕ)) → (numbering area).first + (numbering area).count_of count + (numbering area).step ≤ top };
+
+    ghost top_small: { top < 2 ^ 32 };
+
+    // A value is no longer than the area allows.
+    ghost longest: { (area : area_type) → (numbering area).longest ≡ value_limit area };
+
+    ghost count_cost: { (area : area_type) (price : ℕ → ℕ) → IsCountCost (numbering area) price (counted price) };
+
+    // A name that has a value is never one too many.
+    ghost stored_few: { (settings : Map) (name : List ℕ) → finite.contains_key settings name ≡ true → too_many settings name ≡ false };
+}

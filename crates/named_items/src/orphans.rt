@@ -1,0 +1,114 @@
+// The removal of items that belong to no setting.
+ghost use Rattle.std.specs.Prelude.{◌≡◌, ◌*◌, ◌<◌, ◌∷◌, [], false, is_err};
+ghost use Rattle.std.specs.FinMap as finite;
+ghost use Rattle.flash_map.specs.Area.{geometry_of};
+ghost use Rattle.flash_map.specs.Lawful.{IsLawfulFor};
+ghost use Rattle.flash_map.specs.Spending.{SpendsAtMost};
+ghost use Rattle.flash_map.specs.Touches.{Touches};
+ghost use Rattle.flash_map.specs.On.{on, HoldsOn, StandsOn};
+ghost use Rattle.backend_api.specs.Room.{removal_units};
+ghost use Rattle.backend_api.specs.Written.{StaysWritten};
+ghost use Rattle.named_items.specs.Mounted.{StaysMounted};
+ghost use Rattle.named_items.specs.Pairs.{HasNoOrphans};
+ghost use Rattle.named_items.specs.Looking.{HasIds};
+ghost use Rattle.named_items.specs.Orphans.{KeepsSettings, LooksAt, RemovalEnds, SpendsOnOne};
+
+use crate::numbering::IdLayout;
+use crate::store::ItemStore;
+use flash_sim::{Flash, PowerLost, Steps};
+use std::sync::ledger::Ledger;
+
+/// Deletes an item, unless it is a count or a part of a setting that counts: then nothing is
+/// programmed. The index then knows the items that are left. No other item changes, whatever the
+/// result. It spends at most the units and erases of one removal, and none where the item stays.
+/// The area is all FF afterwards only where it was so before.
+///
+/// # Errors
+/// `PowerLost`, only where the id has an item: it is as before, or gone. The settings are as before, and each item that is kept.
+pub fn remove_if_orphan<N: IdLayout, S: ItemStore, F: Flash, L: Ledger>(
+    store: &mut S,
+    flash: &mut F,
+    index: &mut S::Index,
+    id: u32,
+    steps: &mut Steps<L>,
+) -> Result<(), PowerLost>
+    requires ids { HasIds N.top S.is_id }
+    requires lawful { IsLawfulFor (F.device flash.old).banks (S.mounted_on store.old) }
+    requires stands { StandsOn S.mounted_on S.stands (F.device flash.old) store.old }
+    requires describes { HoldsOn (S.describes index.old) (F.device flash.old)
+        (S.mounted_on store.old) }
+    requires known { id < N.top }
+
+    ensures touches { Touches (S.mounted_on store.old ∷ []) (F.device flash.old)
+        (F.device flash.new) (is_err result) }
+    ensures store { StaysMounted S.mounted_on S.stands S.runs S.damage (F.device flash.new)
+        store.old store.new (is_err result) }
+    ensures keeps { let area = S.mounted_on store.old in
+        KeepsSettings (N.numbering area) (on S.contents (F.device flash.old) area)
+        (on S.contents (F.device flash.new) area) }
+    ensures ends { let d = F.device flash.old in let e = F.device flash.new in
+        let area = S.mounted_on store.old in
+        LooksAt (N.numbering area) d e (on S.contents d area) (on S.contents e area) id
+        (is_err result) }
+    ensures units { let d = F.device flash.old in let e = F.device flash.new in
+        let area = S.mounted_on store.old in
+        SpendsOnOne (removal_units (geometry_of d area)) d e (on S.contents d area)
+        (on S.contents e area) (is_err result) }
+    ensures written { StaysWritten (F.device flash.old) (F.device flash.new)
+        (S.mounted_on store.old) }
+    ensures describes { is_err result ≡ false
+        → HoldsOn (S.describes index.new) (F.device flash.new) (S.mounted_on store.new) }
+{
+    if N::is_kept(store, flash, index, id, steps) {
+        return Ok(());
+    }
+    store.delete(flash, id, steps)?;
+    store.fill_index(flash, index, steps);
+    Ok(())
+}
+
+/// Deletes every item that is no count and belongs to no setting that counts, in rising order of
+/// ids. All others stay, and none is new. It spends at most the units and erases of one removal for
+/// each item that there is. The area is all FF afterwards only where it was so before.
+///
+/// # Errors
+/// `PowerLost`: the settings are as before, and each item that is kept. There is an id below which no orphan is left, and above
+/// which every item is as before; its own item is as before, or gone.
+#[tactic(auto, using(flash_map::proofs::Touches::then))]
+pub fn remove_orphans<N: IdLayout, S: ItemStore, F: Flash, L: Ledger>(
+    store: &mut S,
+    flash: &mut F,
+    steps: &mut Steps<L>,
+) -> Result<(), PowerLost>
+    requires ids { HasIds N.top S.is_id }
+    requires lawful { IsLawfulFor (F.device flash.old).banks (S.mounted_on store.old) }
+    requires stands { StandsOn S.mounted_on S.stands (F.device flash.old) store.old }
+
+    ensures touches { Touches (S.mounted_on store.old ∷ []) (F.device flash.old)
+        (F.device flash.new) (is_err result) }
+    ensures store { StaysMounted S.mounted_on S.stands S.runs S.damage (F.device flash.new)
+        store.old store.new (is_err result) }
+    ensures keeps { let area = S.mounted_on store.old in
+        KeepsSettings (N.numbering area) (on S.contents (F.device flash.old) area)
+        (on S.contents (F.device flash.new) area) }
+    ensures ends { let area = S.mounted_on store.old in
+        RemovalEnds (N.numbering area) (on S.contents (F.device flash.old) area)
+        (on S.contents (F.device flash.new) area) result }
+    ensures at_most { let d = F.device flash.old in let area = S.mounted_on store.old in
+        SpendsAtMost d (F.device flash.new)
+        (finite.len (on S.contents d area) * removal_units (geometry_of d area)) }
+    ensures written { StaysWritten (F.device flash.old) (F.device flash.new)
+        (S.mounted_on store.old) }
+    ensures rests { let area = S.mounted_on store.old in
+        HasNoOrphans (N.numbering area) (on S.contents (F.device flash.old) area)
+        → F.device flash.new ≡ F.device flash.old }
+{
+    let mut index = S::new_index();
+    store.fill_index(flash, &mut index, steps);
+    let mut at = store.next_by(flash, &index, None, steps);
+    while let Some(id) = at {
+        remove_if_orphan::<N, S, F, L>(store, flash, &mut index, id, steps)?;
+        at = store.next_by(flash, &index, Some(id), steps);
+    }
+    Ok(())
+}

@@ -1,0 +1,223 @@
+-- What a job on a mirror makes of files, print and flash.
+use Rattle.std.specs.Prelude.{◌≡◌, ◌⊎◌, ⊤, ℕ, ◌+◌, Bool, false, Option, Some, None, Result, Ok, Err, List, ◌∷◌}
+use Rattle.std.specs.List.{flat_map}
+use Rattle.arrayvec.specs.ArrayString.{ArrayString}
+use Rattle.zs_host.specs.Outside.{Outside, failed}
+use Rattle.flash_sim.specs.Device.{Device, counted}
+use Rattle.flash_map.specs.declared.area.Area.{Area}
+use Rattle.flash_map.specs.declared.faults.Damaged.{Damaged}
+use Rattle.flash_map.specs.On.{on}
+use Rattle.backend_api.specs.Map.{Map}
+use Rattle.any_backend.specs.ByRole.{any_damage, any_contents, any_rests, any_room}
+use Rattle.image_file.specs.Format.{Plain}
+use Rattle.session_table.specs.Bench.{area_at}
+use Rattle.session.specs.OnMap.{limit_of}
+use Rattle.mirror.specs.Trusted.{BothRead, MirrorReads, damage_shown, trusted_on}
+use Rattle.mirror.specs.Mounting.{IsAtRest}
+use Rattle.mirror.specs.Prices.{mirror_prices}
+use Rattle.mirror_session.specs.declared.line.Line.{Line}
+use Rattle.mirror_session.specs.declared.line.Line.TheVariants.{Mount}
+use Rattle.mirror_session.specs.declared.answer.Answer.{Answer}
+use Rattle.mirror_session.specs.Answer.{text_of}
+use Rattle.mirror_session.specs.declared.fault.SessionFault.{SessionFault}
+use Rattle.mirror_session.specs.declared.fault.SessionFault.TheVariants.{Damaged as IsDamaged, Unfit as IsUnfit, NoMemory as WantsMemory}
+use Rattle.mirror_session.specs.Bench.{Meanings, Moment, beside_in, meanings, moment, rules_of, state_of}
+use Rattle.mirror_session.specs.History.{IsAfterPrefix, IsMirrored}
+use Rattle.mirror_session.specs.LineDone.{FitsBoth}
+use Rattle.mirror_session.specs.Running.{Ran, RunStops, ReportsUnfit, replaced_in}
+use Rattle.mirror_session.specs.Standing.{NamesRead}
+use Rattle.mirror_session.specs.State.{IsOn}
+use Rattle.image_jobs.specs.declared.outcome.Outcome.{Outcome}
+use Rattle.image_jobs.specs.declared.stops.Refusal.{Refusal}
+use Rattle.image_jobs.specs.declared.stops.Refusal.TheVariants.{BadArea, Unfit}
+use Rattle.image_jobs.specs.declared.stops.Stop.{Stop}
+use Rattle.image_jobs.specs.declared.stops.Stop.TheVariants.{Refused, HostFailed, NoMemory}
+use Rattle.image_jobs.specs.Images.{HasAreas, begun, flash_of, left}
+use Rattle.image_jobs.specs.Jobs.{File, WritesLeft, file_of}
+use Rattle.image_jobs.specs.Reading.{HasImage, LacksImage}
+use Rattle.session_jobs.specs.MirrorInputs.{AreMirrored, HasLines, LacksLines, LacksMirror}
+
+-- the texts of all answers
+abbrev pub texts : List Answer → List ℕ
+texts answers = flat_map text_of answers
+
+-- what the bytes of areas mean to the store of their role
+abbrev pub any_meanings : Meanings
+any_meanings = meanings any_damage any_contents any_room mirror_prices
+
+-- ---- how an image reads
+
+-- The place of the area that is read: the one that the selector names, or the other one where that is all FF
+-- and the other is not.
+abbrev pub trusted_in : List Area → Plain → ℕ
+trusted_in areas image = trusted_on areas (flash_of image)
+
+-- the settings in that area
+abbrev pub settings_in : List Area → Plain → Map
+settings_in areas image = on any_contents (flash_of image) (area_at areas (trusted_in areas image))
+
+-- and those in the other one
+abbrev pub other_settings_in : List Area → Plain → Map
+other_settings_in areas image =
+    on any_contents (flash_of image) (area_at areas (beside_in areas (trusted_in areas image)))
+
+-- the damage that a mount finds, with its area's place: the selector's, or else that of the area that is read
+abbrev pub damage_in : List Area → Plain → Option (ℕ × Damaged)
+damage_in areas image = damage_shown any_damage areas (flash_of image)
+
+-- ---- what is carried out
+
+-- IMAGE is the file of this image, which has a mirror.
+pub record OpensMirror (name : List ℕ) (host : Outside) (image : Plain) (areas : List Area) : Type 0 where
+  pub has : HasImage host name image
+  pub are : HasAreas image areas
+  pub mirrored : AreMirrored areas
+
+-- That image, and the lines of SCRIPT.
+pub record SetsMirror (name script : List ℕ) (host : Outside) (image : Plain) (areas : List Area)
+    (lines : List Line) : Type 0 where
+  pub opens : OpensMirror name host image areas
+  pub gives : HasLines (limit_of areas) host script lines
+
+-- the flash just loaded with the image, and not mounted
+abbrev pub opening : Plain → Device → Moment
+opening image old = moment (begun image old) false
+
+-- the flash in the end, and whether the last mount was whole and no area was replaced since
+abbrev pub closing : Device → Bool → Moment
+closing new whole = moment new whole
+
+-- ---- done
+
+-- The text gives the answers that a plain map gives to the opening mount and to the lines, wherever power was
+-- lost and an area was replaced: the map that the image reads as. Each loss leaves the map after commands of
+-- the lines in their order, all of the acknowledged ones among them. With power on in the end both areas read
+-- as the last map. OUT is the file of the image with the bytes that are left, and it reads as the last map,
+-- also where power is off; an image that shows no damage is left so. The units in the answers are those that
+-- the flash has spent, and its losses are the answers that report one. The flash was loaded once, and once
+-- more for each area that was replaced.
+pub record MirrorJobDoes (name script out : List ℕ) (host : Outside) (old new : Device) (text : List ℕ)
+    (file : Option File) : Type 0 where
+  pub image : Plain
+  pub areas : List Area
+  pub lines : List Line
+  pub sets : SetsMirror name script host image areas lines
+  pub answers : List Answer
+  pub whole : Bool
+  pub ran : Ran any_meanings areas (Mount ∷ lines) answers (opening image old) (closing new whole)
+  pub after :
+      let rules = rules_of any_meanings areas image.banks new.spent in
+      let first = state_of any_meanings areas (opening image old) in
+      let last = state_of any_meanings areas (closing new whole) in
+      IsAfterPrefix rules (Mount ∷ lines) answers first last
+  pub mirrored : IsMirrored (state_of any_meanings areas (closing new whole))
+  pub reads : settings_in areas image ≡ (state_of any_meanings areas (opening image old)).settings
+  pub reads_other : other_settings_in areas image ≡ (state_of any_meanings areas (opening image old)).other
+  pub leaves : settings_in areas (left image new) ≡ (state_of any_meanings areas (closing new whole)).settings
+  pub leaves_other : other_settings_in areas (left image new)
+      ≡ (state_of any_meanings areas (closing new whole)).other
+  -- where the image shows no damage, in its selector and in the area that is read, OUT shows none, and
+  -- mirror-reads as the last map
+  pub undamaged : damage_in areas image ≡ None → damage_in areas (left image new) ≡ None
+  pub mirror_reads :
+      damage_in areas image ≡ None
+      → MirrorReads any_damage any_contents areas (flash_of (left image new))
+      (state_of any_meanings areas (closing new whole)).settings
+  -- With power on in the end neither area of OUT is damaged, and both read as the last map. A mount of OUT
+  -- has nothing to do where that map has settings, or the selector names the area that is read.
+  pub both_read :
+      IsOn (state_of any_meanings areas (closing new whole))
+      → BothRead any_damage any_contents areas (flash_of (left image new))
+      (state_of any_meanings areas (closing new whole)).settings
+  pub rests :
+      IsOn (state_of any_meanings areas (closing new whole))
+      → NamesRead (state_of any_meanings areas (closing new whole))
+      → IsAtRest any_damage any_contents any_rests areas (flash_of (left image new))
+  pub banks : new.banks ≡ image.banks
+  pub loads : new.loads ≡ counted old.loads (1 + replaced_in (Mount ∷ lines) answers)
+  pub prints : text ≡ texts answers
+  pub writes : WritesLeft (Some out) (left image new) file
+
+-- ---- refused
+
+-- there is an image with a mirror, and no lines
+pub record LacksMirrorLines (name script : List ℕ) (host : Outside) (refusal : Refusal) : Type 0 where
+  pub image : Plain
+  pub areas : List Area
+  pub opens : OpensMirror name host image areas
+  pub lacks : LacksLines (limit_of areas) host script refusal
+
+-- the label is that of the area at this place
+abbrev pub IsLabelled : List Area → ℕ → ArrayString → Type 0
+IsLabelled areas place label = label.bytes ≡ (area_at areas place).label.bytes
+
+-- what a job ends with where lines stop: the area at a place is named by its label
+abbrev pub IsStop : List Area → SessionFault → Stop → Type 0
+IsStop areas (IsDamaged place damage) stop =
+    (label : ArrayString) × IsLabelled areas place label × (stop ≡ Refused (BadArea label damage))
+IsStop areas (IsUnfit place) stop =
+    (label : ArrayString) × IsLabelled areas place label × (stop ≡ Refused (Unfit label))
+IsStop areas WantsMemory stop = stop ≡ NoMemory
+
+abbrev pub ReportsDamage : SessionFault → Type 0
+ReportsDamage (IsDamaged place damage) = ⊤
+ReportsDamage (IsUnfit place) = ⊥
+ReportsDamage WantsMemory = ⊥
+
+-- what the image reads as fits both of its areas
+abbrev pub FitsImage : List Area → Plain → Type 0
+FitsImage areas image = FitsBoth any_meanings areas image.banks (settings_in areas image)
+
+-- A mount found damage, or settings that do not fit one of the two areas. An image that shows no damage is
+-- not refused for it, and one whose settings fit both areas is not refused since they do not.
+pub record StopsAtMount (name script : List ℕ) (host : Outside) (old new : Device) (refusal : Refusal) :
+    Type 0 where
+  pub image : Plain
+  pub areas : List Area
+  pub lines : List Line
+  pub sets : SetsMirror name script host image areas lines
+  pub fault : SessionFault
+  pub is : IsStop areas fault (Refused refusal)
+  pub stops : RunStops any_meanings areas (Mount ∷ lines) (opening image old) new fault
+  pub shows : damage_in areas image ≡ None → ¬ ReportsDamage fault
+  pub fits : FitsImage areas image → ¬ ReportsUnfit fault
+
+-- In the order in which they are looked at: the image; its mirror; the lines; and then what a mount finds,
+-- once the flash is loaded. But for what a mount finds the flash is as before.
+abbrev pub RefusesMirror : List ℕ → List ℕ → Outside → Device → Device → Refusal → Type 0
+RefusesMirror name script host old new refusal =
+    (LacksImage host name refusal × (new ≡ old))
+    ⊎ (LacksMirror host name refusal × (new ≡ old))
+    ⊎ (LacksMirrorLines name script host refusal × (new ≡ old))
+    ⊎ StopsAtMount name script host old new refusal
+
+-- ---- stopped, since the host failed or memory ran out
+
+-- The image was put on the flash, and the lines were carried out up to one that wanted memory, or
+-- all of them.
+pub record HasBegunMirror (name script : List ℕ) (host : Outside) (old new : Device) : Type 0 where
+  pub image : Plain
+  pub areas : List Area
+  pub lines : List Line
+  pub sets : SetsMirror name script host image areas lines
+  pub went :
+      RunStops any_meanings areas (Mount ∷ lines) (opening image old) new WantsMemory
+      ⊎ ((answers : List Answer) × (whole : Bool)
+      × Ran any_meanings areas (Mount ∷ lines) answers (opening image old) (closing new whole))
+
+-- the flash is as before, or the job had begun
+abbrev pub StopsMirror : List ℕ → List ℕ → Outside → Device → Device → Type 0
+StopsMirror name script host old new = (new ≡ old) ⊎ HasBegunMirror name script host old new
+
+-- ---- as a whole
+
+-- How a job on a mirror ends, before anything is printed or written.
+abbrev pub MirrorJobEnds : List ℕ → List ℕ → List ℕ → Outside → Outside → Device → Device
+    → Result Outcome Stop → Type 0
+MirrorJobEnds name script out host host' old new (Ok outcome) =
+    MirrorJobDoes name script out host old new outcome.text.items (file_of outcome.file) × (host' ≡ host)
+MirrorJobEnds name script out host host' old new (Err (Refused refusal)) =
+    RefusesMirror name script host old new refusal × (host' ≡ host)
+MirrorJobEnds name script out host host' old new (Err HostFailed) = (new ≡ old) × (host' ≡ failed host)
+MirrorJobEnds name script out host host' old new (Err NoMemory) =
+    StopsMirror name script host old new × (host' ≡ host)

@@ -1,0 +1,133 @@
+// Carrying out lines on the mirror of an image.
+ghost use Rattle.std.specs.Prelude.{◌≡◌, ℕ, ◌<◌, ◌∷◌, false, All, List};
+ghost use Rattle.zs_host.specs.Outside.{Outside};
+ghost use Rattle.any_backend.specs.ByRole.{any_rests, any_serves};
+ghost use Rattle.image_file.specs.Format.{plain};
+ghost use Rattle.image_file.specs.Lawful.{IsImage};
+ghost use Rattle.image_jobs.specs.Reading.{HasImage};
+ghost use Rattle.session.specs.OnMap.{limit_of};
+ghost use Rattle.mirror.specs.Trusted.{IsMirrorMap};
+ghost use Rattle.mirror_session.specs.declared.line.Line.TheVariants.{Mount};
+ghost use Rattle.mirror_session.specs.Bench.{moment};
+ghost use Rattle.mirror_session.specs.LineDone.{IsServed};
+ghost use Rattle.mirror_session.specs.Running.{RunEnds};
+ghost use Rattle.session_jobs.specs.MirrorInputs.{AreMirrored, HasLines};
+ghost use Rattle.session_jobs.specs.MirrorJobs.{IsStop, MirrorJobEnds, any_meanings};
+
+use crate::mirror_opening::{open_mirror, read_mirror_lines};
+use crate::report::all_texts;
+use flash_map::FlashMap;
+use flash_sim::{Bench, Steps};
+use image_file::Image;
+use image_jobs::{Outcome, Output, Refusal, Stop, file_left, label_at, longest_value};
+use mirror::MirrorStore;
+use mirror_session::{Answers, Line, SessionFault, run_lines};
+use std::alloc::Global;
+use std::marker::Brand;
+use std::sync::ledger::{Blank, Ledger};
+use zs_host::Host;
+
+// Why the lines stopped.
+fn stop_of<'a>(areas: &FlashMap, fault: SessionFault) -> Stop<'a>
+    ensures { IsStop areas.now fault result }
+{
+    match fault {
+        SessionFault::Damaged { area, damage } => {
+            let label = label_at(areas, area);
+            Stop::Refused(Refusal::BadArea { label, damage })
+        }
+        SessionFault::Unfit { area } => {
+            let label = label_at(areas, area);
+            Stop::Refused(Refusal::Unfit { label })
+        }
+        SessionFault::NoMemory => Stop::NoMemory,
+    }
+}
+
+// Carries out the lines, and counts steps for it.
+fn run<B: Bench, L: Ledger>(
+    alloc: Global,
+    areas: &FlashMap,
+    lines: &[Line],
+    bench: &mut B,
+    blank: Blank,
+) -> Result<Answers, SessionFault>
+    requires map { IsMirrorMap any_serves areas.now (B.device bench.old) }
+    requires lines { All (IsServed (limit_of areas.now)) lines.now }
+    requires name { blank.name ≡ L.name }
+    requires parts { blank.parts ≡ L.parts }
+    requires some { 0 < L.parts }
+    ensures { let old = moment (B.device bench.old) false in
+        RunEnds any_rests any_meanings areas.now (Mount ∷ lines.now) old (B.device bench.new)
+        result }
+{
+    let mut steps = Steps::<L>::new(blank);
+    run_lines::<MirrorStore, B, L>(alloc, lines, bench, areas, &mut steps)
+}
+
+// Carries out the lines on the mirror of the image.
+fn run_on_image<'a, B: Bench>(
+    alloc: Global,
+    out: &'a str,
+    image: Image,
+    lines: &[Line],
+    bench: &mut B,
+) -> Result<Outcome<'a>, Stop<'a>>
+    requires image { IsImage (plain image) }
+    requires mirrored { AreMirrored image.map }
+    requires lines { All (IsServed (limit_of image.map)) lines.now }
+    ensures { (outside : Outside) (name script : List ℕ) → HasImage outside name (plain image)
+        → HasLines (limit_of image.map) outside script lines.now
+        → MirrorJobEnds name script out.now outside outside (B.device bench.old)
+        (B.device bench.new) result }
+{
+    let Image { banks, map, bytes } = image;
+    bench.load(alloc, banks, bytes)?;
+    let ran = run::<B, Brand>(alloc, &map, lines, bench, Blank::new(1));
+    let answers = match ran {
+        Ok(answers) => answers,
+        Err(fault) => return Err(stop_of(&map, fault)),
+    };
+    let text = match all_texts(alloc, answers.as_slice()) {
+        Ok(text) => text,
+        Err(_) => return Err(Stop::NoMemory),
+    };
+    let file = match file_left(alloc, &Output::Into { name: out }, &map, bench) {
+        Ok(file) => file,
+        Err(_) => return Err(Stop::NoMemory),
+    };
+    Ok(Outcome { text, file })
+}
+
+/// Carries out the script in the file `script` on the two store areas of the image in the file `image`,
+/// which hold one map of settings between them: reads both files, loads the bench, carries out the
+/// opening mount and the lines, and gives the texts of all answers, and the file of the image that
+/// is left, to be written into `out`. Nothing is printed or written, and files stay.
+///
+/// # Errors
+/// Refused where there is no image, then where it is not exactly two store areas, each for NVS or ZMS, and their selector, then where
+/// there are no lines, then where a mount finds damage, or settings that do not fit one of the two areas. The host failed: nothing
+/// was carried out. There was not enough memory: nothing was carried out, or the lines were carried out up to some one of them.
+#[inline(never)]
+pub fn run_mirror_job<'a, H: Host, B: Bench>(
+    alloc: Global,
+    image: &'a str,
+    script: &'a str,
+    out: &'a str,
+    host: &mut H,
+    bench: &mut B,
+) -> Result<Outcome<'a>, Stop<'a>>
+    ensures { MirrorJobEnds image.now script.now out.now (H.outside host.old) (H.outside host.new)
+        (B.device bench.old) (B.device bench.new) result }
+{
+    let opened = match open_mirror(alloc, image, host) {
+        Ok(opened) => opened,
+        Err(stop) => return Err(stop),
+    };
+    let limit = longest_value(&opened.map);
+    let lines = match read_mirror_lines(alloc, script, limit as usize, host) {
+        Ok(lines) => lines,
+        Err(stop) => return Err(stop),
+    };
+    run_on_image(alloc, out, opened, lines.as_slice(), bench)
+}

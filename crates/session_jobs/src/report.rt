@@ -1,0 +1,66 @@
+// What is printed of the answers to lines.
+ghost use Rattle.std.specs.Prelude.{◌≡◌, ℕ, ⊤, All, IfOk, List, flat_map};
+ghost use Rattle.item_session.specs.declared.answer.Answer.{Answer as item_answer};
+ghost use Rattle.item_session.specs.Answer.{text_of as item_text};
+ghost use Rattle.log_session.specs.declared.answer.Answer.{Answer as log_answer};
+ghost use Rattle.log_session.specs.Answer.{text_of as log_text};
+ghost use Rattle.mirror_session.specs.Answer.{CanReport, text_of as mirror_text};
+
+use flash_sim::NoMemory;
+use std::alloc::Global;
+
+// An answer to a line.
+pub(crate) trait Answered {
+    // What holds of an answer that has a text.
+    ghost can_report: { Self → Type 0 };
+
+    ghost text_of: { Self → List ℕ };
+
+    // Its text.
+    fn text(&self, alloc: Global) -> Result<Vec<u8>, NoMemory>
+        requires { can_report self.now }
+        ensures { IfOk result (λ text. text.items ≡ text_of self.now) };
+}
+
+impl Answered for item_session::Answer {
+    ghost can_report = { λ (answer : item_answer). ⊤ };
+
+    ghost text_of = { item_text };
+
+    fn text(&self, alloc: Global) -> Result<Vec<u8>, NoMemory> {
+        item_session::answer_text(alloc, self)
+    }
+}
+
+impl Answered for log_session::Answer {
+    ghost can_report = { λ (answer : log_answer). ⊤ };
+
+    ghost text_of = { log_text };
+
+    fn text(&self, alloc: Global) -> Result<Vec<u8>, NoMemory> {
+        log_session::answer_text(alloc, self)
+    }
+}
+
+impl Answered for mirror_session::Answer {
+    ghost can_report = { CanReport };
+
+    ghost text_of = { mirror_text };
+
+    fn text(&self, alloc: Global) -> Result<Vec<u8>, NoMemory> {
+        mirror_session::answer_text(alloc, self)
+    }
+}
+
+// The texts of all answers.
+pub(crate) fn all_texts<A: Answered>(alloc: Global, answers: &[A]) -> Result<Vec<u8>, NoMemory>
+    requires { All A.can_report answers.now }
+    ensures { IfOk result (λ text. text.items ≡ flat_map A.text_of answers.now) }
+{
+    let mut all = Vec::new(alloc);
+    for answer in answers {
+        let text = answer.text(alloc)?;
+        all.extend_from_slice(text.as_slice())?;
+    }
+    Ok(all)
+}

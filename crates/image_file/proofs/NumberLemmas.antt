@@ -14,7 +14,7 @@ use Rattle.flash_map.specs.declared.area.Role.{Role}
 use Rattle.image_file.specs.Format.{plain_area}
 use Rattle.image_file.specs.Lawful.{IsLabel}
 use Rattle.text_parts.specs.Parts.{parts}
-use Rattle.image_file.specs.Spec.{IsNumber, IsSectorFormat, IsRole, IsBankItem, IsAreaItem, bank_word, area_word, bank_words, area_words, bank_from, area_from}
+use Rattle.image_file.specs.Spec.{IsNumber, IsBankKind, IsRole, IsBankItem, IsAreaItem, bank_word, area_word, bank_words, area_words, bank_from, area_from}
 
 -- what was read is the only number that the word is
 pub number_is : (word : List ℕ) (found : Option ℕ) → MatchOption found (IsNoNumber (2 ^ 32) word) (λ n. (word ≡ decimal n) × (n < 2 ^ 32)) → IsNumber word found
@@ -33,7 +33,7 @@ small_unit unit (inr (inl is)) = omega arith
 small_unit unit (inr (inr is)) = omega arith
 
 module _ (item w0 w1 w2 w3 : List ℕ) (words : parts 47 item ≡ w0 ∷ w1 ∷ w2 ∷ w3 ∷ []) where
-  bank_sound : (kind : Option Kind) (unit sector count : Option ℕ) → IsSectorFormat w0 kind → IsNumber w1 unit → IsNumber w2 sector → IsNumber w3 count → IfSome (bank_from kind unit sector count) (λ bank. parts 47 item ≡ bank_words bank)
+  bank_sound : (kind : Option Kind) (unit sector count : Option ℕ) → IsBankKind w0 kind → IsNumber w1 unit → IsNumber w2 sector → IsNumber w3 count → IfSome (bank_from kind unit sector count) (λ bank. parts 47 item ≡ bank_words bank)
   bank_sound (Some kind) (Some unit) (Some sector) (Some count) k u s n =
       words ∙ ap (λ (w : List ℕ). w ∷ w1 ∷ w2 ∷ w3 ∷ []) k.sound ∙ ap (λ (w : List ℕ). bank_word kind ∷ w ∷ w2 ∷ w3 ∷ []) u.sound
       ∙ ap (λ (w : List ℕ). bank_word kind ∷ decimal unit ∷ w ∷ w3 ∷ []) s.sound ∙ ap (λ (w : List ℕ). bank_word kind ∷ decimal unit ∷ decimal sector ∷ w ∷ []) n.sound
@@ -42,7 +42,7 @@ module _ (item w0 w1 w2 w3 : List ℕ) (words : parts 47 item ≡ w0 ∷ w1 ∷ 
   bank_sound (Some kind) None sector count k u s n = tt
   bank_sound None unit sector count k u s n = tt
 
-  pub bank_item_is : (kind : Option Kind) (unit sector count : Option ℕ) (found : Option Bank) → IsSectorFormat w0 kind → IsNumber w1 unit → IsNumber w2 sector → IsNumber w3 count → found ≡ bank_from kind unit sector count → IsBankItem item found
+  pub bank_item_is : (kind : Option Kind) (unit sector count : Option ℕ) (found : Option Bank) → IsBankKind w0 kind → IsNumber w1 unit → IsNumber w2 sector → IsNumber w3 count → found ≡ bank_from kind unit sector count → IsBankItem item found
   bank_item_is kind unit sector count found k u s n is = record {
     sound = subst (λ (f : Option Bank). IfSome f (λ bank. parts 47 item ≡ bank_words bank)) (sym is) (bank_sound kind unit sector count k u s n);
     only = λ version bank lawful other.

@@ -116,7 +116,7 @@ pub record IsNumber (word : List ℕ) (found : Option ℕ) : Type 0 where
   pub sound : IfSome found (λ n. word ≡ decimal n)
   pub only : (n : ℕ) → n < 2 ^ 32 → word ≡ decimal n → found ≡ Some n
 
-pub record IsSectorFormat (word : List ℕ) (found : Option Kind) : Type 0 where
+pub record IsBankKind (word : List ℕ) (found : Option Kind) : Type 0 where
   pub sound : IfSome found (λ kind. word ≡ bank_word kind)
   pub only : (kind : Kind) → word ≡ bank_word kind → found ≡ Some kind
 

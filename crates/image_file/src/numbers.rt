@@ -1,7 +1,7 @@
 // Words of items.
 ghost use Rattle.std.specs.Prelude.{◌≡◌, ◌≢◌, ◌^◌, ◌<◌, ℕ, IfOk, MatchOption};
 ghost use Rattle.std.specs.Fmt.{decimal};
-ghost use Rattle.image_file.specs.Spec.{IsSectorFormat, IsRole, IsNumber, IsBankItem, IsAreaItem, bank_from, area_from};
+ghost use Rattle.image_file.specs.Spec.{IsBankKind, IsRole, IsNumber, IsBankItem, IsAreaItem, bank_from, area_from};
 
 use crate::fields::label_from;
 use crate::parts::{five_words, four_words};
@@ -25,7 +25,7 @@ fn number_of(alloc: Global, word: &[u8]) -> Result<Option<u32>, AllocError>
 }
 
 fn kind_of(word: &[u8]) -> Option<Kind>
-    ensures { IsSectorFormat word.now result }
+    ensures { IsBankKind word.now result }
 {
     if word == b"bank=erasing".as_slice() {
         Some(Kind::Erasing)

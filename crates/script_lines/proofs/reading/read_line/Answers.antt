@@ -120,7 +120,7 @@ returns-in_ok-name-in-Del c =
 pub returns-in_ok-subtree-in-Register : goal.returns-in_ok-subtree-in-Register
 returns-in_ok-subtree-in-Register c =
     let same = c.in-Some.ensures ∙ ap command_word c.in-Register.is in
-    spelled settings_forms c.args.limit (parts 32 c.args.text.now) c.cut_at.result.0.now (codes "register") (parts_of 32 c.cut_at.result.1) (a_name ∷ a_kind ∷ []) (name c.in_ok-subtree-in-Register.subtree ∷ kind c.in_ok-subtree-in-Register.format_of ∷ []) c.cut_at.ensures.first same register_form.there (c.in_ok-subtree-in-Register.ensures c.args.limit)
+    spelled settings_forms c.args.limit (parts 32 c.args.text.now) c.cut_at.result.0.now (codes "register") (parts_of 32 c.cut_at.result.1) (a_name ∷ a_kind ∷ []) (name c.in_ok-subtree-in-Register.subtree ∷ kind c.in_ok-subtree-in-Register.kind ∷ []) c.cut_at.ensures.first same register_form.there (c.in_ok-subtree-in-Register.ensures c.args.limit)
 
 pub returns-in_ok-subtree-in-Load : goal.returns-in_ok-subtree-in-Load
 returns-in_ok-subtree-in-Load c =

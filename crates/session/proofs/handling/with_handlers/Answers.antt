@@ -32,9 +32,9 @@ returns-in-Register-clause-done g c =
     let pool = kinds (λ b. (goal.Handler-dyn g (b.vtable, b.value)).state b.value) c.args.pool.now.items in
     let left = kinds (λ b. (goal.Handler-dyn g (b.vtable, b.value)).state b.value) c.register_handler.new.pool.items in
     subst (λ (line : Line). IfOk c.register_handler.result (λ answer. DoneWithin (meanings g.K.Backend.contents g.K.Backend.room g.K.Backend.chance g.K.Backend.tears) c.args.map.now line answer (moment d hs pool) (moment d after left))) (sym c.in-Register.is)
-    (if-ok (λ answer. (s : State) → Registers c.in-Register.subtree c.in-Register.format_of answer (beside s hs pool) (beside s after left))
-    (λ answer. DoneWithin (meanings g.K.Backend.contents g.K.Backend.room g.K.Backend.chance g.K.Backend.tears) c.args.map.now (Register c.in-Register.subtree c.in-Register.format_of) answer (moment d hs pool) (moment d after left)) c.register_handler.result
-    (λ answer is. registers (meanings g.K.Backend.contents g.K.Backend.room g.K.Backend.chance g.K.Backend.tears) c.args.map.now d c.requires.here.powered hs after pool left c.in-Register.subtree c.in-Register.format_of answer is) c.register_handler.ensures.done)
+    (if-ok (λ answer. (s : State) → Registers c.in-Register.subtree c.in-Register.kind answer (beside s hs pool) (beside s after left))
+    (λ answer. DoneWithin (meanings g.K.Backend.contents g.K.Backend.room g.K.Backend.chance g.K.Backend.tears) c.args.map.now (Register c.in-Register.subtree c.in-Register.kind) answer (moment d hs pool) (moment d after left)) c.register_handler.result
+    (λ answer is. registers (meanings g.K.Backend.contents g.K.Backend.room g.K.Backend.chance g.K.Backend.tears) c.args.map.now d c.requires.here.powered hs after pool left c.in-Register.subtree c.in-Register.kind answer is) c.register_handler.ensures.done)
 
 pub returns-in-Register-clause-handlers : goal.returns-in-Register-clause-handlers
 returns-in-Register-clause-handlers g c = record { registry = c.register_handler.ensures.lawful (limit_of c.args.map.now) c.requires.handlers.registry; pool = c.register_handler.ensures.pool }

@@ -42,7 +42,7 @@ use Rattle.item_store.proofs.VersionSteps.{marked-versions, collects-versions}
 -- An area of a role on two devices with the same banks.
 
 pub same_geometry : (a d : Device) (area : Area) → d.banks ≡ a.banks → geometry_of d area ≡ geometry_of a area
-same_geometry a d area banks = ap (λ (l : List Bank). record { unit = (bank_at l area.bank).unit; sector = (bank_at l area.bank).sector; sectors = area.sectors; format_of = (bank_at l area.bank).kind }) banks
+same_geometry a d area banks = ap (λ (l : List Bank). record { unit = (bank_at l area.bank).unit; sector = (bank_at l area.bank).sector; sectors = area.sectors; kind = (bank_at l area.bank).kind }) banks
 
 pub same_size : (a d : Device) (area : Area) → d.banks ≡ a.banks → sector_size d area ≡ sector_size a area
 same_size a d area banks = ap (λ (l : List Bank). (bank_at l area.bank).sector) banks

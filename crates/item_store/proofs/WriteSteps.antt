@@ -21,7 +21,7 @@ use Rattle.item_laws.specs.Forms.{AtRest}
 use Rattle.item_store.specs.SectorFormat.{SectorFormat, IsSectorFormat}
 use Rattle.item_store.specs.Room.{open_bytes, has_room, IsShort, Rounds, MakesRoom, FindsFull}
 use Rattle.item_store.specs.Standing.{list_of, items}
-use Rattle.item_store.specs.Writing.{SpendsEntry, StopsEntry, Appends, StopsAppending, AppendEnds, rounds_units, Holds, IsAbsent, Writes, FindsNoSpace, StopsWriting, Deletes, StopsDeleting}
+use Rattle.item_store.specs.Writing.{SpendsEntry, StopsEntry, Appends, StopsAppending, AppendEnds, write_units, Holds, IsAbsent, Writes, FindsNoSpace, StopsWriting, Deletes, StopsDeleting}
 use Rattle.item_store.proofs.RoomSteps.{rounds-live, rounds-none}
 use Rattle.item_store.proofs.VersionWrites.{appends-versions, stops-versions}
 
@@ -70,18 +70,18 @@ module _ (k : SectorFormat) (law : IsSectorFormat k) (a : Device) (area : Area) 
 
   -- At most so many rounds, and an entry.
 
-  most_rounds : (d : Device) (len made rounds : ℕ) → made ≤ rounds → SpendsBetween a d 0 (made * k.units.round (sector_size a area)) → SpendsBetween a d 0 (rounds_units k (sector_size a area) rounds len)
+  most_rounds : (d : Device) (len made rounds : ℕ) → made ≤ rounds → SpendsBetween a d 0 (made * k.units.round (sector_size a area)) → SpendsBetween a d 0 (write_units k (sector_size a area) rounds len)
   most_rounds d len made rounds few spent =
       let le : k.units.round size * made ≤ k.units.round size * rounds = mul-le-mul_left (k.units.round size) few in
-      between_within spent 0 (rounds_units k size rounds len) (omega arith) (omega arith)
+      between_within spent 0 (write_units k size rounds len) (omega arith) (omega arith)
 
-  most_then : (d e : Device) (len made rounds : ℕ) → made ≤ rounds → SpendsBetween a d 0 (made * k.units.round (sector_size a area)) → SpendsBetween d e 0 (k.units.entry len) → SpendsBetween a e 0 (rounds_units k (sector_size a area) rounds len)
+  most_then : (d e : Device) (len made rounds : ℕ) → made ≤ rounds → SpendsBetween a d 0 (made * k.units.round (sector_size a area)) → SpendsBetween d e 0 (k.units.entry len) → SpendsBetween a e 0 (write_units k (sector_size a area) rounds len)
   most_then d e len made rounds few one two =
       let le : k.units.round size * made ≤ k.units.round size * rounds = mul-le-mul_left (k.units.round size) few in
-      between_within (between_then one two) 0 (rounds_units k size rounds len) (omega arith) (omega arith)
+      between_within (between_then one two) 0 (write_units k size rounds len) (omega arith) (omega arith)
 
-  most_none : (rounds len : ℕ) → SpendsBetween a a 0 (rounds_units k (sector_size a area) rounds len)
-  most_none rounds len = between_within (between_none a) 0 (rounds_units k size rounds len) (omega arith) (omega arith)
+  most_none : (rounds len : ℕ) → SpendsBetween a a 0 (write_units k (sector_size a area) rounds len)
+  most_none rounds len = between_within (between_none a) 0 (write_units k size rounds len) (omega arith) (omega arith)
 
   -- What an entry behind rounds makes.
 
@@ -94,7 +94,7 @@ module _ (k : SectorFormat) (law : IsSectorFormat k) (a : Device) (area : Area) 
     appended-fitting fitting =
         subst (λ (x : Device). SpendsEntry k x e (open_bytes k (sectors_of x area)) (length bytes)) (same_device appends.mid (length bytes) appends.makes fitting) appends.puts.entry
 
-    appended-most : (rounds : ℕ) → length appends.makes.before ≤ rounds → SpendsBetween a e 0 (rounds_units k (sector_size a area) rounds (length bytes))
+    appended-most : (rounds : ℕ) → length appends.makes.before ≤ rounds → SpendsBetween a e 0 (write_units k (sector_size a area) rounds (length bytes))
     appended-most rounds few =
         let opened : List ℕ = open_bytes k (sectors_of appends.mid area) in
         let le = law.entry opened opened (length bytes) in
@@ -128,7 +128,7 @@ module _ (k : SectorFormat) (law : IsSectorFormat k) (a : Device) (area : Area) 
           | inr entry ↦ subst (λ (x : Device). StopsEntry k x e (open_bytes k (sectors_of x area)) (length bytes)) (same_device entry.mid (length bytes) entry.makes fitting) entry.stops.entry
         ]
 
-    stopped-most : (rounds : ℕ) → ((n : ℕ) → n < area.sectors → (length bytes ≡ 0 → n ≤ 1) → n ≤ rounds) → SpendsBetween a e 0 (rounds_units k (sector_size a area) rounds (length bytes))
+    stopped-most : (rounds : ℕ) → ((n : ℕ) → n < area.sectors → (length bytes ≡ 0 → n ≤ 1) → n ≤ rounds) → SpendsBetween a e 0 (write_units k (sector_size a area) rounds (length bytes))
     stopped-most rounds most =
         elim stops [
           | inl round ↦ most_rounds e (length bytes) (length round.before + 1) rounds (most (length round.before + 1) round.few (λ none. (let zero_rounds = ap length (round.once none) in omega arith))) round.at_most

@@ -97,12 +97,12 @@ AppendEnds k old new area id bytes (Ok false) = FindsFull k old new area (length
 AppendEnds k old new area id bytes (Err _) = StopsAppending k old new area id bytes
 
 -- so many rounds, and then an entry with a value of this length, at most
-abbrev pub rounds_units : SectorFormat → ℕ → ℕ → ℕ → ℕ
-rounds_units k size rounds len = rounds * k.units.round size + k.units.entry len
+abbrev pub write_units : SectorFormat → ℕ → ℕ → ℕ → ℕ
+write_units k size rounds len = rounds * k.units.round size + k.units.entry len
 
 -- a round for each sector but the blank one, and then such an entry
 abbrev pub most_write : SectorFormat → Device → Area → ℕ → ℕ
-most_write k d area len = rounds_units k (sector_size d area) (area.sectors - 1) len
+most_write k d area len = write_units k (sector_size d area) (area.sectors - 1) len
 
 -- ---- writing
 
@@ -171,7 +171,7 @@ pub record Deletes (k : SectorFormat) (old new : Device) (area : Area) (id : ℕ
   pub appends : ¬ IsAbsent k old area id → Appends k old new area id []
   pub fitting : ¬ IsAbsent k old area id → has_room_at k old area 0 ≡ true
       → SpendsEntry k old new (open_at k old area) 0
-  pub at_most : SpendsBetween old new 0 (rounds_units k (sector_size old area) 1 0)
+  pub at_most : SpendsBetween old new 0 (write_units k (sector_size old area) 1 0)
 
 -- power was lost: the items are the old ones, or those without the id
 pub record StopsDeleting (k : SectorFormat) (old new : Device) (area : Area) (id : ℕ) : Type 0 where
@@ -182,7 +182,7 @@ pub record StopsDeleting (k : SectorFormat) (old new : Device) (area : Area) (id
   pub versions : KeepsOrAddsVersion k old new area id []
   pub fitting : has_room_at k old area 0 ≡ true → SpendsBetween old new 0 (k.units.entry 0)
   pub entry : has_room_at k old area 0 ≡ true → StopsEntry k old new (open_at k old area) 0
-  pub at_most : SpendsBetween old new 0 (rounds_units k (sector_size old area) 1 0)
+  pub at_most : SpendsBetween old new 0 (write_units k (sector_size old area) 1 0)
 
 abbrev pub DeleteEnds : {T : Type 0} → SectorFormat → Device → Device → Area → ℕ → Result T Lost → Type 0
 DeleteEnds k old new area id (Ok _) = Deletes k old new area id

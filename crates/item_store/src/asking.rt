@@ -11,6 +11,7 @@ ghost use Rattle.item_store.specs.Stands.{StandsOn};
 
 use crate::entry::Placed;
 use crate::lasts::Lasts;
+use crate::open_area::OpenArea;
 use crate::sectors::SlotSectors;
 use crate::store::Store;
 use flash_sim::{Flash, Steps};
@@ -75,16 +76,13 @@ impl<T: SlotSectors> Store<T> {
             bytes.now
             result }
     {
-        let mut lasts = Lasts::start(
-            flash,
-            &self.area,
-            &self.opened,
-            self.current,
-            least,
-            most,
-            steps,
-        );
-        while let Some(placed) = lasts.next(flash, &self.area, &self.opened, self.current, steps) {
+        let on = OpenArea {
+            area: &self.area,
+            current: self.current,
+            opened: self.opened,
+        };
+        let mut lasts = Lasts::start(flash, &on, least, most, steps);
+        while let Some(placed) = lasts.next(flash, &on, steps) {
             if self.has_bytes(flash, &placed, bytes, steps) {
                 return Some(placed.id);
             }
@@ -139,17 +137,14 @@ impl<T: SlotSectors> Store<T> {
         ensures { IsNextOf least most (items_on T.format_of (F.device flash.now) self.now.area)
             (option_map (λ other. other.now) after.entry) (option_map (λ bytes. bytes.now) result) }
     {
-        let mut lasts = Lasts::start(
-            flash,
-            &self.area,
-            &self.opened,
-            self.current,
-            least,
-            most,
-            steps,
-        );
+        let on = OpenArea {
+            area: &self.area,
+            current: self.current,
+            opened: self.opened,
+        };
+        let mut lasts = Lasts::start(flash, &on, least, most, steps);
         let mut found = None;
-        while let Some(placed) = lasts.next(flash, &self.area, &self.opened, self.current, steps) {
+        while let Some(placed) = lasts.next(flash, &on, steps) {
             found = self.lesser_bytes(flash, &placed, after, found, steps);
         }
         found

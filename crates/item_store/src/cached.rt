@@ -1,13 +1,14 @@
 // The cache of a store: the place of the latest entry of each cache slot's ids.
 ghost use Rattle.std.specs.Prelude.{◌≡◌, ◌<◌, length};
 ghost use Rattle.flash_map.specs.Area.{sectors_of};
-ghost use Rattle.item_store.specs.OnSector.{IsKeptOn, IsOpenOn};
+ghost use Rattle.item_store.specs.OnSector.{IsOpenAt};
 ghost use Rattle.item_store.specs.Cached.{IsCacheOf, IsCacheOn, FollowsRound};
 ghost use Rattle.item_store.specs.Listed.{format_on};
 ghost use Rattle.item_store.specs.Standing.{IsStoreArea};
 
 use crate::entry::Placed;
 use crate::noting::{Notes, note_among, note_sector};
+use crate::open_area::OpenArea;
 use crate::sectors::SlotSectors;
 use flash_map::Area;
 use flash_sim::{Flash, Steps};
@@ -28,32 +29,19 @@ impl Notes for Cache {
 /// Makes it the cache of the list, whatever it had. Each sector that counts is looked at once.
 pub fn fill<T: SlotSectors, F: Flash, L: Ledger>(
     flash: &F,
-    area: &Area,
-    opened: &T,
-    current: u32,
+    on: &OpenArea<'_, T>,
     cache: &mut Cache,
     steps: &mut Steps<L>,
 )
-    requires area { IsStoreArea T.role (F.device flash.now).banks area.now }
-    requires kept { IsKeptOn T.kept (F.device flash.now) area.now current opened.now }
-    requires current { IsOpenOn T.format_of (F.device flash.now) area.now current }
+    requires on { IsOpenAt T.role T.format_of T.kept (F.device flash.now) on.now }
     requires slots { length cache.old ≡ 64 }
 
-    ensures { IsCacheOn T.format_of (F.device flash.now) area.now cache.new }
+    ensures { IsCacheOn T.format_of (F.device flash.now) on.now.area.now cache.new }
 {
     cache.clear();
-    let older = current + 1;
-    note_among(
-        flash,
-        area,
-        opened,
-        current,
-        older,
-        area.sectors,
-        cache,
-        steps,
-    );
-    note_among(flash, area, opened, current, 0, older, cache, steps);
+    let older = on.current + 1;
+    note_among(flash, on, older, on.area.sectors, cache, steps);
+    note_among(flash, on, 0, older, cache, steps);
 }
 
 /// Keeps it the cache of the list behind a round by which this sector became the open one. What

@@ -19,6 +19,7 @@ ghost use Rattle.item_store.specs.Written.{IsWritten};
 
 use crate::entry::{Placed, Redo};
 use crate::live::{LiveEntries, live_entries, live_in};
+use crate::open_area::OpenArea;
 use crate::sectors::SlotSectors;
 use flash_map::{Area, geometry};
 use flash_sim::{Flash, PowerLost, Steps};
@@ -98,7 +99,12 @@ fn copy_live<T: SlotSectors, F: Flash, L: Ledger>(
         (SpendsUpTo d e (copies k (to_copy k.reading (sectors_of d area.now) current))) }
 {
     let mut live = LiveEntries::new();
-    live_entries(flash, area, opened, current, victim, &mut live, steps);
+    let on = OpenArea {
+        area,
+        current,
+        opened: *opened,
+    };
+    live_entries(flash, &on, victim, &mut live, steps);
     let slots = T::slots(flash, area, victim, steps);
     let first = T::first_slot();
     for slot in first..first + slots {

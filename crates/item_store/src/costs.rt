@@ -11,6 +11,7 @@ ghost use Rattle.item_store.specs.Standing.{IsStoreArea};
 ghost use Rattle.item_store.specs.Stands.{StandsOn};
 
 use crate::live::{LiveEntries, live_by, live_in};
+use crate::open_area::OpenArea;
 use crate::sectors::SlotSectors;
 use crate::seen::Seen;
 use crate::store::Store;
@@ -104,16 +105,12 @@ impl<T: SlotSectors> Store<T> {
             ++ behind k (sectors_of d self.now.area) self.now.current place) }
     {
         let mut live = LiveEntries::new();
-        live_by(
-            flash,
-            &self.area,
-            &self.opened,
-            self.current,
-            place,
-            seen,
-            &mut live,
-            steps,
-        );
+        let on = OpenArea {
+            area: &self.area,
+            current: self.current,
+            opened: self.opened,
+        };
+        live_by(flash, &on, place, seen, &mut live, steps);
         sector_cost::<T, F, L>(flash, &self.area, place, &live, steps)
     }
 

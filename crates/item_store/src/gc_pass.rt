@@ -13,6 +13,7 @@ ghost use Rattle.item_store.specs.Written.{IsWritten};
 
 use crate::cached::{CACHE_SLOTS, fill, follow_round};
 use crate::collecting::{redo, round};
+use crate::open_area::OpenArea;
 use crate::sectors::SlotSectors;
 use crate::store::Store;
 use flash_map::{Area, MountFault};
@@ -83,7 +84,12 @@ impl<T: SlotSectors> Store<T> {
                 match redo(flash, &area, &mut opened, current, steps) {
                     Err(_) => Err(MountFault::PowerLost),
                     Ok(()) => {
-                        fill(flash, &area, &opened, current, &mut cache, steps);
+                        let on = OpenArea {
+                            area: &area,
+                            current,
+                            opened,
+                        };
+                        fill(flash, &on, &mut cache, steps);
                         Ok(Store {
                             area,
                             current,

@@ -7,6 +7,7 @@ ghost use Rattle.item_laws.specs.NextIds.{IsNextId};
 ghost use Rattle.item_store.specs.Stands.{StandsOn};
 
 use crate::latest::{LastSlots, fill_last_slots};
+use crate::open_area::OpenArea;
 use crate::sectors::SlotSectors;
 use crate::store::Store;
 use flash_sim::{Flash, Steps};
@@ -26,7 +27,12 @@ impl<T: SlotSectors> Store<T> {
         requires { StandsOn T.role T.format_of T.kept (F.device flash.now) self.now }
         ensures { KnowsOn T.format_of (F.device flash.now) self.now.area last.new }
     {
-        fill_last_slots(flash, &self.area, &self.opened, self.current, last, steps)
+        let on = OpenArea {
+            area: &self.area,
+            current: self.current,
+            opened: self.opened,
+        };
+        fill_last_slots(flash, &on, last, steps)
     }
 
     /// The bytes of an item, as `get` gives them, by a table of last entries. Where the table knows

@@ -2,7 +2,7 @@
 ghost use Rattle.std.specs.Prelude.{◌≡◌, ◌⊎◌, ◌+◌, ◌-◌, ◌^◌, ◌<◌, ◌≤◌, ◌||◌, ◌&&◌, ◌==◌, ℕ, true, not, Some, None, IfSome};
 ghost use Rattle.flash_map.specs.Area.{sectors_of, sector_at};
 ghost use Rattle.item_laws.specs.Area.{counts_at, next, previous};
-ghost use Rattle.item_store.specs.OnSector.{sector_on, IsKeptOn, IsOpenOn};
+ghost use Rattle.item_store.specs.OnSector.{sector_on, IsOpenOn, IsKeptAt, IsOpenAt};
 ghost use Rattle.item_store.specs.declared.entry.Placed.{Placed as PlacedEntry};
 ghost use Rattle.item_store.specs.Lasts.{in_range, slots_left, AreOthers, IsAt, SameRange, GivesNext, WasGiven, IsLastIn};
 ghost use Rattle.item_store.specs.Listed.{format_on, IsPlacedOn};
@@ -12,6 +12,7 @@ ghost use Rattle.item_store.specs.Standing.{IsStoreArea};
 use crate::bits::{has_bit, set_bit};
 use crate::entry::Placed;
 use crate::lookup::counts;
+use crate::open_area::OpenArea;
 use crate::sectors::SlotSectors;
 use flash_map::Area;
 use flash_sim::{Flash, Steps};
@@ -35,32 +36,29 @@ pub struct Lasts {
 // How many of the first slots of a sector have to be looked at; none where it does not count.
 fn reach_counting<T: SlotSectors, F: Flash, L: Ledger>(
     flash: &F,
-    area: &Area,
-    opened: &T,
-    current: u32,
+    on: &OpenArea<'_, T>,
     place: u32,
     least: u32,
     most: u32,
     steps: &mut Steps<L>,
 ) -> u32
-    requires area { IsStoreArea T.role (F.device flash.now).banks area.now }
-    requires kept { IsKeptOn T.kept (F.device flash.now) area.now current opened.now }
-    requires current { current < area.now.sectors }
-    requires inside { place < area.now.sectors }
-    ensures few { let d = F.device flash.now in
-        result ≤ (format_on T.format_of d area.now).count (sector_on d area.now place) }
+    requires on { IsKeptAt T.role T.kept (F.device flash.now) on.now }
+    requires inside { place < on.now.area.now.sectors }
+    ensures few { let d = F.device flash.now in let area = on.now.area.now in
+        result ≤ (format_on T.format_of d area).count (sector_on d area place) }
     ensures small { result ≤ 2 ^ 15 }
-    ensures counts { let d = F.device flash.now in
+    ensures counts { let d = F.device flash.now in let area = on.now.area.now in
         0 < result
-        → counts_at (format_on T.format_of d area.now).reading (sectors_of d area.now) current place
+        → counts_at (format_on T.format_of d area).reading (sectors_of d area) on.now.current place
         ≡ true }
-    ensures others { let d = F.device flash.now in let k = format_on T.format_of d area.now in
-        let b = sector_at (sectors_of d area.now) place in
-        counts_at k.reading (sectors_of d area.now) current place ≡ true
+    ensures others { let d = F.device flash.now in let area = on.now.area.now in
+        let k = format_on T.format_of d area in
+        let b = sector_at (sectors_of d area) place in
+        counts_at k.reading (sectors_of d area) on.now.current place ≡ true
         → AreOthers k b result (k.count b) least most }
 {
-    if counts(flash, area, opened, current, place, steps) {
-        T::reach(flash, area, place, least, most, steps)
+    if counts(flash, on, place, steps) {
+        T::reach(flash, on.area, place, least, most, steps)
     } else {
         0
     }
@@ -70,22 +68,18 @@ impl Lasts {
     /// Before the newest entry.
     pub fn start<T: SlotSectors, F: Flash, L: Ledger>(
         flash: &F,
-        area: &Area,
-        opened: &T,
-        current: u32,
+        on: &OpenArea<'_, T>,
         least: u32,
         most: u32,
         steps: &mut Steps<L>,
     ) -> Lasts
-        requires area { IsStoreArea T.role (F.device flash.now).banks area.now }
-        requires kept { IsKeptOn T.kept (F.device flash.now) area.now current opened.now }
-        requires current { IsOpenOn T.format_of (F.device flash.now) area.now current }
+        requires on { IsOpenAt T.role T.format_of T.kept (F.device flash.now) on.now }
         requires range { most < least + 0x1_0020 }
-        ensures at { let d = F.device flash.now in
-            IsAt (format_on T.format_of d area.now) (sectors_of d area.now) current result }
-        ensures none { let d = F.device flash.now in
+        ensures at { let d = F.device flash.now in let area = on.now.area.now in
+            IsAt (format_on T.format_of d area) (sectors_of d area) on.now.current result }
+        ensures none { let d = F.device flash.now in let area = on.now.area.now in
             (p : PlacedEntry)
-            → ¬ WasGiven (format_on T.format_of d area.now) (sectors_of d area.now) current
+            → ¬ WasGiven (format_on T.format_of d area) (sectors_of d area) on.now.current
             result p }
         ensures least { result.least ≡ least }
         ensures most { result.most ≡ most }
@@ -93,8 +87,8 @@ impl Lasts {
         Lasts {
             least,
             most,
-            place: current,
-            left: reach_counting(flash, area, opened, current, current, least, most, steps),
+            place: on.current,
+            left: reach_counting(flash, on, on.current, least, most, steps),
             seen: [0; BYTES],
         }
     }
@@ -202,67 +196,58 @@ impl Lasts {
     fn step_back<T: SlotSectors, F: Flash, L: Ledger>(
         &mut self,
         flash: &F,
-        area: &Area,
-        opened: &T,
-        current: u32,
+        on: &OpenArea<'_, T>,
         steps: &mut Steps<L>,
     )
-        requires area { IsStoreArea T.role (F.device flash.now).banks area.now }
-        requires kept { IsKeptOn T.kept (F.device flash.now) area.now current opened.now }
-        requires current { IsOpenOn T.format_of (F.device flash.now) area.now current }
-        requires at { let d = F.device flash.now in
-            IsAt (format_on T.format_of d area.now) (sectors_of d area.now) current self.old }
+        requires on { IsOpenAt T.role T.format_of T.kept (F.device flash.now) on.now }
+        requires at { let d = F.device flash.now in let area = on.now.area.now in
+            IsAt (format_on T.format_of d area) (sectors_of d area) on.now.current self.old }
         requires none_left { self.old.left ≡ 0 }
-        requires further { self.old.place ≡ next (sectors_of (F.device flash.now) area.now) current
-            → ⊥ }
-        ensures at { let d = F.device flash.now in
-            IsAt (format_on T.format_of d area.now) (sectors_of d area.now) current self.new }
+        requires further { self.old.place
+            ≡ next (sectors_of (F.device flash.now) on.now.area.now) on.now.current → ⊥ }
+        ensures at { let d = F.device flash.now in let area = on.now.area.now in
+            IsAt (format_on T.format_of d area) (sectors_of d area) on.now.current self.new }
         ensures range { SameRange self.old self.new }
         ensures place { self.new.place
-            ≡ previous (sectors_of (F.device flash.now) area.now) self.old.place }
-        ensures covered { let d = F.device flash.now in let k = format_on T.format_of d area.now in
-            let sectors = sectors_of d area.now in
-            (p : PlacedEntry) → WasGiven k sectors current self.new p
-            → WasGiven k sectors current self.old p }
+            ≡ previous (sectors_of (F.device flash.now) on.now.area.now) self.old.place }
+        ensures covered { let d = F.device flash.now in let area = on.now.area.now in
+            let k = format_on T.format_of d area in
+            let sectors = sectors_of d area in
+            (p : PlacedEntry) → WasGiven k sectors on.now.current self.new p
+            → WasGiven k sectors on.now.current self.old p }
     {
-        self.place = area.previous(self.place);
-        self.left = reach_counting(
-            flash, area, opened, current, self.place, self.least, self.most, steps,
-        );
+        self.place = on.area.previous(self.place);
+        self.left = reach_counting(flash, on, self.place, self.least, self.most, steps);
     }
 
     /// The last entry of the next id that was not given so far.
     pub fn next<T: SlotSectors, F: Flash, L: Ledger>(
         &mut self,
         flash: &F,
-        area: &Area,
-        opened: &T,
-        current: u32,
+        on: &OpenArea<'_, T>,
         steps: &mut Steps<L>,
     ) -> Option<Placed>
-        requires area { IsStoreArea T.role (F.device flash.now).banks area.now }
-        requires kept { IsKeptOn T.kept (F.device flash.now) area.now current opened.now }
-        requires current { IsOpenOn T.format_of (F.device flash.now) area.now current }
-        requires at { let d = F.device flash.now in
-            IsAt (format_on T.format_of d area.now) (sectors_of d area.now) current self.old }
-        ensures at { let d = F.device flash.now in
-            IsAt (format_on T.format_of d area.now) (sectors_of d area.now) current self.new }
+        requires on { IsOpenAt T.role T.format_of T.kept (F.device flash.now) on.now }
+        requires at { let d = F.device flash.now in let area = on.now.area.now in
+            IsAt (format_on T.format_of d area) (sectors_of d area) on.now.current self.old }
+        ensures at { let d = F.device flash.now in let area = on.now.area.now in
+            IsAt (format_on T.format_of d area) (sectors_of d area) on.now.current self.new }
         ensures range { SameRange self.old self.new }
         ensures placed { IfSome result
-            (IsPlacedOn T.format_of (F.device flash.now) area.now current) }
-        ensures next { let d = F.device flash.now in
-            GivesNext (format_on T.format_of d area.now) (sectors_of d area.now) current self.old
+            (IsPlacedOn T.format_of (F.device flash.now) on.now.area.now on.now.current) }
+        ensures next { let d = F.device flash.now in let area = on.now.area.now in
+            GivesNext (format_on T.format_of d area) (sectors_of d area) on.now.current self.old
             self.new
             result }
         ensures fewer { IfSome result
-            (λ _. slots_left area.now.sectors current self.new
-            < slots_left area.now.sectors current self.old) }
+            (λ _. slots_left on.now.area.now.sectors on.now.current self.new
+            < slots_left on.now.area.now.sectors on.now.current self.old) }
     {
-        let oldest = area.next(current);
-        let mut found = self.next_here::<T, F, L>(flash, area, current, steps);
+        let oldest = on.area.next(on.current);
+        let mut found = self.next_here::<T, F, L>(flash, on.area, on.current, steps);
         while found.is_none() && self.place != oldest {
-            self.step_back(flash, area, opened, current, steps);
-            found = self.next_here::<T, F, L>(flash, area, current, steps);
+            self.step_back(flash, on, steps);
+            found = self.next_here::<T, F, L>(flash, on.area, on.current, steps);
         }
         found
     }

@@ -10,20 +10,19 @@ ghost use Rattle.flash_map.specs.Area.{sectors_of};
 ghost use Rattle.item_laws.specs.Area.{counts_at};
 ghost use Rattle.item_laws.specs.Live.{counted_in};
 ghost use Rattle.item_laws.specs.NextIds.{IsBehind};
-ghost use Rattle.item_store.specs.OnSector.{sector_on, IsKeptOn, IsOpenOn};
+ghost use Rattle.item_store.specs.OnSector.{sector_on, IsOpenAt};
 ghost use Rattle.item_store.specs.declared.entry.Placed.{Placed as PlacedEntry};
 ghost use Rattle.item_store.specs.SectorFormat.{placed_at, slots};
 ghost use Rattle.item_store.specs.Latest.{last_of_id, Covers, IsKnown, Rises, Splits, IsNextIn, DropsGreatest, Knows, KnowsOn};
 ghost use Rattle.item_store.specs.Listed.{format_on, HasSlotOn};
 ghost use Rattle.item_store.specs.Seen.{HasSeen, AreBehind, behind};
-ghost use Rattle.item_store.specs.Standing.{IsStoreArea};
 
 use crate::entry::Placed;
 use crate::lookup::{counts, find};
+use crate::open_area::OpenArea;
 use crate::sectors::SlotSectors;
 use crate::seen::Seen;
 use arrayvec::ArrayVec;
-use flash_map::Area;
 use flash_sim::{Flash, Steps};
 use std::sync::ledger::Ledger;
 
@@ -243,24 +242,21 @@ fn share_place(one: &Placed, other: &Placed) -> bool
 // may have it.
 fn has_later<T: SlotSectors, F: Flash, L: Ledger>(
     flash: &F,
-    area: &Area,
-    opened: &T,
-    current: u32,
+    on: &OpenArea<'_, T>,
     placed: &Placed,
     seen: &Seen,
     steps: &mut Steps<L>,
 ) -> bool
-    requires area { IsStoreArea T.role (F.device flash.now).banks area.now }
-    requires kept { IsKeptOn T.kept (F.device flash.now) area.now current opened.now }
-    requires current { IsOpenOn T.format_of (F.device flash.now) area.now current }
-    ensures { let d = F.device flash.now in let k = format_on T.format_of d area.now in
-        (later : List PlacedEntry) → AreBehind k (sectors_of d area.now) placed.now later
+    requires on { IsOpenAt T.role T.format_of T.kept (F.device flash.now) on.now }
+    ensures { let d = F.device flash.now in let area = on.now.area.now in
+        let k = format_on T.format_of d area in
+        (later : List PlacedEntry) → AreBehind k (sectors_of d area) placed.now later
         → HasSeen k.ids seen.now later → result ≡ is_some (last_of_id placed.now.id later) }
 {
     if !seen.has(placed.id) {
         return false;
     }
-    match find(flash, area, opened, current, placed.id, steps) {
+    match find(flash, on, placed.id, steps) {
         Some(last) => !share_place(&last, placed),
         None => false,
     }
@@ -269,25 +265,22 @@ fn has_later<T: SlotSectors, F: Flash, L: Ledger>(
 // Indexes an entry that was read, before those that it has. Its id is noted.
 fn index_entry<T: SlotSectors, F: Flash, L: Ledger>(
     flash: &F,
-    area: &Area,
-    opened: &T,
-    current: u32,
+    on: &OpenArea<'_, T>,
     placed: &Placed,
     last: &mut LastSlots,
     seen: &mut Seen,
     steps: &mut Steps<L>,
 )
-    requires area { IsStoreArea T.role (F.device flash.now).banks area.now }
-    requires kept { IsKeptOn T.kept (F.device flash.now) area.now current opened.now }
-    requires current { IsOpenOn T.format_of (F.device flash.now) area.now current }
-    requires known { let d = F.device flash.now in
-        placed.now.id < (format_on T.format_of d area.now).ids }
-    ensures { let d = F.device flash.now in let k = format_on T.format_of d area.now in
-        (later : List PlacedEntry) → AreBehind k (sectors_of d area.now) placed.now later
+    requires on { IsOpenAt T.role T.format_of T.kept (F.device flash.now) on.now }
+    requires known { let d = F.device flash.now in let area = on.now.area.now in
+        placed.now.id < (format_on T.format_of d area).ids }
+    ensures { let d = F.device flash.now in let area = on.now.area.now in
+        let k = format_on T.format_of d area in
+        (later : List PlacedEntry) → AreBehind k (sectors_of d area) placed.now later
         → Covers k.ids last.old seen.old later
         → Covers k.ids last.new seen.new (placed.now ∷ later) }
 {
-    let older = has_later(flash, area, opened, current, placed, seen, steps);
+    let older = has_later(flash, on, placed, seen, steps);
     last.take_older(placed, older);
     seen.add(placed.id);
 }
@@ -296,35 +289,32 @@ fn index_entry<T: SlotSectors, F: Flash, L: Ledger>(
 // first: where one of this id is known, the slot is passed over, and its CRC is not looked at.
 fn index_slot<T: SlotSectors, F: Flash, L: Ledger>(
     flash: &F,
-    area: &Area,
-    opened: &T,
-    current: u32,
+    on: &OpenArea<'_, T>,
     place: u32,
     slot: u32,
     last: &mut LastSlots,
     seen: &mut Seen,
     steps: &mut Steps<L>,
 )
-    requires area { IsStoreArea T.role (F.device flash.now).banks area.now }
-    requires kept { IsKeptOn T.kept (F.device flash.now) area.now current opened.now }
-    requires current { IsOpenOn T.format_of (F.device flash.now) area.now current }
-    requires inside { place < area.now.sectors }
-    requires listed { HasSlotOn T.format_of (F.device flash.now) area.now place slot }
-    ensures { let d = F.device flash.now in let k = format_on T.format_of d area.now in
+    requires on { IsOpenAt T.role T.format_of T.kept (F.device flash.now) on.now }
+    requires inside { place < on.now.area.now.sectors }
+    requires listed { HasSlotOn T.format_of (F.device flash.now) on.now.area.now place slot }
+    ensures { let d = F.device flash.now in let area = on.now.area.now in
+        let k = format_on T.format_of d area in
         (later : List PlacedEntry)
         → ((p : PlacedEntry)
-        → option_map (placed_at place) (k.in_slot (sector_on d area.now place) slot) ≡ Some p
-        → AreBehind k (sectors_of d area.now) p later) → Covers k.ids last.old seen.old later
+        → option_map (placed_at place) (k.in_slot (sector_on d area place) slot) ≡ Some p
+        → AreBehind k (sectors_of d area) p later) → Covers k.ids last.old seen.old later
         → Covers k.ids last.new seen.new
-        (option_to_list (option_map (placed_at place) (k.in_slot (sector_on d area.now place) slot))
+        (option_to_list (option_map (placed_at place) (k.in_slot (sector_on d area place) slot))
         ++ later) }
 {
-    let id = T::id_in(flash, area, place, slot, steps);
+    let id = T::id_in(flash, on.area, place, slot, steps);
     if was_known::<T>(last, seen, id) {
         return;
     }
-    match T::entry_in(flash, area, place, slot, steps) {
-        Some(placed) => index_entry(flash, area, opened, current, &placed, last, seen, steps),
+    match T::entry_in(flash, on.area, place, slot, steps) {
+        Some(placed) => index_entry(flash, on, &placed, last, seen, steps),
         None => {}
     }
 }
@@ -332,33 +322,31 @@ fn index_slot<T: SlotSectors, F: Flash, L: Ledger>(
 // Indexes the entries of a sector that counts, before those behind it.
 fn index_sector<T: SlotSectors, F: Flash, L: Ledger>(
     flash: &F,
-    area: &Area,
-    opened: &T,
-    current: u32,
+    on: &OpenArea<'_, T>,
     place: u32,
     last: &mut LastSlots,
     seen: &mut Seen,
     steps: &mut Steps<L>,
 )
-    requires area { IsStoreArea T.role (F.device flash.now).banks area.now }
-    requires kept { IsKeptOn T.kept (F.device flash.now) area.now current opened.now }
-    requires current { IsOpenOn T.format_of (F.device flash.now) area.now current }
-    requires inside { place < area.now.sectors }
-    requires counts { let d = F.device flash.now in
-        counts_at (format_on T.format_of d area.now).reading (sectors_of d area.now) current place
+    requires on { IsOpenAt T.role T.format_of T.kept (F.device flash.now) on.now }
+    requires inside { place < on.now.area.now.sectors }
+    requires counts { let d = F.device flash.now in let area = on.now.area.now in
+        counts_at (format_on T.format_of d area).reading (sectors_of d area) on.now.current place
         ≡ true }
-    requires covers { let d = F.device flash.now in let k = format_on T.format_of d area.now in
-        Covers k.ids last.old seen.old (behind k (sectors_of d area.now) current place) }
-    ensures { let d = F.device flash.now in let k = format_on T.format_of d area.now in
+    requires covers { let d = F.device flash.now in let area = on.now.area.now in
+        let k = format_on T.format_of d area in
+        Covers k.ids last.old seen.old (behind k (sectors_of d area) on.now.current place) }
+    ensures { let d = F.device flash.now in let area = on.now.area.now in
+        let k = format_on T.format_of d area in
         Covers k.ids last.new seen.new
-        (counted_in (slots k) (sectors_of d area.now) current place
-        ++ behind k (sectors_of d area.now) current place) }
+        (counted_in (slots k) (sectors_of d area) on.now.current place
+        ++ behind k (sectors_of d area) on.now.current place) }
 {
     let first = T::first_slot();
-    let mut left = T::slots(flash, area, place, steps);
+    let mut left = T::slots(flash, on.area, place, steps);
     while left > 0 {
         let slot = first + (left - 1);
-        index_slot(flash, area, opened, current, place, slot, last, seen, steps);
+        index_slot(flash, on, place, slot, last, seen, steps);
         left -= 1;
     }
 }
@@ -366,27 +354,25 @@ fn index_sector<T: SlotSectors, F: Flash, L: Ledger>(
 // The same, where the sector counts.
 fn index_counting<T: SlotSectors, F: Flash, L: Ledger>(
     flash: &F,
-    area: &Area,
-    opened: &T,
-    current: u32,
+    on: &OpenArea<'_, T>,
     place: u32,
     last: &mut LastSlots,
     seen: &mut Seen,
     steps: &mut Steps<L>,
 )
-    requires area { IsStoreArea T.role (F.device flash.now).banks area.now }
-    requires kept { IsKeptOn T.kept (F.device flash.now) area.now current opened.now }
-    requires current { IsOpenOn T.format_of (F.device flash.now) area.now current }
-    requires inside { place < area.now.sectors }
-    requires covers { let d = F.device flash.now in let k = format_on T.format_of d area.now in
-        Covers k.ids last.old seen.old (behind k (sectors_of d area.now) current place) }
-    ensures { let d = F.device flash.now in let k = format_on T.format_of d area.now in
+    requires on { IsOpenAt T.role T.format_of T.kept (F.device flash.now) on.now }
+    requires inside { place < on.now.area.now.sectors }
+    requires covers { let d = F.device flash.now in let area = on.now.area.now in
+        let k = format_on T.format_of d area in
+        Covers k.ids last.old seen.old (behind k (sectors_of d area) on.now.current place) }
+    ensures { let d = F.device flash.now in let area = on.now.area.now in
+        let k = format_on T.format_of d area in
         Covers k.ids last.new seen.new
-        (counted_in (slots k) (sectors_of d area.now) current place
-        ++ behind k (sectors_of d area.now) current place) }
+        (counted_in (slots k) (sectors_of d area) on.now.current place
+        ++ behind k (sectors_of d area) on.now.current place) }
 {
-    if counts(flash, area, opened, current, place, steps) {
-        index_sector(flash, area, opened, current, place, last, seen, steps);
+    if counts(flash, on, place, steps) {
+        index_sector(flash, on, place, last, seen, steps);
     }
 }
 
@@ -394,43 +380,36 @@ fn index_counting<T: SlotSectors, F: Flash, L: Ledger>(
 #[inline(never)]
 fn index_all<T: SlotSectors, F: Flash, L: Ledger>(
     flash: &F,
-    area: &Area,
-    opened: &T,
-    current: u32,
+    on: &OpenArea<'_, T>,
     last: &mut LastSlots,
     steps: &mut Steps<L>,
 )
-    requires area { IsStoreArea T.role (F.device flash.now).banks area.now }
-    requires kept { IsKeptOn T.kept (F.device flash.now) area.now current opened.now }
-    requires current { IsOpenOn T.format_of (F.device flash.now) area.now current }
-    requires none { Knows (format_on T.format_of (F.device flash.now) area.now).ids last.old [] }
-    ensures { KnowsOn T.format_of (F.device flash.now) area.now last.new }
+    requires on { IsOpenAt T.role T.format_of T.kept (F.device flash.now) on.now }
+    requires none { let d = F.device flash.now in
+        Knows (format_on T.format_of d on.now.area.now).ids last.old [] }
+    ensures { KnowsOn T.format_of (F.device flash.now) on.now.area.now last.new }
 {
-    let oldest = area.next(current);
+    let oldest = on.area.next(on.current);
     let mut seen = Seen::new();
-    let mut place = current;
+    let mut place = on.current;
     while place != oldest {
-        index_counting(flash, area, opened, current, place, last, &mut seen, steps);
-        place = area.previous(place);
+        index_counting(flash, on, place, last, &mut seen, steps);
+        place = on.area.previous(place);
     }
-    index_counting(flash, area, opened, current, oldest, last, &mut seen, steps);
+    index_counting(flash, on, oldest, last, &mut seen, steps);
 }
 
 /// Makes a table of the last entry of each id in the list, as far as it has room for them. What it
 /// knew before is gone. Each sector that counts is looked at once.
 pub fn fill_last_slots<T: SlotSectors, F: Flash, L: Ledger>(
     flash: &F,
-    area: &Area,
-    opened: &T,
-    current: u32,
+    on: &OpenArea<'_, T>,
     last: &mut LastSlots,
     steps: &mut Steps<L>,
 )
-    requires area { IsStoreArea T.role (F.device flash.now).banks area.now }
-    requires kept { IsKeptOn T.kept (F.device flash.now) area.now current opened.now }
-    requires current { IsOpenOn T.format_of (F.device flash.now) area.now current }
-    ensures { KnowsOn T.format_of (F.device flash.now) area.now last.new }
+    requires on { IsOpenAt T.role T.format_of T.kept (F.device flash.now) on.now }
+    ensures { KnowsOn T.format_of (F.device flash.now) on.now.area.now last.new }
 {
     last.clear();
-    index_all(flash, area, opened, current, last, steps);
+    index_all(flash, on, last, steps);
 }

@@ -18,6 +18,7 @@ pub mod laws;
 mod live;
 mod lookup;
 mod noting;
+mod open_area;
 mod reading;
 #[tactic(auto, using(flash_map::proofs::Touches::then))]
 mod room;

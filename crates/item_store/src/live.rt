@@ -4,7 +4,7 @@ ghost use Rattle.std.specs.Option.{option_map, option_to_list};
 ghost use Rattle.flash_map.specs.Area.{sectors_of};
 ghost use Rattle.item_laws.specs.Area.{counts_at};
 ghost use Rattle.item_laws.specs.Live.{is_live, live_in, counted_in};
-ghost use Rattle.item_store.specs.OnSector.{sector_on, IsKeptOn, IsOpenOn};
+ghost use Rattle.item_store.specs.OnSector.{sector_on, IsOpenAt};
 ghost use Rattle.item_store.specs.declared.entry.Placed.{Placed as PlacedEntry};
 ghost use Rattle.item_store.specs.SectorFormat.{placed_at, slots};
 ghost use Rattle.item_store.specs.Listed.{format_on, HasSlotOn};
@@ -14,6 +14,7 @@ ghost use Rattle.item_store.specs.Standing.{IsStoreArea};
 use crate::bits::{has_bit, set_bit};
 use crate::entry::Placed;
 use crate::lookup::find;
+use crate::open_area::OpenArea;
 use crate::sectors::SlotSectors;
 use crate::seen::{Seen, note_behind};
 use flash_map::Area;
@@ -60,20 +61,16 @@ impl LiveEntries {
 /// Whether an entry of the list is the last of its id and has bytes.
 pub fn is_live<T: SlotSectors, F: Flash, L: Ledger>(
     flash: &F,
-    area: &Area,
-    opened: &T,
-    current: u32,
+    on: &OpenArea<'_, T>,
     placed: &Placed,
     steps: &mut Steps<L>,
 ) -> bool
-    requires area { IsStoreArea T.role (F.device flash.now).banks area.now }
-    requires kept { IsKeptOn T.kept (F.device flash.now) area.now current opened.now }
-    requires current { IsOpenOn T.format_of (F.device flash.now) area.now current }
-    ensures { let d = F.device flash.now in
-        result ≡ is_live (slots (format_on T.format_of d area.now)) (sectors_of d area.now)
+    requires on { IsOpenAt T.role T.format_of T.kept (F.device flash.now) on.now }
+    ensures { let d = F.device flash.now in let area = on.now.area.now in
+        result ≡ is_live (slots (format_on T.format_of d area)) (sectors_of d area)
         placed.now }
 {
-    match find(flash, area, opened, current, placed.id, steps) {
+    match find(flash, on, placed.id, steps) {
         Some(last) => last.sector == placed.sector && last.slot == placed.slot && placed.len > 0,
         None => false,
     }
@@ -83,22 +80,19 @@ pub fn is_live<T: SlotSectors, F: Flash, L: Ledger>(
 // seen that may be another one.
 fn is_live_by<T: SlotSectors, F: Flash, L: Ledger>(
     flash: &F,
-    area: &Area,
-    opened: &T,
-    current: u32,
+    on: &OpenArea<'_, T>,
     placed: &Placed,
     seen: &Seen,
     steps: &mut Steps<L>,
 ) -> bool
-    requires area { IsStoreArea T.role (F.device flash.now).banks area.now }
-    requires kept { IsKeptOn T.kept (F.device flash.now) area.now current opened.now }
-    requires current { IsOpenOn T.format_of (F.device flash.now) area.now current }
-    requires known { let d = F.device flash.now in
-        placed.now.id < (format_on T.format_of d area.now).ids }
-    ensures { let d = F.device flash.now in let k = format_on T.format_of d area.now in
-        (later : List PlacedEntry) → AreBehind k (sectors_of d area.now) placed.now later
+    requires on { IsOpenAt T.role T.format_of T.kept (F.device flash.now) on.now }
+    requires known { let d = F.device flash.now in let area = on.now.area.now in
+        placed.now.id < (format_on T.format_of d area).ids }
+    ensures { let d = F.device flash.now in let area = on.now.area.now in
+        let k = format_on T.format_of d area in
+        (later : List PlacedEntry) → AreBehind k (sectors_of d area) placed.now later
         → HasSeen k.ids seen.now later
-        → result ≡ is_live (slots k) (sectors_of d area.now) placed.now }
+        → result ≡ is_live (slots k) (sectors_of d area) placed.now }
 {
     if placed.len == 0 {
         return false;
@@ -112,40 +106,38 @@ fn is_live_by<T: SlotSectors, F: Flash, L: Ledger>(
     if seen.is_exact(placed.id) {
         return false;
     }
-    is_live(flash, area, opened, current, placed, steps)
+    is_live(flash, on, placed, steps)
 }
 
 // Whether the entry in a slot is live, by what was seen behind it. Its id is noted.
 fn look_at<T: SlotSectors, F: Flash, L: Ledger>(
     flash: &F,
-    area: &Area,
-    opened: &T,
-    current: u32,
+    on: &OpenArea<'_, T>,
     place: u32,
     slot: u32,
     seen: &mut Seen,
     steps: &mut Steps<L>,
 ) -> bool
-    requires area { IsStoreArea T.role (F.device flash.now).banks area.now }
-    requires kept { IsKeptOn T.kept (F.device flash.now) area.now current opened.now }
-    requires current { IsOpenOn T.format_of (F.device flash.now) area.now current }
-    requires inside { place < area.now.sectors }
-    requires listed { HasSlotOn T.format_of (F.device flash.now) area.now place slot }
-    ensures live { let d = F.device flash.now in let k = format_on T.format_of d area.now in
+    requires on { IsOpenAt T.role T.format_of T.kept (F.device flash.now) on.now }
+    requires inside { place < on.now.area.now.sectors }
+    requires listed { HasSlotOn T.format_of (F.device flash.now) on.now.area.now place slot }
+    ensures live { let d = F.device flash.now in let area = on.now.area.now in
+        let k = format_on T.format_of d area in
         (later : List PlacedEntry)
         → ((p : PlacedEntry)
-        → option_map (placed_at place) (k.in_slot (sector_on d area.now place) slot) ≡ Some p
-        → AreBehind k (sectors_of d area.now) p later) → HasSeen k.ids seen.old later
-        → result ≡ holds_live k (sectors_of d area.now) place slot }
-    ensures seen { let d = F.device flash.now in let k = format_on T.format_of d area.now in
+        → option_map (placed_at place) (k.in_slot (sector_on d area place) slot) ≡ Some p
+        → AreBehind k (sectors_of d area) p later) → HasSeen k.ids seen.old later
+        → result ≡ holds_live k (sectors_of d area) place slot }
+    ensures seen { let d = F.device flash.now in let area = on.now.area.now in
+        let k = format_on T.format_of d area in
         (later : List PlacedEntry) → HasSeen k.ids seen.old later
         → HasSeen k.ids seen.new
-        (option_to_list (option_map (placed_at place) (k.in_slot (sector_on d area.now place) slot))
+        (option_to_list (option_map (placed_at place) (k.in_slot (sector_on d area place) slot))
         ++ later) }
 {
-    match T::entry_in(flash, area, place, slot, steps) {
+    match T::entry_in(flash, on.area, place, slot, steps) {
         Some(placed) => {
-            let live = is_live_by(flash, area, opened, current, &placed, seen, steps);
+            let live = is_live_by(flash, on, &placed, seen, steps);
             seen.add(placed.id);
             live
         }
@@ -157,38 +149,37 @@ fn look_at<T: SlotSectors, F: Flash, L: Ledger>(
 /// far. The ids of its own entries are noted too.
 pub fn live_by<T: SlotSectors, F: Flash, L: Ledger>(
     flash: &F,
-    area: &Area,
-    opened: &T,
-    current: u32,
+    on: &OpenArea<'_, T>,
     place: u32,
     seen: &mut Seen,
     live: &mut LiveEntries,
     steps: &mut Steps<L>,
 )
-    requires area { IsStoreArea T.role (F.device flash.now).banks area.now }
-    requires kept { IsKeptOn T.kept (F.device flash.now) area.now current opened.now }
-    requires current { IsOpenOn T.format_of (F.device flash.now) area.now current }
-    requires inside { place < area.now.sectors }
-    requires counts { let d = F.device flash.now in
-        counts_at (format_on T.format_of d area.now).reading (sectors_of d area.now) current place
+    requires on { IsOpenAt T.role T.format_of T.kept (F.device flash.now) on.now }
+    requires inside { place < on.now.area.now.sectors }
+    requires counts { let d = F.device flash.now in let area = on.now.area.now in
+        counts_at (format_on T.format_of d area).reading (sectors_of d area) on.now.current place
         ≡ true }
-    requires seen { let d = F.device flash.now in let k = format_on T.format_of d area.now in
-        HasSeen k.ids seen.old (behind k (sectors_of d area.now) current place) }
+    requires seen { let d = F.device flash.now in let area = on.now.area.now in
+        let k = format_on T.format_of d area in
+        HasSeen k.ids seen.old (behind k (sectors_of d area) on.now.current place) }
     requires none { (index : ℕ) → index < 2 ^ 15 → has_bit live.old.bits index ≡ false }
-    ensures live { let d = F.device flash.now in let k = format_on T.format_of d area.now in
-        (index : ℕ) → index < k.count (sector_on d area.now place)
+    ensures live { let d = F.device flash.now in let area = on.now.area.now in
+        let k = format_on T.format_of d area in
+        (index : ℕ) → index < k.count (sector_on d area place)
         → has_bit live.new.bits index
-        ≡ holds_live k (sectors_of d area.now) place (k.first + index) }
-    ensures seen { let d = F.device flash.now in let k = format_on T.format_of d area.now in
+        ≡ holds_live k (sectors_of d area) place (k.first + index) }
+    ensures seen { let d = F.device flash.now in let area = on.now.area.now in
+        let k = format_on T.format_of d area in
         HasSeen k.ids seen.new
-        (counted_in (slots k) (sectors_of d area.now) current place
-        ++ behind k (sectors_of d area.now) current place) }
+        (counted_in (slots k) (sectors_of d area) on.now.current place
+        ++ behind k (sectors_of d area) on.now.current place) }
 {
     let first = T::first_slot();
-    let mut left = T::slots(flash, area, place, steps);
+    let mut left = T::slots(flash, on.area, place, steps);
     while left > 0 {
         let slot = first + (left - 1);
-        let is = look_at(flash, area, opened, current, place, slot, seen, steps);
+        let is = look_at(flash, on, place, slot, seen, steps);
         live.put(left - 1, is);
         left -= 1;
     }
@@ -198,29 +189,26 @@ pub fn live_by<T: SlotSectors, F: Flash, L: Ledger>(
 #[inline(never)]
 pub fn live_entries<T: SlotSectors, F: Flash, L: Ledger>(
     flash: &F,
-    area: &Area,
-    opened: &T,
-    current: u32,
+    on: &OpenArea<'_, T>,
     place: u32,
     live: &mut LiveEntries,
     steps: &mut Steps<L>,
 )
-    requires area { IsStoreArea T.role (F.device flash.now).banks area.now }
-    requires kept { IsKeptOn T.kept (F.device flash.now) area.now current opened.now }
-    requires current { IsOpenOn T.format_of (F.device flash.now) area.now current }
-    requires inside { place < area.now.sectors }
-    requires counts { let d = F.device flash.now in
-        counts_at (format_on T.format_of d area.now).reading (sectors_of d area.now) current place
+    requires on { IsOpenAt T.role T.format_of T.kept (F.device flash.now) on.now }
+    requires inside { place < on.now.area.now.sectors }
+    requires counts { let d = F.device flash.now in let area = on.now.area.now in
+        counts_at (format_on T.format_of d area).reading (sectors_of d area) on.now.current place
         ≡ true }
     requires none { (index : ℕ) → index < 2 ^ 15 → has_bit live.old.bits index ≡ false }
-    ensures { let d = F.device flash.now in let k = format_on T.format_of d area.now in
-        (index : ℕ) → index < k.count (sector_on d area.now place)
+    ensures { let d = F.device flash.now in let area = on.now.area.now in
+        let k = format_on T.format_of d area in
+        (index : ℕ) → index < k.count (sector_on d area place)
         → has_bit live.new.bits index
-        ≡ holds_live k (sectors_of d area.now) place (k.first + index) }
+        ≡ holds_live k (sectors_of d area) place (k.first + index) }
 {
     let mut seen = Seen::new();
-    note_behind(flash, area, opened, current, place, &mut seen, steps);
-    live_by(flash, area, opened, current, place, &mut seen, live, steps);
+    note_behind(flash, on, place, &mut seen, steps);
+    live_by(flash, on, place, &mut seen, live, steps);
 }
 
 /// The entry in a slot of a sector's list, where it is live.

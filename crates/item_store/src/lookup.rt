@@ -4,37 +4,36 @@ ghost use Rattle.std.specs.List.{flat_map, range_with_len};
 ghost use Rattle.flash_map.specs.Area.{sectors_of};
 ghost use Rattle.item_laws.specs.Area.{counts_at};
 ghost use Rattle.item_laws.specs.Live.{last_of, last_placed, counted_in};
-ghost use Rattle.item_store.specs.OnSector.{IsKeptOn, IsOpenOn};
+ghost use Rattle.item_store.specs.OnSector.{IsKeptAt, IsOpenAt};
 ghost use Rattle.item_store.specs.Listed.{format_on};
 ghost use Rattle.item_store.specs.SectorFormat.{slots};
-ghost use Rattle.item_store.specs.Standing.{IsStoreArea};
 
 use crate::entry::Placed;
+use crate::open_area::OpenArea;
 use crate::sectors::SlotSectors;
-use flash_map::Area;
 use flash_sim::{Flash, Steps};
 use std::sync::ledger::Ledger;
 
 /// Whether a sector counts, with this one open.
 pub fn counts<T: SlotSectors, F: Flash, L: Ledger>(
     flash: &F,
-    area: &Area,
-    opened: &T,
-    current: u32,
+    on: &OpenArea<'_, T>,
     place: u32,
     steps: &mut Steps<L>,
 ) -> bool
-    requires area { IsStoreArea T.role (F.device flash.now).banks area.now }
-    requires kept { IsKeptOn T.kept (F.device flash.now) area.now current opened.now }
-    requires current { current < area.now.sectors }
-    ensures { let d = F.device flash.now in
+    requires on { IsKeptAt T.role T.kept (F.device flash.now) on.now }
+    ensures { let d = F.device flash.now in let area = on.now.area.now in
         result
-        ≡ counts_at (format_on T.format_of d area.now).reading (sectors_of d area.now) current
+        ≡ counts_at (format_on T.format_of d area).reading (sectors_of d area) on.now.current
         place }
 {
-    let after = area.next(current);
-    if T::is_closed(flash, area, after, steps) {
-        let ignored = if opened.has_gc_done() { after } else { current };
+    let after = on.area.next(on.current);
+    if T::is_closed(flash, on.area, after, steps) {
+        let ignored = if on.opened.has_gc_done() {
+            after
+        } else {
+            on.current
+        };
         place != ignored
     } else {
         true
@@ -44,22 +43,20 @@ pub fn counts<T: SlotSectors, F: Flash, L: Ledger>(
 /// The last entry of the id in one sector, where that counts with `current` open.
 fn find_at<T: SlotSectors, F: Flash, L: Ledger>(
     flash: &F,
-    area: &Area,
-    opened: &T,
-    current: u32,
+    on: &OpenArea<'_, T>,
     place: u32,
     id: u32,
     steps: &mut Steps<L>,
 ) -> Option<Placed>
-    requires area { IsStoreArea T.role (F.device flash.now).banks area.now }
-    requires kept { IsKeptOn T.kept (F.device flash.now) area.now current opened.now }
-    requires current { current < area.now.sectors }
-    requires inside { place < area.now.sectors }
-    ensures { let d = F.device flash.now in let k = format_on T.format_of d area.now in
-        result ≡ last_of (slots k) id (counted_in (slots k) (sectors_of d area.now) current place) }
+    requires on { IsKeptAt T.role T.kept (F.device flash.now) on.now }
+    requires inside { place < on.now.area.now.sectors }
+    ensures { let d = F.device flash.now in let area = on.now.area.now in
+        let k = format_on T.format_of d area in
+        result
+        ≡ last_of (slots k) id (counted_in (slots k) (sectors_of d area) on.now.current place) }
 {
-    if counts(flash, area, opened, current, place, steps) {
-        T::find_in(flash, area, place, id, steps)
+    if counts(flash, on, place, steps) {
+        T::find_in(flash, on.area, place, id, steps)
     } else {
         None
     }
@@ -69,28 +66,25 @@ fn find_at<T: SlotSectors, F: Flash, L: Ledger>(
 /// count.
 pub fn find_among<T: SlotSectors, F: Flash, L: Ledger>(
     flash: &F,
-    area: &Area,
-    opened: &T,
-    current: u32,
+    on: &OpenArea<'_, T>,
     first: u32,
     end: u32,
     id: u32,
     steps: &mut Steps<L>,
 ) -> Option<Placed>
-    requires area { IsStoreArea T.role (F.device flash.now).banks area.now }
-    requires kept { IsKeptOn T.kept (F.device flash.now) area.now current opened.now }
-    requires current { current < area.now.sectors }
+    requires on { IsKeptAt T.role T.kept (F.device flash.now) on.now }
     requires order { first ≤ end }
-    requires inside { end ≤ area.now.sectors }
-    ensures { let d = F.device flash.now in let k = format_on T.format_of d area.now in
+    requires inside { end ≤ on.now.area.now.sectors }
+    ensures { let d = F.device flash.now in let area = on.now.area.now in
+        let k = format_on T.format_of d area in
         result
         ≡ last_of (slots k) id
-        (flat_map (counted_in (slots k) (sectors_of d area.now) current)
+        (flat_map (counted_in (slots k) (sectors_of d area) on.now.current)
         (range_with_len first (end - first))) }
 {
     let mut place = end;
     while place > first {
-        let found = find_at(flash, area, opened, current, place - 1, id, steps);
+        let found = find_at(flash, on, place - 1, id, steps);
         if found.is_some() {
             return found;
         }
@@ -102,30 +96,17 @@ pub fn find_among<T: SlotSectors, F: Flash, L: Ledger>(
 /// The last entry of the id in the list, a delete too, with this sector open.
 pub fn find<T: SlotSectors, F: Flash, L: Ledger>(
     flash: &F,
-    area: &Area,
-    opened: &T,
-    current: u32,
+    on: &OpenArea<'_, T>,
     id: u32,
     steps: &mut Steps<L>,
 ) -> Option<Placed>
-    requires area { IsStoreArea T.role (F.device flash.now).banks area.now }
-    requires kept { IsKeptOn T.kept (F.device flash.now) area.now current opened.now }
-    requires current { IsOpenOn T.format_of (F.device flash.now) area.now current }
-    ensures { let d = F.device flash.now in
-        result ≡ last_placed (slots (format_on T.format_of d area.now)) (sectors_of d area.now) id }
+    requires on { IsOpenAt T.role T.format_of T.kept (F.device flash.now) on.now }
+    ensures { let d = F.device flash.now in let area = on.now.area.now in
+        result ≡ last_placed (slots (format_on T.format_of d area)) (sectors_of d area) id }
 {
-    let newest = find_among(flash, area, opened, current, 0, current + 1, id, steps);
+    let newest = find_among(flash, on, 0, on.current + 1, id, steps);
     if newest.is_some() {
         return newest;
     }
-    find_among(
-        flash,
-        area,
-        opened,
-        current,
-        current + 1,
-        area.sectors,
-        id,
-        steps,
-    )
+    find_among(flash, on, on.current + 1, on.area.sectors, id, steps)
 }

@@ -4,7 +4,7 @@ ghost use Rattle.std.specs.List.{flat_map, range_with_len};
 ghost use Rattle.std.specs.Option.{option_map, option_to_list};
 ghost use Rattle.flash_map.specs.Area.{sectors_of};
 ghost use Rattle.item_laws.specs.Live.{counted_in};
-ghost use Rattle.item_store.specs.OnSector.{sector_on, IsKeptOn};
+ghost use Rattle.item_store.specs.OnSector.{sector_on, IsKeptAt};
 ghost use Rattle.item_store.specs.declared.entry.Placed.{Placed as PlacedEntry};
 ghost use Rattle.item_store.specs.SectorFormat.{placed_at, slots};
 ghost use Rattle.item_store.specs.Listed.{format_on, HasSlotOn};
@@ -12,6 +12,7 @@ ghost use Rattle.item_store.specs.Standing.{IsStoreArea};
 
 use crate::entry::Placed;
 use crate::lookup::counts;
+use crate::open_area::OpenArea;
 use crate::sectors::SlotSectors;
 use flash_map::Area;
 use flash_sim::{Flash, Steps};
@@ -77,51 +78,45 @@ pub fn note_sector<T: SlotSectors, N: Notes, F: Flash, L: Ledger>(
 // Notes them where the sector counts with `current` open.
 fn note_counting<T: SlotSectors, N: Notes, F: Flash, L: Ledger>(
     flash: &F,
-    area: &Area,
-    opened: &T,
-    current: u32,
+    on: &OpenArea<'_, T>,
     place: u32,
     notes: &mut N,
     steps: &mut Steps<L>,
 )
-    requires area { IsStoreArea T.role (F.device flash.now).banks area.now }
-    requires kept { IsKeptOn T.kept (F.device flash.now) area.now current opened.now }
-    requires current { current < area.now.sectors }
-    requires inside { place < area.now.sectors }
-    ensures { let d = F.device flash.now in let k = format_on T.format_of d area.now in
+    requires on { IsKeptAt T.role T.kept (F.device flash.now) on.now }
+    requires inside { place < on.now.area.now.sectors }
+    ensures { let d = F.device flash.now in let area = on.now.area.now in
+        let k = format_on T.format_of d area in
         (before : List PlacedEntry) → N.noted k.ids notes.old before
         → N.noted k.ids notes.new
-        (before ++ counted_in (slots k) (sectors_of d area.now) current place) }
+        (before ++ counted_in (slots k) (sectors_of d area) on.now.current place) }
 {
-    if counts(flash, area, opened, current, place, steps) {
-        note_sector::<T, N, F, L>(flash, area, place, notes, steps);
+    if counts(flash, on, place, steps) {
+        note_sector::<T, N, F, L>(flash, on.area, place, notes, steps);
     }
 }
 
 /// Notes those of the sectors from `first` to the one before `end`, of those that count.
 pub fn note_among<T: SlotSectors, N: Notes, F: Flash, L: Ledger>(
     flash: &F,
-    area: &Area,
-    opened: &T,
-    current: u32,
+    on: &OpenArea<'_, T>,
     first: u32,
     end: u32,
     notes: &mut N,
     steps: &mut Steps<L>,
 )
-    requires area { IsStoreArea T.role (F.device flash.now).banks area.now }
-    requires kept { IsKeptOn T.kept (F.device flash.now) area.now current opened.now }
-    requires current { current < area.now.sectors }
+    requires on { IsKeptAt T.role T.kept (F.device flash.now) on.now }
     requires order { first ≤ end }
-    requires inside { end ≤ area.now.sectors }
-    ensures { let d = F.device flash.now in let k = format_on T.format_of d area.now in
+    requires inside { end ≤ on.now.area.now.sectors }
+    ensures { let d = F.device flash.now in let area = on.now.area.now in
+        let k = format_on T.format_of d area in
         (before : List PlacedEntry) → N.noted k.ids notes.old before
         → N.noted k.ids notes.new
         (before
-        ++ flat_map (counted_in (slots k) (sectors_of d area.now) current)
+        ++ flat_map (counted_in (slots k) (sectors_of d area) on.now.current)
         (range_with_len first (end - first))) }
 {
     for place in first..end {
-        note_counting(flash, area, opened, current, place, notes, steps);
+        note_counting(flash, on, place, notes, steps);
     }
 }

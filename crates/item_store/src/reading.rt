@@ -15,6 +15,7 @@ ghost use Rattle.item_store.specs.Older.{IsNextOlder, newest_before};
 ghost use Rattle.item_store.specs.Stands.{StandsOn};
 
 use crate::entry::Placed;
+use crate::open_area::OpenArea;
 use crate::searching::find_up_to;
 use crate::sectors::SlotSectors;
 use crate::store::Store;
@@ -97,15 +98,12 @@ impl<T: SlotSectors> Store<T> {
         ensures { option_map (λ bytes. bytes.now) result
             ≡ map.get (items_on T.format_of (F.device flash.now) self.now.area) id }
     {
-        let placed = find_up_to(
-            flash,
-            &self.area,
-            &self.opened,
-            self.current,
-            latest.sector,
-            id,
-            steps,
-        )?;
+        let on = OpenArea {
+            area: &self.area,
+            current: self.current,
+            opened: self.opened,
+        };
+        let placed = find_up_to(flash, &on, latest.sector, id, steps)?;
         self.bytes_at(flash, &placed, steps)
     }
 
@@ -278,6 +276,11 @@ impl<T: SlotSectors> Store<T> {
         ensures placed { IfSome result
             (IsPlacedOn T.format_of (F.device flash.now) self.now.area self.now.current) }
     {
-        walk(flash, &self.area, &self.opened, self.current, after, steps)
+        let on = OpenArea {
+            area: &self.area,
+            current: self.current,
+            opened: self.opened,
+        };
+        walk(flash, &on, after, steps)
     }
 }

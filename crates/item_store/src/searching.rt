@@ -4,15 +4,14 @@ ghost use Rattle.std.specs.List.{flat_map};
 ghost use Rattle.flash_map.specs.Area.{sectors_of};
 ghost use Rattle.item_laws.specs.Live.{last_of, counted_in};
 ghost use Rattle.item_laws.specs.RoundParts.{places_before};
-ghost use Rattle.item_store.specs.OnSector.{IsKeptOn};
+ghost use Rattle.item_store.specs.OnSector.{IsKeptAt};
 ghost use Rattle.item_store.specs.Listed.{format_on};
 ghost use Rattle.item_store.specs.SectorFormat.{slots};
-ghost use Rattle.item_store.specs.Standing.{IsStoreArea};
 
 use crate::entry::Placed;
 use crate::lookup::find_among;
+use crate::open_area::OpenArea;
 use crate::sectors::SlotSectors;
-use flash_map::Area;
 use flash_sim::{Flash, Steps};
 use std::sync::ledger::Ledger;
 
@@ -20,47 +19,26 @@ use std::sync::ledger::Ledger;
 /// those that count, a delete too.
 pub fn find_up_to<T: SlotSectors, F: Flash, L: Ledger>(
     flash: &F,
-    area: &Area,
-    opened: &T,
-    current: u32,
+    on: &OpenArea<'_, T>,
     place: u32,
     id: u32,
     steps: &mut Steps<L>,
 ) -> Option<Placed>
-    requires area { IsStoreArea T.role (F.device flash.now).banks area.now }
-    requires kept { IsKeptOn T.kept (F.device flash.now) area.now current opened.now }
-    requires current { current < area.now.sectors }
-    requires inside { place < area.now.sectors }
-    ensures { let d = F.device flash.now in let k = format_on T.format_of d area.now in
+    requires on { IsKeptAt T.role T.kept (F.device flash.now) on.now }
+    requires inside { place < on.now.area.now.sectors }
+    ensures { let d = F.device flash.now in let area = on.now.area.now in
+        let k = format_on T.format_of d area in
         result
         ≡ last_of (slots k) id
-        (flat_map (counted_in (slots k) (sectors_of d area.now) current)
-        (places_before (length (sectors_of d area.now)) current place ++ place ∷ [])) }
+        (flat_map (counted_in (slots k) (sectors_of d area) on.now.current)
+        (places_before (length (sectors_of d area)) on.now.current place ++ place ∷ [])) }
 {
-    if current < place {
-        return find_among(
-            flash,
-            area,
-            opened,
-            current,
-            current + 1,
-            place + 1,
-            id,
-            steps,
-        );
+    if on.current < place {
+        return find_among(flash, on, on.current + 1, place + 1, id, steps);
     }
-    let newest = find_among(flash, area, opened, current, 0, place + 1, id, steps);
+    let newest = find_among(flash, on, 0, place + 1, id, steps);
     if newest.is_some() {
         return newest;
     }
-    find_among(
-        flash,
-        area,
-        opened,
-        current,
-        current + 1,
-        area.sectors,
-        id,
-        steps,
-    )
+    find_among(flash, on, on.current + 1, on.area.sectors, id, steps)
 }

@@ -1,16 +1,15 @@
 // Which ids the entries behind a place of the list have.
 ghost use Rattle.std.specs.Prelude.{◌≡◌, ◌^◌, ◌<◌, ◌||◌, ◌==◌, ℕ, [], not, nat_lt, IsTrue};
 ghost use Rattle.flash_map.specs.Area.{sectors_of};
-ghost use Rattle.item_store.specs.OnSector.{IsKeptOn};
+ghost use Rattle.item_store.specs.OnSector.{IsKeptAt};
 ghost use Rattle.item_store.specs.Listed.{format_on};
 ghost use Rattle.item_store.specs.Seen.{key_of, usual_id, has_bit, HasSeen, IsExact, behind};
-ghost use Rattle.item_store.specs.Standing.{IsStoreArea};
 
 use crate::bits::{has_bit, set_bit};
 use crate::entry::Placed;
 use crate::noting::{Notes, note_among};
+use crate::open_area::OpenArea;
 use crate::sectors::SlotSectors;
-use flash_map::Area;
 use flash_sim::{Flash, Steps};
 use std::sync::ledger::Ledger;
 
@@ -105,44 +104,23 @@ impl Notes for Seen {
 /// looked at once.
 pub fn note_behind<T: SlotSectors, F: Flash, L: Ledger>(
     flash: &F,
-    area: &Area,
-    opened: &T,
-    current: u32,
+    on: &OpenArea<'_, T>,
     place: u32,
     seen: &mut Seen,
     steps: &mut Steps<L>,
 )
-    requires area { IsStoreArea T.role (F.device flash.now).banks area.now }
-    requires kept { IsKeptOn T.kept (F.device flash.now) area.now current opened.now }
-    requires current { current < area.now.sectors }
-    requires inside { place < area.now.sectors }
-    ensures { let d = F.device flash.now in let k = format_on T.format_of d area.now in
+    requires on { IsKeptAt T.role T.kept (F.device flash.now) on.now }
+    requires inside { place < on.now.area.now.sectors }
+    ensures { let d = F.device flash.now in let area = on.now.area.now in
+        let k = format_on T.format_of d area in
         HasSeen k.ids seen.old []
-        → HasSeen k.ids seen.new (behind k (sectors_of d area.now) current place) }
+        → HasSeen k.ids seen.new (behind k (sectors_of d area) on.now.current place) }
 {
     let after = place + 1;
-    if place <= current {
-        note_among(
-            flash,
-            area,
-            opened,
-            current,
-            after,
-            current + 1,
-            seen,
-            steps,
-        );
+    if place <= on.current {
+        note_among(flash, on, after, on.current + 1, seen, steps);
         return;
     }
-    note_among(
-        flash,
-        area,
-        opened,
-        current,
-        after,
-        area.sectors,
-        seen,
-        steps,
-    );
-    note_among(flash, area, opened, current, 0, current + 1, seen, steps);
+    note_among(flash, on, after, on.area.sectors, seen, steps);
+    note_among(flash, on, 0, on.current + 1, seen, steps);
 }

@@ -101,51 +101,71 @@ fn put_noted<T: SlotSectors, F: Flash, L: Ledger>(
     Ok(())
 }
 
-// Makes room for a pair, and appends it where there is some. Says whether there is.
-fn append<T: SlotSectors, F: Flash, L: Ledger>(
-    flash: &mut F,
-    area: &Area,
-    opened: &mut T,
-    current: &mut u32,
-    cache: &mut Cache,
-    id: u32,
-    bytes: &[u8],
-    steps: &mut Steps<L>,
-) -> Result<bool, PowerLost>
-    requires stands { StandsAt T.role T.format_of T.kept (F.device flash.old) area.now current.old
-        opened.old }
-    requires cached { IsCacheOn T.format_of (F.device flash.old) area.now cache.old }
-    requires ordinary { id < (format_on T.format_of (F.device flash.old) area.now).ids }
-    requires narrow { length bytes.now < 2 ^ 16 }
-    requires short { let d = F.device flash.old in
-        0 < length bytes.now → IsShort (format_on T.format_of d area.now) d area.now
-        (length bytes.now) }
-
-    ensures touches { let d = F.device flash.old in let e = F.device flash.new in
-        Touches (area.now ∷ []) d e (is_err result) }
-    ensures written { let d = F.device flash.old in let e = F.device flash.new in
-        let k = format_on T.format_of d area.now in
-        IsWritten k (sectors_of d area.now) → IsWritten k (sectors_of e area.now) }
-    ensures stands { OnOk result
-        (StandsAt T.role T.format_of T.kept (F.device flash.new) area.now current.new opened.new) }
-    ensures cached { OnOk result (IsCacheOn T.format_of (F.device flash.new) area.now cache.new) }
-    ensures ends { let d = F.device flash.old in let e = F.device flash.new in
-        AppendEnds (format_on T.format_of d area.now) d e area.now id bytes.now result }
-    ensures undamaged { let d = F.device flash.old in let e = F.device flash.new in
-        (format_on T.format_of d area.now).damage (sectors_of e area.now) ≡ None }
-{
-    let len = bytes.len() as u32;
-    let room = make_room(flash, area, opened, current, cache, len, steps)?;
-    if !room {
-        return Ok(false);
-    }
-    match put_noted(flash, area, opened, *current, cache, id, bytes, steps) {
-        Ok(()) => Ok(true),
-        Err(lost) => Err(lost),
-    }
-}
-
 impl<T: SlotSectors> Store<T> {
+    // Makes room for a pair, and appends it where there is some. Says whether there is. Where power
+    // is lost, the store is down.
+    fn append<F: Flash, L: Ledger>(
+        &mut self,
+        flash: &mut F,
+        id: u32,
+        bytes: &[u8],
+        steps: &mut Steps<L>,
+    ) -> Result<bool, PowerLost>
+        requires stands { StandsOn T.role T.format_of T.kept (F.device flash.old) self.old }
+        requires ordinary { id < (format_on T.format_of (F.device flash.old) self.old.area).ids }
+        requires narrow { length bytes.now < 2 ^ 16 }
+        requires short { let d = F.device flash.old in let area = self.old.area in
+            0 < length bytes.now → IsShort (format_on T.format_of d area) d area
+            (length bytes.now) }
+
+        ensures touches { let d = F.device flash.old in let e = F.device flash.new in
+            Touches (self.old.area ∷ []) d e (is_err result) }
+        ensures area { self.new.area ≡ self.old.area }
+        ensures written { let d = F.device flash.old in let e = F.device flash.new in
+            let k = format_on T.format_of d self.old.area in
+            IsWritten k (sectors_of d self.old.area) → IsWritten k (sectors_of e self.old.area) }
+        ensures ends { let d = F.device flash.old in let e = F.device flash.new in
+            AppendEnds (format_on T.format_of d self.old.area) d e self.old.area id bytes.now
+            result }
+        ensures undamaged { let d = F.device flash.old in let e = F.device flash.new in
+            (format_on T.format_of d self.old.area).damage (sectors_of e self.old.area) ≡ None }
+        ensures stands { OnOk result
+            (StandsOn T.role T.format_of T.kept (F.device flash.new) self.new) }
+        ensures down { OnErr result (self.new.up ≡ false) }
+    {
+        self.up = false;
+        let len = bytes.len() as u32;
+        let room = make_room(
+            flash,
+            &self.area,
+            &mut self.opened,
+            &mut self.current,
+            &mut self.cache,
+            len,
+            steps,
+        )?;
+        if !room {
+            self.up = true;
+            return Ok(false);
+        }
+        match put_noted(
+            flash,
+            &self.area,
+            &mut self.opened,
+            self.current,
+            &mut self.cache,
+            id,
+            bytes,
+            steps,
+        ) {
+            Ok(()) => {
+                self.up = true;
+                Ok(true)
+            }
+            Err(lost) => Err(lost),
+        }
+    }
+
     // Whether these bytes are the item's already.
     fn holds<F: Flash, L: Ledger>(
         &self,
@@ -205,24 +225,10 @@ impl<T: SlotSectors> Store<T> {
         if self.holds(flash, id, bytes, steps) {
             return Ok(());
         }
-        self.up = false;
-        match append(
-            flash,
-            &self.area,
-            &mut self.opened,
-            &mut self.current,
-            &mut self.cache,
-            id,
-            bytes,
-            steps,
-        ) {
+        match self.append(flash, id, bytes, steps) {
             Err(_) => Err(WriteFault::PowerLost),
-            Ok(true) => {
-                self.up = true;
-                Ok(())
-            }
+            Ok(true) => Ok(()),
             Ok(false) => {
-                self.up = true;
                 let need = T::cost(&g, bytes.len() as u32);
                 let live = self.live_cost(flash, steps);
                 Err(WriteFault::NoSpace { need, live })
@@ -260,22 +266,9 @@ impl<T: SlotSectors> Store<T> {
         if self.get(flash, id, steps).is_none() {
             return Ok(());
         }
-        self.up = false;
-        match append(
-            flash,
-            &self.area,
-            &mut self.opened,
-            &mut self.current,
-            &mut self.cache,
-            id,
-            &[],
-            steps,
-        ) {
+        match self.append(flash, id, &[], steps) {
             Err(lost) => Err(lost),
-            Ok(_) => {
-                self.up = true;
-                Ok(())
-            }
+            Ok(_) => Ok(()),
         }
     }
 }

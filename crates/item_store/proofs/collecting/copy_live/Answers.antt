@@ -226,13 +226,13 @@ returns-clause-spends g c =
     let done = copying_end (g.T.SlotSectors.format_of (geometry_of a area)) law a d area place (c.loop-slot.slot - c.first_slot-first.result) c.requires.collecting large all c.loop-slot.invariant.copying in
     done.1
 
-pub live_entries-requires-clause-current : goal.live_entries-requires-clause-current
-live_entries-requires-clause-current g c =
+pub live_entries-requires-clause-on : goal.live_entries-requires-clause-on
+live_entries-requires-clause-on g c =
     let a : Device = g.F.Flash.device c.args.flash.now in
     let area : Area = c.args.area.now in
     let place : ℕ = c.args.current in
     let law : IsSectorFormat (g.T.SlotSectors.format_of (geometry_of a area)) = g.met.T.SlotSectors.lawful (geometry_of a area) (unit_is a area (g.met.F.Flash.is_lawful c.args.flash.now) c.requires.area.lawful) in
-    sym (reads (g.T.SlotSectors.format_of (geometry_of a area)).reading (sectors_of a area) place (inr (inl c.requires.collecting))).0
+    record { area = c.requires.area; kept = c.requires.kept; current = sym (reads (g.T.SlotSectors.format_of (geometry_of a area)).reading (sectors_of a area) place (inr (inl c.requires.collecting))).0 }
 
 pub live_entries-requires-clause-inside : goal.live_entries-requires-clause-inside
 live_entries-requires-clause-inside g c =

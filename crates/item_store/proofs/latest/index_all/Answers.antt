@@ -19,23 +19,23 @@ use Rattle.item_store.proofs.latest.index_all.Goals as goal
 pub next-oldest-requires : goal.next-oldest-requires
 next-oldest-requires g c =
     let d : Device = g.F.Flash.device c.args.flash.now in
-    let area : Area = c.args.area.now in
+    let area : Area = c.args.on.now.area.now in
     let k : SectorFormat = g.T.SlotSectors.format_of (geometry_of d area) in
     let sectors : List (List ℕ) = sectors_of d area in
-    open_inside k d area c.args.current c.requires.area.lawful c.requires.current
+    open_inside k d area c.args.on.now.current c.requires.on.area.lawful c.requires.on.current
 
 pub loop-place-init : goal.loop-place-init
 loop-place-init g c =
     let d : Device = g.F.Flash.device c.args.flash.now in
-    let area : Area = c.args.area.now in
+    let area : Area = c.args.on.now.area.now in
     let k : SectorFormat = g.T.SlotSectors.format_of (geometry_of d area) in
     let sectors : List (List ℕ) = sectors_of d area in
     let long = length-sectors d area in
-    let within = open_inside k d area c.args.current c.requires.area.lawful c.requires.current in
-    let low : c.args.current < length sectors = omega arith in
+    let within = open_inside k d area c.args.on.now.current c.requires.on.area.lawful c.requires.on.current in
+    let low : c.args.on.now.current < length sectors = omega arith in
     record {
       within = within;
-      covers = subst (Covers k.ids c.args.last.now c.new-seen.result) (sym (start_seen k sectors c.args.current low)) (record { covered = c.requires.none; ids = c.new-seen.ensures k.ids });
+      covers = subst (Covers k.ids c.args.last.now c.new-seen.result) (sym (start_seen k sectors c.args.on.now.current low)) (record { covered = c.requires.none; ids = c.new-seen.ensures k.ids });
     }
 
 pub index_counting-requires-clause-inside : goal.index_counting-requires-clause-inside
@@ -53,59 +53,59 @@ previous-place-requires g c =
 pub loop-place-preserved : goal.loop-place-preserved
 loop-place-preserved g c =
     let d : Device = g.F.Flash.device c.args.flash.now in
-    let area : Area = c.args.area.now in
+    let area : Area = c.args.on.now.area.now in
     let k : SectorFormat = g.T.SlotSectors.format_of (geometry_of d area) in
     let sectors : List (List ℕ) = sectors_of d area in
     let long = length-sectors d area in
-    let within = open_inside k d area c.args.current c.requires.area.lawful c.requires.current in
-    let low : c.args.current < length sectors = omega arith in
-    let old : c.next-oldest.result ≡ after (length sectors) c.args.current = c.next-oldest.ensures.value ∙ next_there d area c.args.current in
+    let within = open_inside k d area c.args.on.now.current c.requires.on.area.lawful c.requires.on.current in
+    let low : c.args.on.now.current < length sectors = omega arith in
+    let old : c.next-oldest.result ≡ after (length sectors) c.args.on.now.current = c.next-oldest.ensures.value ∙ next_there d area c.args.on.now.current in
     let now = c.loop-place.invariant in
     let inside : c.loop-place.place < length sectors = omega (arith, now.within) in
-    let apart : c.loop-place.place ≡ after (length sectors) c.args.current → ⊥ = λ (e : c.loop-place.place ≡ after (length sectors) c.args.current). c.loop-place-test.true (e ∙ sym old) in
+    let apart : c.loop-place.place ≡ after (length sectors) c.args.on.now.current → ⊥ = λ (e : c.loop-place.place ≡ after (length sectors) c.args.on.now.current). c.loop-place-test.true (e ∙ sym old) in
     let back : c.previous-place.result ≡ before (length sectors) c.loop-place.place = c.previous-place.ensures.value ∙ previous_there d area c.loop-place.place in
     record {
       within = c.previous-place.ensures.within;
-      covers = subst (Covers k.ids c.index_counting.new.last c.index_counting.new.seen) (more_seen k sectors c.args.current low c.loop-place.place inside apart ∙ ap (behind k sectors c.args.current) (sym back)) c.index_counting.ensures;
+      covers = subst (Covers k.ids c.index_counting.new.last c.index_counting.new.seen) (more_seen k sectors c.args.on.now.current low c.loop-place.place inside apart ∙ ap (behind k sectors c.args.on.now.current) (sym back)) c.index_counting.ensures;
     }
 
 pub loop-place-smaller : goal.loop-place-smaller
 loop-place-smaller g c =
     let d : Device = g.F.Flash.device c.args.flash.now in
-    let area : Area = c.args.area.now in
+    let area : Area = c.args.on.now.area.now in
     let k : SectorFormat = g.T.SlotSectors.format_of (geometry_of d area) in
     let sectors : List (List ℕ) = sectors_of d area in
     let long = length-sectors d area in
-    let within = open_inside k d area c.args.current c.requires.area.lawful c.requires.current in
-    let low : c.args.current < length sectors = omega arith in
+    let within = open_inside k d area c.args.on.now.current c.requires.on.area.lawful c.requires.on.current in
+    let low : c.args.on.now.current < length sectors = omega arith in
     let now = c.loop-place.invariant in
-    subst (λ (p : ℕ). left area.sectors c.args.current p < left area.sectors c.args.current c.loop-place.place) (sym (c.previous-place.ensures.value))
-    (fewer_left area.sectors c.args.current c.loop-place.place within now.within (λ (e : c.loop-place.place ≡ after area.sectors c.args.current). c.loop-place-test.true (e ∙ sym c.next-oldest.ensures.value)))
+    subst (λ (p : ℕ). left area.sectors c.args.on.now.current p < left area.sectors c.args.on.now.current c.loop-place.place) (sym (c.previous-place.ensures.value))
+    (fewer_left area.sectors c.args.on.now.current c.loop-place.place within now.within (λ (e : c.loop-place.place ≡ after area.sectors c.args.on.now.current). c.loop-place-test.true (e ∙ sym c.next-oldest.ensures.value)))
 
 pub index_counting-requires-2-clause-covers : goal.index_counting-requires-2-clause-covers
 index_counting-requires-2-clause-covers g c =
     let d : Device = g.F.Flash.device c.args.flash.now in
-    let area : Area = c.args.area.now in
+    let area : Area = c.args.on.now.area.now in
     let k : SectorFormat = g.T.SlotSectors.format_of (geometry_of d area) in
     let sectors : List (List ℕ) = sectors_of d area in
     let at : c.loop-place.place ≡ c.next-oldest.result = c.loop-place-test.false in
-    subst (λ (p : ℕ). Covers k.ids c.loop-place.last c.loop-place.seen (behind k sectors c.args.current p)) at c.loop-place.invariant.covers
+    subst (λ (p : ℕ). Covers k.ids c.loop-place.last c.loop-place.seen (behind k sectors c.args.on.now.current p)) at c.loop-place.invariant.covers
 
 pub returns : goal.returns
 returns g c =
     let d : Device = g.F.Flash.device c.args.flash.now in
-    let area : Area = c.args.area.now in
+    let area : Area = c.args.on.now.area.now in
     let k : SectorFormat = g.T.SlotSectors.format_of (geometry_of d area) in
     let sectors : List (List ℕ) = sectors_of d area in
     let long = length-sectors d area in
-    let within = open_inside k d area c.args.current c.requires.area.lawful c.requires.current in
-    let low : c.args.current < length sectors = omega arith in
-    let old : c.next-oldest.result ≡ after (length sectors) c.args.current = c.next-oldest.ensures.value ∙ next_there d area c.args.current in
-    let high : after (length sectors) c.args.current < length sectors = (let inside = c.next-oldest.ensures.within in omega arith) in
-    let oldest : ℕ = after (length sectors) c.args.current in
-    let covered : Knows k.ids c.index_counting-2.new.last (counted_in (slots k) sectors c.args.current c.next-oldest.result ++ behind k sectors c.args.current c.next-oldest.result) = c.index_counting-2.ensures.covered in
+    let within = open_inside k d area c.args.on.now.current c.requires.on.area.lawful c.requires.on.current in
+    let low : c.args.on.now.current < length sectors = omega arith in
+    let old : c.next-oldest.result ≡ after (length sectors) c.args.on.now.current = c.next-oldest.ensures.value ∙ next_there d area c.args.on.now.current in
+    let high : after (length sectors) c.args.on.now.current < length sectors = (let inside = c.next-oldest.ensures.within in omega arith) in
+    let oldest : ℕ = after (length sectors) c.args.on.now.current in
+    let covered : Knows k.ids c.index_counting-2.new.last (counted_in (slots k) sectors c.args.on.now.current c.next-oldest.result ++ behind k sectors c.args.on.now.current c.next-oldest.result) = c.index_counting-2.ensures.covered in
     subst (Knows k.ids c.index_counting-2.new.last)
-    (ap (λ (p : ℕ). counted_in (slots k) sectors c.args.current p ++ behind k sectors c.args.current p) old
-    ∙ sym (flat_map-cons (counted_in (slots k) sectors c.args.current) oldest (places_after (length sectors) c.args.current oldest))
-    ∙ sym (ap (flat_map (counted_in (slots k) sectors c.args.current)) (round-oldest (length sectors) c.args.current low high))
-    ∙ ap (λ (j : ℕ). flat_map (counted_in (slots k) sectors j) (round (length sectors) j)) c.requires.current) covered
+    (ap (λ (p : ℕ). counted_in (slots k) sectors c.args.on.now.current p ++ behind k sectors c.args.on.now.current p) old
+    ∙ sym (flat_map-cons (counted_in (slots k) sectors c.args.on.now.current) oldest (places_after (length sectors) c.args.on.now.current oldest))
+    ∙ sym (ap (flat_map (counted_in (slots k) sectors c.args.on.now.current)) (round-oldest (length sectors) c.args.on.now.current low high))
+    ∙ ap (λ (j : ℕ). flat_map (counted_in (slots k) sectors j) (round (length sectors) j)) c.requires.on.current) covered

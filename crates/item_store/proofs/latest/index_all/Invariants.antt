@@ -8,9 +8,9 @@ use Rattle.item_store.proofs.latest.index_all.Given as goal
 
 abbrev pub invariant-loop-place : goal.invariant-loop-place
 invariant-loop-place g l = record {
-  within : l.place < l.area.sectors;
-  covers : Covers (format_on g.T.SlotSectors.format_of (g.F.Flash.device l.flash) l.area).ids l.last l.seen (behind (format_on g.T.SlotSectors.format_of (g.F.Flash.device l.flash) l.area) (sectors_of (g.F.Flash.device l.flash) l.area) l.current l.place);
+  within : l.place < l.on.area.now.sectors;
+  covers : Covers (format_on g.T.SlotSectors.format_of (g.F.Flash.device l.flash) l.on.area.now).ids l.last l.seen (behind (format_on g.T.SlotSectors.format_of (g.F.Flash.device l.flash) l.on.area.now) (sectors_of (g.F.Flash.device l.flash) l.on.area.now) l.on.current l.place);
 }
 
 abbrev pub decreases-loop-place : goal.decreases-loop-place
-decreases-loop-place g l = left l.area.sectors l.current l.place
+decreases-loop-place g l = left l.on.area.now.sectors l.on.current l.place

@@ -8,12 +8,12 @@ use Rattle.item_store.specs.Seen.{behind}
 use Rattle.item_store.proofs.Areas.{open_inside}
 use Rattle.item_store.proofs.latest.index_counting.Goals as goal
 
-pub counts-requires-clause-current : goal.counts-requires-clause-current
-counts-requires-clause-current g c =
+pub counts-requires : goal.counts-requires
+counts-requires g c =
     let d : Device = g.F.Flash.device c.args.flash.now in
-    let area : Area = c.args.area.now in
+    let area : Area = c.args.on.now.area.now in
     let k : SectorFormat = g.T.SlotSectors.format_of (geometry_of d area) in
-    open_inside k d area c.args.current c.requires.area.lawful c.requires.current
+    record { on = record { area = c.requires.on.area; kept = c.requires.on.kept; current = open_inside k d area c.args.on.now.current c.requires.on.area.lawful c.requires.on.current } }
 
 pub index_sector-requires-clause-counts : goal.index_sector-requires-clause-counts
 index_sector-requires-clause-counts g c =
@@ -27,8 +27,8 @@ returns-then-counts g c =
 pub returns-else-counts : goal.returns-else-counts
 returns-else-counts g c =
     let d : Device = g.F.Flash.device c.args.flash.now in
-    let area : Area = c.args.area.now in
+    let area : Area = c.args.on.now.area.now in
     let k : SectorFormat = g.T.SlotSectors.format_of (geometry_of d area) in
     let sectors : List (List ℕ) = sectors_of d area in
-    subst (λ (t : Bool). Covers k.ids c.args.last.now c.args.seen.now (cond t (map (placed_at c.args.place) ((slots k).entries (sector_at sectors c.args.place))) [] ++ behind k sectors c.args.current c.args.place))
+    subst (λ (t : Bool). Covers k.ids c.args.last.now c.args.seen.now (cond t (map (placed_at c.args.place) ((slots k).entries (sector_at sectors c.args.place))) [] ++ behind k sectors c.args.on.now.current c.args.place))
     (sym (sym c.counts.ensures ∙ c.if-counts.false)) c.requires.covers

@@ -12,7 +12,7 @@ use Rattle.item_store.proofs.latest.index_slot.Goals as goal
 pub returns-then-was_known : goal.returns-then-was_known
 returns-then-was_known g c =
     let d : Device = g.F.Flash.device c.args.flash.now in
-    let area : Area = c.args.area.now in
+    let area : Area = c.args.on.now.area.now in
     let k : SectorFormat = g.T.SlotSectors.format_of (geometry_of d area) in
     let sectors : List (List ℕ) = sectors_of d area in
     λ later stand covers.
@@ -26,7 +26,7 @@ index_entry-requires-clause-known g c =
 pub returns-in-Some : goal.returns-in-Some
 returns-in-Some g c =
     let d : Device = g.F.Flash.device c.args.flash.now in
-    let area : Area = c.args.area.now in
+    let area : Area = c.args.on.now.area.now in
     let k : SectorFormat = g.T.SlotSectors.format_of (geometry_of d area) in
     let sectors : List (List ℕ) = sectors_of d area in
     λ later stand covers.
@@ -36,7 +36,7 @@ returns-in-Some g c =
 pub returns-in-None : goal.returns-in-None
 returns-in-None g c =
     let d : Device = g.F.Flash.device c.args.flash.now in
-    let area : Area = c.args.area.now in
+    let area : Area = c.args.on.now.area.now in
     let k : SectorFormat = g.T.SlotSectors.format_of (geometry_of d area) in
     let sectors : List (List ℕ) = sectors_of d area in
     λ later stand covers.

@@ -9,7 +9,7 @@ use Rattle.item_store.proofs.live.is_live_by.Goals as goal
 pub returns-then-placed-eq0 : goal.returns-then-placed-eq0
 returns-then-placed-eq0 g c =
     let d : Device = g.F.Flash.device c.args.flash.now in
-    let area : Area = c.args.area.now in
+    let area : Area = c.args.on.now.area.now in
     let k : SectorFormat = g.T.SlotSectors.format_of (geometry_of d area) in
     let sectors : List (List ℕ) = sectors_of d area in
     λ later at seen. live_empty k sectors c.args.placed.now later at c.if-placed-eq0.true
@@ -17,7 +17,7 @@ returns-then-placed-eq0 g c =
 pub returns-then-not-has : goal.returns-then-not-has
 returns-then-not-has g c =
     let d : Device = g.F.Flash.device c.args.flash.now in
-    let area : Area = c.args.area.now in
+    let area : Area = c.args.on.now.area.now in
     let k : SectorFormat = g.T.SlotSectors.format_of (geometry_of d area) in
     let sectors : List (List ℕ) = sectors_of d area in
     λ later at seen. live_unseen k sectors c.args.placed.now later at k.ids c.args.seen.now seen c.if-placed-eq0.false
@@ -26,7 +26,7 @@ returns-then-not-has g c =
 pub returns-then-has_short_ids : goal.returns-then-has_short_ids
 returns-then-has_short_ids g c =
     let d : Device = g.F.Flash.device c.args.flash.now in
-    let area : Area = c.args.area.now in
+    let area : Area = c.args.on.now.area.now in
     let k : SectorFormat = g.T.SlotSectors.format_of (geometry_of d area) in
     let sectors : List (List ℕ) = sectors_of d area in
     λ later at seen. live_seen k sectors c.args.placed.now later at k.ids c.args.seen.now seen (c.has_short_ids.ensures.short (geometry_of d area) c.if-has_short_ids.true) c.requires.known
@@ -35,7 +35,7 @@ returns-then-has_short_ids g c =
 pub returns-then-is_exact : goal.returns-then-is_exact
 returns-then-is_exact g c =
     let d : Device = g.F.Flash.device c.args.flash.now in
-    let area : Area = c.args.area.now in
+    let area : Area = c.args.on.now.area.now in
     let k : SectorFormat = g.T.SlotSectors.format_of (geometry_of d area) in
     let sectors : List (List ℕ) = sectors_of d area in
     λ later at seen. live_exact k sectors c.args.placed.now later at k.ids c.args.seen.now seen (c.is_exact.ensures c.if-is_exact.true)
@@ -44,7 +44,7 @@ returns-then-is_exact g c =
 pub returns : goal.returns
 returns g c =
     let d : Device = g.F.Flash.device c.args.flash.now in
-    let area : Area = c.args.area.now in
+    let area : Area = c.args.on.now.area.now in
     let k : SectorFormat = g.T.SlotSectors.format_of (geometry_of d area) in
     let sectors : List (List ℕ) = sectors_of d area in
     λ later at seen. c.is_live.ensures

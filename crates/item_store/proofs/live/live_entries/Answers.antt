@@ -6,18 +6,18 @@ use Rattle.item_store.specs.SectorFormat.{SectorFormat}
 use Rattle.item_store.proofs.Areas.{open_inside}
 use Rattle.item_store.proofs.live.live_entries.Goals as goal
 
-pub note_behind-requires-clause-current : goal.note_behind-requires-clause-current
-note_behind-requires-clause-current g c =
+pub note_behind-requires-clause-on : goal.note_behind-requires-clause-on
+note_behind-requires-clause-on g c =
     let d : Device = g.F.Flash.device c.args.flash.now in
-    let area : Area = c.args.area.now in
+    let area : Area = c.args.on.now.area.now in
     let k : SectorFormat = g.T.SlotSectors.format_of (geometry_of d area) in
     let sectors : List (List ℕ) = sectors_of d area in
-    open_inside k d area c.args.current c.requires.area.lawful c.requires.current
+    record { area = c.requires.on.area; kept = c.requires.on.kept; current = open_inside k d area c.args.on.now.current c.requires.on.area.lawful c.requires.on.current }
 
 pub live_by-requires-clause-seen : goal.live_by-requires-clause-seen
 live_by-requires-clause-seen g c =
     let d : Device = g.F.Flash.device c.args.flash.now in
-    let area : Area = c.args.area.now in
+    let area : Area = c.args.on.now.area.now in
     let k : SectorFormat = g.T.SlotSectors.format_of (geometry_of d area) in
     let sectors : List (List ℕ) = sectors_of d area in
     c.note_behind.ensures (c.new-seen.ensures k.ids)
@@ -25,7 +25,7 @@ live_by-requires-clause-seen g c =
 pub returns : goal.returns
 returns g c =
     let d : Device = g.F.Flash.device c.args.flash.now in
-    let area : Area = c.args.area.now in
+    let area : Area = c.args.on.now.area.now in
     let k : SectorFormat = g.T.SlotSectors.format_of (geometry_of d area) in
     let sectors : List (List ℕ) = sectors_of d area in
     c.live_by.ensures.live

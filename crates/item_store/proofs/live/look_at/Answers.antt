@@ -15,7 +15,7 @@ is_live_by-live-requires-clause-known g c =
 pub returns-in-Some-clause-live : goal.returns-in-Some-clause-live
 returns-in-Some-clause-live g c =
     let d : Device = g.F.Flash.device c.args.flash.now in
-    let area : Area = c.args.area.now in
+    let area : Area = c.args.on.now.area.now in
     let k : SectorFormat = g.T.SlotSectors.format_of (geometry_of d area) in
     let sectors : List (List ℕ) = sectors_of d area in
     λ later stand seen.
@@ -25,7 +25,7 @@ returns-in-Some-clause-live g c =
 pub returns-in-Some-clause-seen : goal.returns-in-Some-clause-seen
 returns-in-Some-clause-seen g c =
     let d : Device = g.F.Flash.device c.args.flash.now in
-    let area : Area = c.args.area.now in
+    let area : Area = c.args.on.now.area.now in
     let k : SectorFormat = g.T.SlotSectors.format_of (geometry_of d area) in
     let sectors : List (List ℕ) = sectors_of d area in
     λ later seen. seen_before k.ids c.args.seen.now c.add.new.self later c.in-Some.placed (option_map (placed_at c.args.place) (k.in_slot (sector_at sectors c.args.place) c.args.slot)) (sym c.in-Some.is ∙ c.entry_in.ensures.entry) c.in-Some.ensures.small c.add.ensures.bits c.add.ensures.mixed c.add.ensures.long seen
@@ -33,7 +33,7 @@ returns-in-Some-clause-seen g c =
 pub returns-in-None-clause-live : goal.returns-in-None-clause-live
 returns-in-None-clause-live g c =
     let d : Device = g.F.Flash.device c.args.flash.now in
-    let area : Area = c.args.area.now in
+    let area : Area = c.args.on.now.area.now in
     let k : SectorFormat = g.T.SlotSectors.format_of (geometry_of d area) in
     let sectors : List (List ℕ) = sectors_of d area in
     λ later stand seen. live_none k sectors c.args.place c.args.slot (sym c.in-None.is ∙ c.entry_in.ensures.entry)
@@ -41,7 +41,7 @@ returns-in-None-clause-live g c =
 pub returns-in-None-clause-seen : goal.returns-in-None-clause-seen
 returns-in-None-clause-seen g c =
     let d : Device = g.F.Flash.device c.args.flash.now in
-    let area : Area = c.args.area.now in
+    let area : Area = c.args.on.now.area.now in
     let k : SectorFormat = g.T.SlotSectors.format_of (geometry_of d area) in
     let sectors : List (List ℕ) = sectors_of d area in
     λ later seen. seen_still k.ids c.args.seen.now later (option_map (placed_at c.args.place) (k.in_slot (sector_at sectors c.args.place) c.args.slot)) (sym c.in-None.is ∙ c.entry_in.ensures.entry) seen

@@ -12,39 +12,39 @@ pub loop-place-init : goal.loop-place-init
 loop-place-init g c =
     let none : c.args.end - c.args.end ≡ 0 = omega arith in
     let d : Device = g.F.Flash.device c.args.flash.now in
-    let k : SectorFormat = g.T.SlotSectors.format_of (geometry_of d c.args.area.now) in
+    let k : SectorFormat = g.T.SlotSectors.format_of (geometry_of d c.args.on.now.area.now) in
     record {
       low = omega arith;
       high = omega arith;
-      none = ap (λ (n : ℕ). last_of (slots k) c.args.id (among (slots k) (sectors_of d c.args.area.now) c.args.current c.args.end n)) none;
+      none = ap (λ (n : ℕ). last_of (slots k) c.args.id (among (slots k) (sectors_of d c.args.on.now.area.now) c.args.on.now.current c.args.end n)) none;
     }
 
 pub returns-then-is_some : goal.returns-then-is_some
 returns-then-is_some g c =
     let d : Device = g.F.Flash.device c.args.flash.now in
-    let k : SectorFormat = g.T.SlotSectors.format_of (geometry_of d c.args.area.now) in
+    let k : SectorFormat = g.T.SlotSectors.format_of (geometry_of d c.args.on.now.area.now) in
     let kept = c.loop-place.invariant in
-    let here : last_of (slots k) c.args.id (among (slots k) (sectors_of d c.args.area.now) c.args.current (c.loop-place.place - 1) (c.args.end - (c.loop-place.place - 1))) ≡ c.find_at-found.result =
-    last-step (slots k) (sectors_of d c.args.area.now) c.args.current c.args.id c.loop-place.place c.args.end c.find_at-found.result (omega arith) kept.high kept.none c.find_at-found.ensures in
-    sym here ∙ last-suffix (slots k) (sectors_of d c.args.area.now) c.args.current c.args.id c.args.first (c.loop-place.place - 1) c.args.end (omega arith) (omega (arith, kept.high))
+    let here : last_of (slots k) c.args.id (among (slots k) (sectors_of d c.args.on.now.area.now) c.args.on.now.current (c.loop-place.place - 1) (c.args.end - (c.loop-place.place - 1))) ≡ c.find_at-found.result =
+    last-step (slots k) (sectors_of d c.args.on.now.area.now) c.args.on.now.current c.args.id c.loop-place.place c.args.end c.find_at-found.result (omega arith) kept.high kept.none c.find_at-found.ensures in
+    sym here ∙ last-suffix (slots k) (sectors_of d c.args.on.now.area.now) c.args.on.now.current c.args.id c.args.first (c.loop-place.place - 1) c.args.end (omega arith) (omega (arith, kept.high))
     (ap (λ (o : Option Placed). is_some o) here ∙ sym c.is_some.ensures ∙ c.if-is_some.true)
 
 pub loop-place-preserved : goal.loop-place-preserved
 loop-place-preserved g c =
     let d : Device = g.F.Flash.device c.args.flash.now in
-    let k : SectorFormat = g.T.SlotSectors.format_of (geometry_of d c.args.area.now) in
+    let k : SectorFormat = g.T.SlotSectors.format_of (geometry_of d c.args.on.now.area.now) in
     let kept = c.loop-place.invariant in
     record {
       low = omega arith;
       high = omega (arith, kept.high);
-      none = last-step (slots k) (sectors_of d c.args.area.now) c.args.current c.args.id c.loop-place.place c.args.end c.find_at-found.result (omega arith) kept.high kept.none c.find_at-found.ensures
+      none = last-step (slots k) (sectors_of d c.args.on.now.area.now) c.args.on.now.current c.args.id c.loop-place.place c.args.end c.find_at-found.result (omega arith) kept.high kept.none c.find_at-found.ensures
           ∙ none_by c.find_at-found.result (sym c.is_some.ensures ∙ c.if-is_some.false);
     }
 
 pub returns : goal.returns
 returns g c =
     let d : Device = g.F.Flash.device c.args.flash.now in
-    let k : SectorFormat = g.T.SlotSectors.format_of (geometry_of d c.args.area.now) in
+    let k : SectorFormat = g.T.SlotSectors.format_of (geometry_of d c.args.on.now.area.now) in
     let kept = c.loop-place.invariant in
     let at : c.args.first ≡ c.loop-place.place = omega (arith, kept.low) in
-    sym (ap (λ (p : ℕ). last_of (slots k) c.args.id (among (slots k) (sectors_of d c.args.area.now) c.args.current p (c.args.end - p))) at ∙ kept.none)
+    sym (ap (λ (p : ℕ). last_of (slots k) c.args.id (among (slots k) (sectors_of d c.args.on.now.area.now) c.args.on.now.current p (c.args.end - p))) at ∙ kept.none)

@@ -9,7 +9,7 @@ abbrev pub invariant-loop-place : goal.invariant-loop-place
 invariant-loop-place g l = record {
   low : l.first ≤ l.place;
   high : l.place ≤ l.end;
-  none : last_of (slots (g.T.SlotSectors.format_of (geometry_of (g.F.Flash.device l.flash) l.area))) l.id (among (slots (g.T.SlotSectors.format_of (geometry_of (g.F.Flash.device l.flash) l.area))) (sectors_of (g.F.Flash.device l.flash) l.area) l.current l.place (l.end - l.place)) ≡ None;
+  none : last_of (slots (g.T.SlotSectors.format_of (geometry_of (g.F.Flash.device l.flash) l.on.area.now))) l.id (among (slots (g.T.SlotSectors.format_of (geometry_of (g.F.Flash.device l.flash) l.on.area.now))) (sectors_of (g.F.Flash.device l.flash) l.on.area.now) l.on.current l.place (l.end - l.place)) ≡ None;
 }
 
 abbrev pub decreases-loop-place : goal.decreases-loop-place

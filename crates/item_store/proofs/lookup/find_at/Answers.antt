@@ -8,11 +8,11 @@ use Rattle.item_store.proofs.lookup.find_at.Goals as goal
 pub returns-then-counts : goal.returns-then-counts
 returns-then-counts g c =
     let d : Device = g.F.Flash.device c.args.flash.now in
-    let k : SectorFormat = g.T.SlotSectors.format_of (geometry_of d c.args.area.now) in
-    c.find_in.ensures ∙ counted-last (slots k) (sectors_of d c.args.area.now) c.args.current c.args.place c.args.id (sym c.counts.ensures ∙ c.if-counts.true)
+    let k : SectorFormat = g.T.SlotSectors.format_of (geometry_of d c.args.on.now.area.now) in
+    c.find_in.ensures ∙ counted-last (slots k) (sectors_of d c.args.on.now.area.now) c.args.on.now.current c.args.place c.args.id (sym c.counts.ensures ∙ c.if-counts.true)
 
 pub returns-else-counts : goal.returns-else-counts
 returns-else-counts g c =
     let d : Device = g.F.Flash.device c.args.flash.now in
-    let k : SectorFormat = g.T.SlotSectors.format_of (geometry_of d c.args.area.now) in
-    counted-none (slots k) (sectors_of d c.args.area.now) c.args.current c.args.place c.args.id (sym c.counts.ensures ∙ c.if-counts.false)
+    let k : SectorFormat = g.T.SlotSectors.format_of (geometry_of d c.args.on.now.area.now) in
+    counted-none (slots k) (sectors_of d c.args.on.now.area.now) c.args.on.now.current c.args.place c.args.id (sym c.counts.ensures ∙ c.if-counts.false)

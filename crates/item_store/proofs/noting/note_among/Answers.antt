@@ -11,30 +11,30 @@ use Rattle.item_store.proofs.noting.note_among.Goals as goal
 pub loop-place-init : goal.loop-place-init
 loop-place-init g c =
     let d : Device = g.F.Flash.device c.args.flash.now in
-    let area : Area = c.args.area.now in
+    let area : Area = c.args.on.now.area.now in
     let k : SectorFormat = g.T.SlotSectors.format_of (geometry_of d area) in
     let sectors : List (List ℕ) = sectors_of d area in
     λ before seen.
     let none : 0 ≡ c.args.first - c.args.first = omega arith in
-    subst (λ (n : ℕ). g.N.Notes.noted k.ids c.args.notes.now (before ++ among (slots k) sectors c.args.current c.args.first n)) none
+    subst (λ (n : ℕ). g.N.Notes.noted k.ids c.args.notes.now (before ++ among (slots k) sectors c.args.on.now.current c.args.first n)) none
     (subst (g.N.Notes.noted k.ids c.args.notes.now) (sym (append-nil before)) seen)
 
 pub loop-place-preserved : goal.loop-place-preserved
 loop-place-preserved g c =
     let d : Device = g.F.Flash.device c.args.flash.now in
-    let area : Area = c.args.area.now in
+    let area : Area = c.args.on.now.area.now in
     let k : SectorFormat = g.T.SlotSectors.format_of (geometry_of d area) in
     let sectors : List (List ℕ) = sectors_of d area in
     λ before seen.
-    seen_sector k (g.N.Notes.noted k.ids c.note_counting.new.notes) before sectors c.args.current c.args.first c.loop-place.place (omega arith)
-    (c.note_counting.ensures (before ++ among (slots k) sectors c.args.current c.args.first (c.loop-place.place - c.args.first)) (c.loop-place.invariant before seen))
+    seen_sector k (g.N.Notes.noted k.ids c.note_counting.new.notes) before sectors c.args.on.now.current c.args.first c.loop-place.place (omega arith)
+    (c.note_counting.ensures (before ++ among (slots k) sectors c.args.on.now.current c.args.first (c.loop-place.place - c.args.first)) (c.loop-place.invariant before seen))
 
 pub returns : goal.returns
 returns g c =
     let d : Device = g.F.Flash.device c.args.flash.now in
-    let area : Area = c.args.area.now in
+    let area : Area = c.args.on.now.area.now in
     let k : SectorFormat = g.T.SlotSectors.format_of (geometry_of d area) in
     let sectors : List (List ℕ) = sectors_of d area in
     λ before seen.
     let at : c.loop-place.place ≡ c.args.end = omega arith in
-    subst (λ (n : ℕ). g.N.Notes.noted k.ids c.loop-place.notes (before ++ among (slots k) sectors c.args.current c.args.first (n - c.args.first))) at (c.loop-place.invariant before seen)
+    subst (λ (n : ℕ). g.N.Notes.noted k.ids c.loop-place.notes (before ++ among (slots k) sectors c.args.on.now.current c.args.first (n - c.args.first))) at (c.loop-place.invariant before seen)

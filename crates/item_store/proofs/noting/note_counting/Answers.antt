@@ -9,15 +9,15 @@ use Rattle.item_store.proofs.noting.note_counting.Goals as goal
 pub returns-then-counts : goal.returns-then-counts
 returns-then-counts g c =
     let d : Device = g.F.Flash.device c.args.flash.now in
-    let area : Area = c.args.area.now in
+    let area : Area = c.args.on.now.area.now in
     let k : SectorFormat = g.T.SlotSectors.format_of (geometry_of d area) in
     let sectors : List (List ℕ) = sectors_of d area in
-    λ before seen. seen_counted k (g.N.Notes.noted k.ids c.note_sector.new.notes) before sectors c.args.current c.args.place (sym c.counts.ensures ∙ c.if-counts.true) (c.note_sector.ensures before seen)
+    λ before seen. seen_counted k (g.N.Notes.noted k.ids c.note_sector.new.notes) before sectors c.args.on.now.current c.args.place (sym c.counts.ensures ∙ c.if-counts.true) (c.note_sector.ensures before seen)
 
 pub returns-else-counts : goal.returns-else-counts
 returns-else-counts g c =
     let d : Device = g.F.Flash.device c.args.flash.now in
-    let area : Area = c.args.area.now in
+    let area : Area = c.args.on.now.area.now in
     let k : SectorFormat = g.T.SlotSectors.format_of (geometry_of d area) in
     let sectors : List (List ℕ) = sectors_of d area in
-    λ before seen. seen_passed k (g.N.Notes.noted k.ids c.args.notes.now) before sectors c.args.current c.args.place (sym c.counts.ensures ∙ c.if-counts.false) seen
+    λ before seen. seen_passed k (g.N.Notes.noted k.ids c.args.notes.now) before sectors c.args.on.now.current c.args.place (sym c.counts.ensures ∙ c.if-counts.false) seen

@@ -11,21 +11,21 @@ use Rattle.item_store.proofs.seen.note_behind.Goals as goal
 
 pub overflow_add-after : goal.overflow_add-after
 overflow_add-after g c =
-    omega (arith, c.requires.area.lawful.few)
+    omega (arith, c.requires.on.area.lawful.few)
 
-pub returns-then-place-current : goal.returns-then-place-current
-returns-then-place-current g c =
+pub returns-then-place-on : goal.returns-then-place-on
+returns-then-place-on g c =
     let d : Device = g.F.Flash.device c.args.flash.now in
-    let area : Area = c.args.area.now in
+    let area : Area = c.args.on.now.area.now in
     let k : SectorFormat = g.T.SlotSectors.format_of (geometry_of d area) in
     let sectors : List (List ℕ) = sectors_of d area in
-    λ seen. subst (HasSeen k.ids c.note_among.new.notes) (behind_near k sectors c.args.current c.args.place c.if-place-current.true) (c.note_among.ensures [] seen)
+    λ seen. subst (HasSeen k.ids c.note_among.new.notes) (behind_near k sectors c.args.on.now.current c.args.place c.if-place-on.true) (c.note_among.ensures [] seen)
 
 pub returns : goal.returns
 returns g c =
     let d : Device = g.F.Flash.device c.args.flash.now in
-    let area : Area = c.args.area.now in
+    let area : Area = c.args.on.now.area.now in
     let k : SectorFormat = g.T.SlotSectors.format_of (geometry_of d area) in
     let sectors : List (List ℕ) = sectors_of d area in
-    λ seen. subst (HasSeen k.ids c.note_among-3.new.notes) (behind_far k sectors c.args.current c.args.place area.sectors (omega arith) (sym (length-sectors d area)))
-    (c.note_among-3.ensures (among (slots k) sectors c.args.current (c.args.place + 1) (area.sectors - (c.args.place + 1))) (c.note_among-2.ensures [] seen))
+    λ seen. subst (HasSeen k.ids c.note_among-3.new.notes) (behind_far k sectors c.args.on.now.current c.args.place area.sectors (omega arith) (sym (length-sectors d area)))
+    (c.note_among-3.ensures (among (slots k) sectors c.args.on.now.current (c.args.place + 1) (area.sectors - (c.args.place + 1))) (c.note_among-2.ensures [] seen))

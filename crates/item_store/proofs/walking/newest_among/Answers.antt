@@ -14,50 +14,50 @@ use Rattle.item_store.proofs.walking.newest_among.Goals as goal
 pub loop-place-init : goal.loop-place-init
 loop-place-init g c =
     let d : Device = g.F.Flash.device c.args.flash.now in
-    let area : Area = c.args.area.now in
+    let area : Area = c.args.on.now.area.now in
     let k : SectorFormat = g.T.SlotSectors.format_of (geometry_of d area) in
     let sectors : List (List ℕ) = sectors_of d area in
     let none : c.args.end - c.args.end ≡ 0 = omega arith in
     record {
       low = omega arith;
       high = omega arith;
-      none = ap (λ (n : ℕ). last_or None (among (slots k) sectors c.args.current c.args.end n)) none;
+      none = ap (λ (n : ℕ). last_or None (among (slots k) sectors c.args.on.now.current c.args.end n)) none;
     }
 
 pub returns-then-is_some-clause-last : goal.returns-then-is_some-clause-last
 returns-then-is_some-clause-last g c =
     let d : Device = g.F.Flash.device c.args.flash.now in
-    let area : Area = c.args.area.now in
+    let area : Area = c.args.on.now.area.now in
     let k : SectorFormat = g.T.SlotSectors.format_of (geometry_of d area) in
     let sectors : List (List ℕ) = sectors_of d area in
-    let law : IsSectorFormat (g.T.SlotSectors.format_of (geometry_of d area)) = g.met.T.SlotSectors.lawful (geometry_of d area) (unit_is d area (g.met.F.Flash.is_lawful c.args.flash.now) c.requires.area.lawful) in
+    let law : IsSectorFormat (g.T.SlotSectors.format_of (geometry_of d area)) = g.met.T.SlotSectors.lawful (geometry_of d area) (unit_is d area (g.met.F.Flash.is_lawful c.args.flash.now) c.requires.on.area.lawful) in
     let so_far = c.loop-place.invariant in
-    let here : last_or None (among (slots k) sectors c.args.current (c.loop-place.place - 1) (c.args.end - (c.loop-place.place - 1))) ≡ c.newest_of-found.result =
-    newest-step k law sectors c.args.current c.loop-place.place c.args.end c.newest_of-found.result (omega arith) so_far.high so_far.none c.newest_of-found.ensures.last in
-    sym here ∙ newest-suffix k law sectors c.args.current c.args.first (c.loop-place.place - 1) c.args.end (omega arith) (omega (arith, so_far.high))
+    let here : last_or None (among (slots k) sectors c.args.on.now.current (c.loop-place.place - 1) (c.args.end - (c.loop-place.place - 1))) ≡ c.newest_of-found.result =
+    newest-step k law sectors c.args.on.now.current c.loop-place.place c.args.end c.newest_of-found.result (omega arith) so_far.high so_far.none c.newest_of-found.ensures.last in
+    sym here ∙ newest-suffix k law sectors c.args.on.now.current c.args.first (c.loop-place.place - 1) c.args.end (omega arith) (omega (arith, so_far.high))
     (ap (λ (o : Option Placed). is_some o) here ∙ sym c.is_some.ensures ∙ c.if-is_some.true)
 
 pub loop-place-preserved : goal.loop-place-preserved
 loop-place-preserved g c =
     let d : Device = g.F.Flash.device c.args.flash.now in
-    let area : Area = c.args.area.now in
+    let area : Area = c.args.on.now.area.now in
     let k : SectorFormat = g.T.SlotSectors.format_of (geometry_of d area) in
     let sectors : List (List ℕ) = sectors_of d area in
-    let law : IsSectorFormat (g.T.SlotSectors.format_of (geometry_of d area)) = g.met.T.SlotSectors.lawful (geometry_of d area) (unit_is d area (g.met.F.Flash.is_lawful c.args.flash.now) c.requires.area.lawful) in
+    let law : IsSectorFormat (g.T.SlotSectors.format_of (geometry_of d area)) = g.met.T.SlotSectors.lawful (geometry_of d area) (unit_is d area (g.met.F.Flash.is_lawful c.args.flash.now) c.requires.on.area.lawful) in
     let so_far = c.loop-place.invariant in
     record {
       low = omega arith;
       high = omega (arith, so_far.high);
-      none = newest-step k law sectors c.args.current c.loop-place.place c.args.end c.newest_of-found.result (omega arith) so_far.high so_far.none c.newest_of-found.ensures.last
+      none = newest-step k law sectors c.args.on.now.current c.loop-place.place c.args.end c.newest_of-found.result (omega arith) so_far.high so_far.none c.newest_of-found.ensures.last
           ∙ none_by c.newest_of-found.result (sym c.is_some.ensures ∙ c.if-is_some.false);
     }
 
 pub returns-clause-last : goal.returns-clause-last
 returns-clause-last g c =
     let d : Device = g.F.Flash.device c.args.flash.now in
-    let area : Area = c.args.area.now in
+    let area : Area = c.args.on.now.area.now in
     let k : SectorFormat = g.T.SlotSectors.format_of (geometry_of d area) in
     let sectors : List (List ℕ) = sectors_of d area in
     let so_far = c.loop-place.invariant in
     let at : c.args.first ≡ c.loop-place.place = omega (arith, so_far.low) in
-    sym (ap (λ (p : ℕ). last_or None (among (slots k) sectors c.args.current p (c.args.end - p))) at ∙ so_far.none)
+    sym (ap (λ (p : ℕ). last_or None (among (slots k) sectors c.args.on.now.current p (c.args.end - p))) at ∙ so_far.none)

@@ -10,7 +10,7 @@ abbrev pub invariant-loop-place : goal.invariant-loop-place
 invariant-loop-place g l = record {
   low : l.first ≤ l.place;
   high : l.place ≤ l.end;
-  none : last_or None (among (slots (format_on g.T.SlotSectors.format_of (g.F.Flash.device l.flash) l.area)) (sectors_of (g.F.Flash.device l.flash) l.area) l.current l.place (l.end - l.place)) ≡ None;
+  none : last_or None (among (slots (format_on g.T.SlotSectors.format_of (g.F.Flash.device l.flash) l.on.area.now)) (sectors_of (g.F.Flash.device l.flash) l.on.area.now) l.on.current l.place (l.end - l.place)) ≡ None;
 }
 
 abbrev pub decreases-loop-place : goal.decreases-loop-place

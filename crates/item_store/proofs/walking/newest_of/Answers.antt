@@ -11,8 +11,8 @@ use Rattle.item_store.proofs.walking.newest_of.Goals as goal
 pub returns-clause-last : goal.returns-clause-last
 returns-clause-last g c =
     let d : Device = g.F.Flash.device c.args.flash.now in
-    let area : Area = c.args.area.now in
+    let area : Area = c.args.on.now.area.now in
     let k : SectorFormat = g.T.SlotSectors.format_of (geometry_of d area) in
     let sectors : List (List ℕ) = sectors_of d area in
-    let law : IsSectorFormat (g.T.SlotSectors.format_of (geometry_of d area)) = g.met.T.SlotSectors.lawful (geometry_of d area) (unit_is d area (g.met.F.Flash.is_lawful c.args.flash.now) c.requires.area.lawful) in
-    c.newest_at.ensures.last ∙ ap (last_or None) (within_whole k law sectors c.args.current c.args.place c.slots-all.result (omega (arith, c.slots-all.ensures.value)))
+    let law : IsSectorFormat (g.T.SlotSectors.format_of (geometry_of d area)) = g.met.T.SlotSectors.lawful (geometry_of d area) (unit_is d area (g.met.F.Flash.is_lawful c.args.flash.now) c.requires.on.area.lawful) in
+    c.newest_at.ensures.last ∙ ap (last_or None) (within_whole k law sectors c.args.on.now.current c.args.place c.slots-all.result (omega (arith, c.slots-all.ensures.value)))

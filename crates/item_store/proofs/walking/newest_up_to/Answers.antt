@@ -14,19 +14,19 @@ use Rattle.item_store.proofs.walking.newest_up_to.Goals as goal
 pub returns-then-is_some-clause-last : goal.returns-then-is_some-clause-last
 returns-then-is_some-clause-last g c =
     let d : Device = g.F.Flash.device c.args.flash.now in
-    let area : Area = c.args.area.now in
+    let area : Area = c.args.on.now.area.now in
     let k : SectorFormat = g.T.SlotSectors.format_of (geometry_of d area) in
     let sectors : List (List ℕ) = sectors_of d area in
-    let older : List Placed = flat_map (counted_in (slots k) sectors c.args.current) (places_before (length sectors) c.args.current c.args.place) in
-    let here : List Placed = counted_within (slots k) sectors c.args.current c.args.place c.args.limit in
+    let older : List Placed = flat_map (counted_in (slots k) sectors c.args.on.now.current) (places_before (length sectors) c.args.on.now.current c.args.place) in
+    let here : List Placed = counted_within (slots k) sectors c.args.on.now.current c.args.place c.args.limit in
     newest-behind older here c.newest_at-newest.result c.newest_at-newest.ensures.last (sym c.is_some.ensures ∙ c.if-is_some.true)
 
 pub returns-clause-last : goal.returns-clause-last
 returns-clause-last g c =
     let d : Device = g.F.Flash.device c.args.flash.now in
-    let area : Area = c.args.area.now in
+    let area : Area = c.args.on.now.area.now in
     let k : SectorFormat = g.T.SlotSectors.format_of (geometry_of d area) in
     let sectors : List (List ℕ) = sectors_of d area in
-    let older : List Placed = flat_map (counted_in (slots k) sectors c.args.current) (places_before (length sectors) c.args.current c.args.place) in
-    let here : List Placed = counted_within (slots k) sectors c.args.current c.args.place c.args.limit in
+    let older : List Placed = flat_map (counted_in (slots k) sectors c.args.on.now.current) (places_before (length sectors) c.args.on.now.current c.args.place) in
+    let here : List Placed = counted_within (slots k) sectors c.args.on.now.current c.args.place c.args.limit in
     newest-before older here c.newest_at-newest.result c.newest_before.result c.newest_at-newest.ensures.last (sym c.is_some.ensures ∙ c.if-is_some.false) c.newest_before.ensures.last

@@ -18,13 +18,13 @@ use Rattle.item_store.proofs.lasts.Lasts.next.Goals as goal
 pub next-oldest-requires : goal.next-oldest-requires
 next-oldest-requires g c =
     let d : Device = g.F.Flash.device c.args.flash.now in
-    let area : Area = c.args.area.now in
+    let area : Area = c.args.on.now.area.now in
     let k : SectorFormat = g.T.SlotSectors.format_of (geometry_of d area) in
-    open_inside k d area c.args.current c.requires.area.lawful c.requires.current
+    open_inside k d area c.args.on.now.current c.requires.on.area.lawful c.requires.on.current
 
 pub loop-found-init : goal.loop-found-init
 loop-found-init g c =
-    let area : Area = c.args.area.now in
+    let area : Area = c.args.on.now.area.now in
     let here = c.next_here-found.ensures in
     record {
       at = here.at;
@@ -32,8 +32,8 @@ loop-found-init g c =
       ends = here.ends;
       next = here.next;
       covered = here.covered;
-      fewer = here-fewer area.sectors c.args.current c.args.self.now c.next_here-found.new.self c.next_here-found.result here.place here.fewer;
-      most = here-most area.sectors c.args.current c.args.self.now c.next_here-found.new.self c.next_here-found.result here.place here.ends here.fewer;
+      fewer = here-fewer area.sectors c.args.on.now.current c.args.self.now c.next_here-found.new.self c.next_here-found.result here.place here.fewer;
+      most = here-most area.sectors c.args.on.now.current c.args.self.now c.next_here-found.new.self c.next_here-found.result here.place here.ends here.fewer;
     }
 
 pub step_back-requires-clause-none_left : goal.step_back-requires-clause-none_left
@@ -43,55 +43,55 @@ step_back-requires-clause-none_left g c =
 pub step_back-requires-clause-further : goal.step_back-requires-clause-further
 step_back-requires-clause-further g c =
     let d : Device = g.F.Flash.device c.args.flash.now in
-    let area : Area = c.args.area.now in
-    λ e. c.if-self-oldest.true (e ∙ sym (c.next-oldest.ensures.value ∙ next_there d area c.args.current))
+    let area : Area = c.args.on.now.area.now in
+    λ e. c.if-self-oldest.true (e ∙ sym (c.next-oldest.ensures.value ∙ next_there d area c.args.on.now.current))
 
 pub loop-found-smaller : goal.loop-found-smaller
 loop-found-smaller g c =
     let d : Device = g.F.Flash.device c.args.flash.now in
-    let area : Area = c.args.area.now in
+    let area : Area = c.args.on.now.area.now in
     let k : SectorFormat = g.T.SlotSectors.format_of (geometry_of d area) in
     let sectors : List (List ℕ) = sectors_of d area in
     let long = length-sectors d area in
-    let within = open_inside k d area c.args.current c.requires.area.lawful c.requires.current in
-    let low : c.args.current < length sectors = omega arith in
-    let apart : c.loop-found.self.place ≡ after area.sectors c.args.current → ⊥ = λ (e : c.loop-found.self.place ≡ after area.sectors c.args.current). c.if-self-oldest.true (e ∙ sym c.next-oldest.ensures.value) in
+    let within = open_inside k d area c.args.on.now.current c.requires.on.area.lawful c.requires.on.current in
+    let low : c.args.on.now.current < length sectors = omega arith in
+    let apart : c.loop-found.self.place ≡ after area.sectors c.args.on.now.current → ⊥ = λ (e : c.loop-found.self.place ≡ after area.sectors c.args.on.now.current). c.if-self-oldest.true (e ∙ sym c.next-oldest.ensures.value) in
     let inside : c.loop-found.self.place < area.sectors = omega (arith, c.loop-found.invariant.at.inside) in
     let back : c.step_back.new.self.place ≡ before area.sectors c.loop-found.self.place = c.step_back.ensures.place ∙ sym (previous_there d area c.loop-found.self.place) in
-    subst (λ (p : ℕ). left area.sectors c.args.current p < left area.sectors c.args.current c.loop-found.self.place) (sym (c.next_here-found-in-loop-found.ensures.place ∙ back))
-    (fewer_left area.sectors c.args.current c.loop-found.self.place within inside apart)
+    subst (λ (p : ℕ). left area.sectors c.args.on.now.current p < left area.sectors c.args.on.now.current c.loop-found.self.place) (sym (c.next_here-found-in-loop-found.ensures.place ∙ back))
+    (fewer_left area.sectors c.args.on.now.current c.loop-found.self.place within inside apart)
 
 pub loop-found-preserved : goal.loop-found-preserved
 loop-found-preserved g c =
     let d : Device = g.F.Flash.device c.args.flash.now in
-    let area : Area = c.args.area.now in
+    let area : Area = c.args.on.now.area.now in
     let k : SectorFormat = g.T.SlotSectors.format_of (geometry_of d area) in
     let sectors : List (List ℕ) = sectors_of d area in
     let long = length-sectors d area in
-    let within = open_inside k d area c.args.current c.requires.area.lawful c.requires.current in
-    let low : c.args.current < length sectors = omega arith in
-    let apart : c.loop-found.self.place ≡ after area.sectors c.args.current → ⊥ = λ (e : c.loop-found.self.place ≡ after area.sectors c.args.current). c.if-self-oldest.true (e ∙ sym c.next-oldest.ensures.value) in
+    let within = open_inside k d area c.args.on.now.current c.requires.on.area.lawful c.requires.on.current in
+    let low : c.args.on.now.current < length sectors = omega arith in
+    let apart : c.loop-found.self.place ≡ after area.sectors c.args.on.now.current → ⊥ = λ (e : c.loop-found.self.place ≡ after area.sectors c.args.on.now.current). c.if-self-oldest.true (e ∙ sym c.next-oldest.ensures.value) in
     let inside : c.loop-found.self.place < area.sectors = omega (arith, c.loop-found.invariant.at.inside) in
     let back : c.step_back.new.self.place ≡ before area.sectors c.loop-found.self.place = c.step_back.ensures.place ∙ sym (previous_there d area c.loop-found.self.place) in
     let now = c.loop-found.invariant in
     let mid = c.step_back.ensures in
     let here = c.next_here-found-in-loop-found.ensures in
     let none : c.loop-found.found ≡ None = not_some c.loop-found.found (c.is_none.ensures ∙ ap not c.loop-found-test.true) in
-    let less : sectors_left area.sectors c.args.current c.step_back.new.self.place < sectors_left area.sectors c.args.current c.loop-found.self.place =
-    subst (λ (p : ℕ). sectors_left area.sectors c.args.current p < sectors_left area.sectors c.args.current c.loop-found.self.place) (sym back) (fewer_left area.sectors c.args.current c.loop-found.self.place within inside apart) in
-    let so_far : slots_left area.sectors c.args.current c.step_back.new.self ≤ slots_left area.sectors c.args.current c.args.self.now =
-    most-then (slots_left area.sectors c.args.current c.step_back.new.self) (slots_left area.sectors c.args.current c.loop-found.self) (slots_left area.sectors c.args.current c.args.self.now)
-    (back-most area.sectors c.args.current c.loop-found.self c.step_back.new.self less mid.at.few) now.most in
+    let less : sectors_left area.sectors c.args.on.now.current c.step_back.new.self.place < sectors_left area.sectors c.args.on.now.current c.loop-found.self.place =
+    subst (λ (p : ℕ). sectors_left area.sectors c.args.on.now.current p < sectors_left area.sectors c.args.on.now.current c.loop-found.self.place) (sym back) (fewer_left area.sectors c.args.on.now.current c.loop-found.self.place within inside apart) in
+    let so_far : slots_left area.sectors c.args.on.now.current c.step_back.new.self ≤ slots_left area.sectors c.args.on.now.current c.args.self.now =
+    most-then (slots_left area.sectors c.args.on.now.current c.step_back.new.self) (slots_left area.sectors c.args.on.now.current c.loop-found.self) (slots_left area.sectors c.args.on.now.current c.args.self.now)
+    (back-most area.sectors c.args.on.now.current c.loop-found.self c.step_back.new.self less mid.at.few) now.most in
     record {
       at = here.at;
       range = (here.range.0 ∙ mid.range.0 ∙ now.range.0, here.range.1 ∙ mid.range.1 ∙ now.range.1);
       ends = here.ends;
-      next = last-same k sectors c.args.current c.args.self.now c.step_back.new.self (mid.range.0 ∙ now.range.0, mid.range.1 ∙ now.range.1) c.next_here-found-in-loop-found.result here.next;
-      covered = covered-more k sectors c.args.current c.args.self.now c.loop-found.self c.step_back.new.self c.next_here-found-in-loop-found.new.self c.loop-found.found c.next_here-found-in-loop-found.result none now.covered mid.covered here.covered;
-      fewer = fewer-then (slots_left area.sectors c.args.current c.next_here-found-in-loop-found.new.self) (slots_left area.sectors c.args.current c.step_back.new.self) (slots_left area.sectors c.args.current c.args.self.now) c.next_here-found-in-loop-found.result
-          (here-fewer area.sectors c.args.current c.step_back.new.self c.next_here-found-in-loop-found.new.self c.next_here-found-in-loop-found.result here.place here.fewer) so_far;
-      most = most-then (slots_left area.sectors c.args.current c.next_here-found-in-loop-found.new.self) (slots_left area.sectors c.args.current c.step_back.new.self) (slots_left area.sectors c.args.current c.args.self.now)
-          (here-most area.sectors c.args.current c.step_back.new.self c.next_here-found-in-loop-found.new.self c.next_here-found-in-loop-found.result here.place here.ends here.fewer) so_far;
+      next = last-same k sectors c.args.on.now.current c.args.self.now c.step_back.new.self (mid.range.0 ∙ now.range.0, mid.range.1 ∙ now.range.1) c.next_here-found-in-loop-found.result here.next;
+      covered = covered-more k sectors c.args.on.now.current c.args.self.now c.loop-found.self c.step_back.new.self c.next_here-found-in-loop-found.new.self c.loop-found.found c.next_here-found-in-loop-found.result none now.covered mid.covered here.covered;
+      fewer = fewer-then (slots_left area.sectors c.args.on.now.current c.next_here-found-in-loop-found.new.self) (slots_left area.sectors c.args.on.now.current c.step_back.new.self) (slots_left area.sectors c.args.on.now.current c.args.self.now) c.next_here-found-in-loop-found.result
+          (here-fewer area.sectors c.args.on.now.current c.step_back.new.self c.next_here-found-in-loop-found.new.self c.next_here-found-in-loop-found.result here.place here.fewer) so_far;
+      most = most-then (slots_left area.sectors c.args.on.now.current c.next_here-found-in-loop-found.new.self) (slots_left area.sectors c.args.on.now.current c.step_back.new.self) (slots_left area.sectors c.args.on.now.current c.args.self.now)
+          (here-most area.sectors c.args.on.now.current c.step_back.new.self c.next_here-found-in-loop-found.new.self c.next_here-found-in-loop-found.result here.place here.ends here.fewer) so_far;
     }
 
 pub returns-else-self-oldest-clause-at : goal.returns-else-self-oldest-clause-at
@@ -105,29 +105,29 @@ returns-else-self-oldest-clause-range g c =
 pub returns-else-self-oldest-clause-placed : goal.returns-else-self-oldest-clause-placed
 returns-else-self-oldest-clause-placed g c =
     let d : Device = g.F.Flash.device c.args.flash.now in
-    let area : Area = c.args.area.now in
+    let area : Area = c.args.on.now.area.now in
     let k : SectorFormat = g.T.SlotSectors.format_of (geometry_of d area) in
     let sectors : List (List ℕ) = sectors_of d area in
-    let law : IsSectorFormat (g.T.SlotSectors.format_of (geometry_of d area)) = g.met.T.SlotSectors.lawful (geometry_of d area) (unit_is d area (g.met.F.Flash.is_lawful c.args.flash.now) c.requires.area.lawful) in
+    let law : IsSectorFormat (g.T.SlotSectors.format_of (geometry_of d area)) = g.met.T.SlotSectors.lawful (geometry_of d area) (unit_is d area (g.met.F.Flash.is_lawful c.args.flash.now) c.requires.on.area.lawful) in
     let long = length-sectors d area in
-    let within = open_inside k d area c.args.current c.requires.area.lawful c.requires.current in
-    let low : c.args.current < length sectors = omega arith in
-    last-stands k law sectors c.args.current c.args.self.now c.loop-found.found (omega arith) c.requires.current c.loop-found.invariant.next
+    let within = open_inside k d area c.args.on.now.current c.requires.on.area.lawful c.requires.on.current in
+    let low : c.args.on.now.current < length sectors = omega arith in
+    last-stands k law sectors c.args.on.now.current c.args.self.now c.loop-found.found (omega arith) c.requires.on.current c.loop-found.invariant.next
 
 pub returns-else-self-oldest-clause-next : goal.returns-else-self-oldest-clause-next
 returns-else-self-oldest-clause-next g c =
     let d : Device = g.F.Flash.device c.args.flash.now in
-    let area : Area = c.args.area.now in
+    let area : Area = c.args.on.now.area.now in
     let k : SectorFormat = g.T.SlotSectors.format_of (geometry_of d area) in
     let sectors : List (List ℕ) = sectors_of d area in
     let long = length-sectors d area in
-    let within = open_inside k d area c.args.current c.requires.area.lawful c.requires.current in
-    let low : c.args.current < length sectors = omega arith in
-    let high : after (length sectors) c.args.current < length sectors = after-within (length sectors) c.args.current low in
-    let oldest : c.loop-found.self.place ≡ after (length sectors) c.args.current = c.if-self-oldest.false ∙ c.next-oldest.ensures.value ∙ next_there d area c.args.current in
+    let within = open_inside k d area c.args.on.now.current c.requires.on.area.lawful c.requires.on.current in
+    let low : c.args.on.now.current < length sectors = omega arith in
+    let high : after (length sectors) c.args.on.now.current < length sectors = after-within (length sectors) c.args.on.now.current low in
+    let oldest : c.loop-found.self.place ≡ after (length sectors) c.args.on.now.current = c.if-self-oldest.false ∙ c.next-oldest.ensures.value ∙ next_there d area c.args.on.now.current in
     let now = c.loop-found.invariant in
-    knows-next k sectors c.args.current c.args.self.now c.loop-found.self c.loop-found.found now.next now.covered
-    (λ none. all-covered k sectors c.args.current c.args.self.now c.loop-found.self low high c.requires.current oldest (now.ends none) now.range)
+    knows-next k sectors c.args.on.now.current c.args.self.now c.loop-found.self c.loop-found.found now.next now.covered
+    (λ none. all-covered k sectors c.args.on.now.current c.args.self.now c.loop-found.self low high c.requires.on.current oldest (now.ends none) now.range)
 
 pub returns-else-self-oldest-clause-fewer : goal.returns-else-self-oldest-clause-fewer
 returns-else-self-oldest-clause-fewer g c =
@@ -144,24 +144,24 @@ returns-after-loop-found-clause-range g c =
 pub returns-after-loop-found-clause-placed : goal.returns-after-loop-found-clause-placed
 returns-after-loop-found-clause-placed g c =
     let d : Device = g.F.Flash.device c.args.flash.now in
-    let area : Area = c.args.area.now in
+    let area : Area = c.args.on.now.area.now in
     let k : SectorFormat = g.T.SlotSectors.format_of (geometry_of d area) in
     let sectors : List (List ℕ) = sectors_of d area in
-    let law : IsSectorFormat (g.T.SlotSectors.format_of (geometry_of d area)) = g.met.T.SlotSectors.lawful (geometry_of d area) (unit_is d area (g.met.F.Flash.is_lawful c.args.flash.now) c.requires.area.lawful) in
+    let law : IsSectorFormat (g.T.SlotSectors.format_of (geometry_of d area)) = g.met.T.SlotSectors.lawful (geometry_of d area) (unit_is d area (g.met.F.Flash.is_lawful c.args.flash.now) c.requires.on.area.lawful) in
     let long = length-sectors d area in
-    let within = open_inside k d area c.args.current c.requires.area.lawful c.requires.current in
-    let low : c.args.current < length sectors = omega arith in
-    last-stands k law sectors c.args.current c.args.self.now c.loop-found.found (omega arith) c.requires.current c.loop-found.invariant.next
+    let within = open_inside k d area c.args.on.now.current c.requires.on.area.lawful c.requires.on.current in
+    let low : c.args.on.now.current < length sectors = omega arith in
+    last-stands k law sectors c.args.on.now.current c.args.self.now c.loop-found.found (omega arith) c.requires.on.current c.loop-found.invariant.next
 
 pub returns-after-loop-found-clause-next : goal.returns-after-loop-found-clause-next
 returns-after-loop-found-clause-next g c =
     let d : Device = g.F.Flash.device c.args.flash.now in
-    let area : Area = c.args.area.now in
+    let area : Area = c.args.on.now.area.now in
     let k : SectorFormat = g.T.SlotSectors.format_of (geometry_of d area) in
     let sectors : List (List ℕ) = sectors_of d area in
     let now = c.loop-found.invariant in
     let some : is_some c.loop-found.found ≡ true = c.is_none.ensures ∙ ap not c.loop-found-test.false in
-    knows-next k sectors c.args.current c.args.self.now c.loop-found.self c.loop-found.found now.next now.covered
+    knows-next k sectors c.args.on.now.current c.args.self.now c.loop-found.self c.loop-found.found now.next now.covered
     (λ none. absurd (false≢true (sym (ap (λ (o : Option Placed). is_some o) none) ∙ some)))
 
 pub returns-after-loop-found-clause-fewer : goal.returns-after-loop-found-clause-fewer

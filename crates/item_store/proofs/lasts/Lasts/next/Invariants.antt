@@ -8,15 +8,15 @@ use Rattle.item_store.proofs.lasts.Lasts.next.Given as goal
 
 abbrev pub invariant-loop-found : goal.invariant-loop-found
 invariant-loop-found g l = record {
-  at : IsAt (format_on g.T.SlotSectors.format_of (g.F.Flash.device l.flash) l.area) (sectors_of (g.F.Flash.device l.flash) l.area) l.current l.self;
+  at : IsAt (format_on g.T.SlotSectors.format_of (g.F.Flash.device l.flash) l.on.area.now) (sectors_of (g.F.Flash.device l.flash) l.on.area.now) l.on.current l.self;
   range : SameRange l.fn.self l.self;
   ends : l.found ≡ None → l.self.left ≡ 0;
-  next : IfSome l.found (IsLastIn (format_on g.T.SlotSectors.format_of (g.F.Flash.device l.flash) l.area) (sectors_of (g.F.Flash.device l.flash) l.area) l.fn.self);
-  covered : let k = format_on g.T.SlotSectors.format_of (g.F.Flash.device l.flash) l.area in let sectors = sectors_of (g.F.Flash.device l.flash) l.area in
-      (p : PlacedEntry) → WasGiven k sectors l.current l.self p → (Some p ≡ l.found) ⊎ WasGiven k sectors l.current l.fn.self p;
-  fewer : IfSome l.found (λ _. slots_left l.area.sectors l.current l.self < slots_left l.area.sectors l.current l.fn.self);
-  most : slots_left l.area.sectors l.current l.self ≤ slots_left l.area.sectors l.current l.fn.self;
+  next : IfSome l.found (IsLastIn (format_on g.T.SlotSectors.format_of (g.F.Flash.device l.flash) l.on.area.now) (sectors_of (g.F.Flash.device l.flash) l.on.area.now) l.fn.self);
+  covered : let k = format_on g.T.SlotSectors.format_of (g.F.Flash.device l.flash) l.on.area.now in let sectors = sectors_of (g.F.Flash.device l.flash) l.on.area.now in
+      (p : PlacedEntry) → WasGiven k sectors l.on.current l.self p → (Some p ≡ l.found) ⊎ WasGiven k sectors l.on.current l.fn.self p;
+  fewer : IfSome l.found (λ _. slots_left l.on.area.now.sectors l.on.current l.self < slots_left l.on.area.now.sectors l.on.current l.fn.self);
+  most : slots_left l.on.area.now.sectors l.on.current l.self ≤ slots_left l.on.area.now.sectors l.on.current l.fn.self;
 }
 
 abbrev pub decreases-loop-found : goal.decreases-loop-found
-decreases-loop-found g l = left l.area.sectors l.current l.self.place
+decreases-loop-found g l = left l.on.area.now.sectors l.on.current l.self.place

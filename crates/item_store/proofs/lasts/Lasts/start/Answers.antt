@@ -8,38 +8,38 @@ use Rattle.item_store.proofs.Areas.{open_inside}
 use Rattle.item_store.proofs.LastsWalk.{start-at, start-none}
 use Rattle.item_store.proofs.lasts.Lasts.start.Goals as goal
 
-pub reach_counting-requires-clause-current : goal.reach_counting-requires-clause-current
-reach_counting-requires-clause-current g c =
+pub reach_counting-requires-clause-on : goal.reach_counting-requires-clause-on
+reach_counting-requires-clause-on g c =
     let d : Device = g.F.Flash.device c.args.flash.now in
-    let area : Area = c.args.area.now in
+    let area : Area = c.args.on.now.area.now in
     let k : SectorFormat = g.T.SlotSectors.format_of (geometry_of d area) in
-    open_inside k d area c.args.current c.requires.area.lawful c.requires.current
+    record { area = c.requires.on.area; kept = c.requires.on.kept; current = open_inside k d area c.args.on.now.current c.requires.on.area.lawful c.requires.on.current }
 
 pub reach_counting-requires-clause-inside : goal.reach_counting-requires-clause-inside
 reach_counting-requires-clause-inside g c =
     let d : Device = g.F.Flash.device c.args.flash.now in
-    let area : Area = c.args.area.now in
+    let area : Area = c.args.on.now.area.now in
     let k : SectorFormat = g.T.SlotSectors.format_of (geometry_of d area) in
-    open_inside k d area c.args.current c.requires.area.lawful c.requires.current
+    open_inside k d area c.args.on.now.current c.requires.on.area.lawful c.requires.on.current
 
 pub returns-clause-at : goal.returns-clause-at
 returns-clause-at g c =
     let d : Device = g.F.Flash.device c.args.flash.now in
-    let area : Area = c.args.area.now in
+    let area : Area = c.args.on.now.area.now in
     let k : SectorFormat = g.T.SlotSectors.format_of (geometry_of d area) in
     let sectors : List (List ℕ) = sectors_of d area in
     let long = length-sectors d area in
-    let within = open_inside k d area c.args.current c.requires.area.lawful c.requires.current in
-    let low : c.args.current < length sectors = omega arith in
-    start-at k sectors c.args.current low c.reach_counting.result c.args.least c.args.most c.reach_counting.ensures.few c.reach_counting.ensures.small c.reach_counting.ensures.others c.requires.range c.reach_counting.ensures.counts
+    let within = open_inside k d area c.args.on.now.current c.requires.on.area.lawful c.requires.on.current in
+    let low : c.args.on.now.current < length sectors = omega arith in
+    start-at k sectors c.args.on.now.current low c.reach_counting.result c.args.least c.args.most c.reach_counting.ensures.few c.reach_counting.ensures.small c.reach_counting.ensures.others c.requires.range c.reach_counting.ensures.counts
 
 pub returns-clause-none : goal.returns-clause-none
 returns-clause-none g c =
     let d : Device = g.F.Flash.device c.args.flash.now in
-    let area : Area = c.args.area.now in
+    let area : Area = c.args.on.now.area.now in
     let k : SectorFormat = g.T.SlotSectors.format_of (geometry_of d area) in
     let sectors : List (List ℕ) = sectors_of d area in
     let long = length-sectors d area in
-    let within = open_inside k d area c.args.current c.requires.area.lawful c.requires.current in
-    let low : c.args.current < length sectors = omega arith in
-    start-none k sectors c.args.current low c.reach_counting.result c.args.least c.args.most c.reach_counting.ensures.few c.reach_counting.ensures.small c.reach_counting.ensures.others
+    let within = open_inside k d area c.args.on.now.current c.requires.on.area.lawful c.requires.on.current in
+    let low : c.args.on.now.current < length sectors = omega arith in
+    start-none k sectors c.args.on.now.current low c.reach_counting.result c.args.least c.args.most c.reach_counting.ensures.few c.reach_counting.ensures.small c.reach_counting.ensures.others

@@ -28,3 +28,7 @@ sector_cost-requires-clause-within g c =
 pub live_by-requires-clause-none : goal.live_by-requires-clause-none
 live_by-requires-clause-none g c =
     c.new-live.ensures
+
+pub live_by-requires-clause-on : goal.live_by-requires-clause-on
+live_by-requires-clause-on g c =
+    record { area = c.requires.stands.area; kept = c.requires.stands.opened; current = c.requires.stands.current }

@@ -7,7 +7,7 @@ use Rattle.item_store.specs.SectorFormat.{SectorFormat, IsSectorFormat}
 use Rattle.item_store.specs.Standing.{items}
 use Rattle.item_store.proofs.Areas.{unit_is}
 use Rattle.item_store.proofs.Reserved.{present_ordinary}
-use Rattle.item_store.proofs.RoomFacts.{rest_open, at_of, stands_with}
+use Rattle.item_store.proofs.RoomFacts.{rest_open, at_of}
 use Rattle.item_store.proofs.WriteSteps.{delete_absent, delete_stops, deleted, gets_none, gets_some}
 use Rattle.item_store.proofs.store.Store.delete.Goals as goal
 
@@ -20,11 +20,6 @@ returns-then-is_none-clause-ends g c =
     let on = at_of g.T.SlotSectors.role g.T.SlotSectors.format_of g.T.SlotSectors.kept a c.args.self.now c.requires.stands in
     let form = rest_open g.T.SlotSectors.role g.T.SlotSectors.format_of g.T.SlotSectors.kept a area c.args.self.now.current c.args.self.now.opened law (g.met.F.Flash.is_lawful c.args.flash.now) on in
     delete_absent (g.T.SlotSectors.format_of (geometry_of a area)) law a area form c.args.id (gets_none (λ bytes. bytes.now) c.get.result (map.get (items k (sectors_of a area)) c.args.id) c.get.ensures.value (c.is_none.ensures ∙ ap not c.if-is_none.true))
-
-pub append-requires-clause-stands : goal.append-requires-clause-stands
-append-requires-clause-stands g c =
-    let a : Device = g.F.Flash.device c.args.flash.now in
-    at_of g.T.SlotSectors.role g.T.SlotSectors.format_of g.T.SlotSectors.kept a c.args.self.now c.requires.stands
 
 pub append-requires-clause-ordinary : goal.append-requires-clause-ordinary
 append-requires-clause-ordinary g c =
@@ -69,7 +64,10 @@ pub returns-in-Ok-clause-written : goal.returns-in-Ok-clause-written
 returns-in-Ok-clause-written g c =
     c.in-Ok.ensures.written
 
+pub append-requires-clause-stands : goal.append-requires-clause-stands
+append-requires-clause-stands g c =
+    c.requires.stands
+
 pub returns-in-Ok-clause-stands : goal.returns-in-Ok-clause-stands
-returns-in-Ok-clause-stands g c = λ _.
-    let did = c.in-Ok.ensures in
-    stands_with g.T.SlotSectors.role g.T.SlotSectors.format_of g.T.SlotSectors.kept (g.F.Flash.device c.append.new.flash) c.args.self.now.area c.append.new.current c.append.new.opened c.append.new.cache did.stands did.cached
+returns-in-Ok-clause-stands g c =
+    λ _. c.in-Ok.ensures.stands

@@ -69,3 +69,11 @@ returns g c =
     let all : (p : Placed) → IsLastIn k sectors c.loop-placed.lasts p → WasGiven k sectors c.args.self.now.current c.loop-placed.lasts p =
     subst (GivesNext k sectors c.args.self.now.current c.loop-placed.lasts c.next.new.self) c.in_default.is c.next.ensures.next in
     λ id has. now.none (covered-all g.T.SlotSectors.role g.T.SlotSectors.format_of g.T.SlotSectors.kept d c.args.self.now law (g.met.F.Flash.is_lawful c.args.flash.now) c.requires.stands c.loop-placed.lasts c.args.least c.args.most now.from now.to all id c.args.bytes.now has)
+
+pub start-lasts-requires-clause-on : goal.start-lasts-requires-clause-on
+start-lasts-requires-clause-on g c =
+    record { area = c.requires.stands.area; kept = c.requires.stands.opened; current = c.requires.stands.current }
+
+pub next-requires-clause-on : goal.next-requires-clause-on
+next-requires-clause-on g c =
+    record { area = c.requires.stands.area; kept = c.requires.stands.opened; current = c.requires.stands.current }

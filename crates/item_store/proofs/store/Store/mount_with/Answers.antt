@@ -95,32 +95,15 @@ pub returns-in-Err-clause-changed : goal.returns-in-Err-clause-changed
 returns-in-Err-clause-changed g c =
     inl refl
 
-pub fill-requires-clause-area : goal.fill-requires-clause-area
-fill-requires-clause-area g c =
+pub fill-requires-clause-on : goal.fill-requires-clause-on
+fill-requires-clause-on g c =
     let a : Device = g.F.Flash.device c.args.flash.now in
     let d : Device = g.F.Flash.device c.redo.new.flash in
     let area : Area = c.args.area in
     let law : IsSectorFormat (g.T.SlotSectors.format_of (geometry_of a area)) = g.met.T.SlotSectors.lawful (geometry_of a area) (unit_is a area (g.met.F.Flash.is_lawful c.args.flash.now) c.requires.area.lawful) in
     let did = c.in-Ok-redo.ensures in
-    (stands g.T.SlotSectors.role g.T.SlotSectors.format_of g.T.SlotSectors.kept a d area c.in-Ok.current c.redo.new.opened law did.touches.banks c.requires.area did.ends.rested did.ends.kept).area
-
-pub fill-requires-clause-kept : goal.fill-requires-clause-kept
-fill-requires-clause-kept g c =
-    let a : Device = g.F.Flash.device c.args.flash.now in
-    let d : Device = g.F.Flash.device c.redo.new.flash in
-    let area : Area = c.args.area in
-    let law : IsSectorFormat (g.T.SlotSectors.format_of (geometry_of a area)) = g.met.T.SlotSectors.lawful (geometry_of a area) (unit_is a area (g.met.F.Flash.is_lawful c.args.flash.now) c.requires.area.lawful) in
-    let did = c.in-Ok-redo.ensures in
-    (stands g.T.SlotSectors.role g.T.SlotSectors.format_of g.T.SlotSectors.kept a d area c.in-Ok.current c.redo.new.opened law did.touches.banks c.requires.area did.ends.rested did.ends.kept).opened
-
-pub fill-requires-clause-current : goal.fill-requires-clause-current
-fill-requires-clause-current g c =
-    let a : Device = g.F.Flash.device c.args.flash.now in
-    let d : Device = g.F.Flash.device c.redo.new.flash in
-    let area : Area = c.args.area in
-    let law : IsSectorFormat (g.T.SlotSectors.format_of (geometry_of a area)) = g.met.T.SlotSectors.lawful (geometry_of a area) (unit_is a area (g.met.F.Flash.is_lawful c.args.flash.now) c.requires.area.lawful) in
-    let did = c.in-Ok-redo.ensures in
-    (stands g.T.SlotSectors.role g.T.SlotSectors.format_of g.T.SlotSectors.kept a d area c.in-Ok.current c.redo.new.opened law did.touches.banks c.requires.area did.ends.rested did.ends.kept).current
+    let there = stands g.T.SlotSectors.role g.T.SlotSectors.format_of g.T.SlotSectors.kept a d area c.in-Ok.current c.redo.new.opened law did.touches.banks c.requires.area did.ends.rested did.ends.kept in
+    record { area = there.area; kept = there.opened; current = there.current }
 
 pub fill-requires-clause-slots : goal.fill-requires-clause-slots
 fill-requires-clause-slots g c =

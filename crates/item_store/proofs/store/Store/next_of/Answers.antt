@@ -65,3 +65,11 @@ returns g c =
     least-end c.args.least c.args.most (items_on g.T.SlotSectors.format_of d area) (option_map (λ other. other.now) c.args.after)
     (KnownBytes g.T.SlotSectors.role g.T.SlotSectors.format_of g.T.SlotSectors.kept d c.args.self.now c.loop-placed.lasts) (option_map (λ bytes. bytes.now) c.loop-placed.found)
     (covered-all g.T.SlotSectors.role g.T.SlotSectors.format_of g.T.SlotSectors.kept d c.args.self.now law (g.met.F.Flash.is_lawful c.args.flash.now) c.requires.stands c.loop-placed.lasts c.args.least c.args.most now.from now.to all) now.so_far
+
+pub start-lasts-requires-clause-on : goal.start-lasts-requires-clause-on
+start-lasts-requires-clause-on g c =
+    record { area = c.requires.stands.area; kept = c.requires.stands.opened; current = c.requires.stands.current }
+
+pub next-requires-clause-on : goal.next-requires-clause-on
+next-requires-clause-on g c =
+    record { area = c.requires.stands.area; kept = c.requires.stands.opened; current = c.requires.stands.current }

@@ -18,14 +18,14 @@ use Rattle.item_store.proofs.ReadFacts.{some_sectors, current_on, last_placed_on
 use Rattle.item_store.proofs.SearchSteps.{search-enough}
 use Rattle.item_store.proofs.store.Store.search.Goals as goal
 
-pub find_up_to-requires-clause-current : goal.find_up_to-requires-clause-current
-find_up_to-requires-clause-current g c =
+pub find_up_to-requires-clause-on : goal.find_up_to-requires-clause-on
+find_up_to-requires-clause-on g c =
     let d : Device = g.F.Flash.device c.args.flash.now in
     let area : Area = c.args.self.now.area in
     let k : SectorFormat = g.T.SlotSectors.format_of (geometry_of d area) in
     let sectors : List (List ℕ) = sectors_of d area in
     let law : IsSectorFormat (g.T.SlotSectors.format_of (geometry_of d area)) = g.met.T.SlotSectors.lawful (geometry_of d area) (unit_is d area (g.met.F.Flash.is_lawful c.args.flash.now) c.requires.stands.area.lawful) in
-    current_on g.T.SlotSectors.role g.T.SlotSectors.format_of g.T.SlotSectors.kept d c.args.self.now law (g.met.F.Flash.is_lawful c.args.flash.now) c.requires.stands
+    record { area = c.requires.stands.area; kept = c.requires.stands.opened; current = current_on g.T.SlotSectors.role g.T.SlotSectors.format_of g.T.SlotSectors.kept d c.args.self.now law (g.met.F.Flash.is_lawful c.args.flash.now) c.requires.stands }
 
 pub find_up_to-requires-clause-inside : goal.find_up_to-requires-clause-inside
 find_up_to-requires-clause-inside g c =

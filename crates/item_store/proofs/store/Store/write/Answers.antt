@@ -1,4 +1,4 @@
-use Rattle.std.proofs.Common.{◌≡◌, length, refl, ap, arith}
+use Rattle.std.proofs.Common.{◌≡◌, length, refl, ap, subst, arith}
 use Rattle.flash_sim.specs.Device.{Device}
 use Rattle.flash_map.specs.declared.area.Area.{Area}
 use Rattle.flash_map.specs.declared.area.Geometry.{Geometry}
@@ -8,7 +8,7 @@ use Rattle.item_store.specs.SectorFormat.{IsSectorFormat}
 use Rattle.item_store.specs.Standing.{list_of}
 use Rattle.item_store.proofs.Areas.{unit_is}
 use Rattle.item_store.proofs.CallFacts.{to_geometry}
-use Rattle.item_store.proofs.RoomFacts.{rest_open, at_of, stands_with}
+use Rattle.item_store.proofs.RoomFacts.{rest_open, at_of}
 use Rattle.item_store.proofs.WriteSteps.{write_held, write_done, write_full, write_stops, ends_true, ends_false, short-by, long-by, narrow-by, unit-by, need-by}
 use Rattle.item_store.proofs.store.Store.write.Goals as goal
 
@@ -41,12 +41,6 @@ returns-then-holds-clause-ends g c =
     let form = rest_open g.T.SlotSectors.role g.T.SlotSectors.format_of g.T.SlotSectors.kept a area c.args.self.now.current c.args.self.now.opened law (g.met.F.Flash.is_lawful c.args.flash.now) on in
     let short = short-by g.T.SlotSectors.format_of a area c.geometry-g.result (length c.args.bytes.now) c.is_too_long.result c.geometry-g.ensures c.is_too_long.ensures c.if-is_too_long.false in
     write_held (g.T.SlotSectors.format_of (geometry_of a area)) law a area form c.args.id c.args.bytes.now c.requires.some short c.if-holds.ensures
-
-pub append-requires-clause-stands : goal.append-requires-clause-stands
-append-requires-clause-stands g c =
-    let a : Device = g.F.Flash.device c.args.flash.now in
-    let area : Area = c.args.self.now.area in
-    at_of g.T.SlotSectors.role g.T.SlotSectors.format_of g.T.SlotSectors.kept a c.args.self.now c.requires.stands
 
 pub append-requires-clause-narrow : goal.append-requires-clause-narrow
 append-requires-clause-narrow g c =
@@ -118,7 +112,8 @@ returns-in-Ok-false-clause-ends g c =
     let form = rest_open g.T.SlotSectors.role g.T.SlotSectors.format_of g.T.SlotSectors.kept a area c.args.self.now.current c.args.self.now.opened law (g.met.F.Flash.is_lawful c.args.flash.now) on in
     let short = short-by g.T.SlotSectors.format_of a area c.geometry-g.result (length c.args.bytes.now) c.is_too_long.result c.geometry-g.ensures c.is_too_long.ensures c.if-is_too_long.false in
     write_full (g.T.SlotSectors.format_of (geometry_of a area)) law a area form (g.F.Flash.device c.append.new.flash) c.args.id c.args.bytes.now c.cost-need.result c.live_cost-live.result short c.if-holds.ensures (ends_false (g.T.SlotSectors.format_of (geometry_of a area)) a (g.F.Flash.device c.append.new.flash) area c.args.id c.args.bytes.now c.in-Ok-false.field-0 c.in-Ok-false.field-0-test c.in-Ok-false.ensures.ends) (need-by g.T.SlotSectors.format_of a area c.geometry-g.result (length c.args.bytes.now) c.cost-need.result c.geometry-g.ensures c.cost-need.ensures.value)
-    (to_geometry (λ u. c.live_cost-live.result ≡ live_cost (g.T.SlotSectors.format_of u).cost (list_of (g.T.SlotSectors.format_of u) (sectors_of (g.F.Flash.device c.append.new.flash) area))) a (g.F.Flash.device c.append.new.flash) area c.in-Ok-false.ensures.touches.banks c.live_cost-live.ensures)
+    (to_geometry (λ u. c.live_cost-live.result ≡ live_cost (g.T.SlotSectors.format_of u).cost (list_of (g.T.SlotSectors.format_of u) (sectors_of (g.F.Flash.device c.append.new.flash) area))) a (g.F.Flash.device c.append.new.flash) area c.in-Ok-false.ensures.touches.banks
+    (subst (λ (there : Area). c.live_cost-live.result ≡ live_cost (g.T.SlotSectors.format_of (geometry_of (g.F.Flash.device c.append.new.flash) there)).cost (list_of (g.T.SlotSectors.format_of (geometry_of (g.F.Flash.device c.append.new.flash) there)) (sectors_of (g.F.Flash.device c.append.new.flash) there))) c.in-Ok-false.ensures.area c.live_cost-live.ensures))
 
 pub returns-then-is_too_long-clause-written : goal.returns-then-is_too_long-clause-written
 returns-then-is_too_long-clause-written g c =
@@ -140,17 +135,18 @@ pub returns-in-Ok-false-clause-written : goal.returns-in-Ok-false-clause-written
 returns-in-Ok-false-clause-written g c =
     c.in-Ok-false.ensures.written
 
+pub append-requires-clause-stands : goal.append-requires-clause-stands
+append-requires-clause-stands g c =
+    c.requires.stands
+
 pub returns-in-Ok-true-clause-stands : goal.returns-in-Ok-true-clause-stands
-returns-in-Ok-true-clause-stands g c = λ _.
-    let did = c.in-Ok-true.ensures in
-    stands_with g.T.SlotSectors.role g.T.SlotSectors.format_of g.T.SlotSectors.kept (g.F.Flash.device c.append.new.flash) c.args.self.now.area c.append.new.current c.append.new.opened c.append.new.cache did.stands did.cached
+returns-in-Ok-true-clause-stands g c =
+    λ _. c.in-Ok-true.ensures.stands
 
 pub returns-in-Ok-false-clause-stands : goal.returns-in-Ok-false-clause-stands
-returns-in-Ok-false-clause-stands g c = λ _.
-    let did = c.in-Ok-false.ensures in
-    stands_with g.T.SlotSectors.role g.T.SlotSectors.format_of g.T.SlotSectors.kept (g.F.Flash.device c.append.new.flash) c.args.self.now.area c.append.new.current c.append.new.opened c.append.new.cache did.stands did.cached
+returns-in-Ok-false-clause-stands g c =
+    λ _. c.in-Ok-false.ensures.stands
 
 pub live_cost-live-requires : goal.live_cost-live-requires
 live_cost-live-requires g c =
-    let did = c.in-Ok-false.ensures in
-    stands_with g.T.SlotSectors.role g.T.SlotSectors.format_of g.T.SlotSectors.kept (g.F.Flash.device c.append.new.flash) c.args.self.now.area c.append.new.current c.append.new.opened c.append.new.cache did.stands did.cached
+    c.in-Ok-false.ensures.stands

@@ -119,7 +119,8 @@ abbrev pub FitsAt : (Area → Geometry → Room) → (Area → Geometry → Pric
 FitsAt room prices areas d place settings =
     (area : Area) → slice_get areas place ≡ Some area → FitsOn room prices d area settings
 
--- Settings do not fit the area at the lower of two places, or only not the one at the higher place.
+-- Settings do not fit the area at the lower of two places; or they fit that one, and not the one at
+-- the higher place.
 abbrev pub UnfitAt : (Area → Geometry → Room) → (Area → Geometry → Prices) → List Area → Device → ℕ → ℕ → Map
     → ℕ → Type 0
 UnfitAt room prices areas d trusted other settings place =
@@ -301,8 +302,8 @@ module _ (damage : Area → Geometry → List (List ℕ) → Option Damaged)
       pub rests : SelectorRests areas new
       pub mirrors : IsMirror mounted_on stands contents room prices new mirror.trusted mirror.other
 
-  -- The map of the trusted area does not fit the area at the lower place, or only not the one at
-  -- the higher place. The other area is untouched.
+  -- The map of the trusted area does not fit the area at the lower place; or it fits that one, and
+  -- not the one at the higher place. The other area is untouched.
   pub record IsUnfit (room : Area → Geometry → Room) (prices : Area → Geometry → Prices) (areas : List Area)
       (old new : Device) (unfit : ℕ) : Type 0 where
     pub undamaged : damage_shown damage areas old ≡ None

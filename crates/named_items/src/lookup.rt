@@ -119,7 +119,7 @@ pub fn id_of_name<N: IdLayout, S: ItemStore, F: Flash, L: Ledger>(
 }
 
 /// The value of a name; `None` if it has none. No item may be an orphan. It first asks
-/// `IdLayout::may_have`, and reads no entry for a name that this rules out. It makes no index.
+/// `IdLayout::may_have`, and does not search for a name that this rules out. It makes no index.
 pub fn standing_value<'a, N: IdLayout, S: ItemStore, F: Flash, L: Ledger>(
     store: &S,
     flash: &'a F,

@@ -13,7 +13,7 @@ pub record Rules : Type 1 where
   pub label : ℕ → List ℕ
   pub geometry : ℕ → Geometry
   pub room : ℕ → Room
-  -- so many units of a command may spell another record, which makes the second map of the first
+  -- so many units of a command may spell another record, which turns the first map into the second
   pub tears : ℕ → Command → ℕ → Map → Map → Type 0
   -- the flash's count of units at the end
   pub last : ℕ

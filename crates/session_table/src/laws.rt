@@ -21,7 +21,7 @@ pub fn units_are_open<K: Backend>()
 
 /// Wherever power is lost, the settings are those that commands of the lines make, in their order:
 /// all of each line that was done, as many as a refused save reports, and the first so many of each
-/// line in which power was lost. The one exception are units that spell another record by chance.
+/// line in which power was lost. The one exception: units that spell another record by chance.
 pub fn acknowledged_commands_stand<K: Backend>()
     ensures { (areas : List Area) (banks : List Bank) (last : ℕ)
         → HoldsAcknowledged

@@ -1,5 +1,5 @@
--- When a backend stands on its area, by its store. Each case says that the area has the store's
--- role.
+-- When a backend stands on its area, by its store. Each case says that the area has
+-- the store's role.
 use Rattle.std.specs.Prelude.{◌≡◌, ℕ, Bool, true, List, None}
 use Rattle.std.proofs.Common.{refl, sym, ap, subst}
 use Rattle.flash_sim.specs.Device.{Device}

@@ -109,8 +109,8 @@ fn firsts<F: Flash, L: Ledger>(log: &EventLog, flash: &F, steps: &mut Steps<L>) 
 
 // ---- the rows
 
-// Nine records of 100 bytes each: their bytes, the units of each append, and how many records it
-// drops.
+// Nine records of 100 bytes each: their bytes, the units of each append, and how many
+// records it drops.
 const NINE: [(u8, u64, u32); 9] = [
     (0x11, 29, 0),
     (0x22, 27, 0),
@@ -210,8 +210,8 @@ fn drops_the_oldest<B: Bench, L: Ledger, R: Abort>(
     Ok(())
 }
 
-// The ninth append is cut after so many units: what the next mount spends, and the records that it
-// finds.
+// The ninth append is cut after so many units: what the next mount spends, and the records
+// that it finds.
 fn cut_ninth<B: Bench, L: Ledger, R: Abort>(
     rt: &R,
     alloc: Global,

@@ -67,8 +67,8 @@ SideCommand contents old new area nothing after (Err lost) = IsCut contents old 
 abbrev pub IsWithin : Map → Map → Type 0
 IsWithin settings others = (name value : List ℕ) → IsStored settings name value → IsStored others name value
 
--- The stores of two areas are up, share no sector, and hold the same settings, which fit both
--- areas.
+-- The stores of two areas are up, share no sector, and hold the same settings, which
+-- fit both areas.
 pub record IsMirror {S : Type 0} (mounted_on : S → Area) (stands : S → Geometry → List (List ℕ) → Type 0)
     (contents : Area → Geometry → List (List ℕ) → Map)
     (room : Area → Geometry → Room) (prices : Area → Geometry → Prices) (d : Device) (trusted other : Side S)

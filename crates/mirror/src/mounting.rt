@@ -162,8 +162,8 @@ fn if_same<K: Priced, F: Flash, L: Ledger>(
     }
 }
 
-// Mounts the other area. `None` exactly if it is damaged, or holds another map than the trusted
-// one.
+// Mounts the other area. `None` exactly if it is damaged, or holds another map than
+// the trusted one.
 fn mount_other<K: Priced, F: Flash, L: Ledger>(
     alloc: Global,
     trusted: &K,

@@ -60,8 +60,7 @@ labelled areas label = find (is_labelled areas label) (range_with_len 0 (length 
 
 -- ---- numbers
 
--- what a put needs and what all settings cost, if an area of so many sectors has no room for the
--- put
+-- what a put needs and what all settings cost, if an area of so many sectors has no room for it
 abbrev pub lacking : Room → ℕ → ℕ → Map → List ℕ → List ℕ → Option (ℕ × ℕ)
 lacking room sectors limit settings name value =
     if nat_lt (mirror_room room sectors limit) (room.cost settings + room.need settings name value)

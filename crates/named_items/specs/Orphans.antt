@@ -19,8 +19,8 @@ StaysKept n before after = (id : ℕ) → IsKept n before id → IsKept n after 
 abbrev pub OnlyRemoves : Items → Items → Type 0
 OnlyRemoves before after = (id : ℕ) → (get after id ≡ None) ⊎ (get after id ≡ get before id)
 
--- The removal came as far as this id: no orphan is left below it, and each item above it is as
--- before.
+-- The removal came as far as this id: no orphan is left below it, and each item above
+-- it is as before.
 pub record StopsAt (n : Numbering) (before after : Items) (id : ℕ) : Type 0 where
   pub below : (other : ℕ) → other < id → (get after other ≡ None) ⊎ IsKept n after other
   pub above : (other : ℕ) → id < other → get after other ≡ get before other

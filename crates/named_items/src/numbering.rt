@@ -117,8 +117,8 @@ pub trait IdLayout {
             ≡ (room_in counted too_many S.price S.cap (geometry_of d area)).cost
             (settings_in (numbering area) (on S.contents d area)) };
 
-    // The count, the names and the values have ids of their own, and all of them are ids of the
-    // store.
+    // The count, the names and the values have ids of their own, and all of them are
+    // ids of the store.
     ghost is_numbering: { (area : area_type) → IsNumbering (numbering area) };
 
     ghost within: { (area : area_type) (count : Option (List ℕ)) → (numbering area).first + (numbering area).count_of count + (numbering area).step ≤ top };

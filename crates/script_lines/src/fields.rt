@@ -80,8 +80,8 @@ pub fn read_kind(word: &[u8]) -> Result<HandlerKind, LineFault>
     }
 }
 
-/// Reads a word as bytes in hexadecimal digits of either case: at least one byte, and at most
-/// `limit`.
+/// Reads a word as bytes in hexadecimal digits of either case: at least one byte, and
+/// at most `limit`.
 ///
 /// # Errors
 /// `Hex` if the word is no such digits; `Long` if it has more bytes; `NoMemory`.

@@ -144,8 +144,8 @@ give handlers d =
     let given = deliveries.give handlers d in
     record { subtree = given.subtree; rest = given.rest; value = given.value; taken = given.taken }
 
--- each setting of the subtree goes to its best handler, or is passed; then the handlers are
--- committed
+-- each setting of the subtree goes to its best handler, or is passed; then the
+-- handlers are committed
 abbrev pub Loads : Option (List ℕ) → Answer → State → State → Type 0
 Loads subtree (Loaded gives taken rejected passed) old new =
     (gives ≡ map (give old.registry) (deliveries_of subtree old))

@@ -362,8 +362,8 @@ fn rows<K: Backend, B: Bench, L: Ledger, R: Abort>(
     stores_what_is_new(rt, settings, bench, registry, steps)
 }
 
-// The rows over a store with nothing in it, and then commits of all handlers, and of those under a
-// subtree.
+// The rows over a store with nothing in it, and then commits of all handlers, and of those
+// under a subtree.
 fn over_a_store<K: Backend, B: Bench, L: Ledger, R: Abort>(
     rt: &R,
     alloc: Global,

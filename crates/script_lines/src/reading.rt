@@ -1,4 +1,4 @@
-// One line.
+// The reader of one line.
 ghost use Rattle.text_parts.specs.Parts.{parts};
 ghost use Rattle.script_lines.specs.Command.{FindsCommand};
 ghost use Rattle.script_lines.specs.Line.{ReadsLine};
@@ -71,10 +71,10 @@ fn command_of(word: &[u8]) -> Option<Command>
     }
 }
 
-/// The line that a text is.
+/// Reads a text as a line on settings. No value has more than `limit` bytes.
 ///
 /// # Errors
-/// The first cause of `LineWhy` for which it is none. Want of memory.
+/// `Refused` with the first cause of `LineWhy` if it is none; `NoMemory`.
 pub fn read_line(alloc: Global, text: &[u8], limit: usize) -> Result<Line, LineFault>
     ensures { ReadsLine limit (parts 32 text.now) result }
 {

@@ -1,5 +1,5 @@
--- When a store of NVS stands on the bytes of its area: the definitions of the one store over any sectors, at
--- those of NVS.
+-- When an NVS store stands on the bytes of its area: the definitions of `item_store`, over the
+-- sectors of NVS.
 use Rattle.std.specs.Prelude.{ℕ, List}
 use Rattle.flash_sim.specs.Device.{Device}
 use Rattle.flash_sim.specs.declared.flash.Bank.{Bank}

@@ -6,7 +6,7 @@ use Rattle.item_store.specs.declared.entry.Entry.{Entry}
 use Rattle.item_store.specs.declared.entry.Placed.{Placed}
 use Rattle.item_store.specs.SectorFormat.{Range, Units, SectorFormat}
 use Rattle.zms_cycle.specs.declared.reading.SlotEntry.{SlotEntry}
-use Rattle.flash_sim.specs.declared.flash.Kind.{SectorFormat as BankKind}
+use Rattle.flash_sim.specs.declared.flash.Kind.{Kind as BankKind}
 use Rattle.flash_sim.specs.declared.flash.Kind.TheVariants.{Erasing, Rewritable}
 use Rattle.zms_cycle.specs.Changes.{guard_units, emptying, first_guard, closing_most}
 use Rattle.zms_cycle.specs.Sector.{slot_of, cycle_of, valid_slots, entry_in, cost, capacity, free, is_sound, value_of}

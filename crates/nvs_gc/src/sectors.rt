@@ -50,7 +50,7 @@ fn placed(own: Found) -> Placed
 }
 
 // The entry that stands in this place, as its store reads it.
-fn read_again<F: Flash, L: Ledger>(
+pub(crate) fn read_again<F: Flash, L: Ledger>(
     flash: &F,
     area: &Area,
     at: &Placed,

@@ -9,18 +9,18 @@ ghost use Rattle.flash_map.specs.Touches.{Touches};
 ghost use Rattle.flash_map.specs.Area.{sectors_of};
 ghost use Rattle.item_laws.specs.Bytes.{IsIdOf, IsNextOf};
 ghost use Rattle.item_laws.specs.NextIds.{IsNextId};
-ghost use Rattle.nvs_format.specs.Formats.{format_of};
+ghost use Rattle.nvs_format.specs.Formats.{format_of, placed_of};
 ghost use Rattle.item_store.specs.Cached.{latest_on};
 ghost use Rattle.item_store.specs.Latest.{IsKnown, KnowsOn};
-ghost use Rattle.item_store.specs.Listed.{entries_on, IsPlacedOn};
 ghost use Rattle.item_store.specs.Older.{IsNextOlder, newest_before};
 ghost use Rattle.nvs_gc.specs.Ends.{MountEnds, RoundEnds, WriteEnds, DeleteEnds, KeepsWritten, SameOrWritten, sector_units};
-ghost use Rattle.nvs_gc.specs.Standing.{IsNvsArea, StandsOn, format_on, KeepsItems, IsUndamaged, items_on, live_cost_on};
+ghost use Rattle.nvs_gc.specs.Standing.{IsNvsArea, StandsOn, format_on, KeepsItems, IsPlacedOn, IsUndamaged, entries_on, items_on, live_cost_on};
 
-use crate::sectors::NvsOpen;
+use crate::sectors::{NvsOpen, read_again};
 use flash_map::{Area, MountFault, WriteFault};
 use flash_sim::{Flash, PowerLost, Steps};
-use item_store::{LastSlots, Placed, Store};
+use item_store::{LastSlots, Store};
+use nvs_store::Found;
 use std::alloc::Global;
 use std::sync::ledger::Ledger;
 
@@ -242,18 +242,21 @@ impl Nvs {
         flash: &F,
         after: Option<(u32, u32)>,
         steps: &mut Steps<L>,
-    ) -> Option<Placed>
+    ) -> Option<Found>
         requires stands { StandsOn (F.device flash.now) self.now }
         requires inside { IfSome after (λ place. place.0 < self.now.store.area.sectors) }
-        ensures older { let d = F.device flash.now in
-            IsNextOlder (entries_on format_of d self.now.store.area) after result }
+
+        ensures older { let next = option_map placed_of result in
+            IsNextOlder (entries_on (F.device flash.now) self.now.store.area) after next }
         ensures before { let d = F.device flash.now in let area = self.now.store.area in
-            IfSome after
-            (λ place. result ≡ newest_before (format_on d area) (sectors_of d area) place) }
-        ensures placed { let d = F.device flash.now in let store = self.now.store in
-            IfSome result (IsPlacedOn format_of d store.area store.current) }
+            IfSome after (λ place. option_map placed_of result
+            ≡ newest_before (format_on d area) (sectors_of d area) place) }
+        ensures placed { IfSome result (IsPlacedOn (F.device flash.now) self.now) }
     {
-        self.store.walk(flash, after, steps)
+        match self.store.walk(flash, after, steps) {
+            Some(placed) => Some(read_again(flash, self.store.area(), &placed, steps)),
+            None => None,
+        }
     }
 
     /// An id from `least` to `most` whose item has these bytes; any of them if several have, `None`

@@ -50,7 +50,7 @@ fn placed(own: Found) -> Placed
 }
 
 // The entry at this place, as NVS reads it.
-fn read_again<F: Flash, L: Ledger>(
+pub(crate) fn read_again<F: Flash, L: Ledger>(
     flash: &F,
     area: &Area,
     at: &Placed,

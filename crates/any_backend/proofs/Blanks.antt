@@ -65,7 +65,7 @@ next-free reading sectors several free =
     let within : open_sector reading sectors < length sectors = open_within reading sectors (omega arith) in
     free (next sectors (open_sector reading sectors)) (next-within sectors (open_sector reading sectors) within)
 
--- no items have an orphan
+-- where there is no item, there is no orphan
 no-orphans : (n : Numbering) (items : Items) → items ≡ maps.empty → HasNoOrphans n items
 no-orphans n items none id = inl (ap (λ (m : Items). maps.get m id) none ∙ maps.get-empty nat_cmp id)
 

@@ -1,4 +1,4 @@
--- Areas all of whose bytes are FF, as those of a flash are that was never written.
+-- Areas whose bytes are all FF, as on a flash that was never written.
 use Rattle.std.specs.Prelude.{◌≡◌, ℕ, List, replicate, None}
 use Rattle.std.specs.FinMap.{empty}
 use Rattle.flash_sim.specs.Device.{Device}
@@ -9,7 +9,7 @@ use Rattle.flash_map.specs.declared.area.Area.{Area}
 use Rattle.flash_map.specs.declared.area.Geometry.{Geometry}
 use Rattle.any_backend.specs.ByRole.{any_serves, any_damage, any_contents, any_rests}
 
--- as many sectors as the area has, with FF in each byte
+-- all sectors of the area, with FF in each byte
 abbrev pub blank_sectors : Geometry → List (List ℕ)
 blank_sectors geometry = replicate geometry.sectors (replicate geometry.sector 0xFF)
 

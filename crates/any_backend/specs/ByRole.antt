@@ -1,4 +1,5 @@
--- What is said of an area, by its role, which says which store it is for. No store is for a selector.
+-- The members of `Backend` for an area, by its role, which says which store it is for. A selector's
+-- area has no store.
 use Rattle.std.specs.Prelude.{◌≡◌, ⊤, ℕ, Bool, false, List, Option, None}
 use Rattle.std.specs.FinMap.{empty}
 use Rattle.flash_sim.specs.declared.flash.Loss.{Loss}
@@ -24,7 +25,8 @@ use Rattle.backend_zms.specs.Standing.{settings_of as zms_settings, Rests as Zms
 use Rattle.backend_fcb.specs.Reading.{damage_of, settings_in}
 use Rattle.backend_fcb.specs.Tearing.{body_for, Tears}
 
--- each role but that of a selector has a store, which works on all banks that areas of the role may stand on
+-- Each role but that of a selector has a store. It works on all banks on which areas of the
+-- role may stand.
 abbrev pub serves_as : Role → Type 0
 serves_as Nvs = ⊤
 serves_as Zms = ⊤
@@ -43,7 +45,7 @@ contents_as Zms area geometry sectors = zms_settings area geometry sectors
 contents_as Fcb area geometry sectors = settings_in (value_limit area) geometry.unit sectors
 contents_as Sel area geometry sectors = empty
 
--- nothing costs anything where nothing is stored
+-- nothing is stored, so nothing costs anything
 abbrev pub no_room : Room
 no_room = record {
   cap = 0;
@@ -99,10 +101,10 @@ any_room area geometry = room_as area.role geometry
 abbrev pub any_rests : Area → Geometry → List (List ℕ) → Type 0
 any_rests area geometry sectors = rests_as area.role area geometry sectors
 
--- whether the units that were put before a loss spell another record
+-- whether the units before a loss spell another record
 abbrev pub any_chance : Area → Geometry → List (List ℕ) → Loss → Bool
 any_chance area geometry sectors loss = chance_as area.role area geometry sectors loss
 
--- which settings they then leave
+-- which settings such a loss then leaves
 abbrev pub any_tears : Area → Geometry → Command → ℕ → Map → Map → Type 0
 any_tears area geometry command done before after = tears_as area.role area geometry command done before after

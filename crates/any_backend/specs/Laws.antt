@@ -1,4 +1,4 @@
--- The law on what a lawful area without damage reads as.
+-- What a lawful area without damage reads as.
 use Rattle.std.specs.Prelude.{◌≡◌, None}
 use Rattle.std.proofs.Common.{refl}
 use Rattle.flash_sim.specs.Bank.{IsLawful}
@@ -23,7 +23,7 @@ reads-as Zms d area role lawful for serves undamaged = zms-reads d area lawful f
 reads-as Fcb d area role lawful for serves undamaged = fcb-reads d area lawful for role undamaged
 reads-as Sel d area role lawful for serves undamaged = absurd serves
 
--- lawful names and values throughout, and fewer than 2^32
+-- The area reads as settings with lawful names and values, fewer than 2^32 of them.
 pub reads_settings : (d : Device) (area : Area) → IsLawful d.banks d.bytes → IsLawfulFor d.banks area
     → any_serves area (geometry_of d area) → on any_damage d area ≡ None
     → IsSettings (value_limit area) (on any_contents d area)

@@ -1,5 +1,5 @@
--- When a backend stands on its area, by its store. Each says that the role of the area is the one that the
--- store is for.
+-- When a backend stands on its area, by its store. Each case says that the area has
+-- the store's role.
 use Rattle.std.specs.Prelude.{◌≡◌, ℕ, Bool, true, List, None}
 use Rattle.std.proofs.Common.{refl, sym, ap, subst}
 use Rattle.flash_sim.specs.Device.{Device}
@@ -23,13 +23,13 @@ area_of (Nvs backend) = backend.store.store.area
 area_of (Zms backend) = backend.store.store.area
 area_of (Fcb backend) = backend.ring.area
 
--- it is up, and knows these sectors of its area as they are
+-- it is up, and what it keeps in memory is true of these sectors of its area
 abbrev pub Stands : AnyBackend → Geometry → List (List ℕ) → Type 0
 Stands (Nvs backend) geometry sectors = NvsStands backend geometry sectors
 Stands (Zms backend) geometry sectors = ZmsStands backend geometry sectors
 Stands (Fcb backend) geometry sectors = FcbStands backend geometry.unit sectors
 
--- no call answered that power was lost
+-- whether it is up: a call that answers `PowerLost` takes it down
 abbrev pub is_up : AnyBackend → Bool
 is_up (Nvs backend) = backend.store.store.up
 is_up (Zms backend) = backend.store.store.up

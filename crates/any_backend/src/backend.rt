@@ -14,12 +14,15 @@ use setting_name::Name;
 use std::alloc::Global;
 use std::sync::ledger::Ledger;
 
-/// A store of settings on an area, which is the one for the area's role. None is for a selector's
-/// area.
+/// A store of settings on an area. The area's role says which of the three it is; a selector's
+/// area has none.
 #[derive(Debug, Drop)]
 pub enum AnyBackend {
+    /// The store of an NVS area.
     Nvs(NvsBackend),
+    /// The store of a ZMS area.
     Zms(ZmsBackend),
+    /// The store of an FCB area.
     Fcb(FcbBackend),
 }
 

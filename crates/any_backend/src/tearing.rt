@@ -1,4 +1,4 @@
-// What units that were put before a loss may spell.
+// What the units before a power loss may spell.
 ghost use Rattle.std.specs.Prelude.{◌≡◌};
 ghost use Rattle.flash_map.specs.Lawful.{IsLawfulFor};
 ghost use Rattle.flash_map.specs.On.{on};
@@ -10,8 +10,8 @@ use flash_map::{Area, Role};
 use flash_sim::{Flash, Loss, Steps};
 use std::sync::ledger::Ledger;
 
-/// Whether the units that were put before this loss spell, by chance, another record than the one
-/// that was to be put. Only records of an FCB area may.
+/// Whether the units that were programmed before this loss spell, by chance, another record than
+/// the one that was being written. Only those of an FCB area can.
 pub fn chance<F: Flash, L: Ledger>(
     flash: &F,
     area: &Area,

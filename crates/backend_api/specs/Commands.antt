@@ -14,6 +14,7 @@ pub data Command : Type 0 where
   Put : List ℕ → List ℕ → Command
   Del : List ℕ → Command
 
+-- the settings after a command
 abbrev pub applied : Map → Command → Map
 applied settings (Put name value) = insert settings name value
 applied settings (Del name) = remove settings name
@@ -32,14 +33,14 @@ pub record IsPartApplied (before : Map) (commands : List Command) (after : Map) 
 abbrev pub puts_of : List (List ℕ × List ℕ) → List Command
 puts_of pairs = map (λ pair. Put pair.0 pair.1) pairs
 
--- The settings after a command that was cut: by chance what the units that were put spell; else those of
--- before or the new ones.
+-- The settings after a command that was cut: by chance what the units that were put spell;
+-- otherwise the old ones or the new ones.
 abbrev pub CutMap : Bool → (Map → Map → Type 0) → Command → Map → Map → Type 0
 CutMap true tears command before after = tears before after
 CutMap false tears command before after = (after ≡ before) ⊎ (after ≡ applied before command)
 
--- Power was lost in the command. `chance` says of the loss whether the units that were put spell another
--- record, and `tears` by how many they were which settings they leave.
+-- Power was lost in the command. `chance` says whether the units that were put spell another
+-- record, and `tears` which settings so many units leave then.
 pub record StopsAt (chance : Loss → Bool) (tears : ℕ → Map → Map → Type 0) (command : Command) (new : Device)
     (before after : Map) : Type 0 where
   pub loss : Loss

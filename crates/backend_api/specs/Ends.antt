@@ -16,14 +16,13 @@ use Rattle.backend_api.specs.declared.backend.SetFault.TheVariants.{NoSpace, Too
 use Rattle.backend_api.specs.Map.{Map, IsStored, IsAbsent}
 use Rattle.backend_api.specs.Room.{Room, HasNoRoom}
 
--- one unit or erase at least
+-- at least one unit or erase
 abbrev pub SpendsSome : Device → Device → Type 0
 SpendsSome old new = (units : ℕ) × (0 < units) × Spends old new units
 
 -- ---- mounting
 
--- The area shows the damage, and then nothing changed; or it shows none. Memory is taken before the first
--- unit.
+-- If the area shows damage, or memory runs out, nothing changed.
 abbrev pub MountEnds : {T : Type 0} → Option Damaged → Device → Device → Result T MountFault → Type 0
 MountEnds damage old new (Ok state) = damage ≡ None
 MountEnds damage old new (Err (HasDamage damaged)) = (damage ≡ Some damaged) × (new ≡ old)
@@ -32,6 +31,7 @@ MountEnds damage old new (Err NoMemory) = new ≡ old
 
 -- ---- setting
 
+-- the call returned `PowerLost`
 abbrev pub set_lost : {T : Type 0} → Result T SetFault → Bool
 set_lost (Ok x) = false
 set_lost (Err (NoSpace need live)) = false
@@ -81,10 +81,12 @@ pub record Deletes (old new : Device) (before after : Map) (name : List ℕ) : T
   pub absent : IsAbsent before name → new ≡ old
   pub spends : ¬ IsAbsent before name → SpendsSome old new
 
+-- how a delete ends
 abbrev pub DeleteEnds : {T : Type 0} → Device → Device → Map → Map → List ℕ → Result T Lost → Type 0
 DeleteEnds old new before after name (Ok x) = Deletes old new before after name
 DeleteEnds old new before after name (Err lost) = ¬ IsAbsent before name
 
+-- by the settings of an area
 abbrev pub DeleteEndsOn : {T : Type 0} → (Area → Geometry → List (List ℕ) → Map) → Device → Device → Area
     → List ℕ → Result T Lost → Type 0
 DeleteEndsOn contents old new area name result =

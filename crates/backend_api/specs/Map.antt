@@ -20,18 +20,18 @@ pub record IsSettings (limit : ℕ) (settings : Map) : Type 0 where
   pub values : All (IsValue limit) (values settings)
   pub few : len settings < 2 ^ 32
 
--- the key has just this value; in any order of keys
+-- the key has exactly this value, in any order of keys
 abbrev pub IsStored : {K X : Type 0} {R : K → K → Ordering} → FinMap R X → K → X → Type 0
 IsStored map key value = get map key ≡ Some value
 
 abbrev pub IsAbsent : {K X : Type 0} {R : K → K → Ordering} → FinMap R X → K → Type 0
 IsAbsent map key = get map key ≡ None
 
--- greater than this name in byte order, where there is one
+-- greater than this name in byte order, if there is one
 abbrev pub is_behind : Option (List ℕ) → List ℕ → Bool
 is_behind None name = true
 is_behind (Some after) name = is_lt (slice_cmp nat_cmp after name)
 
--- the least name behind this one, or the least of all
+-- the least name greater than this one, or the least of all
 abbrev pub next_name : Map → Option (List ℕ) → Option (List ℕ)
 next_name settings after = find (is_behind after) (keys settings)

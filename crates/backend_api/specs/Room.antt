@@ -1,5 +1,4 @@
--- The numbers of room of a backend. They depend on the lengths of names and values and on the geometry of the
--- area alone.
+-- The numbers of room of a backend.
 use Rattle.std.specs.Prelude.{ℕ, ◌+◌, ◌-◌, ◌*◌, ◌/◌, ◌<◌, Bool, List}
 use Rattle.flash_map.specs.declared.area.Geometry.{Geometry}
 use Rattle.backend_api.specs.Map.{Map}
@@ -17,7 +16,8 @@ pub record Room : Type 0 where
   -- the name would be one too many
   pub too_many : Map → List ℕ → Bool
 
--- One of the sectors is kept free. The others could be so full that the put finds no place in any of them.
+-- One of the sectors is kept free. The others could be so full that the put finds no place in any
+-- of them.
 abbrev pub HasNoRoom : Room → ℕ → Map → List ℕ → List ℕ → Type 0
 HasNoRoom room sectors settings name value =
     (sectors - 1) * (room.cap - room.largest settings name value)
@@ -27,12 +27,12 @@ HasNoRoom room sectors settings name value =
 abbrev pub command_units : Geometry → ℕ
 command_units geometry = 12 * geometry.sectors * (geometry.sector / geometry.unit + 3)
 
--- the most units and erases that take one item of an area away: those of one collection and of one entry
+-- the most units and erases of deleting one item: those of one garbage collection and of one entry
 abbrev pub removal_units : Geometry → ℕ
 removal_units geometry = 6 * (geometry.sector / geometry.unit + 3)
 
--- The most units and erases of a mount: it finishes what a command that was cut left, and takes away the
--- items that belong to no setting, of which an area has at most one for every 8 bytes.
+-- The most units and erases of a mount: it completes what a cut command left, and deletes the
+-- orphans, of which an area has at most one for every 8 bytes.
 abbrev pub mount_units : Geometry → ℕ
 mount_units geometry =
     command_units geometry + geometry.sectors * (geometry.sector / 8) * removal_units geometry

@@ -10,6 +10,6 @@ use Rattle.flash_map.specs.Units.{is_erased}
 abbrev pub is_blank_on : Device → Area → Bool
 is_blank_on d area = list_all is_erased (sectors_of d area)
 
--- The area is all FF afterwards only where it was so before.
+-- The area is all FF afterwards only if it was all FF before.
 abbrev pub StaysWritten : Device → Device → Area → Type 0
 StaysWritten old new area = is_blank_on new area ≡ true → is_blank_on old area ≡ true

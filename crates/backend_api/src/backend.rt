@@ -32,8 +32,8 @@ use std::sync::ledger::Ledger;
 /// Why a setting was not stored.
 #[derive(Clone, Copy, Debug, PartialEq, Eq)]
 pub enum SetFault {
-    /// There is no room by the backend's numbers (`HasNoRoom`): the bytes that the put needs, and
-    /// those that all settings cost.
+    /// There is no room by the backend's numbers (`HasNoRoom`). `need` is what the put takes, and
+    /// `live` what all settings cost, both in bytes.
     NoSpace { need: u64, live: u64 },
     /// The name would be one too many.
     TooManyNames,
@@ -43,13 +43,13 @@ pub enum SetFault {
 
 /// A store of settings on one area. An area without damage reads as one map of names to values.
 pub trait Backend: Drop {
-    /// The backend serves such an area, with this geometry.
+    /// The backend serves this area, with this geometry.
     ghost serves: { area_type → Geometry → Type 0 };
 
     /// The damage that the sectors of an area with this geometry show.
     ghost damage: { area_type → Geometry → List (List ℕ) → Option damaged_type };
 
-    /// The map that they read as, where they show none.
+    /// The map that the sectors read as, if they show no damage.
     ghost contents: { area_type → Geometry → List (List ℕ) → Map };
 
     /// The numbers of room of an area with this geometry.
@@ -58,11 +58,12 @@ pub trait Backend: Drop {
     /// A mount has nothing to do on these sectors.
     ghost rests: { area_type → Geometry → List (List ℕ) → Type 0 };
 
-    /// Whether the units that were put before this loss spell, by chance, another record than the
-    /// one that was to be put.
+    /// Whether the units that were programmed before this loss spell, by chance, another record
+    /// than the intended one.
     ghost chance: { area_type → Geometry → List (List ℕ) → loss_type → Bool };
 
-    /// Of so many units of a command it may be so, and the first map then becomes the second.
+    /// If so many units of a command spell another record by chance, the first map may become the
+    /// second.
     ghost tears: { area_type → Geometry → Command → ℕ → Map → Map → Type 0 };
 
     /// The area that the state was mounted on.
@@ -71,17 +72,17 @@ pub trait Backend: Drop {
     /// The state is up, and knows the area's sectors, of this geometry, as they are.
     ghost stands: { Self → Geometry → List (List ℕ) → Type 0 };
 
-    /// Whether no call of the state answered that power was lost.
+    /// Whether the state is up: no call has returned `PowerLost`.
     ghost runs: { Self → Bool };
 
-    /// Mounts a backend on an area. The map stays, also where power is lost. Whatever the result,
-    /// it spends at most so many units and erases as the area's geometry says (`mount_units`), and
-    /// none where a mount has nothing to do. An area of items is all FF afterwards only where it
-    /// was so before; in one of records the mount may erase all that stands there.
+    /// Mounts a backend on an area. The map stays, even if power is lost. Whatever the result, it
+    /// spends at most `mount_units` units and erases, and none if the area is at rest. An NVS or
+    /// ZMS area is all FF afterwards only if it was all FF before; of an FCB area a mount may erase
+    /// all that it holds.
     ///
     /// # Errors
-    /// `Damaged` exactly where the area reads as no map, and then nothing was programmed; `PowerLost`; `NoMemory`, and then
-    /// nothing was programmed either.
+    /// `NoMemory`; otherwise `Damaged` exactly if the area is damaged. Both leave the flash as it
+    /// was. `PowerLost`: the map stays.
     fn mount<F: Flash, L: Ledger>(
         alloc: Global,
         flash: &mut F,
@@ -109,7 +110,7 @@ pub trait Backend: Drop {
         ensures stands { IfOk result
             (λ state. StandsOn mounted_on stands (F.device flash.new) state) };
 
-    /// The value of a name, as long as the area allows; none where it has no value.
+    /// The value of a name; `None` if it has none.
     fn get<'a, F: Flash, L: Ledger>(
         &self,
         flash: &'a F,
@@ -121,13 +122,15 @@ pub trait Backend: Drop {
         ensures { let settings = on contents (F.device flash.now) (mounted_on self.now) in
             option_map (λ bytes. bytes.now) result ≡ finite.get settings name.now };
 
-    /// Gives a name a value that is not empty and no longer than the area allows. An equal value
-    /// programs nothing.
+    /// Gives a name a value, which is not empty and no longer than the area allows. If the name has
+    /// this value already, nothing is programmed. It spends at most `command_units` units and
+    /// erases.
     ///
     /// # Errors
-    /// `TooManyNames` exactly where the name would be one too many, and then nothing was programmed. `NoSpace` only where
-    /// there is no room by the backend's numbers; the map is then as before. `PowerLost`: the state is down, and the map is as
-    /// before or has the value, but where the units that were put spell another record by chance.
+    /// `TooManyNames` exactly if the name would be one too many: nothing was programmed. `NoSpace`
+    /// only if there is no room by the backend's numbers: the map stays. `PowerLost`: the state is
+    /// down. The map is as before or has the value, unless the units that were programmed spell
+    /// another record by chance.
     fn set<F: Flash, L: Ledger>(
         &mut self,
         flash: &mut F,
@@ -156,11 +159,12 @@ pub trait Backend: Drop {
             → StandsOn mounted_on stands (F.device flash.new) self.new }
         ensures down { set_lost result ≡ true → runs self.new ≡ false };
 
-    /// Takes a name's value away. An absent name programs nothing. It never answers for room.
+    /// Deletes a name with its value. If the name has no value, nothing is programmed. A delete
+    /// always finds room. It spends at most `command_units` units and erases.
     ///
     /// # Errors
-    /// `PowerLost`: the state is down, and the map is as before or without the name, but where the units that were put spell
-    /// another record by chance.
+    /// `PowerLost`: the state is down. The map is as before or without the name, unless the units
+    /// that were programmed spell another record by chance.
     fn delete<F: Flash, L: Ledger>(
         &mut self,
         flash: &mut F,
@@ -186,7 +190,8 @@ pub trait Backend: Drop {
             → StandsOn mounted_on stands (F.device flash.new) self.new }
         ensures down { is_err result ≡ true → runs self.new ≡ false };
 
-    /// The least name in byte order that is greater than `after`, or the least of all.
+    /// The least name, in byte order, that has a value and is greater than `after`, or the least of
+    /// all if `after` is not given; `None` if there is none.
     fn next_name<F: Flash, L: Ledger>(
         &self,
         flash: &F,
@@ -201,7 +206,8 @@ pub trait Backend: Drop {
     /// Erases each sector that is not all FF. The area then reads as the empty map.
     ///
     /// # Errors
-    /// `PowerLost`. The first sectors are then erased, and the others as before.
+    /// `PowerLost` if power was off or was lost in the call: some first sectors are all FF, and the
+    /// others are as before.
     fn format<F: Flash, L: Ledger>(
         flash: &mut F,
         area: &Area,
@@ -229,8 +235,8 @@ pub trait Backend: Drop {
             OnErr result
             (SpendsAtMost d (F.device flash.new) (count_by is_written (sectors_of d area.now))) };
 
-    /// Whether the units that were put before this loss spell, by chance, another record than the
-    /// one that was to be put.
+    /// Whether the units that were programmed before this loss spell, by chance, another record
+    /// than the intended one.
     fn chance<F: Flash, L: Ledger>(
         flash: &F,
         area: &Area,
@@ -241,7 +247,7 @@ pub trait Backend: Drop {
         requires serves { serves area.now (geometry_of (F.device flash.now) area.now) }
         ensures { result ≡ on chance (F.device flash.now) area.now loss.now };
 
-    /// Whether no call answered that power was lost.
+    /// Whether the state is up: no call has returned `PowerLost`.
     fn is_up(&self) -> bool
         ensures { result ≡ runs self.now };
 

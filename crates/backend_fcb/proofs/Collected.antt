@@ -301,7 +301,7 @@ module _ (a b : Device) (before ring : Ring) (lawful : IsLawful a.banks a.bytes)
       let both = spends_then a b c (padded (unit_of a before.area) 8 / unit_of a before.area) copied.units first copied.spent in
       (padded (unit_of a before.area) 8 / unit_of a before.area + copied.units + last, omega arith, spends_then a c e (padded (unit_of a before.area) 8 / unit_of a before.area + copied.units) last both spent)
 
--- what was copied, once the records of the oldest sector are kept apart from the others
+-- what was copied, once the list is split into the records of the oldest sector and the others
 pub copied-now : (b c : Device) (ring now : Ring) → RingStandsOn b ring → ring.stage ≡ Collecting → CopiesLive b c ring now → (copies : List (List ℕ)) × Copies b c ring now copies
 copied-now b c ring now on stage copies =
     let none = collecting-none ring stage in

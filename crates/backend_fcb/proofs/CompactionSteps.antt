@@ -198,7 +198,7 @@ within-some part (Some q) r some = elim (cases_Bool (is_within part q)) [
   | inr other ↦ absurd (none-some r (sym (ap (λ (t : Bool). cond t (Some q) None) other) ∙ some))
 ]
 
--- what two walks gather
+-- what two walks find
 pub both-walks : (d : Device) (area : Area) (part : Option ℕ) (from stop next : Option RecordAt) (table found : List Kept) → PassesFrom d area part from table stop → StrikesFrom d area stop table found
     → ((r : RecordAt) → stop ≡ Some r → is_within part r ≡ true → length table ≡ TABLE) → next ≡ if_within part stop → FindsLiveFrom d area part from found next
 both-walks d area part from stop next table found passes strikes full next-is done later are begins =

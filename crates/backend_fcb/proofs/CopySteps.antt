@@ -154,7 +154,7 @@ copying-list a d before now place so_far = ap (λ (x : Area). entries_on d x) so
 passed-of : (place : ℕ) (passed : List Entry) → AreWithin (Some place) passed → AreOf place passed
 passed-of place passed within = All-weaker (λ (entry : Entry). is_within (Some place) entry.0 ≡ true) (λ (entry : Entry). entry.0.sector ≡ place) (λ entry e. eqb-true entry.0.sector place e) passed within
 
--- what was copied, and what is gathered then
+-- what was copied, and what is found then
 found_live-copies : (a d : Device) (before now : Ring) (r : RecordAt) → (so_far : IsCopying a d before now (Some r)) → (found : List Kept) (next : Option RecordAt) → (g : FindsLive d now.area (Some before.oldest) so_far.later found next)
     → live_bodies (value_limit before.area) (bodies so_far.done) (bodies so_far.later) ++ bodies_at d now.area found ≡ live_bodies (value_limit before.area) (bodies (so_far.done ++ g.passed)) (bodies g.rest)
 found_live-copies a d before now r so_far found next g =
@@ -177,7 +177,7 @@ cap-room d ring lawful on =
     let pad = padding (unit_of d ring.area) has.is_unit in
     omega (arith, has.at_least, pad.no_more 8)
 
--- what the walk gathers from where the copying is
+-- what the walk finds from where the copying is
 pub found_live : (a d : Device) (before now : Ring) (r : RecordAt) → (so_far : IsCopying a d before now (Some r)) → (part : Option ℕ) → part ≡ Some before.oldest → (found : List Kept) (next : Option RecordAt) → FindsLiveFrom d now.area part (Some r) found next
     → FindsLive d now.area (Some before.oldest) so_far.later found next
 found_live a d before now r so_far part is found next finds_live =
@@ -189,7 +189,7 @@ found_live-short d area part later found next g =
     subst (All (λ (body : List ℕ). length body ≤ longest (value_limit area))) (sym g.live)
     (live-all (λ (body : List ℕ). length body ≤ longest (value_limit area)) (value_limit area) (bodies g.passed) (bodies g.rest) (λ body behind live. live-most (value_limit area) body behind live))
 
--- what is copied and what is gathered are of the values of the oldest sector, which fit one
+-- what is copied and what is found are of the values of the oldest sector, which fit one
 pub found_live-fits : (a d : Device) (before now : Ring) (r : RecordAt) → IsLawful a.banks a.bytes → RingStandsOn a before → before.stage ≡ Collecting → damage_on a before.area ≡ None → before.end ≡ padded (unit_of a before.area) 8
     → (so_far : IsCopying a d before now (Some r)) → (found : List Kept) (next : Option RecordAt) → FindsLive d now.area (Some before.oldest) so_far.later found next
     → now.end + bodies_cost (unit_of d now.area) (bodies_at d now.area found) ≤ sector_size d now.area

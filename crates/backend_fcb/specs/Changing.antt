@@ -62,8 +62,8 @@ CopiesLive old new before after =
     (live_bodies (value_limit before.area) (bodies (sector_list old before.area before.oldest))
     (bodies rest))
 
--- The oldest part is gone, and its live records are the new last one, behind the header of an else empty
--- sector.
+-- The oldest part is gone, and its live records are the new last one, behind the header of an else
+-- empty sector.
 pub record Collects (old new : Device) (before after : Ring) : Type 0 where
   pub victim : List (List ℕ)
   pub others : List (List (List ℕ))
@@ -85,20 +85,20 @@ collect_units d ring = sector_size d ring.area / unit_of d ring.area + 3
 abbrev pub IsFull : Device → Ring → ℕ → ℕ → Type 0
 IsFull d ring len kept = sector_size d ring.area < ring.end + record_cost (unit_of d ring.area) len + kept
 
--- Power was off, or was lost while a record with this body was put: the ring is down, and the area shows no
--- damage.
+-- Power was off, or was lost while a record with this body was put: the ring is down, and the area
+-- shows no damage.
 pub record StopsDown (old new : Device) (before after : Ring) (body : List ℕ) : Type 0 where
   pub down : is_up after.stage ≡ false
   pub undamaged : damage_on new before.area ≡ None
   pub stops : old.is_on ≡ true → StopsPutting old new before.area body
 
--- where the record fits behind those of the newest sector, just its own units were spent
+-- if the record fits behind those of the newest sector, exactly its own units were spent
 abbrev pub SpendsCost : Device → Device → Ring → List ℕ → ℕ → Type 0
 SpendsCost old new before body kept =
     stays_for old before body kept ≡ true
     → Spends old new (record_cost (unit_of old before.area) (length body) / unit_of old before.area)
 
--- and so many at most
+-- and at most so many
 abbrev pub SpendsUpToCost : Device → Device → Ring → List ℕ → ℕ → Type 0
 SpendsUpToCost old new before body kept =
     stays_for old before body kept ≡ true
@@ -122,7 +122,8 @@ TryEnds old new before after body kept (Err PowerLost) =
     StopsDown old new before after body × SpendsAtMost old new (collect_units old before)
     × SpendsUpToCost old new before body kept
 
--- No collection made room: the record does not fit, and after each of so many collections it did not.
+-- No collection made room: the record does not fit, and after each of so many collections it did
+-- not.
 pub record HasNoPlace (old new : Device) (before after : Ring) (len kept rounds : ℕ) : Type 0 where
   pub ready : IsReady new after
   pub settings : settings_on new before.area ≡ settings_on old before.area
@@ -134,12 +135,12 @@ pub record HasNoPlace (old new : Device) (before after : Ring) (len kept rounds 
       (record_cost (unit_of old before.area) len)
       (sector_size old before.area - padded (unit_of old before.area) 8 - kept) (parts_on old before)
       (parts_on new after) rounds
-  -- behind a collection a sector has no more than the values that were in one
+  -- after a collection a sector has no more than the values that were in one
   pub end : 0 < rounds
       → after.end
       ≤ padded (unit_of old before.area) 8 + cap (unit_of old before.area) (sector_size old before.area)
 
--- how it ends to put a record, with up to so many collections
+-- how a put of a record ends, with up to so many collections
 abbrev pub PutEnds : {T : Type 0} → Device → Device → Ring → Ring → List ℕ → ℕ → ℕ → Result T AppendFault
     → Type 0
 PutEnds old new before after body kept rounds (Ok x) =
@@ -170,7 +171,8 @@ pub record IsCollected (old new : Device) (before after : Ring) : Type 0 where
   pub used : after.used ≡ before.used
   pub reserve : after.reserve ≡ before.reserve
 
--- Power was lost in the collection. The ring is down, and the loss spells no other record by chance.
+-- Power was lost in the collection. The ring is down, and the loss spells no other record by
+-- chance.
 pub record StopsCollecting (old new : Device) (before after : Ring) : Type 0 where
   pub down : is_up after.stage ≡ false
   pub lost : old.is_on ≡ true → HasNoChance new before.area

@@ -1,5 +1,5 @@
--- Compaction: the live records of a part of a list, some at a time: those that are the last of their name in
--- the whole list, and have a value.
+-- Compaction finds the live records of a part of a list, some at a time: those that are the last of
+-- their name in the whole list, and have a value.
 use Rattle.std.specs.Prelude.{◌≡◌, ℕ, ◌+◌, ◌*◌, ◌%◌, ◌≤◌, Bool, true, List, [], ◌∷◌, ◌++◌, length, map, fold, Option, Some, None, ◌==◌, if◌then◌else◌, All}
 use Rattle.std.specs.List.{slice_get, AllPass}
 use Rattle.std.specs.List as lists
@@ -15,7 +15,7 @@ use Rattle.record_settings.specs.Settings.{setting_of, longest}
 use Rattle.backend_fcb.specs.declared.compaction.Kept.{Kept}
 use Rattle.backend_fcb.specs.declared.compaction.TheConstants.{TABLE}
 
--- a number by which most names are distinguished
+-- a number by which most names differ
 unfoldable pub mark : List ℕ → ℕ
 mark name = fold (λ mark byte. (mark * 31 + byte) % 65536) 0 name
 
@@ -80,8 +80,8 @@ noted d area r = noted_by r (setting_of (value_limit area) (body_at d area r))
 abbrev pub BeginsAt : Option RecordAt → List (RecordAt × List ℕ) → Type 0
 BeginsAt place later = place ≡ slice_get (record_places later) 0
 
--- A walk went through `passed`, all of the part, and the table has those of them that are live among them. It
--- is at this place now.
+-- A walk passed the records `passed`, all of the part, and the table has those of them that are
+-- live among them. It is at this place now.
 pub record Passes (d : Device) (area : Area) (part : Option ℕ) (later : List (RecordAt × List ℕ))
     (table : List Kept) (place : Option RecordAt) : Type 0 where
   pub passed : List (RecordAt × List ℕ)
@@ -91,14 +91,14 @@ pub record Passes (d : Device) (area : Area) (part : Option ℕ) (later : List (
   pub here : BeginsAt place rest
   pub live : bodies_at d area table ≡ live_bodies (value_limit area) (bodies passed) []
 
--- so from wherever it began in the list
+-- the same, wherever in the list the walk began
 abbrev pub PassesFrom : Device → Area → Option ℕ → Option RecordAt → List Kept → Option RecordAt → Type 0
 PassesFrom d area part from table place =
     (done later : List (RecordAt × List ℕ)) → entries_on d area ≡ done ++ later → BeginsAt from later
     → Passes d area part later table place
 
--- Of the records that were live among some, those stay that are live where the records from this place on
--- stand behind them.
+-- Of the records that were live among some, those stay that are still live with the records from
+-- this place on behind them.
 abbrev pub StrikesFrom : Device → Area → Option RecordAt → List Kept → List Kept → Type 0
 StrikesFrom d area from old new =
     (done later : List (RecordAt × List ℕ)) (passed : List (List ℕ)) → entries_on d area ≡ done ++ later
@@ -111,9 +111,9 @@ abbrev pub if_within : Option ℕ → Option RecordAt → Option RecordAt
 if_within part None = None
 if_within part (Some r) = if is_within part r then Some r else None
 
--- Of the records from a place on, `passed` are the first, all of the part. Those of them are found that are
--- live in the whole list, in its order. The next is the one behind them, if it is of the part; and then they
--- are no fewer than a table has room for.
+-- Of the records from a place on, `passed` are the first, all of the part. Those of them are found
+-- that are live in the whole list, in its order. The next is the one behind them, if it is of the
+-- part; and then they are no fewer than a table has room for.
 pub record FindsLive (d : Device) (area : Area) (part : Option ℕ) (later : List (RecordAt × List ℕ))
     (found : List Kept) (onward : Option RecordAt) : Type 0 where
   pub passed : List (RecordAt × List ℕ)
@@ -124,7 +124,7 @@ pub record FindsLive (d : Device) (area : Area) (part : Option ℕ) (later : Lis
   pub next : onward ≡ if_within part (slice_get (record_places rest) 0)
   pub many : (r : RecordAt) → onward ≡ Some r → TABLE ≤ length passed
 
--- so from wherever the walk began in the list
+-- the same, wherever in the list the walk began
 abbrev pub FindsLiveFrom : Device → Area → Option ℕ → Option RecordAt → List Kept → Option RecordAt → Type 0
 FindsLiveFrom d area part from found next =
     (done later : List (RecordAt × List ℕ)) → entries_on d area ≡ done ++ later → BeginsAt from later

@@ -1,4 +1,4 @@
--- What a command spends whose record fits.
+-- What a command spends.
 use Rattle.std.specs.Prelude.{◌≡◌, ℕ, ◌+◌, ◌*◌, Bool, true, Result, OnOk}
 use Rattle.flash_sim.specs.Device.{Device}
 use Rattle.flash_map.specs.Area.{geometry_of}
@@ -18,14 +18,14 @@ abbrev pub room_left : FcbBackend → Command → ℕ
 room_left backend (Put name value) = backend.ring.reserve
 room_left backend (Del name) = 0
 
--- Where it changes the settings, and its record fits behind those of the newest sector, just the units of
--- that record were spent.
+-- If it changes the settings, and its record fits behind those of the newest sector, exactly the
+-- units of that record were spent.
 abbrev pub SpendsCostOf : Device → Device → FcbBackend → Command → Type 0
 SpendsCostOf old new backend command =
     ¬ (applied (settings_on old backend.ring.area) command ≡ settings_on old backend.ring.area)
     → SpendsCost old new backend.ring (body_for command) (room_left backend command)
 
--- Where its record fits there, no more than the units of that record were spent.
+-- If its record fits there, no more than the units of that record were spent.
 abbrev pub SpendsUpToCostOf : Device → Device → FcbBackend → Command → Type 0
 SpendsUpToCostOf old new backend command =
     SpendsUpToCost old new backend.ring (body_for command) (room_left backend command)
@@ -34,9 +34,9 @@ SpendsUpToCostOf old new backend command =
 abbrev pub SpendsRounds : Device → Device → FcbBackend → ℕ → Type 0
 SpendsRounds old new backend rounds = SpendsAtMost old new ((rounds + 1) * collect_units old backend.ring)
 
--- What a set or delete spends: never more than any command may in an area of this geometry. Where its
--- record fits behind those of the newest sector, just the units of that record, and up to a loss no more;
--- else no more than so many collections and one append take.
+-- What a set or delete spends: never more than any command may in an area of this geometry. If its
+-- record fits behind those of the newest sector, exactly the units of that record, and no more up
+-- to a power loss. In any case no more than so many collections and one append take.
 pub record SpendsFor {X E : Type 0} (old new : Device) (backend : FcbBackend) (command : Command)
     (rounds : ℕ) (result : Result X E) (stopped : Bool) : Type 0 where
   pub at_most : SpendsAtMost old new (command_units (geometry_of old backend.ring.area))
@@ -44,7 +44,7 @@ pub record SpendsFor {X E : Type 0} (old new : Device) (backend : FcbBackend) (c
   pub no_more : stopped ≡ true → SpendsUpToCostOf old new backend command
   pub few : SpendsRounds old new backend rounds
 
--- A mount spends the erases that are due, and up to a loss no more.
+-- A mount spends exactly the erases that are due, and no more up to a power loss.
 pub record SpendsErases {X E : Type 0} (old new : Device) (area : Area) (result : Result X E) : Type 0 where
   pub exact : OnOk result (Spends old new (erases_on old area))
   pub few : SpendsAtMost old new (erases_on old area)

@@ -12,7 +12,7 @@ use Rattle.backend_api.specs.Map.{Map}
 use Rattle.record_settings.specs.Numbers.{cap, put_cost}
 use Rattle.record_settings.specs.Settings.{settings_of}
 
--- what the records of one sector cost that put a value
+-- what the records of one sector that put a value cost
 unfoldable pub puts_cost : ℕ → ℕ → List (RecordAt × List ℕ) → ℕ → ℕ
 puts_cost limit unit list place =
     sum_by (λ entry. put_cost limit unit entry.1) (filter (λ entry. entry.0.sector == place) list)
@@ -30,5 +30,6 @@ damage_of limit unit sectors =
     option_or (first_damage (states unit sectors))
     (option_map (λ place. record { sector = place; why = Overfull }) (first_overfull limit unit sectors))
 
+-- the settings that these sectors hold
 abbrev pub settings_in : ℕ → ℕ → List (List ℕ) → Map
 settings_in limit unit sectors = settings_of limit (bodies (entries unit sectors))

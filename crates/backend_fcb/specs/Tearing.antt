@@ -1,4 +1,4 @@
--- What power that is lost in a put leaves.
+-- What a power loss in a put leaves.
 use Rattle.std.specs.Prelude.{◌≡◌, ◌⊎◌, ℕ, Bool, true, false, List, [], Some}
 use Rattle.flash_sim.specs.Device.{Device}
 use Rattle.flash_sim.specs.declared.flash.Loss.{Loss}
@@ -17,13 +17,13 @@ abbrev pub body_for : Command → List ℕ
 body_for (Put name value) = body_of name value
 body_for (Del name) = body_of name []
 
--- so many units of the record with this body check and are another record, and the settings have what that
--- one says
+-- so many units of the record with this body check and are another record, and the settings have
+-- what that one says
 pub record Tears (limit unit : ℕ) (body : List ℕ) (done : ℕ) (before after : Map) : Type 0 where
   pub chance : IsChance unit body done
   pub settings : after ≡ with_setting before (setting_of limit (spelled unit body done))
 
--- the settings after a record that was cut, by whether it checks and is another one
+-- the settings after a torn record, by whether it checks and is another one
 abbrev pub CutSettings : ℕ → Bool → ℕ → List ℕ → ℕ → Map → Map → Type 0
 CutSettings limit true unit body done before after = Tears limit unit body done before after
 CutSettings limit false unit body done before after =

@@ -36,14 +36,14 @@ use setting_name::Name;
 use std::alloc::Global;
 use std::sync::ledger::Ledger;
 
-/// A store of settings over a ring of records. Each sector keeps room for a delete.
+/// A store of settings over a ring of FCB records. Each sector keeps room for a delete.
 #[derive(Debug, Drop)]
 pub struct FcbBackend {
     ring: Ring,
 }
 
 impl FcbBackend {
-    // Whether a name has just this value.
+    // Whether a name has exactly this value.
     fn holds<F: Flash, L: Ledger>(
         &self,
         flash: &F,
@@ -97,7 +97,7 @@ impl Backend for FcbBackend {
 
     ghost reads_settings = { reads_settings };
 
-    // As the trait says it; and it spends the erases that are due, never more.
+    // As the trait says. It spends exactly the erases that are due, and no more up to a power loss.
     fn mount<F: Flash, L: Ledger>(
         _alloc: Global,
         flash: &mut F,
@@ -151,8 +151,8 @@ impl Backend for FcbBackend {
         if value.is_empty() { None } else { Some(value) }
     }
 
-    // As the trait says it. Where the record fits, just its units are spent, and up to a loss no
-    // more; else it collects fewer times than the area has sectors.
+    // As the trait says. If the record fits, exactly its units are spent, and no more up to a power
+    // loss. Otherwise it collects fewer times than the area has sectors.
     fn set<F: Flash, L: Ledger>(
         &mut self,
         flash: &mut F,
@@ -205,8 +205,8 @@ impl Backend for FcbBackend {
         }
     }
 
-    // As the trait says it. Where the record fits, just its units are spent, and up to a loss no
-    // more; else it collects once.
+    // As the trait says. If the record fits, exactly its units are spent, and no more up to a power
+    // loss. Otherwise it collects at most once.
     fn delete<F: Flash, L: Ledger>(
         &mut self,
         flash: &mut F,

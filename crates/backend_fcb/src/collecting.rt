@@ -1,4 +1,4 @@
-// Collecting the oldest sector.
+// Garbage collection of the oldest sector.
 ghost use Rattle.std.specs.Prelude.{◌≡◌, ◌∷◌, [], true, is_err, Some, None, OnOk, OnErr};
 ghost use Rattle.flash_map.specs.Spending.{SpendsAtMost};
 ghost use Rattle.flash_map.specs.Touches.{Touches};
@@ -45,7 +45,7 @@ fn copy_all<F: Flash, L: Ledger>(
 }
 
 // Copies each record of the oldest sector that is the last of its name and has a value. For each
-// table that these fill, it goes once over what is left of the list.
+// table that these fill, it walks once over what is left of the list.
 #[tactic(auto, using(flash_map::proofs::Touches::then))]
 fn copy_live<F: Flash, L: Ledger>(
     ring: &mut Ring,
@@ -75,7 +75,7 @@ fn copy_live<F: Flash, L: Ledger>(
     Ok(())
 }
 
-// Collects the oldest sector into the scratch sector. The settings stay, also where power is lost.
+// Collects the oldest sector into the scratch sector. The settings stay, even if power is lost.
 #[tactic(auto, using(flash_map::proofs::Touches::then))]
 pub(crate) fn collect<F: Flash, L: Ledger>(
     ring: &mut Ring,

@@ -1,4 +1,4 @@
-// Compaction: a walk over the list keeps a table of them.
+// Compaction: a walk over the list keeps a table of the live records.
 ghost use Rattle.std.specs.Prelude.{◌≡◌, ◌<◌, ℕ, List, ◌++◌, [], length, All, Bool, Some, true, IfSome};
 ghost use Rattle.std.specs.List.{AllPass};
 ghost use Rattle.std.specs.Option.{ForSome};
@@ -20,7 +20,7 @@ use std::sync::ledger::Ledger;
 // The most records that one walk keeps.
 const TABLE: usize = 64;
 
-// A record that is kept, and a mark of its name, which most other names do not have.
+// A record that is kept, and the mark of its name, by which most names differ.
 #[derive(Clone, Copy, Debug, Drop)]
 pub(crate) struct Kept {
     pub(crate) at: RecordAt,
@@ -82,7 +82,7 @@ fn is_of(ring: &Ring, body: &[u8], name: &[u8]) -> bool
     }
 }
 
-// The name and `=`, with which each record of the name of this one begins.
+// The name and `=` of this body, with which each record of its name begins.
 fn prefix_of<'a>(body: &'a [u8], name: &[u8]) -> &'a [u8]
     requires { (value : List ℕ) × (body.now ≡ body_of name.now value) }
     ensures { result.now ≡ body_of name.now [] }
@@ -134,7 +134,7 @@ fn place_of<F: Flash, L: Ledger>(
     None
 }
 
-// Takes the record out of the table that is of the name of a later one.
+// Takes the record out of the table that has the name of a later one.
 fn strike<F: Flash, L: Ledger>(
     ring: &Ring,
     flash: &F,
@@ -179,8 +179,8 @@ fn push<F: Flash, L: Ledger>(
     }
 }
 
-// Keeps the records of the part that are live among those gone through, until the table is full.
-// The answer is the record at which it stops.
+// Keeps the records of the part that are live among those passed, until the table is full. Returns
+// the record at which it stops.
 fn find_live_in<F: Flash, L: Ledger>(
     ring: &Ring,
     flash: &F,
@@ -212,7 +212,7 @@ fn find_live_in<F: Flash, L: Ledger>(
     None
 }
 
-// Takes the records out of the table of whose name a record is from there on.
+// Takes the records out of the table whose name a record from a place on has.
 fn strike_from<F: Flash, L: Ledger>(
     ring: &Ring,
     flash: &F,
@@ -236,8 +236,8 @@ fn strike_from<F: Flash, L: Ledger>(
     }
 }
 
-// Finds the live records of the part from there on, at most as many as a table holds, by one walk
-// over the list. The answer is the record from which to go on.
+// Finds the live records of the part from a place on, at most as many as a table holds, by one walk
+// over the list. Returns the record from which to go on.
 pub(crate) fn find_live<F: Flash, L: Ledger>(
     ring: &Ring,
     flash: &F,

@@ -20,8 +20,7 @@ use flash_sim::{Flash, Steps};
 use setting_name::Name;
 use std::sync::ledger::Ledger;
 
-// The value that a body gives to this name, where it is of the name; no bytes where it takes the
-// value away.
+// The value that a body gives this name, if it is of the name; no bytes are a delete.
 fn value_for<'a>(ring: &Ring, body: &'a [u8], name: &[u8]) -> Option<&'a [u8]>
     ensures { option_map (λ value. value.now) result
         ≡ value_for name.now (setting_of (value_limit ring.now.area) body.now) }
@@ -32,8 +31,8 @@ fn value_for<'a>(ring: &Ring, body: &'a [u8], name: &[u8]) -> Option<&'a [u8]>
     }
 }
 
-// The value that the last record of a name gives it; no bytes where it takes it away. It passes
-// over the records that do not begin with the name and `=`.
+// The value that the last record of a name gives it; no bytes are a delete. It skips the records
+// that do not begin with the name and `=`.
 pub(crate) fn last_value<'a, F: Flash, L: Ledger>(
     ring: &Ring,
     flash: &'a F,
@@ -92,7 +91,7 @@ fn cost_of<F: Flash, L: Ledger>(ring: &Ring, flash: &F, table: &[Kept], steps: &
     cost
 }
 
-// What all settings cost, in bytes. For each table that live records fill, it goes once over what
+// What all settings cost, in bytes. For each table that live records fill, it walks once over what
 // is left of the list.
 pub(crate) fn live_cost<F: Flash, L: Ledger>(ring: &Ring, flash: &F, steps: &mut Steps<L>) -> u64
     requires { RingStandsOn (F.device flash.now) ring.now }

@@ -1,4 +1,4 @@
-// Looking at costs before a mount goes on.
+// The check of costs in a mount.
 ghost use Rattle.std.specs.Prelude.{◌≡◌, ℕ, ◌<◌, slice_index, option_map};
 ghost use Rattle.flash_map.specs.Area.{value_limit, unit_of, sectors_of};
 ghost use Rattle.flash_map.specs.declared.faults.Why.TheVariants.{Overfull};
@@ -14,7 +14,7 @@ use std::sync::ledger::Ledger;
 // The most sectors of an area.
 const SECTORS: usize = 64;
 
-// What the records of each sector cost that put a value.
+// For each sector, what its records that put a value cost, in bytes.
 fn costs<F: Flash, L: Ledger>(ring: &Ring, flash: &F, steps: &mut Steps<L>) -> [u64; SECTORS]
     requires { RingStandsOn (F.device flash.now) ring.now }
     ensures { let d = F.device flash.now in

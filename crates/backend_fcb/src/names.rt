@@ -17,7 +17,7 @@ use flash_sim::{Flash, Steps};
 use setting_name::Name;
 use std::sync::ledger::Ledger;
 
-// Whether a name is less than the other, where there is one.
+// Whether a name is less than the other, if there is one.
 fn is_before(name: &[u8], before: Option<&Name>) -> bool
     ensures { result ≡ is_before name.now (option_map (λ other. other.now) before.entry) }
 {
@@ -27,7 +27,7 @@ fn is_before(name: &[u8], before: Option<&Name>) -> bool
     }
 }
 
-// Whether a name is greater than the one, and less than the other.
+// Whether a name is greater than `after` and less than `before`.
 fn is_between(name: &[u8], after: Option<&Name>, before: Option<&Name>) -> bool
     ensures { result
         ≡ (is_behind (option_map (λ other. other.now) after.entry) name.now
@@ -36,7 +36,7 @@ fn is_between(name: &[u8], after: Option<&Name>, before: Option<&Name>) -> bool
     is_behind(name, after) && is_before(name, before)
 }
 
-// The name of a record, where it is between these two.
+// The name of a record, if it is between these two.
 fn name_between(
     ring: &Ring,
     body: &[u8],
@@ -55,7 +55,7 @@ fn name_between(
     Name::read(setting.name).ok()
 }
 
-// The least name of a record that is greater than this one, or the least of all; it may have no
+// The least name of a record that is greater than this one, or the least of all. It may have no
 // value any more.
 fn least_name<F: Flash, L: Ledger>(
     ring: &Ring,
@@ -78,8 +78,8 @@ fn least_name<F: Flash, L: Ledger>(
     least
 }
 
-// The least name with a value that is greater than this one, or the least of all. It goes over the
-// records twice for each name that it looks at.
+// The least name with a value that is greater than this one, or the least of all. It walks over the
+// records twice for each name that it tries.
 pub(crate) fn next_name<F: Flash, L: Ledger>(
     ring: &Ring,
     flash: &F,

@@ -17,7 +17,7 @@ use setting_name::Name;
 // The most bytes of a body: the longest name, `=` and the longest value.
 pub(crate) const BODY: usize = 2113;
 
-// What a record says: the name has the value, or none where there are no bytes.
+// What a record says: the name has the value. No bytes are a delete.
 #[derive(Clone, Copy, Debug)]
 pub(crate) struct Setting<'a> {
     pub(crate) name: &'a [u8],
@@ -39,7 +39,7 @@ fn value_limit(ring: &Ring) -> usize
     ring.area().value_limit() as usize
 }
 
-// What a body says in the ring's area, where it is a lawful name, `=` and a value.
+// What a body says in the ring's area, if it is a lawful name, `=` and a value.
 pub(crate) fn setting_in<'a>(ring: &Ring, body: &'a [u8]) -> Option<Setting<'a>>
     ensures { option_map (λ setting. (setting.name.now, setting.value.now)) result
         ≡ setting_of (value_limit ring.now.area) body.now }
@@ -67,7 +67,7 @@ pub(crate) fn body_of(name: &Name, value: &[u8]) -> ArrayVec<u8, BODY>
     body
 }
 
-// What a record with this body costs, where it puts a value.
+// What a record with this body costs, in bytes, if it puts a value.
 pub(crate) fn put_cost(ring: &Ring, unit: u32, body: &[u8]) -> u32
     requires { IsUnit unit }
     ensures cost { result ≡ put_cost (value_limit ring.now.area) unit body.now }

@@ -14,7 +14,7 @@ use fcb_ring::{AppendFault, Ring};
 use flash_sim::{Flash, Steps};
 use std::sync::ledger::Ledger;
 
-// Appends a record, where it fits.
+// Appends a record, if it fits.
 fn try_append<F: Flash>(
     ring: &mut Ring,
     flash: &mut F,
@@ -37,7 +37,7 @@ fn try_append<F: Flash>(
     ring.append(flash, body, into_reserve)
 }
 
-// Appends a record, and collects up to so many times where it does not fit.
+// Appends a record, and collects up to so many times while it does not fit.
 pub(crate) fn put<F: Flash, L: Ledger>(
     ring: &mut Ring,
     flash: &mut F,

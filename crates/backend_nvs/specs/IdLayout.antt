@@ -1,5 +1,5 @@
--- Where the settings of an NVS area are among its items: the count of names, the names behind it, and each
--- value above its name.
+-- Where the settings of an NVS area are among its items: the count of names, the names above it,
+-- and each value above its name.
 use Rattle.std.specs.Prelude.{◌≡◌, ℕ, ◌+◌, ◌*◌, ◌^◌, ◌<◌, ◌≤◌, min, Bool, false, true, not, ◌&&◌, List, length, slice_index, Option, Some, None, ◌==◌, nat_le, if◌then◌else◌}
 use Rattle.std.proofs.Common.{cond, refl, ap, arith}
 use Rattle.std.proofs.lemmas.Bool.{false≢true}
@@ -18,7 +18,7 @@ use Rattle.named_items.specs.Ends.{IsFree}
 use Rattle.named_items.specs.Putting.{room_in}
 use Rattle.backend_nvs.specs.declared.lookup.TheConstants.{COUNT, FIRST, STEP, LIMIT}
 
--- an absent count is 0, as is one that is not two bytes
+-- an item of another length than two bytes counts as 0
 abbrev pub number_of : List ℕ → ℕ
 number_of bytes = if length bytes == 2 then min LIMIT (slice_index bytes 0 + 256 * slice_index bytes 1) else 0
 
@@ -49,7 +49,7 @@ numbering_of area = nvs_numbering (value_limit area)
 abbrev pub settings_of : Area → Items → Map
 settings_of area items = settings_in (numbering_of area) items
 
--- Of the names that the count allows, this is the least place that is free, if there is one.
+-- the least free place of those that the count allows, if there is one
 abbrev pub IsFreeCandidate : Numbering → Items → Option ℕ → Type 0
 IsFreeCandidate n items None = (place : ℕ) → IsInside n items place → ¬ IsFree items place (place + n.step)
 IsFreeCandidate n items (Some free) =

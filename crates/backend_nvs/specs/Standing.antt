@@ -16,7 +16,7 @@ use Rattle.named_items.specs.NvsStore.{nvs_damage, nvs_items, nvs_rests, NvsStan
 use Rattle.backend_nvs.specs.declared.backend.NvsBackend.{NvsBackend}
 use Rattle.backend_nvs.specs.IdLayout.{numbering_of, nvs-numbering, settings_of}
 
--- the store stands, and each item belongs to a setting or is the count
+-- the store stands, and each item is the count or belongs to a setting
 pub record Stands (backend : NvsBackend) (geometry : Geometry) (sectors : List (List ℕ)) : Type 0 where
   pub store : NvsStands backend.store geometry sectors
   pub clean : HasNoOrphans (numbering_of backend.store.store.area)
@@ -32,7 +32,7 @@ pub stands-rest : (backend : NvsBackend) (geometry : Geometry) (sectors : List (
 stands-rest backend geometry sectors stands =
     record { store = nvs-rested backend.store geometry sectors stands.store; clean = stands.clean }
 
--- lawful names and values throughout, and fewer than 2^32
+-- The area reads as settings with lawful names and values, fewer than 2^32 of them.
 pub reads_settings : (d : Device) (area : Area) → IsLawful d.banks d.bytes → IsLawfulFor d.banks area
     → area.role ≡ NvsRole → on nvs_damage d area ≡ None
     → IsSettings (value_limit area) (settings_of area (on nvs_items d area))

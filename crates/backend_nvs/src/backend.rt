@@ -15,7 +15,8 @@ use setting_name::Name;
 use std::alloc::Global;
 use std::sync::ledger::Ledger;
 
-/// A store of settings on an NVS area. Each setting is two items, its name and its value.
+/// The backend over NVS: a store of settings on an NVS area. Each setting is two items, its name
+/// and its value.
 #[derive(Debug, Drop)]
 pub struct NvsBackend {
     store: Nvs,

@@ -13,7 +13,7 @@ use named_items::ItemStore;
 use setting_name::Name;
 use std::sync::ledger::Ledger;
 
-// Whether the name at this id is that of a setting that counts.
+// Whether a setting in effect has its name at this id.
 fn stands_at<S: ItemStore, F: Flash, L: Ledger>(
     store: &S,
     flash: &F,
@@ -58,7 +58,7 @@ fn is_count(found: Option<&[u8]>) -> bool
     }
 }
 
-// Whether an item is a count, or a part of a setting that counts.
+// Whether an id has the count, or a part of a setting in effect.
 pub(crate) fn is_kept<S: ItemStore, F: Flash, L: Ledger>(
     store: &S,
     flash: &F,

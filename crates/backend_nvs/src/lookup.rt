@@ -1,4 +1,4 @@
-// Looking names up.
+// Look-ups of names.
 ghost use Rattle.std.specs.Prelude.{◌≡◌, ◌+◌, ◌<◌, ◌≤◌, false};
 ghost use Rattle.std.specs.Bool.{MatchBool};
 ghost use Rattle.flash_map.specs.Lawful.{IsLawfulFor};
@@ -16,14 +16,14 @@ use std::sync::ledger::Ledger;
 pub(crate) const COUNT: u32 = 0x8000;
 // The id of the first name.
 pub(crate) const FIRST: u32 = 0x8001;
-// From the id of a name to that of its value.
+// How far the id of a value is above that of its name.
 pub(crate) const STEP: u32 = 0x4000;
-// The most names.
+// The most names of an area.
 pub(crate) const LIMIT: u32 = 511;
-// Each id of the store is below it.
+// The ids of the store are those below this one.
 pub(crate) const TOP: u32 = 0xFFFF;
 
-// The number in an item that holds a count; 0 in another one.
+// The number in an item, if it is a count of two bytes; else 0. It is at most `LIMIT`.
 fn number_of(bytes: &[u8]) -> u32
     ensures { result ≡ number_of bytes.now }
 {
@@ -56,7 +56,7 @@ pub(crate) fn read_count<S: ItemStore, F: Flash, L: Ledger>(
     }
 }
 
-// Whether the count allows any name. It makes no index.
+// Whether the count may allow names: if the answer is `false`, it allows none. It makes no index.
 pub(crate) fn has_count<S: ItemStore, F: Flash, L: Ledger>(
     store: &S,
     flash: &F,
@@ -75,7 +75,7 @@ pub(crate) fn has_count<S: ItemStore, F: Flash, L: Ledger>(
     }
 }
 
-// Whether the name stands at this id with a value.
+// Whether this id has the name, with a value.
 fn is_here<S: ItemStore, F: Flash, L: Ledger>(
     store: &S,
     flash: &F,
@@ -98,7 +98,7 @@ fn is_here<S: ItemStore, F: Flash, L: Ledger>(
     is_at(store, flash, index, name, place, place + STEP, steps)
 }
 
-// Where the name stands that counts.
+// The id of the name's setting in effect, if there is one.
 pub(crate) fn place_of<S: ItemStore, F: Flash, L: Ledger>(
     store: &S,
     flash: &F,
@@ -123,7 +123,7 @@ pub(crate) fn place_of<S: ItemStore, F: Flash, L: Ledger>(
     None
 }
 
-// The least place with neither, of those that the count allows.
+// The least place that the count allows with neither a name nor a value.
 pub(crate) fn free_candidate<S: ItemStore, F: Flash, L: Ledger>(
     store: &S,
     flash: &F,

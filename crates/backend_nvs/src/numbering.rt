@@ -11,7 +11,8 @@ use named_items::{IdLayout, Ids, ItemStore};
 use setting_name::Name;
 use std::sync::ledger::Ledger;
 
-/// The count at 0x8000, the names behind it, and each value 0x4000 above its name.
+/// The layout of ids in NVS: the count at 0x8000, the names from 0x8001, and each value 0x4000
+/// above its name.
 pub struct NvsIdLayout;
 
 impl IdLayout for NvsIdLayout {

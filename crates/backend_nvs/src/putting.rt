@@ -1,4 +1,4 @@
-// Giving names values.
+// Sets: names get values.
 ghost use Rattle.std.specs.Prelude.{◌≡◌, ◌+◌, ◌<◌, ◌≤◌, ◌↔◌, ◌∷◌, [], IsTrue, None, length};
 ghost use Rattle.flash_map.specs.Area.{geometry_of, value_limit};
 ghost use Rattle.flash_map.specs.Lawful.{IsLawfulFor};
@@ -23,7 +23,8 @@ use named_items::{ItemStore, NewNames, price_of_pair, put_new, refused};
 use setting_name::Name;
 use std::sync::ledger::Ledger;
 
-// What all settings cost by the numbers of room, which count the count also where there is none.
+// What all settings cost, in bytes, by the area's `Room`. It includes a count, even if the
+// area has none.
 pub(crate) fn settings_cost<S: ItemStore, F: Flash, L: Ledger>(
     store: &S,
     flash: &F,
@@ -44,7 +45,7 @@ pub(crate) fn settings_cost<S: ItemStore, F: Flash, L: Ledger>(
     }
 }
 
-// The bytes of a count.
+// The two bytes of a count.
 fn bytes_of_count(count: u32) -> [u8; 2]
     requires few { count ≤ LIMIT }
     ensures two { length result ≡ 2 }
@@ -53,14 +54,14 @@ fn bytes_of_count(count: u32) -> [u8; 2]
     [(count % 256) as u8, (count / 256) as u8]
 }
 
-// Whether the count allows no more names.
+// Whether the count is at its limit.
 fn is_full(count: u32) -> bool
     ensures { IsTrue result ↔ (count ≡ LIMIT) }
 {
     count == LIMIT
 }
 
-// Raises the count, and puts the new name behind all others.
+// Raises the count by one, and puts the new name at the id that this admits.
 fn add_name<S: ItemStore, F: Flash, L: Ledger>(
     store: &mut S,
     flash: &mut F,

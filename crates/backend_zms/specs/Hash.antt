@@ -2,7 +2,7 @@
 use Rattle.std.specs.Prelude.{ℕ, ◌+◌, ◌*◌, ◌%◌, ◌^◌, List, fold, bit_and, bit_xor}
 use Rattle.backend_zms.specs.declared.hash.TheConstants.{BASIS, PRIME, GROUP_BITS, FIRST}
 
--- FNV-1a of 32 bits
+-- the FNV-1a hash of 32 bits
 abbrev pub fnv : List ℕ → ℕ
 fnv bytes = fold (λ hash byte. (bit_xor hash byte * PRIME) % 2 ^ 32) BASIS bytes
 

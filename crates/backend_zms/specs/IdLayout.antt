@@ -1,5 +1,5 @@
--- Where the settings of a ZMS area are among its items: each name at one of the 16 ids of its group, and its
--- value 0x40000000 above it.
+-- Where the settings of a ZMS area are among its items: each name at one of the 16 ids of its
+-- group, and its value 0x40000000 above it.
 use Rattle.std.specs.Prelude.{◌≡◌, ℕ, ◌+◌, ◌^◌, ◌<◌, ◌≤◌, Bool, true, false, not, ◌&&◌, List, Option, ◌==◌, nat_le, nat_lt, count_by, refl}
 use Rattle.std.proofs.Common.{ap, lit<, lit≤}
 use Rattle.std.proofs.lemmas.Bool.{false≢true}
@@ -15,7 +15,7 @@ use Rattle.named_items.specs.Putting.{room_in}
 use Rattle.backend_zms.specs.declared.hash.TheConstants.{FIRST, STEP, GROUP_BITS, GROUP_SIZE}
 use Rattle.backend_zms.specs.Hash.{group_of, first_of}
 
--- how many ids names may have
+-- how many ids are for names
 unfoldable pub places : ℕ
 places = GROUP_BITS + GROUP_SIZE
 
@@ -23,7 +23,7 @@ places = GROUP_BITS + GROUP_SIZE
 abbrev pub is_place_of : ℕ → List ℕ → Bool
 is_place_of place name = nat_le (first_of name) place && nat_lt place (first_of name + GROUP_SIZE)
 
--- No item is a count: all places are used.
+-- No item is a count: names may stand at all places.
 abbrev pub zms_numbering : ℕ → Numbering
 zms_numbering limit = record {
   count_id = 0;
@@ -74,7 +74,7 @@ stored-one settings name has =
     (λ (b : Bool). not b
     && nat_le GROUP_SIZE (count_by (λ other. group_of other == group_of name) (keys settings))) has
 
--- The numbers of room, by the store's price and by what a sector has. There is no count.
+-- The room of an area, by the store's price and what a sector has for data. There is no count.
 abbrev pub zms_room : (Geometry → ℕ → ℕ) → (Geometry → ℕ) → Geometry → Room
 zms_room price cap geometry = room_in (λ price. 0) too_many price cap geometry
 

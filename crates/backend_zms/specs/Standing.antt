@@ -23,11 +23,11 @@ IsServed area geometry = area.role ≡ ZmsRole
 abbrev pub settings_of : Area → Geometry → List (List ℕ) → Map
 settings_of area geometry sectors = settings_in (numbering_of area) (zms_items area geometry sectors)
 
--- no item belongs to no setting
+-- no item is an orphan
 abbrev pub IsClean : Area → Geometry → List (List ℕ) → Type 0
 IsClean area geometry sectors = HasNoOrphans (numbering_of area) (zms_items area geometry sectors)
 
--- no loss of power left anything undone
+-- no power loss left anything undone
 pub record Rests (area : Area) (geometry : Geometry) (sectors : List (List ℕ)) : Type 0 where
   pub store : zms_rests area geometry sectors
   pub clean : IsClean area geometry sectors
@@ -41,7 +41,7 @@ pub stands-rest : (backend : ZmsBackend) (geometry : Geometry) (sectors : List (
 stands-rest backend geometry sectors stands =
     record { store = zms-rested backend.store geometry sectors stands.store; clean = stands.clean }
 
--- lawful names and values throughout, and fewer than 2^32
+-- The area reads as settings with lawful names and values, fewer than 2^32 of them.
 pub reads_settings : (d : Device) (area : Area) → IsLawful d.banks d.bytes → IsLawfulFor d.banks area
     → IsServed area (geometry_of d area) → on zms_damage d area ≡ None
     → IsSettings (value_limit area) (on settings_of d area)

@@ -14,7 +14,8 @@ use std::alloc::Global;
 use std::sync::ledger::Ledger;
 use zms_store::Zms;
 
-/// A store of settings on a ZMS area. Each setting is two items, its name and its value.
+/// The backend over ZMS: a store of settings on a ZMS area. Each setting is two items, its name
+/// and its value.
 #[derive(Debug, Drop)]
 pub struct ZmsBackend {
     store: Zms,

@@ -6,16 +6,16 @@ ghost use Rattle.backend_zms.specs.Hash.{fnv, group_of, first_of};
 const BASIS: u32 = 2_166_136_261;
 // What the hash is multiplied by at each byte.
 const PRIME: u32 = 16_777_619;
-// The bits of the hash that are the group of a name.
+// The bits of the hash that give the group of a name.
 pub(crate) const GROUP_BITS: u32 = 0xFFF0;
-/// How many ids of names a group has.
+/// How many ids for names a group has.
 pub const GROUP_SIZE: u32 = 16;
-/// The first id of a name.
+/// The least id at which a name may stand.
 pub const FIRST: u32 = 0x8000_0000;
-// From the id of a name to that of its value.
+// How far the id of a value is above that of its name.
 pub(crate) const STEP: u32 = 0x4000_0000;
 
-// FNV-1a of 32 bits.
+// The FNV-1a hash of 32 bits.
 fn hash(bytes: &[u8]) -> u32
     ensures { result ≡ fnv bytes.now }
 {
@@ -24,7 +24,8 @@ fn hash(bytes: &[u8]) -> u32
     })
 }
 
-/// The first of the ids that a name may have: that of its hash's group.
+/// The first of the 16 ids at which the name may stand, by its hash. It is from `FIRST` to
+/// `FIRST + 0xFFF0`.
 #[tactic(auto, unfolding(crate::specs::Hash::group_of))]
 pub fn first_of(name: &[u8]) -> u32
     ensures first { result ≡ first_of name.now }

@@ -1,4 +1,4 @@
-// The numbering of settings by the hash of the name.
+// The layout of ids by the hash of the name.
 ghost use Rattle.std.specs.Prelude.{◌≡◌, ◌+◌, ◌<◌, ◌≤◌, ℕ, List, None, true, false, IfSome};
 ghost use Rattle.std.proofs.Common.{refl, lit<};
 ghost use Rattle.flash_sim.specs.Bank.{IsLawful};
@@ -19,7 +19,8 @@ use named_items::{IdLayout, Ids, ItemStore, NewNames, is_at, is_free, name_in, p
 use setting_name::Name;
 use std::sync::ledger::Ledger;
 
-/// Each name at an id of its hash's group.
+/// The layout of ids in ZMS: each name at one of the 16 ids of its hash's group, and each value
+/// 0x4000_0000 above its name.
 pub struct ZmsIdLayout;
 
 impl IdLayout for ZmsIdLayout {
@@ -118,7 +119,8 @@ impl NewNames for ZmsIdLayout {
     }
 }
 
-// Where the name stands that counts, if it has a value: at the least id of its group.
+// The id of the name's setting in effect, if it has a value: the least of its group that has the
+// name and a value.
 fn place_of<S: ItemStore, F: Flash, L: Ledger>(
     store: &S,
     flash: &F,
@@ -144,7 +146,8 @@ fn place_of<S: ItemStore, F: Flash, L: Ledger>(
     None
 }
 
-// Whether an item may stand at one of the ids of the name's group. It looks at no item.
+// Whether an item may stand at an id of the name's group: if the answer is `false`, the name has no
+// value. It does not look at the flash.
 fn may_stand<S: ItemStore>(store: &S, name: &Name) -> bool
     requires { HasIds top S.is_id }
     ensures { let area = S.mounted_on store.now in
@@ -161,7 +164,7 @@ fn may_stand<S: ItemStore>(store: &S, name: &Name) -> bool
     false
 }
 
-// Whether the name in this item is that of a setting that counts.
+// Whether a setting in effect has its name at this id.
 fn stands_at<S: ItemStore, F: Flash, L: Ledger>(
     store: &S,
     flash: &F,
@@ -191,7 +194,7 @@ fn stands_at<S: ItemStore, F: Flash, L: Ledger>(
     }
 }
 
-// The least id of the name's group that is free, and its value's.
+// The least id of the name's group that is free, as is the id of its value.
 fn free_candidate<S: ItemStore, F: Flash, L: Ledger>(
     store: &S,
     flash: &F,

@@ -27,7 +27,7 @@ fn area(label: &str, bank: usize, first: u32, sectors: u32) -> Result<Area, Fail
     Ok(Area::new(label, Role::Nvs, bank, first, sectors, 1))
 }
 
-// Adds an area of version 1 to a map of such.
+// Adds an area of version 1 to a map of such areas.
 fn added(map: &mut FlashMap, area: Area) -> Result<(), AddFault>
     requires version { HasVersion 1 area }
     requires others { All (HasVersion 1) map.old }
@@ -84,13 +84,13 @@ fn load_blank<B: Bench>(alloc: Global, bench: &mut B) -> Result<(), Fail>
     Ok(())
 }
 
-// Five bytes behind the first unit, and else FF.
+// Five bytes after the first unit, and FF elsewhere.
 const COPIED: [u8; 16] = [
     255, 255, 255, 255, 1, 2, 3, 4, 5, 255, 255, 255, 255, 255, 255, 255,
 ];
 
-// Programs two units of the second sector, copies five bytes of them behind the first unit of the
-// first, and erases the second.
+// Programs two units of the second sector, copies five bytes of them after the first unit of the
+// first sector, and erases the second.
 #[tactic(auto, unfolding(flash_map::specs::Units::padded))]
 fn exercise<B: Bench, L: Ledger, R: Abort>(
     rt: &R,

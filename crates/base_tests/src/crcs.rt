@@ -1,6 +1,6 @@
 use crc8_entry::{checks, crc8};
 
-// Bytes, and their CRC behind FF.
+// Bytes, and their CRC from the start value FF.
 const VECTORS: [(&[u8], u8); 13] = [
     (&[], 0xFF),
     (&[0xFF], 0x00),

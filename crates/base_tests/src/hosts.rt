@@ -35,7 +35,7 @@ const LINK: &str = "zs_host_test.link";
 // The first name that is tried for a new file.
 const TAKEN: &str = ".image_tool-0";
 
-// There is no such file, one is too long, and a folder can be opened and not read.
+// There is no such file, one is too long, and a folder can be opened but not read.
 fn refuses_to_read<H: Host, R: Abort>(rt: &R, alloc: Global, host: &mut H) {
     for (name, limit, fault) in [
         ("zs_host_none.bin", 9, HostFault::Missing),
@@ -46,7 +46,7 @@ fn refuses_to_read<H: Host, R: Abort>(rt: &R, alloc: Global, host: &mut H) {
     }
 }
 
-// A file in no folder can't be written, nor a folder.
+// Neither a file in a folder that does not exist nor a folder can be written.
 fn refuses_to_write<H: Host, R: Abort>(rt: &R, alloc: Global, host: &mut H) {
     for name in ["no_folder/a", "."] {
         let written = host.write_whole(alloc, name, b"def");

@@ -6,7 +6,7 @@ use image_file::*;
 use std::alloc::Global;
 use std::test::Fail;
 
-// The file of this word's image, but for the 2,048 bytes FF behind it.
+// The file of this word's image, without the 2,048 bytes FF at its end.
 const FOUR: &str = "bank=erasing/4/512/4,area=nvs/main/0/0/4";
 
 const HEADER: [u8; 36] = [
@@ -14,7 +14,7 @@ const HEADER: [u8; 36] = [
     0x6D, 0x61, 0x69, 0x6E, 0, 0, 0, 0,
 ];
 
-// A word, the size of its file, and bytes of the file from a place on.
+// A word, the size of its file, and bytes of the file from an offset on.
 const FILES: [(&str, usize, usize, &[u8]); 5] = [
     (FOUR, 2084, 0, &HEADER),
     (
@@ -57,7 +57,7 @@ fn written(alloc: Global, image: &Image) -> Result<Vec<u8>, NoMemory>
     write_image(alloc, &image.banks, &image.map, &image.bytes)
 }
 
-// The file of the word's image; of no lawful word an empty one.
+// The file of the word's image; an empty one if the word is not lawful.
 fn file_of(alloc: Global, word: &str) -> Result<Vec<u8>, NoMemory> {
     match read_spec(alloc, word) {
         Ok(image) => written(alloc, &image),
@@ -90,7 +90,7 @@ fn writes_and_reads(rt: HostRuntime) -> Result<(), Fail> {
     Ok(())
 }
 
-// A place, the byte there, and where and why the file is none then.
+// An offset, the byte put there, and where and why the file is then refused.
 const ROWS: [(usize, u8, u64, ImageWhy); 26] = [
     (3, 0x4E, 0, ImageWhy::BadMagic),
     (4, 0, 4, ImageWhy::BadVersion),
@@ -121,7 +121,7 @@ const ROWS: [(usize, u8, u64, ImageWhy); 26] = [
     (35, 1, 20, ImageWhy::BadArea),
 ];
 
-// Each file that is shorter or longer, and each in which one byte is another.
+// Each file that is shorter or longer, and each with one byte changed.
 #[test]
 fn first_faults(rt: HostRuntime) -> Result<(), Fail> {
     let alloc = rt.alloc();
@@ -200,7 +200,7 @@ fn unlawful_words(rt: HostRuntime) -> Result<(), Fail> {
     Ok(())
 }
 
-// What keeps an image from being read or made, and its message.
+// Why an image was not read or made, and the message.
 #[test]
 fn messages(rt: HostRuntime) -> Result<(), Fail> {
     let alloc = rt.alloc();

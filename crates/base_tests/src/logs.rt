@@ -1,5 +1,5 @@
-// Logs on three small sectors. Units, counts and bodies are those of an independent reading of the
-// same appends.
+// Logs on three small sectors. Units, counts and bodies are those of an independent reading of
+// the same appends.
 ghost use Rattle.std.specs.Prelude.{◌≡◌, ◌<◌, ◌≤◌, ◌∷◌, [], true, false, IfOk, OnOk, length, vec_len};
 ghost use Rattle.fcb_ring.specs.Standing.{IsRingArea};
 ghost use Rattle.event_ring.specs.Standing.{IsOpen};
@@ -24,7 +24,7 @@ const SMALL: Bank = Bank {
 
 // ---- the bed
 
-// Three sectors of which the first begins with these bytes, and all else is erased.
+// Three sectors. The first begins with these bytes; all else is erased.
 fn image(alloc: Global, first: &[u8]) -> Result<Vec<u8>, Fail>
     requires { length first.now ≤ 512 }
     ensures { IfOk result (λ bytes. vec_len bytes ≡ 1536) }
@@ -109,8 +109,8 @@ fn firsts<F: Flash, L: Ledger>(log: &EventLog, flash: &F, steps: &mut Steps<L>) 
 
 // ---- the rows
 
-// Nine records of 100 bytes each: their bytes, the units of each append, and how many records it
-// drops.
+// Nine records of 100 bytes each: their bytes, the units of each append, and how many
+// records it drops.
 const NINE: [(u8, u64, u32); 9] = [
     (0x11, 29, 0),
     (0x22, 27, 0),
@@ -129,8 +129,8 @@ const FIVE: (usize, [u8; 8]) = (5, [0x55, 0x66, 0x77, 0x88, 0x99, 0, 0, 0]);
 
 const FOUR: (usize, [u8; 8]) = (4, [0x55, 0x66, 0x77, 0x88, 0, 0, 0, 0]);
 
-// Of the ninth append that was cut: after how many units, what the next mount spends, and the
-// records that it finds.
+// The cut of the ninth append: after how many units, what the next mount spends, and the records
+// that it finds.
 const CUTS: [(u64, u64, (usize, [u8; 8])); 7] = [
     (0, 0, EIGHT),
     (1, 1, EIGHT),
@@ -210,8 +210,8 @@ fn drops_the_oldest<B: Bench, L: Ledger, R: Abort>(
     Ok(())
 }
 
-// The ninth append is cut after so many units: what the next mount spends, and the records that it
-// finds.
+// The ninth append is cut after so many units: what the next mount spends, and the records
+// that it finds.
 fn cut_ninth<B: Bench, L: Ledger, R: Abort>(
     rt: &R,
     alloc: Global,
@@ -272,7 +272,7 @@ fn is_by_chance<B: Bench, L: Ledger>(bench: &B, steps: &mut Steps<L>) -> bool
 
 const TORN: [u8; 8] = [0x61, 0x3D, 0, 0xA4, 0xFF, 0xFF, 0xFF, 0xFF];
 
-// A record of which the first four units check by chance, with FF behind them.
+// A record whose first four units pass the CRC by chance, with FF after them.
 fn torn_by_chance<B: Bench, L: Ledger, R: Abort>(
     rt: &R,
     alloc: Global,

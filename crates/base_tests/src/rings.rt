@@ -31,7 +31,7 @@ const LARGE: Bank = Bank {
 
 // ---- the bed
 
-// Three small sectors that begin with these bytes, and are else erased.
+// Three small sectors that begin with these bytes and are otherwise erased.
 fn image(alloc: Global, first: &[u8], second: &[u8], third: &[u8]) -> Result<Vec<u8>, Fail>
     requires first { length first.now ≤ 512 }
     requires second { length second.now ≤ 512 }
@@ -295,7 +295,7 @@ fn rotate<F: Flash>(ring: &mut Ring, flash: &mut F) -> Result<Did, PowerLost>
     }
 }
 
-// Copies the first record where it is of the oldest sector, and short.
+// Copies the first record, if it is in the oldest sector and short.
 fn copy_first<F: Flash, L: Ledger>(
     ring: &mut Ring,
     flash: &mut F,

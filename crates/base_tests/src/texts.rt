@@ -1,7 +1,7 @@
 use std::test::Fail;
 use text_parts::{cut_at, one_part, read_number};
 
-// A text, its first part, the rest behind that, and the rest where it is one part.
+// A text, its first part, the rest after it, and the rest if it is one part.
 const PARTS: [(&[u8], &[u8], Option<&[u8]>, Option<&[u8]>); 4] = [
     (b"nvs/main//2", b"nvs", Some(b"main//2"), None),
     (b"/2", b"", Some(b"2"), Some(b"2")),

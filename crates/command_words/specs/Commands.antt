@@ -1,4 +1,4 @@
--- The words that write a command.
+-- The words of a command.
 use Rattle.std.specs.Prelude.{◌≡◌, ◌==◌, ℕ, ◌≤◌, ⊤, Bool, true, false, not, List, [], ◌∷◌, codes}
 use Rattle.std.specs.Fmt.{decimal}
 use Rattle.std.specs.List.{list_all}
@@ -25,11 +25,11 @@ store_word Nvs = codes "nvs"
 store_word Zms = codes "zms"
 store_word Fcb = codes "fcb"
 
--- a generated script may have so many lines
+-- a generated script can have so many lines
 abbrev pub IsLines : ℕ → Type 0
 IsLines n = (1 ≤ n) × (n ≤ MOST_LINES)
 
--- the word that names what the command does
+-- the first word of the command
 abbrev pub name_of : Command → List ℕ
 name_of (Build out spec) = codes "build"
 name_of (Run image script out) = codes "run"
@@ -40,7 +40,7 @@ name_of (Log image script out) = codes "log"
 name_of (Items image script out) = codes "items"
 name_of (Mirror image script out) = codes "mirror"
 
--- The words that the command is about, in the order in which they are written. A number is in decimal,
+-- The operands of the command, in the order in which they are written. A number is in decimal,
 -- without a sign or leading zeros.
 abbrev pub operands_of : Command → List (List ℕ)
 operands_of (Build out spec) = out.now ∷ spec.now ∷ []
@@ -63,12 +63,12 @@ IsInRange (Log image script out) = ⊤
 IsInRange (Items image script out) = ⊤
 IsInRange (Mirror image script out) = ⊤
 
--- the words write the command
+-- the words are this command
 pub record IsCommand (words : List (List ℕ)) (command : Command) : Type 0 where
   pub written : words ≡ name_of command ∷ operands_of command
   pub operands : list_all is_operand (operands_of command) ≡ true
   pub in_range : IsInRange command
 
--- the words write no command
+-- the words are no command
 abbrev pub IsNoCommand : List (List ℕ) → Type 0
 IsNoCommand words = (command : Command) → ¬ IsCommand words command

@@ -1,4 +1,4 @@
--- What `clap` gets of the forms, and what it gives back of one.
+-- The forms as `clap` takes them, and what it finds by one.
 use Rattle.std.specs.Prelude.{◌≡◌, true, false, List, [], ◌∷◌, map, find, Option, Some, MatchOption, codes}
 use Rattle.std.specs.Option.{option_map_or}
 use Rattle.std.specs.Str.{bytes_eq}
@@ -7,7 +7,7 @@ use Rattle.clap.specs.Simple.{new_shape}
 use Rattle.command_words.specs.Commands.{IsInRange, name_of, operands_of}
 use Rattle.command_words.specs.declared.commands.Command.{Command}
 
--- an operand that has to be there
+-- an operand that is required
 abbrev pub operand_rule : Text → Rule
 operand_rule id = record (new_rule id) { required = true }
 
@@ -15,7 +15,7 @@ operand_rule id = record (new_rule id) { required = true }
 abbrev pub form : Text → List Text → Shape
 form name operands = record (new_shape name) { rules = map operand_rule operands }
 
--- the program, whose words begin with the name of a form
+-- the program; its words begin with the name of a form
 abbrev pub tool : List Shape → App
 tool forms = record {
   top = record (new_shape (codes "image_tool")) { no_binary_name = true; is_leaf = false };

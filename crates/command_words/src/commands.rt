@@ -1,9 +1,9 @@
-//! What the program is to do.
+//! The commands of the program.
 
-/// How many lines a generated script has at most.
+/// The most lines of a generated script.
 pub const MOST_LINES: u32 = 10_000;
 
-/// A kind of store that an image may have.
+/// The kind of store of a generated image.
 #[derive(Clone, Copy, Debug, PartialEq, Eq)]
 pub enum StoreKind {
     /// Settings in an NVS area; its word is `nvs`.
@@ -14,8 +14,7 @@ pub enum StoreKind {
     Fcb,
 }
 
-/// A command of `image_tool`, with its operands as they were written. No word among them is empty
-/// or begins with `-`.
+/// A command of `image_tool`, with its operands as written. No operand is empty or begins with `-`.
 #[derive(Clone, Copy)]
 pub enum Command<'a> {
     /// Writes the blank image of the specification `spec` into the file `out`.
@@ -47,15 +46,15 @@ pub enum Command<'a> {
         backend: StoreKind,
         n: u32,
     },
-    /// Runs the script in the file `script` on the application log of the image in the file `image`, and writes the image into
-    /// `out`.
+    /// Runs the script in the file `script` on the application log of the image in the file
+    /// `image`, and writes the image into `out`.
     Log {
         image: &'a str,
         script: &'a str,
         out: &'a str,
     },
-    /// Runs the script in the file `script` on the numbered items of the image in the file `image`, and writes the image into
-    /// `out`.
+    /// Runs the script in the file `script` on the numbered items of the image in the file `image`,
+    /// and writes the image into `out`.
     Items {
         image: &'a str,
         script: &'a str,

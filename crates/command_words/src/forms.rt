@@ -1,4 +1,4 @@
-// The forms of the words, as `clap` gets them.
+// The forms of the commands, as `clap` takes them.
 ghost use Rattle.std.specs.Prelude.{◌≡◌, map, false, IfOk};
 ghost use Rattle.clap.specs.Words.{app_of, shape_of};
 ghost use Rattle.clap.specs.declared.builder.command.Command.TheViews.{out-Command as fields_of};
@@ -7,7 +7,7 @@ ghost use Rattle.command_words.specs.Forms.{form, image_tool};
 use clap::{Arg, Command};
 use std::alloc::{AllocError, Global};
 
-// Each form by its name, with the names of its operands in the order in which they are written.
+// Each form: its name, and the names of its operands in the order in which they are written.
 const FORMS: [(&str, &[&str]); 8] = [
     ("build", &["OUT", "SPEC"]),
     ("run", &["IMAGE", "SCRIPT", "OUT"]),
@@ -37,8 +37,7 @@ fn form<'a>(
 }
 
 // The program with its forms. Its words are read without the program's own name. A command of
-// `clap` takes up much of the stack, so the calls that move one about end before its words are
-// read.
+// `clap` takes much of the stack, so the calls that move one end before its words are read.
 #[inline(never)]
 pub fn image_tool<'a>(alloc: Global) -> Result<Command<'a>, AllocError>
     ensures { IfOk result (λ command. app_of command ≡ image_tool) }

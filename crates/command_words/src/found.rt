@@ -9,7 +9,7 @@ use crate::operands::{line_count, store_kind};
 use clap::ArgMatches;
 use std::alloc::{AllocError, Global};
 
-// The image, the script and the file to write, of a command that runs a script on an image.
+// The image, the script and the output file of a command that runs a script on an image.
 fn script_operands<'a>(operands: &ArgMatches<'a>) -> Option<(&'a str, &'a str, &'a str)>
     ensures { let values = values_at script_names (rows_of (found_of operands.now)) in
         MatchOption result (AreNoWords values)
@@ -103,7 +103,7 @@ fn found_mirror<'a>(operands: &ArgMatches<'a>) -> Option<Command<'a>>
 /// The command that a parse found, if it found one.
 ///
 /// # Errors
-/// Want of memory alone.
+/// `AllocError`.
 pub fn found_command<'a>(
     alloc: Global,
     matches: &ArgMatches<'a>,

@@ -1,4 +1,4 @@
-//! The command line of `image_tool`, read with `clap`.
+//! The command line of `image_tool`: its commands, and the reader of their words over `clap`.
 #![tactic(auto)]
 
 mod commands;

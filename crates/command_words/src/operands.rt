@@ -7,10 +7,10 @@ use crate::commands::{MOST_LINES, StoreKind};
 use std::alloc::{AllocError, Global};
 use text_parts::read_number;
 
-// Numbers of lines end here.
+// Numbers of lines are below this.
 const LINES_END: u64 = MOST_LINES as u64 + 1;
 
-/// The kind of store that the word names.
+/// The kind of store that the word names; `None` if it names none.
 pub fn store_kind(word: &str) -> Option<StoreKind>
     ensures { MatchOption result (IsNoStoreWord word.now) (λ kind. word.now ≡ store_word kind) }
 {
@@ -22,11 +22,11 @@ pub fn store_kind(word: &str) -> Option<StoreKind>
     }
 }
 
-/// The number of lines that the word is, in decimal without a sign or leading zeros; none where it
-/// is not 1 to `MOST_LINES`.
+/// Reads the word as a number of lines, in decimal without a sign or leading zeros; `None` if it is
+/// not 1 to `MOST_LINES`.
 ///
 /// # Errors
-/// Want of memory alone.
+/// `AllocError`.
 pub fn line_count(alloc: Global, word: &str) -> Result<Option<u32>, AllocError>
     ensures { IfOk result
         (λ found. MatchOption found (IsNoLineCount word.now) (IsLineCount word.now)) }

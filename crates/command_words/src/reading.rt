@@ -1,4 +1,4 @@
-// Words, read as a command.
+// The reader of the words of a command.
 ghost use Rattle.std.specs.Prelude.{◌≡◌, map, IfOk, MatchOption};
 ghost use Rattle.std.specs.String.{string_bytes};
 ghost use Rattle.std.specs.List.{list_all};
@@ -32,8 +32,8 @@ fn asks_for_help(words: &[String]) -> bool
     }
 }
 
-/// The command that the words write, if they write one. They are read without the program's own
-/// name. The one error is that memory ran out.
+/// Reads the words of a command, without the program's own name; `None` if they are no command. The
+/// only error is that memory ran out.
 #[inline(never)]
 pub fn read_words<'a>(alloc: Global, words: &'a [String]) -> Result<Option<Command<'a>>, AllocError>
     ensures { IfOk result
@@ -52,7 +52,7 @@ pub fn read_words<'a>(alloc: Global, words: &'a [String]) -> Result<Option<Comma
     }
 }
 
-/// Words are one command at most.
+/// Words are at most one command.
 pub fn one_command()
     ensures words { OneCommand }
     ensures numbers { OneScript }

@@ -1,4 +1,4 @@
-//! A flash in memory that counts its views, for tests.
+//! A flash in memory for tests, which counts how often its bytes were looked at.
 #![tactic(auto)]
 
 ghost use Rattle.flash_sim.specs.FlatSim.{device_of};
@@ -8,9 +8,9 @@ use std::alloc::Global;
 use std::cell::Cell;
 use std::sync::ledger::Ledger;
 
-/// A bench that reports how many views it gave.
+/// A bench that counts its views.
 pub trait Views: Bench {
-    /// How many views were taken of it.
+    /// How many views it has given since it was made.
     fn views(&self) -> u64;
 }
 
@@ -22,7 +22,7 @@ pub struct CountedSim {
 }
 
 impl CountedSim {
-    /// A flash with no banks, of which no view was taken.
+    /// A flash with no banks and no view taken yet.
     pub fn new(alloc: Global) -> CountedSim {
         CountedSim {
             sim: FlatSim::new(alloc),

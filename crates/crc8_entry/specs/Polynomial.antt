@@ -1,5 +1,5 @@
--- Polynomials over the field of two elements. A polynomial is the list of its coefficients, that of x^0
--- first. A coefficient counts modulo 2, and those past the list's end are 0.
+-- Polynomials over the field of two elements. A polynomial is the list of its coefficients, that of
+-- x^0 first. A coefficient counts modulo 2, and those past the list's end are 0.
 use Rattle.std.specs.Prelude.{◌≡◌, ℕ, ◌+◌, ◌*◌, ◌%◌, ◌<◌, List, [], ◌∷◌, length, map, slice_index}
 
 -- the coefficient of a power of x

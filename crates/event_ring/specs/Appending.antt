@@ -1,4 +1,5 @@
--- What an append makes of a log: it drops the records of the oldest sector, or none, and then adds its own.
+-- What an append makes of a log: it drops the records of the oldest sector, or none, and then adds
+-- its own.
 use Rattle.std.specs.Prelude.{◌≡◌, ◌⊎◌, ℕ, ◌+◌, ◌-◌, ◌<◌, ◌≤◌, Bool, true, false, not, ◌&&◌, ◌||◌, List, [], ◌∷◌, ◌++◌, length, take, replicate, Some, None, Result, Ok, Err, ◌==◌, nat_lt, if◌then◌else◌}
 use Rattle.flash_sim.specs.Device.{Device}
 use Rattle.flash_sim.specs.declared.flash.Loss.{Loss}
@@ -20,7 +21,7 @@ use Rattle.event_ring.specs.Standing.{IsOpen}
 abbrev pub is_too_long : Area → ℕ → Bool
 is_too_long area len = (len == 0) || nat_lt (value_limit area) len
 
--- the answer says that power was lost
+-- the call returned `PowerLost`
 abbrev pub lost_in : {T : Type 0} → Result T LogFault → Bool
 lost_in (Ok dropped) = false
 lost_in (Err TooLong) = false
@@ -28,11 +29,11 @@ lost_in (Err PowerLost) = true
 
 -- ---- what is dropped
 
--- The record does not fit behind those of the newest sector, and no sector but the scratch one is free.
+-- The record does not fit behind those of the newest sector, and only the scratch sector is free.
 abbrev pub drops_for : Device → Ring → List ℕ → Bool
 drops_for d ring body = not (stays_for d ring body 0) && is_scratch_left ring
 
--- then the items of the oldest sector are dropped, and else none
+-- the items that are dropped: then those of the oldest sector, otherwise none
 abbrev pub dropped_for : Device → Ring → List ℕ → List Item
 dropped_for d ring body = if drops_for d ring body then items_in d ring.area ring.oldest else []
 
@@ -53,8 +54,8 @@ append_units d ring body =
 
 -- ---- how it ends
 
--- The record stands whole behind what was kept, and just so many records that check were dropped. So the log
--- has one body more, and the items cost as much more as the record does.
+-- The record stands whole behind what was kept, and exactly so many records that check were
+-- dropped. So the log has one more body, and the items cost as much more as the record does.
 pub record Adds (old new : Device) (before after : Ring) (body : List ℕ) (dropped : ℕ) : Type 0 where
   pub rest : List Item
   pub kept : Keeps old before body rest
@@ -73,9 +74,9 @@ pub record Adds (old new : Device) (before after : Ring) (body : List ℕ) (drop
 abbrev pub torn_body : List ℕ → ℕ → List ℕ
 torn_body body n = take n body ++ replicate (length body - n) 0xFF
 
--- The items after a loss: as before; or without what was dropped; or then with a torn one of the record's
--- cost, or with the record. Or, by chance, with a record whose body is a prefix of this one, but not all, and
--- then FF to its length.
+-- The items after a power loss: as before; or those kept; or those kept and a torn record of the
+-- same cost; or those kept and the record. Or, by chance, those kept and a record whose body is a
+-- proper prefix of this one, with FF behind it to its length.
 abbrev pub LeavesItems : Bool → ℕ → List Item → List Item → List ℕ → List Item → Type 0
 LeavesItems true unit before rest body after =
     (n : ℕ) × (n < length body) × (after ≡ rest ++ Whole (torn_body body n) ∷ [])
@@ -83,20 +84,21 @@ LeavesItems false unit before rest body after =
     (after ≡ before) ⊎ (after ≡ rest) ⊎ (after ≡ rest ++ Torn (record_cost unit (length body)) ∷ [])
     ⊎ (after ≡ rest ++ Whole body ∷ [])
 
--- The log then: as before; or without what was dropped; or then with the record. Or, by chance, with a
--- prefix of its body, but not all, and then FF to its length.
+-- The log after it: as before; or the bodies kept; or those and the body. Or, by chance, those and
+-- a proper prefix of the body, with FF behind it to its length.
 abbrev pub LeavesLog : Bool → List (List ℕ) → List (List ℕ) → List ℕ → List (List ℕ) → Type 0
 LeavesLog true before rest body after =
     (n : ℕ) × (n < length body) × (after ≡ rest ++ torn_body body n ∷ [])
 LeavesLog false before rest body after = (after ≡ before) ⊎ (after ≡ rest) ⊎ (after ≡ rest ++ body ∷ [])
 
--- the items that a loss leaves give the log
+-- the items that a power loss leaves determine the log that it leaves
 abbrev pub ItemsGiveLog : Type 0
 ItemsGiveLog =
     (by_chance : Bool) (unit : ℕ) (before rest : List Item) (body : List ℕ) (after : List Item)
     → LeavesItems by_chance unit before rest body after
     → LeavesLog by_chance (log_of before) (log_of rest) body (log_of after)
 
+-- power was lost in the append, and left these items
 pub record IsCut (old new : Device) (area : Area) (rest : List Item) (body : List ℕ) : Type 0 where
   pub loss : Loss
   pub last : new.last_loss ≡ Some loss
@@ -113,6 +115,7 @@ pub record Loses (old new : Device) (before after : Ring) (body : List ℕ) : Ty
   pub filled : IsFilled old before.area → IsFilled new before.area
   pub units : SpendsAtMost old new (append_units old before body)
 
+-- how an append ends
 abbrev pub LogAppends : Device → Device → Ring → Ring → List ℕ → Result ℕ LogFault → Type 0
 LogAppends old new before after body (Ok dropped) =
     (is_too_long before.area (length body) ≡ false) × Adds old new before after body dropped

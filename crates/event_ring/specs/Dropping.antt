@@ -1,4 +1,5 @@
--- The two steps of an append: dropping the oldest sector's records, and putting a record behind the others.
+-- The two steps of an append: dropping the oldest sector's records, and putting a record behind the
+-- others.
 use Rattle.std.specs.Prelude.{◌≡◌, ◌≢◌, ℕ, true, false, None, List, [], ◌∷◌, ◌++◌, Result, Ok, Err}
 use Rattle.flash_sim.specs.Device.{Device}
 use Rattle.flash_map.specs.Area.{sector_bytes}
@@ -54,6 +55,7 @@ pub record StopsPutting (old new : Device) (before after : Ring) (body : List �
   pub filled : IsFilled old before.area → IsFilled new before.area
   pub units : SpendsAtMost old new (units_for old before body 0)
 
+-- how a put behind the others ends
 abbrev pub PutEnds : {T : Type 0} → Device → Device → Ring → Ring → List ℕ → Result T AppendFault → Type 0
 PutEnds old new before after body (Ok x) = IsPut old new before after body
 PutEnds old new before after body (Err TooLong) = ⊥

@@ -1,4 +1,4 @@
--- When a log is full: records are dropped from no other.
+-- When a log is full. No other log drops records.
 use Rattle.std.specs.Prelude.{◌≡◌, ℕ, ◌-◌, ◌*◌, ◌<◌, true, false, List, length, count_by}
 use Rattle.flash_sim.specs.Bank.{IsLawful}
 use Rattle.flash_sim.specs.Device.{Device}
@@ -19,8 +19,8 @@ BlankIsFilled =
     (d : Device) (area : Area) → IsLawful d.banks d.bytes → IsRingArea d.banks area
     → count_by is_written (sectors_of d area) ≡ 0 → IsFilled d area
 
--- In a filled log an append drops the oldest records only where the items cost more than all
--- sectors but one have room for, less the longest record in each.
+-- In a filled log an append drops the oldest records only if the items cost more than all sectors
+-- but one have room for, less the longest record in each.
 abbrev pub DropsWhereFull : Type 0
 DropsWhereFull =
     (d : Device) (ring : Ring) (body : List ℕ) → IsLawful d.banks d.bytes → IsOpen d ring

@@ -1,4 +1,5 @@
--- What an area holds as a log: records that check, each with its body, and torn ones, each with its cost.
+-- What an area holds as a log: records that check, each with its body, and torn ones, each with its
+-- cost.
 use Rattle.std.specs.Prelude.{ℕ, ◌+◌, List, length, map, sum_by, slice_range, Option, Some, None, if◌then◌else◌}
 use Rattle.std.specs.List.{filter_map, flat_map}
 use Rattle.flash_sim.specs.Device.{Device}
@@ -13,7 +14,7 @@ use Rattle.fcb_ring.specs.Writing.{record_cost}
 pub data Item : Type 0 where
   -- a record that checks, with this body
   Whole : List ℕ → Item
-  -- a record that does not, which takes up so many bytes
+  -- a record that does not check, which takes up so many bytes
   Torn : ℕ → Item
 
 -- what a record of a sector is

@@ -1,4 +1,4 @@
--- What a script makes of the area of a log, whatever is lost.
+-- What a script makes of the area of a log, with any power losses.
 use Rattle.std.specs.Prelude.{◌≡◌, ℕ, ◌-◌, ◌*◌, ◌<◌, true, false, List, length, count_by, Result}
 use Rattle.flash_sim.specs.Bank.{IsLawful}
 use Rattle.flash_sim.specs.Device.{Device}
@@ -15,8 +15,8 @@ use Rattle.event_ring.specs.Items.{items_on, cost_in}
 use Rattle.event_ring.specs.Room.{room_on, longest_on}
 use Rattle.event_ring.specs.Standing.{IsOpen, LogMounts}
 
--- A script of mounts and appends leads from a blank area to this one. Each call may answer as it can, and be
--- cut.
+-- A script of mounts and appends leads from a blank area to this one. Each call may give any of its
+-- answers, and may be cut.
 pub data IsReached : Area → Device → Type 0 where
   -- nothing was called yet
   Blank :
@@ -34,8 +34,8 @@ pub data IsReached : Area → Device → Type 0 where
       (area : Area) (old new : Device) → IsReached area old → new.banks ≡ old.banks
       → sectors_of new area ≡ sectors_of old area → IsReached area new
 
--- After any script from a blank area, whatever was lost, an append drops the oldest records only
--- where the items cost more than all sectors but one have room for, less the longest record in
+-- After any script from a blank area, with any power losses, an append drops the oldest records
+-- only if the items cost more than all sectors but one have room for, less the longest record in
 -- each.
 abbrev pub DropsOnlyWhereFull : Type 0
 DropsOnlyWhereFull =

@@ -18,15 +18,14 @@ pub record IsOpen (d : Device) (ring : Ring) : Type 0 where
   pub ready : ring.stage ≡ Ready
   pub reserve : ring.reserve ≡ 0
 
--- The area is not damaged, and holds the same items. If no sector but the newest had room for the longest
--- record, none has.
+-- The area is not damaged, and holds the same items. If no sector but the newest had room for the
+-- longest record, no sector but the newest has it.
 pub record KeepsItems (old new : Device) (area : Area) : Type 0 where
   pub undamaged : ring_damage new area ≡ None
   pub items : items_on new area ≡ items_on old area
   pub filled : IsFilled old area → IsFilled new area
 
--- How mounting ends: the damage of the area, and then nothing changed; or it is not damaged, and its items
--- stay.
+-- How a mount ends. If the area is damaged, nothing changed. Otherwise its items stay.
 abbrev pub LogMounts : Device → Device → Area → Result EventLog MountFault → Type 0
 LogMounts old new area (Ok log) =
     (ring_damage old area ≡ None) × IsOpen new log.ring × (log.ring.area ≡ area) × KeepsItems old new area

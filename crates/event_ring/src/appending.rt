@@ -30,7 +30,7 @@ fn is_too_long(area: &Area, len: usize) -> bool
     len == 0 || len > area.value_limit() as usize
 }
 
-// Puts a record behind the others, where it fits or another sector than the scratch one is free.
+// Puts a record behind the others, if it fits there or a sector besides the scratch one is free.
 fn put<F: Flash>(ring: &mut Ring, flash: &mut F, body: &[u8]) -> Result<(), AppendFault>
     requires mounted { IsOpen (F.device flash.old) ring.old }
     requires short { is_too_long ring.old.area (length body.now) ≡ false }
@@ -77,16 +77,19 @@ fn drop_and_put<F: Flash, L: Ledger>(
 }
 
 impl EventLog {
-    /// Adds a record with this body, and gives how many records that check were dropped for it.
-    /// Only where the record does not fit the newest sector and no sector but the scratch one is
-    /// free, the oldest sector is dropped first.
+    /// Adds a record with this body, and returns how many records that check were dropped for it.
+    /// The oldest sector is dropped first, but only if the record does not fit the newest sector
+    /// and only the scratch sector is free.
     ///
     /// # Errors
-    /// `TooLong` exactly where the body is empty or longer than a value of the area may be; nothing changes then. After
-    /// `PowerLost` the log is down: its items are as before, or without what was dropped, or then with a torn one of the
-    /// record's cost, or with the record, or, where the record's first units with FF behind them check by chance, with a
-    /// record whose body is a prefix of the body, but not all of it, and then FF to its length. After every answer, where no
-    /// sector but the newest had room for the longest record, none has.
+    /// `TooLong` exactly if the body is empty or longer than a value of the area may be: nothing
+    /// changes. `PowerLost`: the log is down. Its items are as before, or those kept after the
+    /// drop, or these followed by a torn record of the same cost or by the record. Or, if the
+    /// record's first units with FF behind them check by chance, a record follows whose body is a
+    /// proper prefix of the body, with FF behind it to its length.
+    ///
+    /// Whatever the result: if no sector but the newest had room for the longest record, no sector
+    /// but the newest has it.
     pub fn append<F: Flash, L: Ledger>(
         &mut self,
         flash: &mut F,

@@ -28,7 +28,7 @@ fn count_oldest<F: Flash, L: Ledger>(ring: &Ring, flash: &F, steps: &mut Steps<L
     count
 }
 
-// Drops the records of the oldest sector, and gives how many of them checked. They are dropped once
+// Drops the records of the oldest sector, and returns how many of them checked. They are gone once
 // the scratch sector is open and the oldest is erased.
 #[tactic(auto, using(flash_map::proofs::Touches::then))]
 pub(crate) fn drop_oldest<F: Flash, L: Ledger>(

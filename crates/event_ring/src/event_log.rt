@@ -13,17 +13,17 @@ use flash_map::{Area, MountFault};
 use flash_sim::{Flash, Steps};
 use std::sync::ledger::Ledger;
 
-/// A log of records in the sectors of one area. It takes no memory.
+/// A log of records in the sectors of one area. It allocates nothing.
 #[derive(Debug, Drop)]
 pub struct EventLog {
     pub(crate) ring: Ring,
 }
 
 impl EventLog {
-    /// Mounts the log on its area. Its items stay, also where power is lost.
+    /// Mounts the log on its area. Its items stay, even if power is lost.
     ///
     /// # Errors
-    /// `Damaged` exactly where the area shows a damage of a ring, and then nothing was programmed; `PowerLost`. Never
+    /// `Damaged` exactly if the area has the damage of a ring: nothing changed. `PowerLost`. Never
     /// `NoMemory`.
     pub fn mount<F: Flash, L: Ledger>(
         flash: &mut F,
@@ -47,15 +47,15 @@ impl EventLog {
         }
     }
 
-    /// Whether no call answered that power was lost.
+    /// Whether the log is up: no call has returned `PowerLost`.
     pub fn is_up(&self) -> bool
         ensures { result ≡ is_up self.now.ring.stage }
     {
         self.ring.is_up()
     }
 
-    /// The record after the given one, or the first of all: the records that check, the oldest
-    /// first.
+    /// The record after the given one, or the first of all if none is given; `None` at the end. The
+    /// records are those that check, the oldest first.
     pub fn next<F: Flash, L: Ledger>(
         &self,
         flash: &F,
@@ -70,7 +70,7 @@ impl EventLog {
         self.ring.next(flash, after, steps)
     }
 
-    /// The body of a record. It is one step.
+    /// The body of a record. It counts one step.
     pub fn body<'a, F: Flash, L: Ledger>(
         &self,
         flash: &'a F,

@@ -13,19 +13,19 @@ pub fn blank_is_filled()
     ensures { BlankIsFilled }
 {}
 
-/// Where no sector that counts, but the newest, has room for the longest record, an append drops
-/// the oldest records only where the items cost more than all sectors but one have room for, less
-/// the longest record in each.
+/// If no sector that counts, except the newest, has room for the longest record, an append drops
+/// the oldest records only if the items cost more than all sectors but one have room for, less the
+/// longest record in each.
 pub fn drops_where_full()
     ensures { DropsWhereFull }
 {}
 
-/// So it is after any script of mounts and appends on a blank area, whatever was lost.
+/// The same holds after any script of mounts and appends on a blank area, with any power losses.
 pub fn drops_only_where_full()
     ensures { DropsOnlyWhereFull }
 {}
 
-/// What a loss leaves of the items says what it leaves of the log.
+/// What a power loss leaves of the items determines what it leaves of the log.
 pub fn items_give_log()
     ensures { ItemsGiveLog }
 {}

@@ -60,7 +60,7 @@ pub with-any : (sector : List ℕ) (o : Option Record) → option_map (with_pref
 with-any sector None = refl
 with-any sector (Some r) = refl
 
--- the record of which one with a prefix was made
+-- the record from which `with_prefix` made this one
 pub record IsWith (sector prefix : List ℕ) (o : Option Record) (q : Record) : Type 0 where
   pub r : Record
   pub some : o ≡ Some r

@@ -1,5 +1,5 @@
--- Whether the units that were put before a loss spell, by chance, another record than the one that was to be
--- put.
+-- Whether the units that were put before a power loss spell, by chance, another record than the
+-- intended one.
 use Rattle.std.specs.Prelude.{◌≡◌, ◌↔◌, ℕ, ◌+◌, ◌-◌, ◌*◌, ◌%◌, Bool, true, false, not, ◌&&◌, List, ◌++◌, length, take, replicate, Some, ◌==◌, nat_lt, nat_le}
 use Rattle.std.specs.Str.{bytes_eq}
 use Rattle.flash_sim.specs.Bank.{IsLawful}
@@ -36,7 +36,7 @@ abbrev pub is_record : ℕ → List ℕ → Bool
 is_record unit bytes =
     has_record bytes 0 && (((record_of unit bytes 0).end == length bytes) && (record_of unit bytes 0).checks)
 
--- The area has a free sector, and the bytes that were put are another record than the one that was to be put.
+-- The area has a free sector, and the bytes that were put are another record than the intended one.
 unfoldable pub chance : Area → Geometry → List (List ℕ) → Loss → Bool
 chance area geometry sectors loss =
     not (is_full (states geometry.unit sectors))
@@ -49,12 +49,12 @@ chance area geometry sectors loss =
 abbrev pub chance_on : Device → Area → Loss → Bool
 chance_on d area loss = chance area (geometry_of d area) (sectors_of d area) loss
 
--- no record of a loss can be taken for another
+-- `chance` is false for the last loss
 abbrev pub HasNoChance : Device → Area → Type 0
 HasNoChance d area = (loss : Loss) × (d.last_loss ≡ Some loss) × (chance_on d area loss ≡ false)
 
--- where power was lost in a record, and a sector is free, the record that was cut checks and is another one,
--- or not
+-- if power was lost in a record, and a sector is free, `chance` is true exactly if the torn record
+-- checks and is another one
 abbrev pub ReportsRecord : Device → Area → Type 0
 ReportsRecord d area =
     (place offset : ℕ) (body : List ℕ) (done : ℕ) → IsRecordLoss d area place offset body done

@@ -56,7 +56,7 @@ is_too_long unit size kept len = (len == 0) || nat_lt (size - padded unit 8 - ke
 abbrev pub has_room : ℕ → ℕ → Ring → ℕ → ℕ → Bool
 has_room unit size ring kept len = nat_lt 0 ring.used && nat_le (ring.end + record_cost unit len + kept) size
 
--- no sector but the scratch one is free
+-- only the scratch sector is free
 abbrev pub is_scratch_left : Ring → Bool
 is_scratch_left ring = ring.used + 1 == ring.area.sectors
 
@@ -82,8 +82,8 @@ FitsOpened stage used count = ⊥
 
 -- ---- one record
 
--- A record with this body stands behind the others of the newest sector, and in the list where that sector
--- counts.
+-- A record with this body stands behind the others of the newest sector, and in the list if that
+-- sector counts.
 pub record PutsRecord (old new : Device) (ring : Ring) (body : List ℕ) : Type 0 where
   pub at : RecordAt
   pub sector : at.sector ≡ newest_place ring
@@ -92,13 +92,13 @@ pub record PutsRecord (old new : Device) (ring : Ring) (body : List ℕ) : Type 
   pub list : HasEntriesOn new ring.area
       (entries_on old ring.area ++ (if ring.used == ring.area.sectors then [] else ((at, body) ∷ [])))
 
--- the list has one record more, with this body, in this sector
+-- the list has one more record, with this body, in this sector
 abbrev pub AddsRecord : Device → Device → Area → ℕ → List ℕ → Type 0
 AddsRecord old new area place body =
     (at : RecordAt) × (at.sector ≡ place) × HasEntriesOn new area (entries_on old area ++ (at, body) ∷ [])
 
--- What stands behind a list once so many units of a record were put into this sector: nothing that checks;
--- the record, if all else of it is FF; or by chance the body that these units spell.
+-- What stands behind a list once so many units of a record were put into this sector: nothing that
+-- checks; the record, if all else of it is FF; or by chance the body that these units spell.
 abbrev pub CutList : ℕ → List (List ℕ) → List (RecordAt × List ℕ) → ℕ → List ℕ → ℕ → Type 0
 CutList unit sectors list place body done =
     ((IsChance unit body done → ⊥) × HasEntries unit sectors list)
@@ -109,7 +109,8 @@ CutList unit sectors list place body done =
     ((at : RecordAt) × (at.sector ≡ place) × IsChance unit body done
     × HasEntries unit sectors (list ++ (at, spelled unit body done) ∷ []))
 
--- power was lost after so many units of a record at this offset of this sector, which it does not begin
+-- power was lost after so many units of a record at this offset of this sector, which it does not
+-- begin
 pub record IsRecordLoss (new : Device) (area : Area) (place offset : ℕ) (body : List ℕ) (done : ℕ) :
     Type 0 where
   pub has_sector : place < area.sectors
@@ -125,7 +126,7 @@ pub record IsRecordLoss (new : Device) (area : Area) (place offset : ℕ) (body 
         done = done;
       })
 
--- where power was on, it was lost in a record with this body behind those of the ring
+-- if power was on, it was lost in a record with this body behind those of the ring
 abbrev pub LosesRecord : Device → Device → Ring → List ℕ → Type 0
 LosesRecord old new ring body =
     old.is_on ≡ true → (done : ℕ) × IsRecordLoss new ring.area (newest_place ring) ring.end body done
@@ -137,7 +138,7 @@ pub record IsHeaderLoss (new : Device) (area : Area) (place : ℕ) : Type 0 wher
   pub last : new.last_loss ≡ Some loss
   pub at : loss.at ≡ place_of new area place 0
 
--- where power was on, it was lost in the header of the sector that the ring opens next
+-- if power was on, it was lost in the header of the sector that the ring opens next
 abbrev pub LosesHeader : Device → Device → Ring → Type 0
 LosesHeader old new ring = old.is_on ≡ true → IsHeaderLoss new ring.area (next_place ring)
 
@@ -146,14 +147,15 @@ abbrev pub IsEraseLoss : Device → Area → ℕ → Type 0
 IsEraseLoss new area place =
     new.last_loss ≡ Some (record { at = place_of new area place 0; want = record { items = [] }; done = 0 })
 
--- Of the sectors with a torn header, those before one are blank. Power was lost in the erase of that one.
+-- Of the sectors with a torn header, those before one are blank. Power was lost in the erase of
+-- that one.
 abbrev pub StopsMending : Device → Device → Area → Type 0
 StopsMending old new area =
     (n : ℕ) × (sectors_of new area ≡ mended_up_to n (sectors_of old area))
     × (old.is_on ≡ true → IsEraseLoss new area n)
 
--- The erase of this sector was lost while an area was mounted. Of the sectors before it those with a torn
--- header are blank; or all of those are, and it is the newest one.
+-- The erase of this sector was lost while an area was mounted. Of the sectors before it those with
+-- a torn header are blank; or all of those are, and it is the newest one.
 pub record StopsErasing (old new : Device) (area : Area) : Type 0 where
   pub done : ℕ
   pub sectors : sectors_of new area ≡ mended_up_to done (sectors_of old area)
@@ -175,19 +177,20 @@ pub record StopsInRecord (old new : Device) (area : Area) (place : ℕ) (body : 
   pub free : is_full (states_on new area) ≡ false
   pub list : CutList (unit_of new area) (sectors_of new area) (entries_on old area) place body done
 
+-- an append to this sector that was cut, in the sector's header or in the record
 abbrev pub CutAppend : Device → Device → Area → ℕ → List ℕ → Type 0
 CutAppend old new area place body = StopsInHeader old new area place ⊎ StopsInRecord old new area place body
 
 -- ---- calls
 
--- the answer says that power was lost
+-- the call returned `PowerLost`
 abbrev pub append_lost : {T : Type 0} → Result T AppendFault → Bool
 append_lost (Ok x) = false
 append_lost (Err Full) = false
 append_lost (Err TooLong) = false
 append_lost (Err PowerLost) = true
 
--- the units of an append, which opens a sector where the newest has no room
+-- the units of an append, which opens a sector if the newest has no room
 abbrev pub append_units : ℕ → ℕ → Bool → ℕ
 append_units unit len here = record_cost unit len / unit + (if here then 0 else (padded unit 8 / unit))
 
@@ -215,7 +218,7 @@ EndsWithRecord d ring place body =
     slice_range (sector_bytes d ring.area place) (ring.end - cost_on d ring.area (length body)) ring.end
     ≡ image_on d ring.area body
 
--- the ring stands, ready for the next record, and just so many units were spent
+-- the ring stands, ready for the next record, and exactly so many units were spent
 pub record IsReady (old new : Device) (after : Ring) (spent : ℕ) : Type 0 where
   pub stands : StandsOn new after
   pub stage : after.stage ≡ Ready
@@ -239,7 +242,7 @@ too_long_for d ring body kept = is_too_long (unit_of d ring.area) (sector_size d
 abbrev pub stays_for : Device → Ring → List ℕ → ℕ → Bool
 stays_for d ring body kept = has_room (unit_of d ring.area) (sector_size d ring.area) ring kept (length body)
 
--- it fits there, or another sector than the scratch one is free
+-- it fits there, or a sector besides the scratch one is free
 pub record CanAppend (d : Device) (ring : Ring) (body : List ℕ) (kept : ℕ) : Type 0 where
   pub short : too_long_for d ring body kept ≡ false
   pub room : (stays_for d ring body kept || not (is_scratch_left ring)) ≡ true
@@ -335,7 +338,7 @@ CopiesRecord old new ring r =
     × (sector_list new ring.area (newest_place ring)
     ≡ sector_list old ring.area (newest_place ring) ++ (at, body_at old ring.area r) ∷ [])
 
--- This record stands anew behind the copies in the scratch sector. The list is the old one.
+-- A copy of this record stands behind the others in the scratch sector. The list is the old one.
 pub record CopiedRecord (old new : Device) (before after : Ring) (r : RecordAt) : Type 0 where
   pub banks : new.banks ≡ old.banks
   pub list : KeepsEntries old new before.area

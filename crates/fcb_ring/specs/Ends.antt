@@ -1,4 +1,4 @@
--- How the ring's calls end: where they went through, and where power was lost.
+-- How the ring's calls end: when they complete, and when power is lost.
 use Rattle.std.specs.Prelude.{◌≡◌, ℕ, ◌+◌, ◌<◌, true, false, List, [], length}
 use Rattle.flash_sim.specs.Device.{Device}
 use Rattle.flash_map.specs.Area.{sectors_of, Writes}
@@ -68,7 +68,8 @@ pub record PutsInNewest (old new : Device) (before after : Ring) (body : List �
   pub gains : GainsRecord old new before.area (newest_place before) body true
   pub units : Spends old new (record_units old before.area (length body))
 
--- Power was lost in that record. Where no sector is free, the newest one does not count, and the list stays.
+-- Power was lost in that record. If no sector is free, the newest one does not count, and the list
+-- stays.
 pub record StopsInNewest (old new : Device) (before after : Ring) (body : List ℕ) : Type 0 where
   pub ring : GoesDown before after
   pub lost : LosesRecord old new before body
@@ -99,7 +100,7 @@ pub record StopsInNext (old new : Device) (before after : Ring) (body : List ℕ
 
 -- ---- finishing a mount
 
--- The sectors that mounting erases are blank.
+-- The sectors that a mount erases are blank.
 pub record Finished (old new : Device) (before after : Ring) : Type 0 where
   pub area : after.area ≡ before.area
   pub reserve : after.reserve ≡ before.reserve

@@ -1,4 +1,5 @@
--- How an area reads: the bodies of the records that check, each with its place, or the area's damage.
+-- How an area reads: the bodies of the records that check, each with its place, or the area's
+-- damage.
 use Rattle.std.specs.Prelude.{◌≡◌, ℕ, ◌+◌, ◌-◌, List, [], ◌++◌, length, nat_lt, if◌then◌else◌, map, filter, flat_map, slice_range, None}
 use Rattle.flash_map.specs.Area.{sector_at}
 use Rattle.std.specs.List.{range_with_len}
@@ -34,7 +35,7 @@ abbrev pub records_from : ℕ → ℕ → List ℕ → ℕ → List RecordAt
 records_from unit place sector from =
     map (placed place) (filter (λ r. r.checks) (walk (record_at unit sector) (length sector) from))
 
--- and those of the sectors behind it, where so many count from the oldest on
+-- and those of the sectors behind it; so many count, from the oldest on
 unfoldable pub following : ℕ → List (List ℕ) → ℕ → ℕ → ℕ → ℕ → List RecordAt
 following unit sectors oldest count k from =
     let at = turned (length sectors) oldest in

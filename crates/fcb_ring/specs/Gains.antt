@@ -1,4 +1,5 @@
--- All records of a sector, those that do not check too, and what an append makes of them, whole or cut.
+-- All records of a sector, those that do not check too, and what an append makes of them, whole or
+-- cut.
 use Rattle.std.specs.Prelude.{◌≡◌, ◌⊎◌, ℕ, ◌+◌, Bool, true, false, List, [], ◌∷◌, ◌++◌, length, map, slice_range}
 use Rattle.flash_sim.specs.Device.{Device}
 use Rattle.flash_map.specs.declared.area.Area.{Area}
@@ -23,7 +24,7 @@ sector_records unit sector = map (with_body sector) (records unit sector)
 abbrev pub records_in : Device → Area → ℕ → List (Record × List ℕ)
 records_in d area place = sector_records (unit_of d area) (sector_bytes d area place)
 
--- One record more stands behind those of a sector, with this body. It checks, or does not.
+-- One more record stands behind those of a sector, with this body. It checks, or does not.
 pub record GainsRecord (old new : Device) (area : Area) (place : ℕ) (body : List ℕ) (checked : Bool) :
     Type 0 where
   pub last : Record
@@ -31,8 +32,9 @@ pub record GainsRecord (old new : Device) (area : Area) (place : ℕ) (body : Li
   pub checks : last.checks ≡ checked
   pub all : records_in new area place ≡ records_in old area place ++ (last, body) ∷ []
 
--- What stands behind a sector's records once so many units of one were put there: nothing; a record that does
--- not check; the record, if all else of it is FF; or by chance one with the body that these units spell.
+-- What stands behind a sector's records once so many units of one were put there: nothing; a record
+-- that does not check; the record, if all else of it is FF; or by chance one with the body that
+-- these units spell.
 abbrev pub CutRecords : ℕ → Device → Device → Area → ℕ → List ℕ → ℕ → Type 0
 CutRecords unit old new area place body done =
     ((IsChance unit body done → ⊥) × (records_in new area place ≡ records_in old area place))
@@ -45,8 +47,8 @@ pub record CutInHeader (old new : Device) (ring : Ring) : Type 0 where
   pub loss : IsHeaderLoss new ring.area (next_place ring)
   pub form : IsRing (states_on new ring.area) ring.oldest ring.used
 
--- Power was lost in a record with this body, behind those of this sector. It is the newest of so many that
--- are used.
+-- Power was lost in a record with this body, behind those of this sector. It is the newest of so
+-- many that are used.
 pub record CutInRecord (old new : Device) (ring : Ring) (place used : ℕ) (body : List ℕ) : Type 0 where
   pub offset : ℕ
   pub done : ℕ
@@ -54,7 +56,7 @@ pub record CutInRecord (old new : Device) (ring : Ring) (place used : ℕ) (body
   pub form : IsRing (states_on new ring.area) ring.oldest used
   pub records : CutRecords (unit_of new ring.area) old new ring.area place body done
 
--- what a cut append leaves of the records, where its record stays in the newest sector, or else opens the
+-- what a cut append leaves of the records: its record stays in the newest sector, or else opens the
 -- next
 abbrev pub CutRing : Bool → Device → Device → Ring → List ℕ → Type 0
 CutRing true old new ring body = CutInRecord old new ring (newest_place ring) ring.used body

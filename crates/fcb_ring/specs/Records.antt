@@ -1,5 +1,5 @@
--- The records of a sector, one behind the other. A record is a length field, a body and a CRC, each padded to
--- the unit.
+-- The records of a sector, one behind the other. A record is a length field, a body and a CRC, each
+-- padded to the unit.
 use Rattle.std.specs.Prelude.{ℕ, zero, suc, ◌+◌, ◌*◌, ◌%◌, Bool, not, ◌&&◌, List, [], ◌∷◌, ◌++◌, length, slice_index, slice_range, Option, Some, None, ◌==◌, find, nat_eq, nat_lt, nat_le, if◌then◌else◌}
 use Rattle.std.specs.List.{last_or, starts_with}
 use Rattle.std.specs.Option.{option_map, option_map_or}
@@ -7,11 +7,12 @@ use Rattle.crc8_entry.specs.Crc.{crc}
 use Rattle.flash_map.specs.Units.{padded}
 use Rattle.fcb_ring.specs.declared.record.Record.{Record}
 
--- A first byte below 128 is the length. Else it has the low seven bits, and the second byte has the rest.
+-- A first byte below 128 is the length. Otherwise it has the low seven bits, and the second byte
+-- has the rest.
 unfoldable pub body_len : ℕ → ℕ → ℕ
 body_len first second = if nat_lt first 0x80 then first else first % 0x80 + 0x80 * second
 
--- the bytes that the length is written by
+-- how many bytes the length field has
 unfoldable pub field_width : ℕ → ℕ
 field_width first = if nat_lt first 0x80 then 1 else 2
 
@@ -28,7 +29,7 @@ checks_at sector at body len crc_at =
     (slice_range sector at (at + field_width (slice_index sector at))
     ++ slice_range sector body (body + len)) == slice_index sector crc_at
 
--- what the bytes from there on read as, where a record stands there
+-- what the bytes from a place on read as, if a record stands there
 unfoldable pub record_of : ℕ → List ℕ → ℕ → Record
 record_of unit sector at =
     let len = body_len (slice_index sector at) (slice_index sector (at + 1)) in
@@ -42,7 +43,7 @@ record_of unit sector at =
       checks = checks_at sector at body len crc_at;
     }
 
--- the record there; none where the records end, or where it would pass the sector's end
+-- the record at a place; none if the records end there, or if it would pass the sector's end
 unfoldable pub record_at : ℕ → List ℕ → ℕ → Option Record
 record_at unit sector at =
     if has_record sector at
@@ -52,11 +53,12 @@ record_at unit sector at =
 abbrev pub passes : List ℕ → List ℕ → Record → Bool
 passes sector prefix r = starts_with nat_eq (slice_range sector r.body (r.body + r.len)) prefix && r.checks
 
--- the record, taken not to check where its body begins otherwise
+-- the record, taken as one that does not check unless its body begins with the prefix
 abbrev pub with_prefix : List ℕ → List ℕ → Record → Record
 with_prefix sector prefix r = record r { checks = passes sector prefix r }
 
--- The records from a place on, where step reads one of them. The first number bounds how many there are.
+-- The records from a place on; `step` reads one of them. The first number bounds how many there
+-- are.
 abbrev pub walk : (ℕ → Option Record) → ℕ → ℕ → List Record
 walk step zero at = []
 walk step (suc n) at = option_map_or (λ r. r ∷ walk step n r.end) (step at) []
@@ -71,7 +73,7 @@ first_passing unit sector prefix from =
 unfoldable pub records : ℕ → List ℕ → List Record
 records unit sector = walk (record_at unit sector) (length sector) (padded unit 8)
 
--- the end of the last of these records; where there is none, this place
+-- the end of the last of these records; if there is none, this place
 abbrev pub last_end : ℕ → List Record → ℕ
 last_end place records = option_map_or (λ r. r.end) (last_or None records) place
 

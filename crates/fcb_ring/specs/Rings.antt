@@ -47,23 +47,26 @@ continues states place =
     is_used states (before (length states) place)
     && ((state_at states place).id == ((state_at states (before (length states) place)).id + 1) % 65536)
 
+-- a used sector that does not continue the one before it
 abbrev pub opens_run : List SectorState → ℕ → Bool
 opens_run states place = is_used states place && not (continues states place)
 
--- The used sectors are one run where only one of them does not continue the sector before it. That is the
--- oldest.
+-- The used sectors are one run if only one of them does not continue the sector before it. That is
+-- the oldest.
 unfoldable pub oldest_place : List SectorState → ℕ
 oldest_place states = unwrap_or (find (opens_run states) (places states)) 0
 
+-- a second such sector, behind the first one
 unfoldable pub second_start : List SectorState → Option ℕ
 second_start states =
     find (opens_run states)
     (range_with_len (oldest_place states + 1) (length states - (oldest_place states + 1)))
 
+-- no sector is free
 abbrev pub is_full : List SectorState → Bool
 is_full states = list_all (λ state. not state.is_free) states
 
--- Where no sector is free the newest, which stands before the oldest, is ignored.
+-- If no sector is free, the newest, which stands before the oldest, is ignored.
 unfoldable pub counts : List SectorState → ℕ → Bool
 counts states place =
     is_used states place && not (is_full states && (place == before (length states) (oldest_place states)))
@@ -81,19 +84,20 @@ shows Overfull states place = counts states place && (state_at states place).is_
 shows Dirty states place = counts states place && (state_at states place).is_dirty
 shows why states place = false
 
--- the lowest sector that does
+-- the lowest sector that shows it
 abbrev pub first_of : Why → List SectorState → Option Damaged
 first_of why states =
     option_map (λ place. record { sector = place; why = why }) (find (shows why states) (places states))
 
--- the lowest sector of the first kind of damage; a bad sequence names sector 0
+-- the first kind of damage, at the lowest sector that shows it; a bad sequence names sector 0
 unfoldable pub first_damage : List SectorState → Option Damaged
 first_damage states =
     option_or (first_of BadHeader states)
     (option_or (option_map (λ _. record { sector = 0; why = BadSequence }) (second_start states))
     (option_or (first_of Overfull states) (first_of Dirty states)))
 
--- The form of an area that is not damaged in its headers: so many sectors are used, the oldest at this place.
+-- The form of an area that is not damaged in its headers: so many sectors are used, the oldest at
+-- this place.
 pub record IsRing (states : List SectorState) (oldest used : ℕ) : Type 0 where
   pub several : 2 ≤ length states
   pub few : length states ≤ 64

@@ -20,7 +20,7 @@ magic = 0xEE ∷ 0xEE ∷ 0xFF ∷ 0xC0 ∷ []
 abbrev pub lead : List ℕ
 lead = magic ++ 0x01 ∷ 0xFF ∷ []
 
--- a header that was cut behind its first four bytes, and nothing after it
+-- a torn header: its first four bytes, and nothing behind them
 unfoldable pub is_torn : List ℕ → Bool
 is_torn sector = starts_with nat_eq sector magic && is_erased (drop 4 sector)
 
@@ -28,6 +28,7 @@ is_torn sector = starts_with nat_eq sector magic && is_erased (drop 4 sector)
 unfoldable pub id_of : List ℕ → ℕ
 id_of sector = slice_index sector 6 + 0x100 * slice_index sector 7
 
+-- the state of a sector with these bytes
 unfoldable pub state_of : ℕ → List ℕ → SectorState
 state_of unit sector = record {
   is_torn = is_torn sector;
@@ -48,6 +49,6 @@ mended sector = if is_torn sector then replicate (length sector) 0xFF else secto
 abbrev pub torn_count : List (List ℕ) → ℕ
 torn_count sectors = count_by is_torn sectors
 
--- the first so many sectors are
+-- the first so many sectors are mended
 abbrev pub mended_up_to : ℕ → List (List ℕ) → List (List ℕ)
 mended_up_to n sectors = map mended (take n sectors) ++ drop n sectors

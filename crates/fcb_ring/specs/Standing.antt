@@ -25,17 +25,18 @@ use Rattle.fcb_ring.specs.Rings.{state_at, before, turned, oldest_place, is_full
 abbrev pub IsRingArea : List Bank → Area → Type 0
 IsRingArea banks area = IsAreaFor (λ role. (role ≡ Fcb) ⊎ (role ≡ Sel)) banks area
 
--- no call of it answered that power was lost
+-- no call has returned `PowerLost`
 abbrev pub is_up : Stage → Bool
 is_up Down = false
 is_up stage = true
 
--- the erases of mounting are done
+-- the erases of the mount are done
 abbrev pub is_finished : Stage → Bool
 is_finished Ready = true
 is_finished Collecting = true
 is_finished stage = false
 
+-- a garbage collection is under way
 abbrev pub is_collecting : Stage → Bool
 is_collecting Collecting = true
 is_collecting stage = false
@@ -64,6 +65,7 @@ pub record IsWritten (state : SectorState) (ring : Ring) : Type 0 where
   pub end : ring.end ≡ state.end
   pub id : ring.id ≡ state.id
 
+-- the ring knows the sectors as they are
 pub record Stands (unit : ℕ) (sectors : List (List ℕ)) (ring : Ring) : Type 0 where
   pub form : IsRing (states unit sectors) ring.oldest (ring.used + uncounted ring.stage)
   pub clean : AreClean (states unit sectors) ring.oldest ring.used
@@ -117,7 +119,8 @@ IsBodyOf d area r body =
 abbrev pub records_on : Device → Area → ℕ → ℕ → List RecordAt
 records_on d area place from = records_from (unit_of d area) place (sector_bytes d area place) from
 
--- the records that check from an offset on, in the sector so far behind the oldest, and in those after it
+-- the records that check from an offset on, in the sector so far behind the oldest, and in those
+-- after it
 abbrev pub following_on : Device → Ring → ℕ → ℕ → List RecordAt
 following_on d ring further from =
     following (unit_of d ring.area) (sectors_of d ring.area) ring.oldest
@@ -140,7 +143,7 @@ IsNextWith list prefix None next = next ≡ first_with prefix list
 IsNextWith list prefix (Some r) next =
     (i : ℕ) → slice_get (record_places list) i ≡ Some r → next ≡ first_with prefix (drop (i + 1) list)
 
--- what mounting erases: each sector with a torn header, and the newest one where no sector is free
+-- what a mount erases: each sector with a torn header, and the newest one if no sector is free
 abbrev pub erases_due : List SectorState → ℕ
 erases_due sectors = count_by (λ state. state.is_torn) sectors + (if is_full sectors then 1 else 0)
 
@@ -152,12 +155,12 @@ erases_on d area = erases_due (states_on d area)
 abbrev pub ring_damage : Device → Area → Option Damaged
 ring_damage d area = first_damage (states_on d area)
 
--- the newest sector, where no sector is free
+-- the newest sector, if no sector is free
 abbrev pub newest_of_all : ℕ → List (List ℕ) → ℕ
 newest_of_all unit sectors = before (length sectors) (oldest_place (states unit sectors))
 
--- The sectors after these erases: each with a torn header is blank, and so is the newest one where no sector
--- is free.
+-- The sectors after these erases: each with a torn header is blank, and so is the newest one if no
+-- sector is free.
 abbrev pub mounted_sectors : ℕ → List (List ℕ) → List (List ℕ)
 mounted_sectors unit sectors =
     if is_full (states unit sectors) then slice_set (map mended sectors) (newest_of_all unit sectors)
@@ -167,7 +170,7 @@ mounted_sectors unit sectors =
 abbrev pub mounted_on : Device → Area → List (List ℕ)
 mounted_on d area = mounted_sectors (unit_of d area) (sectors_of d area)
 
--- how mounting ends: the damage of the area, and then nothing changed; or it is not damaged
+-- How a mount ends. If the area is damaged, nothing changed.
 abbrev pub MountEnds : Device → Device → Area → ℕ → Result Ring MountFault → Type 0
 MountEnds old new area reserve (Ok ring) =
     (ring_damage old area ≡ None) × StandsOn new ring × (ring.stage ≡ Ready) × (ring.area ≡ area)

@@ -9,8 +9,8 @@ use Rattle.fcb_ring.specs.SectorStates.{lead}
 unfoldable pub filled : ℕ → List ℕ → List ℕ
 filled unit part = part ++ replicate (padded unit (length part) - length part) 0xFF
 
--- a length below 128 is one byte; a longer one has its low seven bits, with the top bit set, and then the
--- rest
+-- a length below 128 is one byte; a longer one has its low seven bits, with the top bit set, and
+-- then the rest
 unfoldable pub length_field : ℕ → List ℕ
 length_field len = if nat_lt len 0x80 then len ∷ [] else (len % 0x80 + 0x80) ∷ (len / 0x80) ∷ []
 
@@ -24,10 +24,11 @@ record_image unit body =
 abbrev pub record_cost : ℕ → ℕ → ℕ
 record_cost unit len = unit + padded unit len + unit
 
+-- a header with this id, padded to the unit
 unfoldable pub header_image : ℕ → ℕ → List ℕ
 header_image unit id = filled unit (lead ++ (id % 0x100) ∷ (id / 0x100) ∷ [])
 
--- a record of which so many units were put: FF stands behind them
+-- a torn record: so many of its units, and FF behind them
 abbrev pub cut_record : ℕ → List ℕ → ℕ → List ℕ
 cut_record unit body done =
     take (done * unit) (record_image unit body)

@@ -1,4 +1,5 @@
-// Collecting: the records of the oldest sector that are to stay are copied into the scratch sector.
+// Garbage collection: the records of the oldest sector that are to stay are copied into the scratch
+// sector.
 ghost use Rattle.std.specs.Prelude.{◌≡◌, ◌+◌, ◌-◌, ◌/◌, ◌<◌, ◌≤◌, ◌∷◌, [], true, is_err, length, OnOk, OnErr};
 ghost use Rattle.flash_sim.specs.declared.flash.TheConstants.{PROGRAM_LIMIT};
 ghost use Rattle.flash_map.specs.Area.{sector_size, OthersStay};
@@ -25,11 +26,11 @@ fn copy_of(bytes: &[u8]) -> ArrayVec<u8, PROGRAM_LIMIT>
 }
 
 impl Ring {
-    /// Opens the scratch sector, into which the records of the oldest sector that are to stay are
-    /// copied. The list stays, also where power is lost.
+    /// Opens the scratch sector for copies of the records of the oldest sector that are to stay.
+    /// The list stays, even if power is lost.
     ///
     /// # Errors
-    /// `PowerLost`. The scratch sector is then still free, and the ring is down.
+    /// `PowerLost`: the scratch sector is still free, and the ring is down.
     pub fn begin_collect<F: Flash>(&mut self, flash: &mut F) -> Result<(), PowerLost>
         requires stands { StandsOn (F.device flash.old) self.old }
         requires ready { self.old.stage ≡ Stage.Ready }
@@ -64,11 +65,11 @@ impl Ring {
         copy_of(self.body(flash, r, steps))
     }
 
-    /// Puts a record of the oldest sector anew behind the copies in the scratch sector. It counts
-    /// once the collection ends. The list stays, also where power is lost.
+    /// Copies a record of the oldest sector behind the copies in the scratch sector. The copy
+    /// counts once the collection ends. The list stays, even if power is lost.
     ///
     /// # Errors
-    /// `PowerLost`. The ring is then down.
+    /// `PowerLost`: the ring is down.
     pub fn copy<F: Flash, L: Ledger>(
         &mut self,
         flash: &mut F,
@@ -95,10 +96,11 @@ impl Ring {
         Ok(())
     }
 
-    /// Erases the oldest sector. Its records are gone from the list, and the copies count.
+    /// Ends the garbage collection: erases the oldest sector. Its records are gone from the list,
+    /// and the copies count.
     ///
     /// # Errors
-    /// `PowerLost`. The sectors are then as before, and the ring is down.
+    /// `PowerLost`: the sectors are as before, and the ring is down.
     pub fn end_collect<F: Flash>(&mut self, flash: &mut F) -> Result<(), PowerLost>
         requires stands { StandsOn (F.device flash.old) self.old }
         requires collecting { self.old.stage ≡ Stage.Collecting }

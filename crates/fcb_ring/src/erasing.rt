@@ -1,4 +1,4 @@
-// The erases of mounting.
+// The erases of a mount.
 ghost use Rattle.std.specs.Prelude.{◌≡◌, ◌∷◌, [], ℕ, is_err, map, count_by, OnOk, OnErr};
 ghost use Rattle.flash_map.specs.Area.{sectors_of};
 ghost use Rattle.flash_map.specs.Sectors.{blanked, blanked_up_to};
@@ -49,7 +49,8 @@ impl Ring {
     /// Erases each sector of the area that is not all FF.
     ///
     /// # Errors
-    /// `PowerLost`. The first sectors are then erased, and the others as before.
+    /// `PowerLost` if power was off or was lost in the call: some first sectors are all FF, and the
+    /// others are as before.
     pub fn format<F: Flash, L: Ledger>(
         flash: &mut F,
         area: &Area,

@@ -13,7 +13,7 @@ use flash_sim::PROGRAM_LIMIT;
 // The bytes of the greatest unit.
 const UNIT: usize = 16;
 
-// A header with this id, as it is at the greatest unit. At a smaller one it is a prefix of that.
+// A header with this id, for the greatest unit. For a smaller unit a header is a prefix of it.
 #[tactic(auto, unfolding(crate::specs::Writing::header_image, crate::specs::Writing::filled, flash_map::specs::Units::padded))]
 pub(crate) fn header_image(id: u16) -> [u8; UNIT]
     ensures { result ≡ header_image 16 id }
@@ -24,8 +24,7 @@ pub(crate) fn header_image(id: u16) -> [u8; UNIT]
     image
 }
 
-/// How many bytes of a sector a record takes up whose body has `len` bytes, where a unit has `unit`
-/// bytes.
+/// The bytes that a record takes up in a sector, by the bytes of a unit and of the record's body.
 pub fn record_cost(unit: u32, len: u32) -> u32
     requires unit { IsUnit unit }
     requires len { len < 2 ^ 30 }
@@ -34,7 +33,7 @@ pub fn record_cost(unit: u32, len: u32) -> u32
     unit + padded(unit, len) + unit
 }
 
-// The bytes that a length is written by.
+// The length field of a body of this length.
 #[tactic(auto, unfolding(crate::specs::Writing::length_field))]
 fn length_field(len: u32) -> ArrayVec<u8, 2>
     requires { len ≤ PROGRAM_LIMIT }
@@ -58,7 +57,7 @@ pub(crate) fn push_all<const N: usize>(image: &mut ArrayVec<u8, N>, bytes: &[u8]
     let _fits = image.try_extend_from_slice(bytes);
 }
 
-// Puts a part behind the others, filled up to whole units.
+// Puts a part behind the others, with FF up to whole units.
 fn push_filled(image: &mut ArrayVec<u8, PROGRAM_LIMIT>, unit: u32, part: &[u8])
     requires unit { IsUnit unit }
     requires room { length image.old.items + padded unit (length part.now) ≤ PROGRAM_LIMIT }

@@ -1,5 +1,6 @@
-//! One FCB area: a ring of sectors, each with a header and an id, and the records that they hold.
-//! One sector stays empty, so that a collection has somewhere to copy live records.
+//! A flash circular buffer on one area: a ring of sectors, each with a header and an id, and the
+//! records in them. One sector stays free, so that garbage collection has somewhere to copy live
+//! records.
 #![tactic(auto)]
 
 mod collecting;

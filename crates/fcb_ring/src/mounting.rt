@@ -12,10 +12,13 @@ use flash_sim::{Flash, Steps};
 use std::sync::ledger::Ledger;
 
 impl Ring {
-    /// `inspect`, and then `finish`, with a reserve in bytes. It takes no memory.
+    /// Mounts a ring: `inspect`, and then `finish`. `reserve` is the room, in bytes, that ordinary
+    /// records leave in each sector. The list stays, even if power is lost. If no erase is due,
+    /// nothing changes.
     ///
     /// # Errors
-    /// `Damaged`, and then nothing was programmed, or `PowerLost`. Never `NoMemory`.
+    /// `Damaged`: nothing changed. `PowerLost`: some of the erases that were due are done. Never
+    /// `NoMemory`.
     #[tactic(auto, using(flash_map::proofs::Touches::then))]
     pub fn mount<F: Flash, L: Ledger>(
         flash: &mut F,

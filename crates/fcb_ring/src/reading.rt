@@ -13,15 +13,15 @@ use flash_sim::{Flash, Steps};
 use std::sync::ledger::Ledger;
 
 impl Ring {
-    /// The oldest of the used sectors.
+    /// The oldest of the used sectors, if there is one.
     pub fn oldest(&self) -> Option<u32>
         ensures { result ≡ (if self.now.used == 0 then None else Some self.now.oldest) }
     {
         (self.used > 0).then_some(self.oldest)
     }
 
-    // How many sectors count, the oldest first: the used ones but, where no sector is free, the
-    // newest.
+    // How many sectors count, from the oldest on: the used ones, but not the newest if no sector is
+    // free.
     fn counted(&self) -> u32
         requires { 0 < self.now.area.sectors }
         ensures { result ≡ min self.now.used (self.now.area.sectors - 1) }
@@ -29,7 +29,8 @@ impl Ring {
         self.used.min(self.area.sectors - 1)
     }
 
-    /// The record after the given one, or the first of all: the records that check, oldest first.
+    /// The record after the given one, or the first of all if none is given; `None` at the end. The
+    /// records are those that check, the oldest first.
     pub fn next<F: Flash, L: Ledger>(
         &self,
         flash: &F,
@@ -44,7 +45,7 @@ impl Ring {
         self.next_with(flash, after, &[], steps)
     }
 
-    /// The next of these records whose body begins with the given bytes.
+    /// The next of these records whose body begins with the given bytes, if there is one.
     pub fn next_with<F: Flash, L: Ledger>(
         &self,
         flash: &F,
@@ -73,7 +74,7 @@ impl Ring {
         }
     }
 
-    // The first record in one sector from there on whose body begins so.
+    // The first record in one sector, from an offset on, whose body begins with the prefix.
     fn next_in<F: Flash, L: Ledger>(
         &self,
         flash: &F,
@@ -104,7 +105,7 @@ impl Ring {
         }
     }
 
-    // The first such record from there on, in the sector so far behind the oldest, and in those
+    // The first such record from an offset on, in the sector so far behind the oldest, and in those
     // after it.
     fn next_from<F: Flash, L: Ledger>(
         &self,
@@ -136,7 +137,7 @@ impl Ring {
         None
     }
 
-    /// The body of a record. It is one step.
+    /// The body of a record. It counts one step.
     pub fn body<'a, F: Flash, L: Ledger>(
         &self,
         flash: &'a F,

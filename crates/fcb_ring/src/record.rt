@@ -19,7 +19,7 @@ pub struct Record {
     pub len: u32,
     /// Where the next record would start.
     pub end: u32,
-    /// Its CRC is that of the length field and the body.
+    /// Whether its CRC matches the length field and the body.
     pub checks: bool,
 }
 
@@ -36,7 +36,7 @@ pub struct RecordAt {
     pub len: u32,
 }
 
-// The length that a field of these two bytes says.
+// The length that a length field of these two bytes spells.
 #[tactic(auto, unfolding(crate::specs::Records::body_len))]
 fn body_len(first: u8, second: u8) -> u32
     ensures value { result ≡ body_len first second }
@@ -49,7 +49,7 @@ fn body_len(first: u8, second: u8) -> u32
     }
 }
 
-// How many bytes a length is written by, from its first byte.
+// How many bytes a length field has, by its first byte.
 #[tactic(auto, unfolding(crate::specs::Records::field_width))]
 fn field_width(first: u8) -> usize
     ensures value { result ≡ field_width first }
@@ -58,7 +58,8 @@ fn field_width(first: u8) -> usize
     if first < 0x80 { 1 } else { 2 }
 }
 
-// Whether a record stands there: the sector does not end, and its length field is not erased.
+// Whether a record stands at a place: the sector does not end there, and the length field is not
+// erased.
 #[tactic(auto, unfolding(crate::specs::Records::has_record))]
 pub(crate) fn has_record(sector: &[u8], at: usize) -> bool
     requires { at < length sector.now → at + 1 < length sector.now }
@@ -68,7 +69,7 @@ pub(crate) fn has_record(sector: &[u8], at: usize) -> bool
     at < sector.len() && !(sector[at] == 0xFF && sector[at + 1] == 0xFF)
 }
 
-// Whether the CRC at its place is that of the length field and the body.
+// Whether the CRC at its place matches the length field and the body.
 fn checks_at(sector: &[u8], at: usize, body: usize, len: usize, crc_at: usize) -> bool
     requires field { at + 2 ≤ length sector.now }
     requires body { body + len ≤ length sector.now }
@@ -79,8 +80,9 @@ fn checks_at(sector: &[u8], at: usize, body: usize, len: usize, crc_at: usize) -
     crc8(crc8(START, field), &sector[body..body + len]) == sector[crc_at]
 }
 
-// The record there, taken not to check where its body begins otherwise than so: its CRC is not
-// computed then. None where the records end, or where it would pass the sector's end.
+// The record at a place; `None` if the records end there, or if it would pass the sector's end. If
+// its body does not begin with the prefix, it is taken as one that does not check, and its CRC is
+// not computed.
 #[tactic(auto, unfolding(crate::specs::Records::record_at, crate::specs::Records::record_of))]
 fn record_with(sector: &[u8], unit: u32, at: u32, prefix: &[u8]) -> Option<Record>
     requires unit { IsUnit unit }
@@ -112,7 +114,7 @@ fn record_with(sector: &[u8], unit: u32, at: u32, prefix: &[u8]) -> Option<Recor
     })
 }
 
-// The record there. None where the records end, or where it would pass the sector's end.
+// The record at a place; `None` if the records end there, or if it would pass the sector's end.
 pub(crate) fn record_at(sector: &[u8], unit: u32, at: u32) -> Option<Record>
     requires unit { IsUnit unit }
     requires short { length sector.now ≤ 32768 }
@@ -137,7 +139,7 @@ pub(crate) fn records_end(sector: &[u8], unit: u32) -> u32
     end
 }
 
-// The first record from there on that checks and whose body begins so.
+// The first record from a place on that checks and whose body begins with the prefix.
 pub(crate) fn next_checked(sector: &[u8], unit: u32, from: u32, prefix: &[u8]) -> Option<Record>
     requires sector { IsSector unit sector.now }
     requires aligned { from % unit ≡ 0 }

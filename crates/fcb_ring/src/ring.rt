@@ -14,17 +14,17 @@ use flash_map::{Area, Damaged, erase_if, geometry, sector_view};
 use flash_sim::{Flash, PowerLost, Steps};
 use std::sync::ledger::Ledger;
 
-/// How far a ring has come.
+/// How far a ring is with its mount or with a garbage collection.
 #[derive(Clone, Copy, Debug, PartialEq, Eq)]
 pub enum Stage {
-    /// The erases of mounting are to come. Where no sector is free, the newest is ignored,
-    /// and waits to be erased.
+    /// The area was read; the erases of the mount are to come. If no sector is free,
+    /// `newest_waits`: the newest is ignored, and waits to be erased.
     Inspected { newest_waits: bool },
     /// A sector is free, and the ring takes records.
     Ready,
     /// No sector is free: the newest takes copies, and the oldest is to be erased.
     Collecting,
-    /// A call answered that power was lost.
+    /// A call has returned `PowerLost`.
     Down,
 }
 
@@ -34,8 +34,7 @@ pub struct Ring {
     pub(crate) area: Area,
     // the room in bytes that ordinary records leave in each sector
     pub(crate) reserve: u32,
-    // the oldest of the used sectors, and how many are used; one that is ignored is not
-    // among them
+    // the oldest of the used sectors, and how many are used; an ignored one is not among them
     pub(crate) oldest: u32,
     pub(crate) used: u32,
     // the id of the newest of these, and where the next record goes in it, in bytes
@@ -91,12 +90,13 @@ fn newest_state(states: &[SectorState], oldest: usize, used: usize) -> SectorSta
 }
 
 impl Ring {
-    /// Reads the area, and programs nothing. The ring gives the records that count, and is not
-    /// finished. Records that do not go into the reserve are to leave `reserve` bytes of their
+    /// Reads the area, and programs nothing. The ring gives the records that count; it takes no
+    /// others before `finish`. `reserve` is the room, in bytes, that ordinary records leave in each
     /// sector.
     ///
     /// # Errors
-    /// The damage of the area: the lowest sector of the first kind that it shows.
+    /// `Damaged` exactly if the area is damaged: the first kind of damage, at the lowest sector
+    /// that shows it.
     pub fn inspect<F: Flash, L: Ledger>(
         flash: &F,
         area: Area,
@@ -135,22 +135,22 @@ impl Ring {
         })
     }
 
-    /// Whether no call answered that power was lost.
+    /// Whether the ring is up: no call has returned `PowerLost`.
     pub fn is_up(&self) -> bool
         ensures { result ≡ is_up self.now.stage }
     {
         !matches!(self.stage, Stage::Down)
     }
 
-    /// Whether the erases of mounting are done.
+    /// Whether the erases of the mount are done.
     pub fn is_finished(&self) -> bool
         ensures { result ≡ is_finished self.now.stage }
     {
         matches!(self.stage, Stage::Ready | Stage::Collecting)
     }
 
-    /// Whether a collection goes on: the scratch sector is open, and the oldest sector is not yet
-    /// erased.
+    /// Whether a garbage collection is under way: the scratch sector is open, and the oldest sector
+    /// is not yet erased.
     pub fn is_collecting(&self) -> bool
         ensures { result ≡ is_collecting self.now.stage }
     {
@@ -166,11 +166,11 @@ impl Ring {
 }
 
 impl Ring {
-    /// Carries out the erases of mounting: of each sector with a torn header, and of the newest
-    /// where no sector is free. The list stays, also where power is lost.
+    /// Does the erases of a mount: of each sector with a torn header, and of the newest sector if
+    /// none is free. The list stays, even if power is lost. If no erase is due, nothing changes.
     ///
     /// # Errors
-    /// `PowerLost`. The ring is then down.
+    /// `PowerLost`: the ring is down.
     #[tactic(auto, using(flash_map::proofs::Touches::then))]
     pub fn finish<F: Flash, L: Ledger>(
         &mut self,

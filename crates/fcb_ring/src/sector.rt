@@ -5,16 +5,16 @@ ghost use Rattle.fcb_ring.specs.SectorStates.{IsSector, is_torn, id_of, state_of
 use crate::record::{has_record, records_end};
 use flash_map::is_erased;
 
-/// What a look at all of a sector says.
+/// What the bytes of a sector say.
 #[derive(Clone, Copy, Debug, Default, PartialEq, Eq)]
 pub struct SectorState {
-    /// A header was cut behind its first four bytes. Such a sector is free.
+    /// It holds a torn header: its first four bytes, and FF behind them. Such a sector is free.
     pub is_torn: bool,
-    /// Nothing but FF, or a torn header. Any other sector is used.
+    /// It is all FF, or holds a torn header. Any other sector is used.
     pub is_free: bool,
     /// It begins as a whole header does.
     pub has_header: bool,
-    /// What stands where a header has its id. Ids rise by one from sector to sector, round the end.
+    /// The id field of its header. Ids rise by one from sector to sector, modulo 65,536.
     pub id: u16,
     /// Where the next record goes, in bytes.
     pub end: u32,

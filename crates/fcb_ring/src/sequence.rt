@@ -104,7 +104,7 @@ pub(crate) fn is_full(states: &[SectorState]) -> bool
     states.iter().all(|state| !state.is_free)
 }
 
-// The sectors that count: the used ones but, where no sector is free, the newest.
+// The sectors that count: the used ones, but not the newest if no sector is free.
 #[tactic(auto, unfolding(crate::specs::Rings::counts))]
 fn counts(states: &[SectorState], place: usize) -> bool
     requires { place < length states.now }
@@ -127,7 +127,7 @@ fn shows(why: Why, states: &[SectorState], place: usize) -> bool
     }
 }
 
-// The lowest sector that does.
+// The lowest sector that shows it.
 fn first_of(why: Why, states: &[SectorState]) -> Option<Damaged>
     requires { length states.now ≤ 64 }
     ensures { result ≡ first_of why states.now }
@@ -143,7 +143,7 @@ fn first_of(why: Why, states: &[SectorState]) -> Option<Damaged>
     None
 }
 
-// The lowest sector of the first kind of damage.
+// The first kind of damage, at the lowest sector that shows it.
 #[tactic(auto, unfolding(crate::specs::Rings::first_damage))]
 pub(crate) fn first_damage(states: &[SectorState]) -> Option<Damaged>
     requires some { 0 < length states.now }

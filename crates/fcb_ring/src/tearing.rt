@@ -1,4 +1,4 @@
-// What the units that were put before a loss spell.
+// What the units programmed before a power loss spell.
 ghost use Rattle.std.specs.Prelude.{◌≡◌, ◌-◌, ◌*◌, ◌<◌, ◌≤◌, ◌&&◌, ◌++◌, not, true, length, take, replicate};
 ghost use Rattle.std.specs.Str.{bytes_eq};
 ghost use Rattle.flash_sim.specs.declared.flash.TheConstants.{PROGRAM_LIMIT};
@@ -63,7 +63,7 @@ fn is_record(unit: u32, bytes: &[u8]) -> bool
     }
 }
 
-// Whether the units that were put are another record than the one that was to be put.
+// Whether the units that were put are another record than the intended one.
 fn spells_other(unit: u32, loss: &Loss) -> bool
     requires unit { IsUnit unit }
     requires part { is_part unit loss.now ≡ true }
@@ -76,9 +76,9 @@ fn spells_other(unit: u32, loss: &Loss) -> bool
     is_record(unit, bytes.as_slice()) && bytes.as_slice() != want
 }
 
-/// Whether the units that were put before a loss in this area spell, by chance, another record than
-/// the one that was to be put. It never holds of a loss in a header or an erase, nor where no
-/// sector is free.
+/// Whether a torn record passes as another one by chance: the units programmed before the loss,
+/// with FF behind them, are a record that checks and differs from the intended one. It is false for
+/// a loss in a header, in an erase or outside the area, and if no sector is free.
 #[tactic(auto, unfolding(crate::specs::Chance::chance))]
 pub fn chance<F: Flash, L: Ledger>(
     flash: &F,
@@ -97,9 +97,9 @@ pub fn chance<F: Flash, L: Ledger>(
         && spells_other(geometry.unit, loss)
 }
 
-/// Of a loss in a record, in an area with a free sector, `chance` says whether the record that was
-/// cut checks and is another one. It never holds of a loss in a header or in an erase, nor where no
-/// sector is free. The function does nothing; its contract is the law.
+/// For a loss in a record, in an area with a free sector, `chance` is true exactly if the torn
+/// record checks and is another one. For a loss in a header or in an erase, and if no sector is
+/// free, it is false. The function does nothing; its contract is the law.
 pub fn chance_of_a_record()
     ensures { ReportsChance }
 {}

@@ -18,7 +18,7 @@ use flash_sim::{Flash, PowerLost};
 /// Why a record was not appended, or no sector was opened.
 #[derive(Clone, Copy, Debug, PartialEq, Eq)]
 pub enum AppendFault {
-    /// No sector but the scratch one is free.
+    /// There is no room: only the scratch sector is free.
     Full,
     /// The body is empty, or no sector could hold the record.
     TooLong,
@@ -57,7 +57,7 @@ impl Ring {
         0 < self.used && end <= geometry.sector as u64
     }
 
-    /// Whether no sector but the scratch one is free.
+    /// Whether only the scratch sector is free.
     pub fn is_scratch_left(&self) -> bool
         ensures { result ≡ is_scratch_left self.now }
     {
@@ -174,15 +174,16 @@ impl Ring {
         Ok(())
     }
 
-    /// Adds a record with this body at the end of the list. It goes into the newest sector, where it fits there and leaves
-    /// `reserve` bytes (none where it goes `into_reserve`), or else into the next, which is opened.
+    /// Adds a record with this body at the end of the list. It goes into the newest sector, if it
+    /// fits there and leaves `reserve` bytes (none if it goes `into_reserve`). Otherwise the next
+    /// sector is opened for it.
     ///
     /// # Errors
-    /// `TooLong` where the body is empty or no sector could hold the record; `Full`
-    /// where it does not fit and no sector but the scratch one is free. Neither changes anything. After `PowerLost` the
-    /// ring is down, and the list is the old one, or has the record, or, where the record's first units with FF behind
-    /// them check by chance, the body that these spell. All records of the sector into which it was to go are then the old
-    /// ones and at most one more, of this record's length, which may not check.
+    /// `TooLong` if the body is empty or no sector could hold the record; `Full` if it does not fit
+    /// and only the scratch sector is free. Neither changes anything. `PowerLost`: the ring is
+    /// down. The list is the old one or has the record too; or, if the record's first units with FF
+    /// behind them check by chance, it has the body that these spell. The sector for the record
+    /// holds its old records and at most one more, of this record's length, which may not check.
     pub fn append<F: Flash>(
         &mut self,
         flash: &mut F,
@@ -239,11 +240,11 @@ impl Ring {
         }
     }
 
-    /// Opens the next sector. The list stays, also where power is lost.
+    /// Opens the next sector. The list stays, even if power is lost.
     ///
     /// # Errors
-    /// `Full` where no sector but the scratch one is free; nothing changes then. `PowerLost`, and the ring is then down.
-    /// Never `TooLong`.
+    /// `Full` exactly if only the scratch sector is free: nothing changes. `PowerLost`: the ring is
+    /// down. Never `TooLong`.
     pub fn rotate<F: Flash>(&mut self, flash: &mut F) -> Result<(), AppendFault>
         requires stands { StandsOn (F.device flash.old) self.old }
         requires ready { self.old.stage ≡ Stage.Ready }

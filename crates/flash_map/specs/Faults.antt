@@ -1,4 +1,4 @@
--- Which answers say that power was lost.
+-- Which results are `PowerLost`.
 use Rattle.std.specs.Prelude.{Bool, true, false, Result, Ok, Err}
 use Rattle.flash_map.specs.declared.faults.MountFault.{MountFault}
 use Rattle.flash_map.specs.declared.faults.MountFault.TheVariants.{Damaged as HasDamage, PowerLost as MountLost, NoMemory}

@@ -17,6 +17,7 @@ HasKind Zms kind = ⊤
 HasKind Fcb kind = kind ≡ Erasing
 HasKind Sel kind = kind ≡ Erasing
 
+-- areas of this role may stand on a bank with units of this size, in bytes
 abbrev pub HasUnit : Role → ℕ → Type 0
 HasUnit Nvs unit = IsUnit unit
 HasUnit Zms unit = unit ≡ 16

@@ -15,7 +15,7 @@ pub record CanProgramAll (d : Device) (area : Area) (sector offset : ℕ) (bytes
   pub erased : (bank_of d area.bank).kind ≡ Erasing
       → slice_range (sector_bytes d area sector) offset (offset + length bytes) ≡ replicate (length bytes) 255
 
--- where power was on, it was lost in a call that was to put at most so many bytes
+-- if power was on, it was lost in a call that was to put at most so many bytes
 abbrev pub LosesWithin : ℕ → Device → Device → Type 0
 LosesWithin most old new =
     old.is_on ≡ true → (loss : Loss) × (new.last_loss ≡ Some loss) × (length loss.want.items ≤ most)

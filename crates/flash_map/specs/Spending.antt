@@ -2,7 +2,7 @@
 use Rattle.std.specs.Prelude.{◌≡◌, ℕ, ◌≤◌}
 use Rattle.flash_sim.specs.Device.{Device, counted}
 
--- just so many
+-- exactly so many
 abbrev pub Spends : Device → Device → ℕ → Type 0
 Spends old new units = new.spent ≡ counted old.spent units
 

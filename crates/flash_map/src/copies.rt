@@ -12,16 +12,18 @@ use crate::{Area, area_program, area_view, geometry, padded};
 use flash_sim::{Flash, PowerLost, Steps};
 use std::sync::ledger::Ledger;
 
-/// A range of bytes of one sector of an area: the number of the sector, and the offset and the
-/// length in bytes.
+/// A range of bytes of one sector of an area.
 #[derive(Clone, Copy, Debug, PartialEq, Eq)]
 pub struct Source {
+    /// The sector, counted from 0 in the area.
     pub sector: u32,
+    /// Bytes from the start of the sector.
     pub offset: u32,
+    /// Bytes of the range.
     pub len: u32,
 }
 
-/// The most bytes of one call of `copy_padded`. Every unit divides it.
+/// The most bytes that `copy_padded` programs in one call. Every unit divides it.
 pub const COPY_PIECE: u32 = 32;
 
 // Some bytes of a sector, at most a piece, with FF behind them.
@@ -44,11 +46,12 @@ fn piece_of<F: Flash, L: Ledger>(
     piece
 }
 
-/// Programs a range of another sector's bytes, with FF behind them up to whole units, upward and in pieces of at most
-/// `COPY_PIECE` bytes through a buffer of its own.
+/// Copies a range of bytes from another sector, with FF behind them up to whole units. It programs
+/// upward, in pieces of at most `COPY_PIECE` bytes, through a buffer of its own.
 ///
 /// # Errors
-/// Where power was off, nothing changed. Where it was lost in the call, fewer than all units were put, the lowest first.
+/// `PowerLost` if power was off: nothing changed. Or if it was lost in the call: fewer than all
+/// units are programmed, the lowest first.
 #[tactic(auto, using(crate::proofs::Touches::then))]
 pub fn copy_padded<F: Flash, L: Ledger>(
     flash: &mut F,

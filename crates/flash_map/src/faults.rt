@@ -1,6 +1,6 @@
-// Faults that all three stores answer.
+// Faults that all three stores return.
 
-/// Why the bytes of an area are those of no store.
+/// What kind of damage an area has: something that no power loss leaves.
 #[derive(Clone, Copy, Debug, PartialEq, Eq)]
 pub enum Why {
     /// Every sector is closed.
@@ -19,33 +19,36 @@ pub enum Why {
     BadSequence,
 }
 
-/// The bytes are those of no store: the first sector that shows the first kind of damage.
+/// Damage of an area: the first kind of damage that a mount finds, and the first sector that shows
+/// it.
 #[derive(Clone, Copy, Debug, PartialEq, Eq)]
 pub struct Damaged {
+    /// The sector, counted from 0 in the area.
     pub sector: u32,
+    /// The kind of damage.
     pub why: Why,
 }
 
 /// Why a mount gives no store.
 #[derive(Clone, Copy, Debug, PartialEq, Eq)]
 pub enum MountFault {
-    /// The bytes of the area are those of no store, and nothing was programmed or erased.
+    /// The area is damaged. Nothing was programmed or erased.
     Damaged(Damaged),
-    /// Power was off, or was lost in the mount, which may then be made again.
+    /// Power was off, or was lost in the mount. Another mount may follow.
     PowerLost,
-    /// There was not enough memory.
+    /// Memory ran out.
     NoMemory,
 }
 
 /// Why an item was not written.
 #[derive(Clone, Copy, Debug, PartialEq, Eq)]
 pub enum WriteFault {
-    /// No round of collections makes room: the bytes that the write needs, and those of all live
-    /// items. The items stay.
+    /// No garbage collection makes room. `need` is what the write takes, and `live` what all live
+    /// items take, both in bytes. The items stay.
     NoSpace { need: u64, live: u64 },
-    /// The item is too long for a sector, and nothing was programmed or erased.
+    /// The item is too long for a sector. Nothing was programmed or erased.
     TooLong,
-    /// Power was off, or was lost in the call. The item is as it was or as it was to be, and the
-    /// others stay.
+    /// Power was off, or was lost in the call. The item is as it was or as it was to be; the others
+    /// stay.
     PowerLost,
 }

@@ -11,10 +11,10 @@ use crate::{Area, area_erase, is_erased, sector_view};
 use flash_sim::{Flash, PowerLost, Steps};
 use std::sync::ledger::Ledger;
 
-/// Erases the sector of the area, if that is due.
+/// Erases the sector of the area, if `is_due`.
 ///
 /// # Errors
-/// Power was off, or was lost in the call. No byte changed.
+/// `PowerLost`, only if `is_due`: power was off or was lost in the call. No byte changed.
 pub fn erase_if<F: Flash>(
     flash: &mut F,
     area: &Area,
@@ -52,7 +52,8 @@ pub fn erase_if<F: Flash>(
 /// Erases each sector of the area that is not all FF.
 ///
 /// # Errors
-/// `PowerLost`. The first sectors are then erased, and the others as before.
+/// `PowerLost` if power was off or was lost in the call: some first sectors are all FF, and the
+/// others are as before.
 #[tactic(auto, using(crate::proofs::Touches::then))]
 pub fn area_format<F: Flash, L: Ledger>(
     flash: &mut F,

@@ -1,4 +1,5 @@
-//! Areas of flash: runs of whole sectors, and calls that change one area alone.
+//! Areas of flash (partitions): runs of whole sectors, and calls that change one area and nothing
+//! else.
 #![tactic(auto)]
 
 mod area;

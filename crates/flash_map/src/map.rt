@@ -1,4 +1,4 @@
-// The areas of a flash, by their labels and in their order.
+// The areas of a flash, in order and by label.
 ghost use Rattle.std.specs.Prelude.{◌≡◌, ◌↔◌, ◌+◌, false, [], ◌∷◌, ◌++◌, length, IsTrue, IfErr, OnOk, position, slice_get};
 ghost use Rattle.std.specs.List.{list_any, All};
 ghost use Rattle.std.specs.Option.{option_copied};
@@ -12,16 +12,16 @@ use indexmap::IndexMap;
 use std::alloc::{AllocFailed, Global};
 use std::marker::Model;
 
-/// Why an area was not added: the first of these that holds. Want of memory is looked at last.
+/// Why an area was not added: the first of these causes that holds.
 #[derive(Clone, Copy, Debug, PartialEq, Eq)]
 pub enum AddFault {
-    /// An area has that label.
+    /// Another area has that label.
     Exists,
     /// The bank is missing, the sectors are fewer than two, or they pass the bank's end.
     OutOfBank,
     /// A sector belongs to another area.
     Overlaps,
-    /// There was not enough memory.
+    /// Memory ran out; no other cause holds.
     NoMemory,
 }
 
@@ -33,8 +33,8 @@ impl<T: Drop> From<AllocFailed<T>> for AddFault {
     }
 }
 
-/// Areas, each found by its label, which no other has. Contracts see the list of the areas, in the
-/// order in which they were added.
+/// The areas of a flash. No two share a label. Contracts see the list of the areas, in the order in
+/// which they were added.
 #[derive(Drop)]
 pub struct FlashMap {
     areas: IndexMap<ArrayString<8>, Area>,
@@ -53,7 +53,7 @@ impl Model for FlashMap {
 }
 
 impl FlashMap {
-    /// A map of no areas. It takes no memory.
+    /// A map of no areas. It allocates nothing.
     pub fn new(alloc: Global) -> FlashMap
         ensures { result ≡ [] }
     {
@@ -62,11 +62,11 @@ impl FlashMap {
         }
     }
 
-    /// Adds an area of `banks` behind the others, where it has two sectors or more, lies in its
-    /// bank and shares no label and no sector with them. It has their version.
+    /// Adds an area behind the others. It must have at least two sectors, lie in its bank, one of
+    /// `banks`, and share no label and no sector with the others. Its image version is theirs.
     ///
     /// # Errors
-    /// The first cause of `AddFault` that holds, or `NoMemory`. The map is as it was.
+    /// The first cause of `AddFault` that holds. The map is as it was.
     pub fn add(&mut self, banks: &[Bank], area: Area) -> Result<(), AddFault>
         requires { All (HasVersion area.version) self.old }
         ensures { Adds banks.now self.old self.new area result }
@@ -113,7 +113,7 @@ impl FlashMap {
         self.areas.len()
     }
 
-    /// The area at this index, counted from 0.
+    /// The area at this index, counted from 0; `None` past the end.
     pub fn at(&self, index: usize) -> Option<&Area>
         ensures { option_copied result ≡ slice_get self.now index }
     {
@@ -123,7 +123,7 @@ impl FlashMap {
         }
     }
 
-    /// The index of the area with this label.
+    /// The index of the area with this label, if there is one.
     pub fn index_of(&self, label: &str) -> Option<usize>
         ensures { result ≡ position (has_label label.now) self.now }
     {

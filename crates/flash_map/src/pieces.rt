@@ -10,16 +10,18 @@ ghost use Rattle.flash_map.specs.Units.{padded, padded_bytes};
 use crate::{Area, area_program, geometry};
 use flash_sim::{Flash, PowerLost};
 
-/// The most bytes of one call. Every unit divides it.
+/// The most bytes that `program_all` and `program_padded` program in one call. Every unit divides
+/// it.
 pub const PIECE: usize = 400;
 
 // The bytes of the greatest unit.
 const UNIT: usize = 16;
 
-/// Programs any number of whole units of one sector, upward and in calls of at most `PIECE` bytes.
+/// Programs any number of whole units of one sector, upward, in calls of at most `PIECE` bytes.
 ///
 /// # Errors
-/// Where power was off, nothing changed. Where it was lost in the call, fewer than all units were put, the lowest first.
+/// `PowerLost` if power was off: nothing changed. Or if it was lost in the call: fewer than all
+/// units are programmed, the lowest first.
 #[tactic(auto, using(crate::proofs::Touches::then))]
 pub fn program_all<F: Flash>(
     flash: &mut F,
@@ -65,11 +67,12 @@ fn last_unit(bytes: &[u8]) -> [u8; UNIT]
     unit
 }
 
-/// Programs any number of bytes of one sector, with FF behind them up to whole units, upward and in
-/// calls of at most `PIECE` bytes.
+/// Programs any number of bytes of one sector, with FF behind them up to whole units. It programs
+/// upward, in calls of at most `PIECE` bytes.
 ///
 /// # Errors
-/// Where power was off, nothing changed. Where it was lost in the call, fewer than all units were put, the lowest first.
+/// `PowerLost` if power was off: nothing changed. Or if it was lost in the call: fewer than all
+/// units are programmed, the lowest first.
 pub fn program_padded<F: Flash>(
     flash: &mut F,
     area: &Area,

@@ -1,5 +1,5 @@
--- The bytes of a bank in one buffer: a sector of FF that all erased sectors share, and behind it a place for
--- each sector.
+-- The bytes of a bank in one buffer: a sector of FF that all erased sectors share, and behind it a
+-- place for each sector.
 use Rattle.std.specs.Prelude.{◌≡◌, ℕ, ◌+◌, ◌*◌, ◌<◌, List, [], ◌∷◌, ◌++◌, length, take, drop, replicate, slice_index}
 
 -- the bytes of all sectors, each from its start in the buffer on

@@ -1,4 +1,4 @@
--- What a `SparseSim` shows.
+-- The device that a `SparseSim` is.
 use Rattle.flash_sim.specs.declared.sparse_sim.SparseSim.{SparseSim}
 use Rattle.flash_sim.specs.Device.{Device}
 use Rattle.flash_sim.specs.FlatSim.{plan_of}

@@ -1,4 +1,4 @@
-// The bytes of one bank, of which erased sectors take none but those that they share.
+// The bytes of one bank, whose erased sectors share one sector of FF.
 ghost use Rattle.std.specs.Prelude.{◌≡◌, ℕ, ◌+◌, ◌*◌, ◌/◌, ◌%◌, ◌<◌, ◌≤◌, length, take, drop, replicate, slice_index, slice_range, vec_len, IfOk};
 ghost use Rattle.flash_sim.specs.Sparse.{IsShaped};
 ghost use Rattle.flash_sim.specs.Device.{overwritten};
@@ -13,8 +13,7 @@ pub(crate) struct Sectors {
     /// Bytes of a sector.
     size: usize,
     buffer: Vec<u8>,
-    /// Where the bytes of each sector start in the buffer: at its place, or at 0 where it is
-    /// erased.
+    /// Where the bytes of each sector start in the buffer: at its place, or at 0 if it is erased.
     starts: Vec<usize>,
     ghost shaped: { IsShaped size buffer.items starts.items },
 }

@@ -1,5 +1,5 @@
-// A flash in memory that loses power exactly where an armed count is used up, and keeps the bytes
-// of erased sectors once.
+// A flash in memory that loses power exactly when its plan is used up, and keeps the bytes of
+// erased sectors once.
 ghost use Rattle.std.specs.Prelude.{◌≡◌, ◌+◌, ◌*◌, ◌/◌, ◌%◌, ◌<◌, ◌≤◌, ◌∷◌, length, map, IfOk, OnOk, OnErr, Option, Some, None, [], slice_index, slice_index_or, slice_range, slice_set, replicate, vec_len};
 ghost use Rattle.flash_sim.specs.Bank.{IsLawful};
 ghost use Rattle.flash_sim.specs.BankBytes.{bytes_in, all_bytes, sizes, HaveSizes};
@@ -12,9 +12,9 @@ use crate::{At, Bank, Bench, Flash, Loss, NoMemory, PROGRAM_LIMIT, PowerLost, St
 use std::alloc::{AllocError, Global};
 use std::sync::ledger::Ledger;
 
-/// A flash in memory. An erase gives a sector's place back and writes no byte: erased sectors share
-/// their bytes. It takes memory where it is loaded alone, and shows its plan: power is lost just
-/// where that says.
+/// A flash in memory whose erased sectors share one sector of FF, so an erase writes no byte. Of
+/// all that change it, only `load` allocates. Its plan is known: power is lost exactly when it
+/// says.
 #[derive(Drop)]
 pub struct SparseSim {
     banks: Vec<Bank>,
@@ -34,7 +34,7 @@ impl SparseSim {
     ghost use Rattle.flash_sim.specs.Device.{Never, cut};
     ghost use Rattle.flash_sim.specs.SparseSim.{device_of};
 
-    /// A flash with no bank, and with power on.
+    /// A flash with no banks and no planned loss, with power on and all counts 0.
     pub fn new(alloc: Global) -> SparseSim
         ensures { device_of result
             ≡ record {

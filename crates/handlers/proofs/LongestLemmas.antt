@@ -51,7 +51,7 @@ depth_at subtrees name k lt = get_or-map (depth name) subtrees k [] 0 lt
 
 -- ---- the longest
 
--- what the best place reports
+-- what makes a place the best one
 record IsDeepest (subtrees : List (List ℕ)) (name : List ℕ) (place : ℕ) : Type 0 where
   within : place < length subtrees
   some : 0 < depth name (get_or subtrees place [])

@@ -5,7 +5,7 @@ use Rattle.std.specs.Option.{option_map_or}
 use Rattle.setting_name.specs.Name.{parts_of}
 use Rattle.setting_name.specs.Match.{matched_rest}
 
--- with how many parts a subtree matches a name; 0 where it does not match
+-- how many parts of a name a subtree matches; 0 if it does not match
 abbrev pub depth : List ℕ → List ℕ → ℕ
 depth name subtree = option_map_or (λ rest. length (parts_of subtree)) (matched_rest name subtree) 0
 
@@ -13,7 +13,7 @@ depth name subtree = option_map_or (λ rest. length (parts_of subtree)) (matched
 abbrev pub is_greatest : List ℕ → ℕ → Bool
 is_greatest numbers n = nat_lt 0 n && list_all (λ m. nat_le m n) numbers
 
--- the place of the subtree that matches the name with the most parts, of the first where there are several
+-- the place of the subtree that matches the name with the most parts; the first of several
 abbrev pub best : List (List ℕ) → List ℕ → Option ℕ
 best subtrees name = position (is_greatest (map (depth name) subtrees)) (map (depth name) subtrees)
 

@@ -23,11 +23,11 @@ pub record HandlerState : Type 0 where
 abbrev pub fresh : HandlerKind → HandlerState
 fresh kind = record { kind = kind; held = empty; commits = 0 }
 
--- once it holds the value of one more rest, or another value of it
+-- the handler once it holds this value for this rest
 abbrev pub given : HandlerState → List ℕ → List ℕ → HandlerState
 given h rest value = record h { held = insert h.held rest value }
 
--- once it was committed once more; the count stands still at its last value
+-- the handler after one commit more; the count stays at 2^64 - 1
 abbrev pub committed : HandlerState → HandlerState
 committed h = record h { commits = h.commits + min 1 (2 ^ 64 - 1 - h.commits) }
 
@@ -38,7 +38,7 @@ SetEnds before after rest value (Ok x) =
 SetEnds before after rest value (Err Rejected) = (accepts before.kind value ≡ false) × (after ≡ before)
 SetEnds before after rest value (Err NoMemory) = (accepts before.kind value ≡ true) × (after ≡ before)
 
--- the pair with this many before it, in the order of rests
+-- the pair at place `i` in the order of rests
 abbrev pub pair_at : Held → ℕ → Option (List ℕ × List ℕ)
 pair_at held i = slice_get (entries held) i
 

@@ -1,4 +1,4 @@
--- A tree of owned texts as a finite map.
+-- A tree of owned byte strings as a finite map.
 use Rattle.std.specs.Prelude.{ℕ, List, map, T}
 use Rattle.std.specs.FinMap.{FinMap, from_sorted, is_sorted}
 use Rattle.std.specs.Ordering.{nat_cmp}
@@ -17,6 +17,6 @@ module _ {A : Type 0} where
   abbrev pub held_of : BTreeMap (Vec ℕ A) (Vec ℕ A) → Held
   held_of tree = from_sorted (map texts_of tree.entries)
 
-  -- its rests rise
+  -- its rests are in rising order
   abbrev pub IsHeld : BTreeMap (Vec ℕ A) (Vec ℕ A) → Type 0
   IsHeld tree = T (is_sorted (slice_cmp nat_cmp) (map texts_of tree.entries))

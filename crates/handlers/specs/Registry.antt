@@ -23,7 +23,7 @@ module _ {B : Type 0} where
   abbrev pub has_subtree : List (Row B) → List ℕ → Bool
   has_subtree rows subtree = list_any (λ row. bytes_eq subtree row.subtree) rows
 
-  -- how registering a handler ends; it comes back where it was refused
+  -- how a registration ends; a handler that is refused comes back
   abbrev pub RegisterEnds : List (Row B) → List (Row B) → List ℕ → B → Result (Unit {0}) (RegisterFault × B)
       → Type 0
   RegisterEnds before after subtree handler (Ok x) =
@@ -44,11 +44,11 @@ module _ {B : Type 0} where
 
 -- ---- one handler
 
--- nothing, with which a place behind the last one is read
+-- what stands for a place past the last one
 abbrev pub nobody : Registered
 nobody = record { subtree = []; state = fresh Table }
 
--- once the handler at this place is in this state, and all others stay
+-- the handlers once the one at this place is in this state; all others stay
 abbrev pub with_state : List Registered → ℕ → HandlerState → List Registered
 with_state handlers i state = set handlers i (record (get_or handlers i nobody) { state = state })
 

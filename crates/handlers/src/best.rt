@@ -6,7 +6,7 @@ ghost use Rattle.handlers.specs.Best.{best, depth};
 use crate::registry::Row;
 use setting_name::Name;
 
-/// The place of the row whose subtree matches the name with the most parts.
+/// The place of the row whose subtree matches the name with the most parts; the first of several.
 pub(crate) fn best_row<B>(rows: &[Row<B>], name: &Name) -> Option<usize>
     ensures { result ≡ best (map (λ row. row.subtree) rows.now) name.now }
 {

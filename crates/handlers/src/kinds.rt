@@ -7,7 +7,7 @@ use crate::pairs::Pairs;
 use crate::{Handler, HandlerKind, SetRefusal, ValueView};
 use std::alloc::Global;
 
-/// Holds every value.
+/// A handler that accepts every value.
 #[derive(Drop)]
 pub struct TableHandler {
     held: Pairs,
@@ -15,6 +15,7 @@ pub struct TableHandler {
 }
 
 impl TableHandler {
+    /// A handler that holds nothing and was never committed.
     pub fn new(alloc: Global) -> TableHandler
         ensures { ⟦<TableHandler as Handler>⟧.state result ≡ fresh Table }
     {
@@ -56,7 +57,7 @@ impl Handler for TableHandler {
     }
 }
 
-/// Holds values of four bytes.
+/// A handler that accepts values of four bytes.
 #[derive(Drop)]
 pub struct CounterHandler {
     held: Pairs,
@@ -64,6 +65,7 @@ pub struct CounterHandler {
 }
 
 impl CounterHandler {
+    /// A handler that holds nothing and was never committed.
     pub fn new(alloc: Global) -> CounterHandler
         ensures { ⟦<CounterHandler as Handler>⟧.state result ≡ fresh Counter }
     {
@@ -108,7 +110,7 @@ impl Handler for CounterHandler {
     }
 }
 
-/// Holds values of one byte of at most 100.
+/// A handler that accepts values of one byte, at most 100.
 #[derive(Drop)]
 pub struct LevelHandler {
     held: Pairs,
@@ -116,6 +118,7 @@ pub struct LevelHandler {
 }
 
 impl LevelHandler {
+    /// A handler that holds nothing and was never committed.
     pub fn new(alloc: Global) -> LevelHandler
         ensures { ⟦<LevelHandler as Handler>⟧.state result ≡ fresh Level }
     {

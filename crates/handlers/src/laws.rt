@@ -5,8 +5,8 @@ ghost use Rattle.handlers.specs.Best.{AreDistinct, IsLongest, best};
 ghost use Rattle.handlers.specs.Held.{HandlerState};
 ghost use Rattle.handlers.specs.Registry.{Registered, subtrees, with_state};
 
-/// Of distinct subtrees the best one for a name is the longest that matches it, there is at most
-/// one such, and there is none only where none matches.
+/// Of distinct subtrees, the best one for a name is the longest that matches it. There is at most
+/// one such, and `best` gives none only if no subtree matches.
 pub fn longest_is_best()
     ensures longest { (subtrees : List (List ℕ)) (name : List ℕ) (place : ℕ) → AreDistinct subtrees
         → best subtrees name ≡ Some place → IsLongest subtrees name place }
@@ -16,7 +16,7 @@ pub fn longest_is_best()
         → k < length subtrees → matched_rest name (get_or subtrees k []) ≡ None }
 {}
 
-/// A handler that comes into another state keeps its subtree, and so do all others.
+/// A change of one handler's state leaves all subtrees as they are.
 pub fn subtrees_stay()
     ensures { (handlers : List Registered) (place : ℕ) (state : HandlerState)
         → subtrees (with_state handlers place state) ≡ subtrees handlers }

@@ -8,7 +8,7 @@ use std::alloc::{AllocError, Global};
 use std::collections::BTreeMap;
 use std::marker::Model;
 
-/// Values by rests.
+/// A map from rests to values.
 #[derive(Drop)]
 pub struct Pairs {
     pairs: BTreeMap<Vec<u8>, Vec<u8>>,
@@ -30,6 +30,7 @@ impl Model for Pairs {
 }
 
 impl Pairs {
+    /// An empty map.
     pub fn new(alloc: Global) -> Pairs
         ensures { result ≡ finite.empty }
     {
@@ -38,6 +39,10 @@ impl Pairs {
         }
     }
 
+    /// Gives a rest a value.
+    ///
+    /// # Errors
+    /// `AllocError`: the map is as before.
     pub fn put(&mut self, alloc: Global, rest: &[u8], value: &[u8]) -> Result<(), AllocError>
         ensures ok { OnOk result (self.new ≡ finite.insert self.old rest.now value.now) }
         ensures err { OnErr result (self.new ≡ self.old) }
@@ -48,6 +53,7 @@ impl Pairs {
         Ok(())
     }
 
+    /// The value of a rest; `None` if it has none.
     pub fn get(&self, rest: &[u8]) -> Option<&[u8]>
         ensures { option_map (λ value. value.now) result ≡ finite.get self.now rest.now }
     {
@@ -57,6 +63,8 @@ impl Pairs {
         }
     }
 
+    /// The rest and value at place `i` in the byte order of rests; `None` if there are no
+    /// more than `i`.
     pub fn at(&self, i: usize) -> Option<(&[u8], &[u8])>
         ensures pair { option_map seen result ≡ pair_at self.now i }
         ensures few { length (finite.entries self.now) < 2 ^ 64 }

@@ -1,4 +1,4 @@
-// Handlers with their subtrees.
+// The registry of handlers.
 ghost use Rattle.std.specs.Prelude.{◌≡◌, ℕ, ◌<◌, List, [], ◌∷◌, ◌++◌, length, map, IfSome, option_map, slice_get};
 ghost use Rattle.handlers.specs.Held.{SetEnds, committed};
 ghost use Rattle.handlers.specs.Best.{AreDistinct, best};
@@ -12,8 +12,9 @@ use std::alloc::Global;
 /// Why a handler was not registered.
 #[derive(Clone, Copy, Debug, PartialEq, Eq)]
 pub enum RegisterFault {
-    /// The subtree is registered.
+    /// The subtree is registered already.
     Exists,
+    /// There was not enough memory.
     NoMemory,
 }
 
@@ -48,17 +49,18 @@ impl Row<Box<dyn Handler>> {
     }
 }
 
-/// Handlers with their subtrees, in the order in which they were registered. It is generic in what
-/// it keeps, so that other crates may move boxes into it.
+/// The registered handlers with their subtrees, in the order of registration. It is generic in what
+/// it keeps, so that other crates can move boxes into it.
 #[derive(Drop)]
 pub struct RegistryOf<B> {
     rows: Vec<Row<B>>,
 }
 
-/// The boxes of handlers.
+/// A registry of boxed handlers.
 pub type Registry = RegistryOf<Box<dyn Handler>>;
 
 impl<B: Drop> RegistryOf<B> {
+    /// An empty registry.
     pub fn new(alloc: Global) -> RegistryOf<B>
         ensures { result.rows.items ≡ [] }
     {
@@ -67,11 +69,11 @@ impl<B: Drop> RegistryOf<B> {
         }
     }
 
-    /// Registers a handler behind all others.
+    /// Registers a handler as the last one.
     ///
     /// # Errors
-    /// `Exists` exactly where the subtree is registered; `NoMemory` only where it is not. Nothing changes then, and the box
-    /// comes back. So distinct subtrees stay distinct.
+    /// `Exists` exactly if the subtree is registered already; `NoMemory` only if it is not. Nothing
+    /// changes then, and the handler comes back.
     pub fn register(&mut self, subtree: Name, handler: B) -> Result<(), (RegisterFault, B)>
         ensures ends { RegisterEnds self.old.rows.items self.new.rows.items subtree handler result }
         ensures distinct { AreDistinct (map (λ row. row.subtree) self.old.rows.items)
@@ -88,19 +90,22 @@ impl<B: Drop> RegistryOf<B> {
 }
 
 impl RegistryOf<Box<dyn Handler>> {
-    /// The place of the handler whose subtree matches the name with the most parts.
+    /// The place of the handler whose subtree matches the name with the most parts; `None`
+    /// if none matches.
     pub fn best(&self, name: &Name) -> Option<usize>
         ensures { result ≡ best (subtrees (registered state self.now)) name.now }
     {
         best_row(&self.rows, name)
     }
 
+    /// How many handlers are registered.
     pub fn len(&self) -> usize
         ensures { result ≡ length (registered state self.now) }
     {
         self.rows.len()
     }
 
+    /// The subtree of the handler at a place; `None` if the place is past the last one.
     pub fn subtree(&self, i: usize) -> Option<&Name>
         ensures { option_map (λ name. name.now) result
             ≡ option_map (λ h. h.subtree) (slice_get (registered state self.now) i) }
@@ -108,6 +113,7 @@ impl RegistryOf<Box<dyn Handler>> {
         Some(&self.rows.get(i)?.subtree)
     }
 
+    /// The handler at a place; `None` if the place is past the last one.
     pub fn handler(&self, i: usize) -> Option<&dyn Handler>
         ensures { option_map (λ h. (Handler-dyn h.now).state h.now.1) result
             ≡ option_map (λ h. h.state)
@@ -119,7 +125,7 @@ impl RegistryOf<Box<dyn Handler>> {
         }
     }
 
-    /// Gives the handler a value.
+    /// Gives the handler at a place a value for a rest.
     ///
     /// # Errors
     /// Those of `Handler::set`; nothing changes then.
@@ -137,7 +143,7 @@ impl RegistryOf<Box<dyn Handler>> {
         self.rows[i].set(alloc, rest, value)
     }
 
-    /// Commits the handler.
+    /// Commits the handler at a place.
     pub fn commit_at(&mut self, i: usize)
         requires { i < length (registered state self.old) }
         ensures { registered state self.new ≡ commit_at (registered state self.old) i }

@@ -24,7 +24,7 @@ one_kind Erasing Rewritable same = absurd cc
 one_kind Rewritable Erasing same = absurd cc
 one_kind Rewritable Rewritable same = refl
 
--- the letter behind `area=` reports the role
+-- the letter behind `area=` gives the role
 abbrev role_reported : List ℕ → Role
 role_reported word = cond (get_or word 5 0 == 110) Nvs (cond (get_or word 5 0 == 122) Zms (cond (get_or word 5 0 == 102) Fcb Sel))
 
@@ -71,7 +71,7 @@ one_area a b versions is other plain plain_other same =
     ∙ ap (λ (n : ℕ). area_with b.version b.label.bytes b.role b.bank b.first n) sectors
     ∙ plain_other
 
--- the item that reports the version is one word
+-- the item that names the version is one word
 not_version : (item : List ℕ) (old any : Listed) {other : Listed} → AddsVersion old item other → AddsBank old item any ⊎ AddsArea old item any → ⊥
 not_version item old any x (inl y) = let many = ap length (sym (ap (parts 47) x.word) ∙ y.words) in absurd (omega arith)
 not_version item old any x (inr y) = let many = ap length (sym (ap (parts 47) x.word) ∙ y.words) in absurd (omega arith)

@@ -111,7 +111,7 @@ found_answer version item other old_banks banks old_areas areas None (Some area)
 found_answer version item other old_banks banks old_areas areas None None b lawful is_bank is_area takes =
     subst (λ (x : Bool). TakesItem item (listed version old_banks old_areas) (listed version banks areas) (Ok x)) (sym (false_is b takes)) (λ any adds. no_answer version item other old_banks old_areas lawful.few_banks lawful.each_bank is_bank is_area any adds)
 
--- the item that reports the version is one word
+-- the item that names the version is one word
 pub version_answer : (item : List ℕ) (old new : Listed) (b : Bool) → item ≡ version_word → TakesVersion old new b → TakesItem item old new (Ok b)
 version_answer item old new true word takes = inl (record { word = word; first = takes.0; is = takes.1 })
 version_answer item old new false word takes = λ any adds. by_item item old any (λ a. takes a.first)

@@ -58,8 +58,8 @@ area_text area =
     ++ (to_le_bytes w16 area.sectors
     ++ (length area.label.bytes ∷ 0 ∷ (area.label.bytes ++ replicate (8 - length area.label.bytes) 0))))
 
--- the letters ZSIM, the version, numbers of banks and areas, a zero; the banks, the areas, the bytes of each
--- bank
+-- the letters ZSIM, the version, numbers of banks and areas, a zero; the banks, the areas, the
+-- bytes of each bank
 unfoldable pub file_of : Plain → List ℕ
 file_of image =
     0x5A ∷ 0x53 ∷ 0x49 ∷ 0x4D ∷ image.version ∷ length image.banks ∷ length image.areas ∷ 0 ∷

@@ -57,7 +57,8 @@ is_sel Sel = true
 abbrev pub is_selector : Area → Bool
 is_selector area = is_sel area.role
 
--- at least one store area, at most one selector, and a selector where there are two store areas or more
+-- at least one store area, at most one selector, and a selector if there are two store areas or
+-- more
 pub record HasNeeded (areas : List Area) : Type 0 where
   pub some_store : count_by is_selector areas < length areas
   pub one_selector : count_by is_selector areas ≤ 1

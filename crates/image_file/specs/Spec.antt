@@ -89,8 +89,8 @@ abbrev pub AddsAll : Listed → List (List ℕ) → Listed → Type 0
 AddsAll old [] new = new ≡ old
 AddsAll old (item ∷ items) new = (mid : Listed) × Adds old item mid × AddsAll mid items new
 
--- the n-th item, counted from 1, is the first that may not be added; one behind the last item stands for
--- areas that the whole needs and lacks
+-- the n-th item, counted from 1, is the first that may not be added; one past the last item stands
+-- for an area that an image needs and that is missing
 abbrev pub FirstBad : Listed → List (List ℕ) → ℕ → Type 0
 FirstBad old [] n = (HasNeeded old.areas → ⊥) × (n ≡ 1)
 FirstBad old (item ∷ items) n =

@@ -1,4 +1,5 @@
--- The fields of a file in their order, what each must be, and where and why a file departs from them first.
+-- The fields of a file in their order, what each must be, and where and why a file departs from
+-- them first.
 use Rattle.std.specs.Prelude.{◌≡◌, ◌⊎◌, ⊤, ℕ, ◌+◌, ◌<◌, ◌≤◌, List, [], ◌∷◌, ◌++◌, ◌==◌, true, length, take, drop, map, slice_index}
 use Rattle.std.specs.List.{range_with_len, list_all}
 use Rattle.flash_sim.specs.declared.flash.Bank.{Bank}

@@ -15,10 +15,10 @@ use arrayvec::ArrayString;
 use flash_map::{Area, Role};
 use flash_sim::{Bank, Kind};
 
-/// The bytes of a field, from a place on and so many, both in bytes.
+/// The bytes of a field: `size` of them from the place `at` on.
 ///
 /// # Errors
-/// `Bad`, with `Short` at the file's end, only where the file ends inside the field.
+/// `Bad`, with `Short` at the file's end, if the file ends inside the field.
 pub fn field(bytes: &[u8], at: usize, size: usize) -> Result<&[u8], ImageFault>
     requires { at ≤ length bytes.now }
     ensures { Reads
@@ -77,8 +77,7 @@ fn role_of(byte: u8) -> Option<Role>
     }
 }
 
-/// The bank that a field spells in a file of this version; none where it spells none that is
-/// lawful.
+/// The bank that a field spells in a file of this version; `None` if it spells no lawful one.
 #[tactic(auto, unfolding(crate::specs::Said::bank_said))]
 pub fn bank_of(version: u8, text: &[u8]) -> Option<Bank>
     requires { length text.now ≡ 12 }
@@ -99,7 +98,7 @@ pub fn bank_of(version: u8, text: &[u8]) -> Option<Bank>
     }
 }
 
-/// The area that a field spells, wherever it stands; none where it spells none with a lawful label.
+/// The area that a field spells, wherever it lies; `None` if it spells none with a lawful label.
 #[tactic(auto, unfolding(crate::specs::Said::area_said))]
 pub fn area_of(version: u8, text: &[u8]) -> Option<Area>
     requires { length text.now ≡ 16 }
@@ -149,7 +148,7 @@ fn all_zero(bytes: &[u8]) -> bool
     bytes.iter().all(|byte| *byte == 0)
 }
 
-/// The label that these bytes are; none where they are no lawful one.
+/// The label that these bytes spell; `None` if they spell no lawful one.
 pub fn label_from(label: &[u8]) -> Option<ArrayString<8>>
     ensures { MatchOption result (IsLabel label.now → ⊥)
         (λ text. (text.bytes ≡ label.now) × IsLabel label.now) }

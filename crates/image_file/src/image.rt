@@ -1,4 +1,4 @@
-// Images, and why bytes or words are none.
+// Images, and why bytes or a word describe none.
 ghost use Rattle.std.specs.Prelude.{◌≡◌};
 ghost use Rattle.image_file.specs.declared.image.ImageFault.TheVariants.{NoMemory};
 ghost use Rattle.image_file.specs.declared.image.SpecFault.TheVariants.{NoMemory as OutOfMemory};
@@ -11,8 +11,11 @@ use thiserror::Error;
 /// Banks, the areas on them, and the bytes of each bank.
 #[derive(Drop)]
 pub struct Image {
+    /// The banks in order.
     pub banks: Vec<Bank>,
+    /// The areas on the banks.
     pub map: FlashMap,
+    /// The bytes of each bank.
     pub bytes: Vec<Vec<u8>>,
 }
 
@@ -25,19 +28,20 @@ pub enum ImageWhy {
     BadVersion,
     /// The number of banks is not 1 or 2, or a field is no lawful bank.
     BadBank,
-    /// The number of areas is not 1 to 8, a field is no area that may stand on the banks beside
-    /// those before it, or the areas are not those that an image needs.
+    /// The number of areas is not 1 to 8, a field is no area that may stand beside those before it,
+    /// or the areas are not those that an image needs.
     BadArea,
-    /// It ends inside a field or a bank's bytes.
+    /// The file ends inside a field or inside a bank's bytes.
     Short,
-    /// Bytes stand behind those of the last bank.
+    /// Bytes follow those of the last bank.
     Long,
 }
 
 /// Why no image was read from bytes.
 #[derive(Clone, Copy, Debug, PartialEq, Eq, Error)]
 pub enum ImageFault {
-    /// The first place of the file that departs from the format, in bytes, and how it does.
+    /// The bytes are no image's file: `at` is the first byte that departs from the format, counted
+    /// from 0, and `why` says how.
     #[error("no image file: byte {at} departs from the format")]
     Bad { at: u64, why: ImageWhy },
     /// Memory ran out; nothing is said of the bytes.
@@ -72,8 +76,8 @@ impl From<flash_sim::NoMemory> for ImageFault {
 /// Why no image was made of a word.
 #[derive(Clone, Copy, Debug, PartialEq, Eq, Error)]
 pub enum SpecFault {
-    /// The first item that may not be added to those before it, counted from 1, or the number of
-    /// items and one more where an area is missing that the whole needs.
+    /// The first item that may not be added to those before it, counted from 1. If an area that an
+    /// image needs is missing, it is the number of items plus 1.
     #[error("item {item} is refused")]
     BadSpec { item: u32 },
     /// Memory ran out; nothing is said of the word.

@@ -13,8 +13,7 @@ use flash_sim::{Bank, Kind, NoMemory};
 /// The fewest bytes of a sector.
 pub const LEAST_SECTOR: u32 = 512;
 
-/// The fewest bytes of a sector in an image of version 2, where a sector has room for longer
-/// values.
+/// The fewest bytes of a sector in an image of version 2, which has longer values.
 pub const LEAST_LONG_SECTOR: u32 = 4096;
 
 /// The most bytes of a sector.
@@ -68,11 +67,11 @@ fn stands_on(role: Role, bank: &Bank) -> bool
     }
 }
 
-/// Adds an area that may stand beside those of the map, and says whether it may. A refusal leaves
+/// Adds the area if it may stand beside those of the map, and says whether it may. A refusal leaves
 /// the map as it was.
 ///
 /// # Errors
-/// Want of memory alone.
+/// Out of memory, and nothing else.
 pub fn take_area(areas: &mut FlashMap, banks: &[Bank], area: Area) -> Result<bool, NoMemory>
     requires label { IsLabel area.label.bytes }
     requires version { All (HasVersion area.version) areas.old }
@@ -96,7 +95,8 @@ pub fn take_area(areas: &mut FlashMap, banks: &[Bank], area: Area) -> Result<boo
     }
 }
 
-/// Whether the areas that an image needs are there, and no selector too many.
+/// Whether the areas are those that an image needs: at least one store, at most one selector, and a
+/// selector if there are two stores or more.
 pub fn has_needed(areas: &FlashMap) -> bool
     ensures { IsTrue result ↔ HasNeeded (map plain_area areas.now) }
 {

@@ -11,7 +11,7 @@ use flash_sim::{Bank, Kind};
 use std::alloc::{AllocError, Global};
 use text_parts::read_number;
 
-/// The numbers of items end here.
+/// Numbers in items are below this.
 const NUMBERS_END: u64 = 4_294_967_296;
 
 // The number that a word is.
@@ -73,10 +73,10 @@ fn bank_from(
     })
 }
 
-/// The bank that an item describes; none only where it describes no lawful one.
+/// The bank that an item describes; `None` only if it describes no lawful one.
 ///
 /// # Errors
-/// Want of memory alone.
+/// Out of memory, and nothing else.
 pub fn bank_item(alloc: Global, item: &[u8]) -> Result<Option<Bank>, AllocError>
     ensures { IfOk result (IsBankItem item.now) }
 {
@@ -106,11 +106,11 @@ fn area_from(
     Some(Area::new(label, role, bank as usize, first, sectors, version))
 }
 
-/// The area of an image of this version that an item describes; none only where it describes none
+/// The area of an image of this version that an item describes; `None` only if it describes none
 /// with a lawful label and numbers below 2^32.
 ///
 /// # Errors
-/// Want of memory alone.
+/// Out of memory, and nothing else.
 pub fn area_item(alloc: Global, item: &[u8], version: u8) -> Result<Option<Area>, AllocError>
     ensures { IfOk result (IsAreaItem version item.now) }
 {

@@ -15,7 +15,7 @@ fn next_word(rest: Option<&[u8]>) -> Option<(&[u8], Option<&[u8]>)>
     }
 }
 
-/// The four words of an item; none where it has more or fewer.
+/// The four words of an item; `None` if it has more or fewer.
 pub fn four_words(item: &[u8]) -> Option<(&[u8], &[u8], &[u8], &[u8])>
     ensures { MatchOption result (length (parts 47 item.now) ≢ 4)
         (λ words. parts 47 item.now ≡ words.0.now ∷ words.1.now ∷ words.2.now ∷ words.3.now ∷ []) }
@@ -27,7 +27,7 @@ pub fn four_words(item: &[u8]) -> Option<(&[u8], &[u8], &[u8], &[u8])>
     }
 }
 
-/// The five words of an item; none where it has more or fewer.
+/// The five words of an item; `None` if it has more or fewer.
 pub fn five_words(item: &[u8]) -> Option<(&[u8], &[u8], &[u8], &[u8], &[u8])>
     ensures { MatchOption result (length (parts 47 item.now) ≢ 5)
         (λ words. parts 47 item.now

@@ -208,11 +208,11 @@ fn read_contents(
     Ok(copies)
 }
 
-/// The image that the bytes of a file are.
+/// Reads the bytes of a file as an image.
 ///
 /// # Errors
-/// `Bad` only where the bytes are the file of no image: the first place, in bytes, where they depart from the format,
-/// and how. `NoMemory`.
+/// `Bad` if the bytes are no image's file: it gives the first byte that departs from the format,
+/// counted from 0, and how it departs. `NoMemory` if memory runs out.
 pub fn read_image(alloc: Global, bytes: &[u8]) -> Result<Image, ImageFault>
     ensures { ReadsImage bytes.now result }
 {

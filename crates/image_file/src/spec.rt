@@ -53,7 +53,7 @@ fn take_bank(
     }
 }
 
-// Whether the area is no second selector.
+// Whether the area is not a second selector.
 fn is_alone(areas: &FlashMap, role: Role) -> bool
     ensures { IsTrue result
         ↔ (is_sel role ≡ true → count_by is_selector (map plain_area areas.now) ≡ 0) }
@@ -107,7 +107,7 @@ fn is_version(item: &[u8]) -> bool
     item == b"version=2".as_slice()
 }
 
-// Takes the second version, if nothing was added yet, and says whether it was.
+// Takes version 2 if nothing was added yet, and says whether it did.
 fn take_version(version: &mut u8, banks: &[Bank], areas: &FlashMap) -> bool
     ensures { TakesVersion (listed version.old banks.now areas.now)
         (listed version.new banks.now areas.now) result }
@@ -185,14 +185,16 @@ fn blank_banks(alloc: Global, banks: &[Bank]) -> Result<Vec<Vec<u8>>, AllocError
     Ok(copies)
 }
 
-/// The blank image that a word describes, all FF.
+/// The blank image that a word describes. All its bytes are FF.
 ///
-/// The items stand between commas. The first may be `version=2`; without it the version is 1. Then come the banks: `bank=KIND/UNIT/SECTOR/COUNT`, a unit and a sector in bytes, and
-/// `area=ROLE/LABEL/BANK/FIRST/SECTORS`, the bank and the area's first sector counted from 0.
+/// Commas separate the items. The first may be `version=2`; without it the version is 1. Then come
+/// the banks, `bank=KIND/UNIT/SECTOR/COUNT`, with unit and sector in bytes. The areas follow,
+/// `area=ROLE/LABEL/BANK/FIRST/SECTORS`, with the bank and the first sector counted from 0.
 ///
 /// # Errors
-/// `BadSpec` only where the word describes no image: the first item that may not be added to those before it, counted
-/// from 1, or the number of items and one more where an area is missing that the whole needs. `NoMemory`.
+/// `BadSpec` if the word describes no image. It gives the first item that may not be added to those
+/// before it, counted from 1; if an area that an image needs is missing, the number of items plus
+/// 1. `NoMemory` if memory runs out.
 pub fn read_spec(alloc: Global, word: &str) -> Result<Image, SpecFault>
     ensures { ReadsSpec word.now result }
 {

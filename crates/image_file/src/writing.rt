@@ -143,10 +143,10 @@ fn put_image(
     Ok(())
 }
 
-/// The bytes of the file of a lawful image: of these banks, areas and bytes of each bank.
+/// The file of a lawful image with these banks, areas and bytes of each bank.
 ///
 /// # Errors
-/// Want of memory alone.
+/// Out of memory, and nothing else.
 pub fn write_image(
     alloc: Global,
     banks: &[Bank],

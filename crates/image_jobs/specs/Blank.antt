@@ -24,34 +24,35 @@ blank_bytes banks = map (λ bank. replicate (capacity bank) 0xFF) banks
 abbrev pub IsBlankFlash : Device → Type 0
 IsBlankFlash d = d.bytes ≡ blank_bytes d.banks
 
--- each byte of its areas is FF
+-- each byte of an area of a blank flash is FF
 abbrev pub AreasAreBlank : Type 0
 AreasAreBlank = (d : Device) (area : Area) → IsBlankFlash d → IsLawfulFor d.banks area → IsBlank d area
 
 -- ---- the selector
 
--- The selector, where the map has one, shows no damage, and a mount has nothing to erase in it. It names no
--- area, so the first store area is active.
+-- The selector, if the map has one, shows no damage, and a mount has nothing to erase in it. It
+-- names no area, so the first store area is active.
 pub record NamesNone (areas : List Area) (d : Device) : Type 0 where
   pub undamaged : selector_damage_on areas d ≡ None
   pub idle : (selector : Area) → selector_of areas ≡ Some selector → erases_on d selector ≡ 0
   pub first : active_on areas d ≡ first_store areas
 
--- that of a lawful map on a blank flash
+-- this holds for a lawful map on a blank flash
 abbrev pub BlankNamesNone : Type 0
 BlankNamesNone =
     (areas : List Area) (d : Device) → IsBlankFlash d → IsLawfulMap d.banks areas → NamesNone areas d
 
 -- ---- the map
 
--- The map shows no damage, its first store area is active and has no settings, and a mount has nothing to do.
+-- The map shows no damage, its first store area is active and has no settings, and a mount has
+-- nothing to do.
 pub record HoldsNothing (areas : List Area) (d : Device) : Type 0 where
   pub undamaged : damage_in any_damage areas d ≡ None
   pub active : active_on areas d ≡ first_store areas
   pub settings : on any_contents d (active_area areas d) ≡ empty
   pub rests : IsAtRest any_rests areas d
 
--- that of a lawful image each byte of which is FF
+-- this holds for a lawful image whose bytes are all FF
 abbrev pub BlankHoldsNothing : Type 0
 BlankHoldsNothing =
     (areas : List Area) (d : Device) → IsBlankFlash d → IsImage (held areas d) → HoldsNothing areas d

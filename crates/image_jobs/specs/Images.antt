@@ -20,7 +20,7 @@ left image bench = record image { bytes = bench.bytes }
 abbrev pub begun : Plain → Device → Device
 begun image bench = loaded bench image.banks image.bytes
 
--- The areas are those of the image, whatever the unused room of their labels holds.
+-- The areas are those of the image, whatever the unused bytes of their labels are.
 pub record HasAreas (image : Plain) (areas : List Area) : Type 0 where
   pub version : version_of areas ≡ image.version
   pub are : map plain_area areas ≡ image.areas
@@ -41,7 +41,7 @@ flash_of image =
       plan = Unknown;
     }
 
--- the place of its active area
+-- the place of the image's active area
 abbrev pub active_of : List Area → Plain → ℕ
 active_of areas image = active_on areas (flash_of image)
 

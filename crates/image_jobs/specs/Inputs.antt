@@ -1,5 +1,5 @@
--- Which image a job begins with and which lines it carries out, or why there are none; and what
--- it prints of the answers.
+-- The image that a job begins with and the lines that it carries out, or why there are none; and
+-- what it prints of the answers.
 use Rattle.std.specs.Prelude.{◌≡◌, ℕ, Option, Some, None, List, [], ◌∷◌, ◌++◌, codes}
 use Rattle.text_parts.specs.Parts.{parts}
 use Rattle.zs_host.specs.Outside.{Outside}
@@ -25,7 +25,7 @@ use Rattle.image_jobs.specs.declared.stops.Refusal.TheVariants.{BadSpec}
 use Rattle.image_jobs.specs.Reading.{HasImage, LacksImage, HasScript, LacksScript}
 use Rattle.image_jobs.specs.Texts.{texts, last_text, summary}
 
--- SPEC describes no image: some item is the first that is not lawful
+-- SPEC describes no image: one of its items is the first that is not lawful
 abbrev pub LacksSpec : List ℕ → Refusal → Type 0
 LacksSpec spec refusal = (refusal ≡ BadSpec) × (n : ℕ) × FirstBad nothing_listed (parts 44 spec) n
 
@@ -43,7 +43,7 @@ abbrev pub LacksStart : Start → Outside → Refusal → Type 0
 LacksStart (File name) host refusal = LacksImage host name.now refusal
 LacksStart (Blank kind) host refusal = LacksSpec (blank_spec kind) refusal
 
--- the lines of a job, whose values have at most so many bytes
+-- the lines of a job; their values have at most `limit` bytes
 abbrev pub GivesLines : Source → ℕ → Outside → List Line → Type 0
 GivesLines (Script name) limit host lines = HasScript limit host name.now lines
 GivesLines Names limit host lines = lines ≡ line.Names ∷ []

@@ -1,4 +1,4 @@
--- What a job makes of files, print, flash and handlers.
+-- How a job changes files, print, flash and handlers.
 use Rattle.std.specs.Prelude.{◌≡◌, ◌⊎◌, ⊤, ℕ, true, Option, Some, None, Result, Ok, Err, List, [], ◌∷◌}
 use Rattle.flash_sim.specs.Device.{counted}
 use Rattle.flash_map.specs.declared.area.Area.{Area}
@@ -47,12 +47,12 @@ pub record Builds (out spec : List ℕ) (text : List ℕ) (file : Option File) :
 
 -- ---- what is carried out
 
--- The image of a job, with its areas.
+-- the image of a job, with its areas
 pub record Opens (job : Job) (host : Outside) (image : Plain) (areas : List Area) : Type 0 where
   pub begins : BeginsWith job.start host image
   pub has : HasAreas image areas
 
--- That image, and the lines of the job.
+-- the image and the lines of a job
 pub record Sets (job : Job) (host : Outside) (image : Plain) (areas : List Area) (lines : List Line) :
     Type 0 where
   pub opens : Opens job host image areas
@@ -67,17 +67,17 @@ closing new kinds = moment new.bench new.registry kinds
 
 -- ---- done
 
--- the file of the image that is left, where one is to be written
+-- the file of the image that is left, if one is to be written
 abbrev pub WritesLeft : Option (List ℕ) → Plain → Option File → Type 0
 WritesLeft None image file = file ≡ None
 WritesLeft (Some out) image file = (bytes : List ℕ) × IsImageFile bytes image × (file ≡ Some (out, bytes))
 
--- THE HEADLINE. The text gives the answers that a plain map gives to the opening mount and to the lines,
--- wherever power was lost: the map that the image reads as, in the area that it names as active. OUT is the
--- file of the image with the bytes that are left, and it reads as the map in the end, in the area that is
--- active in the end, also where power is off. The units in the answers are those that the flash has spent,
--- and its losses are the answers that report one. The handlers that were registered hold what the last state
--- says. The flash was loaded once.
+-- THE HEADLINE. The text gives the answers that a plain map gives to the opening mount and to the
+-- lines, wherever power was lost. That map begins as the map that the image reads as, in the area
+-- that it names as active. OUT is the file of the image with the bytes that are left. It reads as
+-- the last map, in the area that is active at the end, even if power is off. The units in the
+-- answers are those that the flash spent, and its losses are the answers that report one. The
+-- handlers that were registered hold what the last state says. The flash was loaded once.
 pub record JobDoes (k : Stores) (kinds : List HandlerKind) (job : Job) (host : Outside) (old new : Stage)
     (text : List ℕ) (file : Option File) : Type 0 where
   pub image : Plain
@@ -90,7 +90,8 @@ pub record JobDoes (k : Stores) (kinds : List HandlerKind) (job : Job) (host : O
       (closing new left_kinds)
   pub reads : ReadsAs k areas image (state_of k.meanings areas (opening old image kinds))
   pub leaves : ReadsAs k areas (left image new.bench) (state_of k.meanings areas (closing new left_kinds))
-  -- an image that shows no damage is left so, and with power on in the end the next mount has nothing to do
+  -- an image that shows no damage is left so, and with power on in the end the next mount
+  -- has nothing to do
   pub undamaged : damage_of k areas image ≡ None → damage_of k areas (left image new.bench) ≡ None
   pub rests : new.bench.is_on ≡ true → IsAtRest k.rests areas new.bench
   pub banks : new.bench.banks ≡ image.banks
@@ -100,8 +101,8 @@ pub record JobDoes (k : Stores) (kinds : List HandlerKind) (job : Job) (host : O
 
 -- ---- refused
 
--- A mount found damage: the first that looked at the selector, or the first that looked at the active area.
--- The image shows some, or no mount would be refused.
+-- A mount found damage, in the selector or in the active area. The image showed some at the start,
+-- or no mount would have been refused.
 pub record FindsDamage (k : Stores) (kinds : List HandlerKind) (job : Job) (host : Outside)
     (old new : Stage) (label : List ℕ) (damage : Damaged) : Type 0 where
   pub image : Plain
@@ -126,15 +127,15 @@ IsDamage k kinds job host old new NoMirror = ⊥
 IsDamage k kinds job host old new (Unfit label) = ⊥
 IsDamage k kinds job host old new (BadScript n why) = ⊥
 
--- there is an image, and no lines
+-- there is an image, but no lines
 pub record LacksLines (job : Job) (host : Outside) (refusal : Refusal) : Type 0 where
   pub image : Plain
   pub areas : List Area
   pub opens : Opens job host image areas
   pub lacks : LacksSource job.source (limit_of areas) host refusal
 
--- In the order in which they are looked at: the image; the lines; and then damage, once the flash is loaded.
--- But for damage flash and handlers are as before.
+-- The causes, in the order in which they are checked: the image, the lines, and damage once the
+-- flash is loaded. Except for damage, flash and handlers are as before.
 abbrev pub Refuses : Stores → List HandlerKind → Job → Outside → Stage → Stage → Refusal → Type 0
 Refuses k kinds job host old new refusal =
     (LacksStart job.start host refusal × (new ≡ old))
@@ -143,8 +144,8 @@ Refuses k kinds job host old new refusal =
 
 -- ---- stopped, since the host failed or memory ran out
 
--- The image was put on the flash, and the lines were carried out up to one that wanted memory, or
--- all of them.
+-- The image was put on the flash, and the lines were carried out up to one for which memory ran
+-- out, or all of them.
 pub record HasBegun (k : Stores) (kinds : List HandlerKind) (job : Job) (host : Outside) (old new : Stage) :
     Type 0 where
   pub image : Plain
@@ -173,7 +174,7 @@ JobEnds k kinds job host host' old new (Err (Refused refusal)) =
 JobEnds k kinds job host host' old new (Err HostFailed) = (new ≡ old) × (host' ≡ failed host)
 JobEnds k kinds job host host' old new (Err NoMemory) = Stops k kinds job host old new × (host' ≡ host)
 
--- what a job ends with where lines stop: the damage of the area at a place is named by its label
+-- how a job ends if its lines stop; the label names the damaged area
 abbrev pub IsStop : List Area → SessionFault → Stop → Type 0
 IsStop areas (IsDamaged place damage) (Refused (BadArea label found)) =
     (label.bytes ≡ (area_at areas place).label.bytes) × (found ≡ damage)

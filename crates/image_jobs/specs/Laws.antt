@@ -1,4 +1,4 @@
--- What the areas of an image are to a session.
+-- What the areas of an image guarantee to a session.
 use Rattle.std.specs.Prelude.{◌≡◌, ◌==◌, if◌then◌else◌, ℕ, List, Some}
 use Rattle.std.specs.List.{slice_get}
 use Rattle.flash_sim.specs.Bank.{IsLawful}
@@ -17,7 +17,7 @@ use Rattle.image_jobs.specs.Held.{held}
 abbrev pub MapsAreLawful : Type 0
 MapsAreLawful = (areas : List Area) (d : Device) → IsImage (held areas d) → IsLawfulMap d.banks areas
 
--- an image stays one whatever bytes its banks hold
+-- an image stays one, whatever bytes its banks hold
 abbrev pub StaysImage : Type 0
 StaysImage = (areas : List Area) (old new : Device) → IsImage (held areas old) → new.banks ≡ old.banks
     → IsLawful new.banks new.bytes → IsImage (held areas new)
@@ -34,7 +34,7 @@ MapsAreServed = (areas : List Area) (d : Device) → IsImage (held areas d) → 
 abbrev pub limit_in : ℕ → ℕ
 limit_in version = if version == 2 then LONG_VALUE_LIMIT else VALUE_LIMIT
 
--- all areas of an image have the limit of its version, and so the map has
+-- all areas of an image, and so the map, have the limit of its version
 abbrev pub OneLimit : Type 0
 OneLimit =
     (areas : List Area) (d : Device) → IsImage (held areas d) → limit_of areas ≡ limit_in (version_of areas)

@@ -1,4 +1,4 @@
--- What reading files from a host answers.
+-- How the reading of files from a host ends.
 use Rattle.std.specs.Prelude.{◌≡◌, ◌⊎◌, ⊤, ℕ, ◌≤◌, Result, Ok, Err, List, length, map}
 use Rattle.zs_host.specs.Outside.{Outside, HasFile, LacksFile, failed}
 use Rattle.zs_host.specs.Host.{HasLongFile}
@@ -17,8 +17,8 @@ use Rattle.image_jobs.specs.declared.stops.Refusal.TheVariants.{BadSpec, NoFile,
 use Rattle.image_jobs.specs.declared.stops.Stop.{Stop}
 use Rattle.image_jobs.specs.declared.stops.Stop.TheVariants.{Refused, HostFailed, NoMemory}
 
--- P of what was read, Q of the refusal; files, print and the count of faults stay but where the host failed,
--- which counts one fault
+-- P holds of what was read, Q of the refusal; files, print and the count of faults stay, except
+-- that a failure of the host counts one fault
 abbrev pub ReadsOr : {X : Type 0} → (X → Type 0) → (Refusal → Type 0) → Outside → Outside → Result X Stop
     → Type 0
 ReadsOr P Q old new (Ok x) = P x × (new ≡ old)
@@ -26,14 +26,14 @@ ReadsOr P Q old new (Err (Refused refusal)) = Q refusal × (new ≡ old)
 ReadsOr P Q old new (Err HostFailed) = new ≡ failed old
 ReadsOr P Q old new (Err NoMemory) = new ≡ old
 
--- the same, of what needs no host
+-- the same for what needs no host
 abbrev pub MakesOr : {X : Type 0} → (X → Type 0) → (Refusal → Type 0) → Result X Stop → Type 0
 MakesOr P Q (Ok x) = P x
 MakesOr P Q (Err (Refused refusal)) = Q refusal
 MakesOr P Q (Err HostFailed) = ⊥
 MakesOr P Q (Err NoMemory) = ⊤
 
--- there is such a file, of at most so many bytes
+-- there is such a file, of at most `limit` bytes
 pub record HasShortFile (host : Outside) (name : List ℕ) (limit : ℕ) (bytes : List ℕ) : Type 0 where
   pub has : HasFile host name bytes
   pub short : length bytes ≤ limit
@@ -53,8 +53,8 @@ pub record HasImage (host : Outside) (name : List ℕ) (image : Plain) : Type 0 
   pub has : HasShortFile host name most_image text
   pub is : IsImageFile text image
 
--- the first place of the file that departs from the format, and how; a file that is too long is refused at
--- its limit
+-- the first departure of the file from the format, and its kind; a file that is too long is
+-- refused at its limit
 abbrev pub HasBadFile : Outside → List ℕ → ℕ → ImageWhy → Type 0
 HasBadFile host name at why =
     ((text : List ℕ) × HasShortFile host name most_image text × FirstFault text (rows text) at why)
@@ -86,7 +86,7 @@ LacksText host name NoMirror = ⊥
 LacksText host name (BadArea label damage) = ⊥
 LacksText host name (Unfit label) = ⊥
 
--- SCRIPT is a script of these lines, no value in which is longer than the limit
+-- SCRIPT is a script of these lines; no value is longer than the limit
 pub record HasScript (limit : ℕ) (host : Outside) (name : List ℕ) (lines : List Line) : Type 0 where
   pub text : List ℕ
   pub has : HasShortFile host name most_script text

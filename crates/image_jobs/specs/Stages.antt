@@ -1,4 +1,4 @@
--- What jobs work on, and what areas mean to the stores on them.
+-- The flash and the handlers of a job, and what areas mean to the stores on them.
 use Rattle.std.specs.Prelude.{ℕ, Bool, Option, List}
 use Rattle.flash_sim.specs.Device.{Device}
 use Rattle.flash_sim.specs.declared.flash.Loss.{Loss}
@@ -20,8 +20,8 @@ pub record Stage : Type 0 where
 abbrev pub stage : Device → List Registered → Stage
 stage bench registry = record { bench = bench; registry = registry }
 
--- What the bytes of areas mean to the stores on them, which damage they show, and whether a mount would have
--- nothing to do.
+-- What the bytes of areas mean to the stores on them, the damage that they show, and whether a
+-- mount has nothing to do there.
 pub record Stores : Type 1 where
   pub meanings : Meanings
   pub damage : Area → Geometry → List (List ℕ) → Option Damaged

@@ -20,7 +20,7 @@ last_answer answers = slice_get answers (length answers - 1)
 abbrev pub last_text : List Answer → List ℕ
 last_text answers = option_map_or text_of (last_answer answers) []
 
--- ---- the summary of a generated script, behind which all names were asked for
+-- ---- the summary of a generated script, after which all names were asked for
 
 abbrev pub is_set : Line → Bool
 is_set (Set name value) = true
@@ -45,20 +45,20 @@ is_fine answer = false
 abbrev pub but_last : List Answer → List Answer
 but_last answers = take (length answers - 1) answers
 
--- the settings in an answer to `names`; none where power is off
+-- the settings in an answer to `names`; none if power is off
 abbrev pub pairs_in : Answer → List Pair
 pairs_in (Names active pairs) = pairs
 pairs_in answer = []
 
--- those that the last answer reports
+-- the settings that the last answer reports
 abbrev pub last_pairs : List Answer → List Pair
 last_pairs answers = option_map_or pairs_in (last_answer answers) []
 
 abbrev pub counted : List ℕ → ℕ → List ℕ
 counted word count = codes " " ++ word ++ codes " " ++ decimal count
 
--- how many lines set, delete and get; the names at the end and the bytes of their values; the answers to the
--- lines and to the opening mount that are not fine
+-- how many lines set, delete and get; the names at the end and the bytes of their values; the
+-- answers to the lines and to the opening mount that are not fine
 abbrev pub summary : List ℕ → ℕ → List Line → List Answer → List ℕ
 summary backend n lines answers =
     codes "gen " ++ backend ++ codes " " ++ decimal n ++ codes ":"

@@ -9,10 +9,10 @@ use crate::stops::Stop;
 use image_file::write_image;
 use std::alloc::Global;
 
-/// The blank image that the word describes, to be written into OUT.
+/// Makes the blank image that the word SPEC describes, to be written into OUT. It prints nothing.
 ///
 /// # Errors
-/// Refused where the word is not lawful; or there was not enough memory.
+/// `Refused` if the word is not lawful; `NoMemory`.
 pub fn build<'a>(alloc: Global, out: &'a str, spec: &'a str) -> Result<Outcome<'a>, Stop<'a>>
     ensures { MakesOr (λ outcome. Builds out.now spec.now outcome.text.items (file_of outcome.file))
         (LacksSpec spec.now) result }

@@ -30,10 +30,10 @@ fn blank_spec(store: StoreKind) -> &'static str
     }
 }
 
-/// The blank image of a word.
+/// Makes the blank image that a word describes.
 ///
 /// # Errors
-/// Refused where the word is not lawful; or there was not enough memory.
+/// `Refused` if the word is not lawful; `NoMemory`.
 pub fn blank_image<'a>(alloc: Global, spec: &str) -> Result<Image, Stop<'a>>
     ensures { MakesOr (λ image. IsSpec spec.now (plain image)) (LacksSpec spec.now) result }
 {
@@ -44,10 +44,10 @@ pub fn blank_image<'a>(alloc: Global, spec: &str) -> Result<Image, Stop<'a>>
     }
 }
 
-/// The image that a job begins with. Nothing is printed or written.
+/// Reads or makes the image that a job begins with. Nothing is printed or written.
 ///
 /// # Errors
-/// Refused where a file is missing or no image; or the host failed, or there was not enough memory.
+/// `Refused` if the file is missing or is no image; `HostFailed`; `NoMemory`.
 pub fn open_start<'a, H: Host>(
     alloc: Global,
     start: &Start<'a>,
@@ -89,11 +89,11 @@ fn generates(alloc: Global, n: u32) -> Result<Vec<Line>, NoMemory>
     Ok(lines)
 }
 
-/// The lines of a job, no value in which has more bytes than the limit. Nothing is printed or
-/// written.
+/// Reads or makes the lines of a job. No value has more than `limit` bytes. Nothing is
+/// printed or written.
 ///
 /// # Errors
-/// Refused where a file is missing or no script; or the host failed, or there was not enough memory.
+/// `Refused` if the file is missing or is no script; `HostFailed`; `NoMemory`.
 pub fn read_source<'a, H: Host>(
     alloc: Global,
     source: &Source<'a>,

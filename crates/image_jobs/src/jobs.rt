@@ -1,54 +1,58 @@
-// What a job is made of.
+// Jobs: their images, lines and outputs.
 use command_words::StoreKind;
 
 /// The image that a job begins with.
 #[derive(Clone, Copy, Debug, PartialEq, Eq)]
 pub enum Start<'a> {
-    /// That of a file.
+    /// The image in a file.
     File { name: &'a str },
-    /// A blank one with one store of this kind, four sectors of 4,096 bytes.
+    /// A blank image with one store of this kind, four sectors of 4,096 bytes.
     Blank { store: StoreKind },
 }
 
 /// The lines of a job.
 #[derive(Clone, Copy, Debug, PartialEq, Eq)]
 pub enum Source<'a> {
-    /// Those of a script in a file.
+    /// The lines of a script in a file.
     Script { name: &'a str },
     /// `names` alone.
     Names,
     /// `mount` and `migrate`.
     Migration,
-    /// The generated script of so many lines, and `names` behind it.
+    /// The generated script of `n` lines, followed by `names`.
     Generated { n: u32 },
 }
 
 /// What is printed of the answers.
 #[derive(Clone, Copy, Debug, PartialEq, Eq)]
 pub enum Report {
-    /// The texts of all.
+    /// The texts of all answers.
     All,
-    /// The text of the last one.
+    /// The text of the last answer.
     Last,
-    /// The summary of a generated script of so many lines.
+    /// The summary of a generated script of `n` lines.
     Summary { store: StoreKind, n: u32 },
 }
 
 /// What becomes of the image that is left.
 #[derive(Clone, Copy, Debug, PartialEq, Eq)]
 pub enum Output<'a> {
-    /// It is dropped.
+    /// The image is dropped.
     Nowhere,
-    /// It is written into the file of this name.
+    /// The image is written into the file of this name.
     Into { name: &'a str },
 }
 
-/// An image, lines that are carried out on it, what is printed of their answers, and what becomes
-/// of the image.
+/// A job: an image, lines that are carried out on it, what is printed of their answers, and what
+/// becomes of the image.
 #[derive(Clone, Copy, Debug, PartialEq, Eq)]
 pub struct Job<'a> {
+    /// The image that it begins with.
     pub start: Start<'a>,
+    /// The lines that are carried out.
     pub source: Source<'a>,
+    /// What is printed of the answers.
     pub report: Report,
+    /// What becomes of the image that is left.
     pub output: Output<'a>,
 }

@@ -1,5 +1,5 @@
-//! The jobs of `image_tool` on settings: take an image, carry out the lines of a script on it,
-//! power losses included, and keep the answers and the image that is left.
+//! The jobs of `image_tool` on settings. A job takes an image, carries out the lines of a script on
+//! it, power losses included, and keeps the answers and the image that is left.
 #![tactic(auto)]
 
 mod building;

@@ -28,10 +28,10 @@ pub fn longest_value(areas: &FlashMap) -> u32
     }
 }
 
-/// The file of the image of these areas that the bench holds, where it is to be written.
+/// The file of the image that the bench holds, if it is to be written.
 ///
 /// # Errors
-/// Want of memory alone.
+/// `NoMemory`.
 pub fn file_left<'a, B: Bench>(
     alloc: Global,
     output: &Output<'a>,

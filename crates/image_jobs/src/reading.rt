@@ -1,4 +1,4 @@
-// Reading an image and a script.
+// The readers of images and scripts from files.
 ghost use Rattle.std.specs.Prelude.{◌≡◌};
 ghost use Rattle.image_file.specs.Format.{plain};
 ghost use Rattle.image_jobs.specs.declared.stops.Refusal.TheVariants.{BadFile, BadScript};
@@ -29,10 +29,11 @@ fn bad_script<'a>(line: u64, why: LineWhy) -> Stop<'a>
     Stop::Refused(Refusal::BadScript { line, why })
 }
 
-/// The image of a file. Nothing is printed or written.
+/// Reads the image in a file. Nothing is printed or written.
 ///
 /// # Errors
-/// Refused where there is no such file, or it is no image file; or the host failed, or there was not enough memory.
+/// `Refused` if there is no such file, or it is no image file, or it is longer than `MOST_IMAGE`;
+/// `HostFailed`; `NoMemory`.
 pub fn read_image_file<'a, H: Host>(
     alloc: Global,
     name: &'a str,
@@ -56,10 +57,11 @@ pub fn read_image_file<'a, H: Host>(
     }
 }
 
-/// The text of a script, of at most `MOST_SCRIPT` bytes. Nothing is printed or written.
+/// Reads the text of a script, of at most `MOST_SCRIPT` bytes. Nothing is printed or written.
 ///
 /// # Errors
-/// Refused where there is no such file, or it is too long; or the host failed, or there was not enough memory.
+/// `Refused` if there is no such file, or it is longer than `MOST_SCRIPT`; `HostFailed`;
+/// `NoMemory`.
 pub fn read_script_text<'a, H: Host>(
     alloc: Global,
     name: &'a str,
@@ -78,11 +80,11 @@ pub fn read_script_text<'a, H: Host>(
     }
 }
 
-/// The lines of a script, no value in which has more bytes than the limit. Nothing is printed or
-/// written.
+/// Reads the lines of a script in a file. No value has more than `limit` bytes. Nothing is
+/// printed or written.
 ///
 /// # Errors
-/// Refused where there is no such file, or it is no script; or the host failed, or there was not enough memory.
+/// `Refused` if there is no such file, or it is no script; `HostFailed`; `NoMemory`.
 pub fn read_lines<'a, H: Host>(
     alloc: Global,
     name: &'a str,

@@ -1,4 +1,4 @@
-// The lines of refusals.
+// The lines that refusals print.
 ghost use Rattle.std.specs.Prelude.{◌≡◌, ◌++◌, ◌∷◌, [], codes, IfOk};
 ghost use Rattle.std.specs.Fmt.{decimal};
 ghost use Rattle.std.specs.String.{string_bytes};
@@ -105,7 +105,7 @@ pub const USAGE: &str =
 /// The line that a refusal prints.
 ///
 /// # Errors
-/// Want of memory alone.
+/// `AllocError`.
 pub fn refusal_line(alloc: Global, refusal: &Refusal<'_>) -> Result<String, AllocError>
     ensures { IfOk result (λ text. string_bytes text ≡ line_of refusal.now) }
 {

@@ -98,7 +98,7 @@ fn bytes_in(pairs: &[Pair]) -> Result<u64, NoMemory>
     Ok(bytes)
 }
 
-// How many answers but the last are not fine.
+// How many answers, except the last, are not fine.
 fn refused(answers: &[Answer]) -> usize
     ensures { result ≡ count_by (λ answer. not (is_fine answer)) (but_last answers.now) }
 {
@@ -176,7 +176,7 @@ fn summary(
 /// What is printed of the answers to lines.
 ///
 /// # Errors
-/// Want of memory alone.
+/// `NoMemory`.
 pub fn report_text(
     alloc: Global,
     report: Report,

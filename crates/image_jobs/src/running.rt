@@ -1,4 +1,4 @@
-// Carrying out lines on an image.
+// The run of a job.
 ghost use Rattle.std.specs.Prelude.{◌≡◌, ℕ, ◌<◌, ◌∷◌, [], true, None, All, List, IfErr, OnOk};
 ghost use Rattle.flash_sim.specs.Device.{Device};
 ghost use Rattle.flash_map.specs.declared.area.Area.{Area as area};
@@ -34,7 +34,7 @@ use std::marker::Brand;
 use std::sync::ledger::{Blank, Ledger};
 use zs_host::Host;
 
-/// The label of the area at this place; none where there is no area.
+/// The label of the area at this place; an empty one if there is no such area.
 pub fn label_at(areas: &FlashMap, place: usize) -> ArrayString<8>
     ensures { result.bytes ≡ (area_at areas.now place).label.bytes }
 {
@@ -57,7 +57,7 @@ fn stop_of<'a>(areas: &FlashMap, fault: SessionFault) -> Stop<'a>
     }
 }
 
-// Carries out the lines, and counts steps for it.
+// Carries out the lines, and counts the steps.
 fn run<K: Backend, B: Bench, L: Ledger>(
     alloc: Global,
     areas: &FlashMap,
@@ -130,13 +130,13 @@ fn run_on_image<'a, K: Backend, B: Bench>(
     Ok(Outcome { text, file })
 }
 
-/// Runs a job: reads the image and the lines, loads the bench, carries out the opening mount and the
-/// lines, and says what is to be printed and written. Nothing is printed or written, and files
-/// stay.
+/// Runs a job: it reads the image and the lines, loads the bench, carries out the opening mount and
+/// the lines, and returns what is to be printed and written. It prints and writes nothing itself.
 ///
 /// # Errors
-/// Refused where there is no image, then where there are no lines, then where a mount finds damage. The host failed: nothing
-/// was carried out. There was not enough memory: nothing was carried out, or the lines were carried out up to some one of them.
+/// `Refused`, in this order: there is no image; there are no lines; a mount finds damage.
+/// `HostFailed`: nothing was carried out. `NoMemory`: nothing was carried out, or some or all of
+/// the lines were.
 #[inline(never)]
 pub fn run_job<'a, K: Backend, H: Host, B: Bench>(
     alloc: Global,

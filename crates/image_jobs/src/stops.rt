@@ -1,4 +1,4 @@
-// Why a command is not done.
+// Why a command was not done.
 ghost use Rattle.std.specs.Prelude.{◌≡◌};
 ghost use Rattle.image_jobs.specs.declared.stops.Stop.TheVariants as stops;
 
@@ -17,38 +17,40 @@ pub enum Refusal<'a> {
     NoFile {
         word: &'a str,
     },
-    /// The file is no image: its first place that departs from the format, in bytes, and how.
+    /// The file is no image: the offset, in bytes, of its first departure from the
+    /// format, and its kind.
     BadFile {
         at: u64,
         why: ImageWhy,
     },
-    /// The image is not exactly one area, for FCB.
+    /// The image does not consist of exactly one area, of FCB.
     NoLog,
-    /// The image is not exactly one area, for NVS or ZMS.
+    /// The image does not consist of exactly one area, of NVS or ZMS.
     NoItems,
-    /// The image is not exactly two areas for settings, each for NVS or ZMS, and their selector.
+    /// The image does not consist of exactly two store areas, each of NVS or ZMS, and
+    /// their selector.
     NoMirror,
-    /// A mount found the bytes of the area with this label damaged.
+    /// A mount found the area with this label damaged.
     BadArea {
         label: ArrayString<8>,
         damage: Damaged,
     },
-    /// The settings of two areas that hold one map between them do not fit the area with this
-    /// label.
+    /// The settings of a mirror do not fit the area with this label.
     Unfit {
         label: ArrayString<8>,
     },
-    /// The first line of the script that is refused, counted from 1, or 0 for the whole.
+    /// The number of the first refused line of the script, counted from 1, and its cause; 0 if the
+    /// file is too long.
     BadScript {
         line: u64,
         why: LineWhy,
     },
 }
 
-/// Why a command stops before its end.
+/// Why a command stopped before its end.
 #[derive(Clone, Copy, Debug, PartialEq, Eq)]
 pub enum Stop<'a> {
-    /// What was asked for is refused, and the line of the refusal is printed.
+    /// The command is refused, and the line of the refusal is printed.
     Refused(Refusal<'a>),
     /// A call of the host failed.
     HostFailed,

@@ -64,7 +64,7 @@ module _ (name script : List ℕ) (host : Outside) (old new : Device) (sound : I
       let reads = sound.reads lacks.areas (areas_of lacks.image lacks.areas lacks.opens.has lacks.opens.are) in
       has_lines host sound.known script (limit_of lacks.areas) reads.0 reads.1 refusal lacks.lacks
 
-  -- no refusal says of want of memory
+  -- want of memory is no refusal
   report_text : (areas : List Area) (fault : SessionFault) (refusal : Refusal) → fault ≡ WantsMemory → IsStop areas fault (Refused refusal) → ⊥
   report_text areas fault refusal wants is = no (subst (λ (f : SessionFault). IsStop areas f (Refused refusal)) wants is)
     where

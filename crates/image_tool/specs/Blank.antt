@@ -1,4 +1,4 @@
--- What the blank image of a word is to the stores, and that a script on one is carried out.
+-- How the blank image of a word reads, and that a script on it is carried out.
 use Rattle.std.specs.Prelude.{◌≡◌, ℕ, None, List}
 use Rattle.std.specs.Borrow.{Bor}
 use Rattle.std.specs.FinMap.{empty}
@@ -28,13 +28,13 @@ pub record IsEmptyImage (areas : List Area) (image : Plain) : Type 0 where
   pub active : active_of areas image ≡ first_store areas
   pub settings : settings_of any_stores areas image ≡ empty
 
--- that of a lawful word
+-- this holds for the image of a lawful word
 abbrev pub SpecsAreEmpty : Type 0
 SpecsAreEmpty = (word : List ℕ) (image : Plain) (areas : List Area) → IsSpec word image → HasAreas image areas
     → IsEmptyImage areas image
 
--- A job that begins with the blank image of a generated script is refused for want of its lines alone: never
--- for the image or its damage.
+-- A job that begins with the blank image of a generated script is refused only for want of its
+-- lines, never for the image or its damage.
 abbrev pub BlanksLackLinesAlone : Type 0
 BlanksLackLinesAlone =
     (kinds : List HandlerKind) (job : Job) (kind : StoreKind) (host : Outside) (old new : Stage)
@@ -42,7 +42,7 @@ BlanksLackLinesAlone =
     → job.start ≡ Blank kind → Refuses any_stores kinds job host old new refusal
     → LacksLines job host refusal
 
--- `gen` has lines of its own, so it is done, but where the host fails or memory runs out.
+-- `gen` has lines of its own, so it is carried out, unless the host fails or memory runs out.
 abbrev pub GenIsCarriedOut : Type 0
 GenIsCarriedOut =
     (kinds : List HandlerKind) (words : List (List ℕ)) (out : Bor (List ℕ)) (kind : StoreKind) (n : ℕ)

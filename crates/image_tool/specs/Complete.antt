@@ -35,8 +35,8 @@ use Rattle.image_tool.specs.Tasks.{task_of}
 use Rattle.image_tool.specs.Tool.{ToolEnds, any_stores}
 use Rattle.image_tool.specs.Worlds.{World}
 
--- The host shows its files, and the job begins with an image: it shows no damage, and there are lines to
--- play. Lists of the areas of one image differ in the unused room of their labels alone.
+-- The host shows its files, and the job begins with an image that shows no damage, and has lines to
+-- carry out. Lists of the areas of one image differ only in the unused bytes of their labels.
 pub record IsSound (k : Stores) (job : Job) (host : Outside) : Type 0 where
   pub known : IsSome host.files
   pub image : Plain
@@ -45,8 +45,8 @@ pub record IsSound (k : Stores) (job : Job) (host : Outside) : Type 0 where
   pub reads : (areas : List Area) → HasAreas image areas
       → (lines : List Line) × GivesLines job.source (limit_of areas) host lines
 
--- The host shows its files, and IMAGE is an image with a log, which shows no damage, and SCRIPT has lines to
--- play.
+-- The host shows its files, IMAGE is an image with a log and shows no damage, and SCRIPT has
+-- lines to carry out.
 pub record IsSoundLog (name script : List ℕ) (host : Outside) : Type 0 where
   pub known : IsSome host.files
   pub image : Plain
@@ -56,8 +56,8 @@ pub record IsSoundLog (name script : List ℕ) (host : Outside) : Type 0 where
   pub lines : List LogLine
   pub reads : HasLines (value_limit area) host script lines
 
--- The host shows its files, and IMAGE is an image with items, which shows no damage, and SCRIPT has lines to
--- play.
+-- The host shows its files, IMAGE is an image with items and shows no damage, and SCRIPT has
+-- lines to carry out.
 pub record IsSoundItems (name script : List ℕ) (host : Outside) : Type 0 where
   pub known : IsSome host.files
   pub image : Plain
@@ -67,8 +67,9 @@ pub record IsSoundItems (name script : List ℕ) (host : Outside) : Type 0 where
   pub lines : List ItemLine
   pub reads : HasItemLines (ids_of area.role) (value_limit area) host script lines
 
--- The host shows its files, and IMAGE is an image with a mirror: it shows no damage (in its selector, and in
--- the area that is read), its settings fit both areas, and SCRIPT has lines to play.
+-- The host shows its files, and IMAGE is an image with a mirror. It shows no damage, in
+-- its selector and in the area that is read, its settings fit both areas, and SCRIPT has
+-- lines to carry out.
 pub record IsSoundMirror (name script : List ℕ) (host : Outside) : Type 0 where
   pub known : IsSome host.files
   pub image : Plain
@@ -79,7 +80,7 @@ pub record IsSoundMirror (name script : List ℕ) (host : Outside) : Type 0 wher
   pub undamaged : (areas : List Area) → HasAreas image areas → mirror_damage areas image ≡ None
   pub fits : (areas : List Area) → HasAreas image areas → FitsImage areas image
 
--- what the task works on is sound
+-- the files of the task are sound
 abbrev pub IsSoundTask : Stores → Task → Outside → Type 0
 IsSoundTask k (Build out spec) host = (image : Plain) × IsSpec spec.now image
 IsSoundTask k (Settings job) host = IsSound k job host
@@ -87,7 +88,7 @@ IsSoundTask k (Log image script out) host = IsSoundLog image.now script.now host
 IsSoundTask k (Items image script out) host = IsSoundItems image.now script.now host
 IsSoundTask k (Mirror image script out) host = IsSoundMirror image.now script.now host
 
--- done, but where the host failed or memory ran out
+-- done, unless the host failed or memory ran out
 abbrev pub IsCarriedOut : Status → Type 0
 IsCarriedOut status.Done = ⊤
 IsCarriedOut status.HostFault = ⊤
@@ -97,7 +98,7 @@ IsCarriedOut status.BadScript = ⊥
 IsCarriedOut status.BadImage = ⊥
 IsCarriedOut status.NoFile = ⊥
 
--- Words that are a command on what is sound are not refused.
+-- Words that are a command on sound files are not refused.
 abbrev pub SoundIsCarriedOut : Type 0
 SoundIsCarriedOut =
     (kinds : List HandlerKind) (words : List (List ℕ)) (old new : World) (result : Status)
@@ -105,7 +106,8 @@ SoundIsCarriedOut =
     → ((c : Command) → IsCommand words c → IsSoundTask any_stores (task_of c) old.outside)
     → ToolEnds any_stores kinds words old new result → IsCarriedOut result
 
--- The word of each blank image on which a generated script runs is lawful, so `gen` is never refused for it.
+-- The word of each blank image on which a generated script runs is lawful, so `gen` is never
+-- refused for it.
 abbrev pub BlanksAreLawful : Type 0
 BlanksAreLawful = (kind : StoreKind) → (image : Plain) × IsSpec (blank_spec kind) image
 

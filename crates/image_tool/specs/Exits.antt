@@ -1,4 +1,4 @@
--- What the process ends with.
+-- The exit code of the process.
 use Rattle.std.specs.Prelude.{◌≡◌, ◌⊎◌, ℕ, true, None, Result, Ok, Err, List, [], ◌∷◌}
 use Rattle.std.specs.declared.alloc.AllocError.{AllocError}
 use Rattle.flash_sim.specs.Device.{Device, Never}
@@ -15,8 +15,8 @@ use Rattle.image_tool.specs.Worlds.{world}
 abbrev pub program_kinds : List HandlerKind
 program_kinds = Table ∷ Table ∷ Table ∷ Table ∷ Counter ∷ Counter ∷ Level ∷ Level ∷ []
 
--- The code is that of the status with which the words end, where the handlers are those of the program and
--- none is registered.
+-- The code is that of the status with which the words end. The handlers are those of the program,
+-- and none is registered.
 abbrev pub Exits : List (List ℕ) → Outside → Outside → Device → Device → ℕ → Type 0
 Exits words host host' old new code =
     (ends : Status) × (left : List Registered) × (code ≡ exit_code ends)
@@ -56,7 +56,7 @@ abbrev pub TextExit : ℕ → Type 0
 TextExit code =
     (host' : Outside) × (ends : Status) × (code ≡ exit_code ends) × NoCommandEnds real_host host' ends
 
--- What the process ends with: its words ended so, or they are no text, or memory ran out before they were
--- read.
+-- The exit code of the process: that of its words, or they are no text, or memory ran out before
+-- they were read.
 abbrev pub ProcessExits : ℕ → Type 0
 ProcessExits code = WordsExit code ⊎ TextExit code ⊎ (code ≡ exit_code status.NoMemory)

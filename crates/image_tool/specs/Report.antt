@@ -1,4 +1,4 @@
--- Printing a text, and then writing a file.
+-- The print of a text, and then the write of a file.
 use Rattle.std.specs.Prelude.{◌≡◌, ◌⊎◌, ℕ, Option, Some, None, List, take}
 use Rattle.zs_host.specs.Outside.{Outside, SameBut, failed, printed_more, written}
 use Rattle.image_jobs.specs.Jobs.{File}
@@ -10,11 +10,11 @@ abbrev pub delivered : Outside → List ℕ → Option File → Outside
 delivered host text None = printed_more host text
 delivered host text (Some file) = written (printed_more host text) file.0 file.1
 
--- so many of these bytes were printed, from the first one on, and all else is as before
+-- the first so many of these bytes were printed, and all else is as before
 abbrev pub PrintsPrefix : Outside → Outside → List ℕ → Type 0
 PrintsPrefix old new text = (count : ℕ) × (new ≡ printed_more old (take count text))
 
--- all was printed, and of files at most the named one changed
+-- all of the text was printed, and only the named file may have changed
 pub record Spoils (old new : Outside) (text : List ℕ) (file : File) : Type 0 where
   pub printed : new.printed ≡ (printed_more old text).printed
   pub files : SameBut file.0 old.files new.files
@@ -41,7 +41,7 @@ Reports old new line refusal result =
     ⊎ ((result ≡ status.HostFault) × PrintsPrefix (failed old) new line)
     ⊎ ((result ≡ status.NoMemory) × PrintsPrefix old new line)
 
--- of files at most the named one changed
+-- only the named file may have changed
 abbrev pub DeliversOnly : Option File → Outside → Outside → Type 0
 DeliversOnly None old new = new.files ≡ old.files
 DeliversOnly (Some file) old new = SameBut file.0 old.files new.files

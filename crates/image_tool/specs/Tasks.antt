@@ -1,4 +1,4 @@
--- What a command does before anything is printed or written, and why it does not.
+-- What a command does before anything is printed or written, or why it does not.
 use Rattle.std.specs.Prelude.{◌≡◌, ℕ, Option, Result, Ok, Err, List}
 use Rattle.zs_host.specs.Outside.{failed}
 use Rattle.handlers.specs.declared.handler.HandlerKind.{HandlerKind}
@@ -22,9 +22,9 @@ use Rattle.image_tool.specs.declared.tasks.Task.{Task}
 use Rattle.image_tool.specs.declared.tasks.Task.TheVariants.{Build, Settings as ToJob, Log, Items, Mirror}
 use Rattle.image_tool.specs.Worlds.{World}
 
--- `run` carries out a script, `dump` asks for the names and prints that answer alone, `migrate` mounts and
--- migrates, and `gen` carries out a generated script on a blank image and prints its summary; `log`
--- carries out a script on a log, `items` one on items, and `mirror` one on a mirror
+-- `run` carries out a script. `dump` asks for the names, and prints that answer only. `migrate`
+-- mounts and migrates. `gen` carries out a generated script on a blank image, and prints its
+-- summary. `log` carries out a script on a log, `items` one on items, and `mirror` one on a mirror.
 abbrev pub task_of : Command → Task
 task_of (command.Build out spec) = Build out spec
 task_of (command.Run image script out) =
@@ -54,7 +54,7 @@ Does k kinds (Mirror image script out) old new text file =
     MirrorJobDoes image.now script.now out.now old.outside old.stage.bench new.bench text file
     × (new.registry ≡ old.stage.registry)
 
--- it is refused for this cause
+-- the task is refused for this cause
 abbrev pub Causes : Stores → List HandlerKind → Task → World → Stage → Refusal → Type 0
 Causes k kinds (Build out spec) old new refusal = LacksSpec spec.now refusal × (new ≡ old.stage)
 Causes k kinds (ToJob job) old new refusal = Refuses k kinds job old.outside old.stage new refusal
@@ -68,7 +68,7 @@ Causes k kinds (Mirror image script out) old new refusal =
     RefusesMirror image.now script.now old.outside old.stage.bench new.bench refusal
     × (new.registry ≡ old.stage.registry)
 
--- it stopped there, since the host failed or memory ran out
+-- the task stopped, since the host failed or memory ran out
 abbrev pub StopsAt : Stores → List HandlerKind → Task → World → Stage → Type 0
 StopsAt k kinds (Build out spec) old new = new ≡ old.stage
 StopsAt k kinds (ToJob job) old new = Stops k kinds job old.outside old.stage new
@@ -81,7 +81,7 @@ StopsAt k kinds (Mirror image script out) old new =
     StopsMirror image.now script.now old.outside old.stage.bench new.bench
     × (new.registry ≡ old.stage.registry)
 
--- before anything is printed or written
+-- how a task ends, before anything is printed or written
 abbrev pub Prepares : Stores → List HandlerKind → Task → World → World → Result Outcome Stop → Type 0
 Prepares k kinds task old new (Ok outcome) =
     Does k kinds task old new.stage outcome.text.items (file_of outcome.file) × (new.outside ≡ old.outside)

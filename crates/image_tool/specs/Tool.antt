@@ -19,7 +19,7 @@ use Rattle.image_tool.specs.Tasks.{Causes, Does, StopsAt, task_of}
 use Rattle.image_tool.specs.Report.{DeliversPart, PrintsPrefix, delivered}
 use Rattle.image_tool.specs.Worlds.{World}
 
--- the stores of the program: each area has that of its role
+-- the stores of the program: each area has the store of its role
 abbrev pub any_stores : Stores
 any_stores = stores any_contents any_room any_chance any_tears any_damage any_rests
 
@@ -34,21 +34,22 @@ status_of (BadArea label damage) = status.BadImage
 status_of (Unfit label) = status.BadImage
 status_of (BadScript n reason) = status.BadScript
 
--- ---- a task that was not done; `from` is the outside of before, with one more fault where the host failed
+-- ---- a task that was not done; `from` is the outside before, plus one fault if the host failed
 
--- the line of a refusal, which has its cause, was printed, whole or only its beginning
+-- the line of a refusal, which has its cause, was printed, in whole or in part
 abbrev pub ReportsRefusal : Stores → List HandlerKind → Task → Outside → World → World → Type 0
 ReportsRefusal k kinds task from old new =
     (refusal : Refusal) × Causes k kinds task old new.stage refusal
     × PrintsPrefix from new.outside (line_of refusal)
 
--- the text was printed, whole or only its beginning; or it was printed whole, and OUT may hold anything
+-- the text was printed, in whole or in part; or it was printed whole, and OUT may hold anything
 abbrev pub ReportsPart : Stores → List HandlerKind → Task → Outside → World → World → Type 0
 ReportsPart k kinds task from old new =
     (text : List ℕ) × (file : Option File) × Does k kinds task old new.stage text file
     × DeliversPart from new.outside text file
 
--- Nothing was printed, and the task stopped; or a part was of what it would print and write.
+-- The task stopped, and nothing was printed; or a part was printed and written of what the task
+-- would print and write.
 abbrev pub EndsEarly : Stores → List HandlerKind → Task → Outside → World → World → Type 0
 EndsEarly k kinds task from old new =
     (StopsAt k kinds task old new.stage × (new.outside ≡ from))
@@ -78,7 +79,7 @@ TaskEnds k kinds task old new status.NoFile = IsRefused k kinds task old new sta
 TaskEnds k kinds task old new status.BadScript = IsRefused k kinds task old new status.BadScript
 TaskEnds k kinds task old new status.BadImage = IsRefused k kinds task old new status.BadImage
 
--- the words are no command: the usage line was printed, whole or only its beginning
+-- the words are no command: the usage line was printed, in whole or in part
 abbrev pub NoCommandEnds : Outside → Outside → Status → Type 0
 NoCommandEnds host host' status.Usage = host' ≡ printed_more host usage_line
 NoCommandEnds host host' status.HostFault = PrintsPrefix (failed host) host' usage_line
@@ -88,14 +89,15 @@ NoCommandEnds host host' status.NoFile = ⊥
 NoCommandEnds host host' status.BadScript = ⊥
 NoCommandEnds host host' status.BadImage = ⊥
 
--- The words are a command, and it ended so; or they are none; or memory ran out before they were read.
+-- The words are a command, which ended so; or they are none; or memory ran out before
+-- they were read.
 abbrev pub ToolEnds : Stores → List HandlerKind → List (List ℕ) → World → World → Status → Type 0
 ToolEnds k kinds words old new result =
     ((c : Command) × IsCommand words c × TaskEnds k kinds (task_of c) old new result)
     ⊎ (IsNoCommand words × NoCommandEnds old.outside new.outside result × (new.stage ≡ old.stage))
     ⊎ ((result ≡ status.NoMemory) × (new.outside ≡ old.outside) × (new.stage ≡ old.stage))
 
--- what the status is as an exit code
+-- the exit code of a status
 abbrev pub exit_code : Status → ℕ
 exit_code status.Done = 0
 exit_code status.Usage = 2
@@ -112,11 +114,11 @@ out_file (Log image script out) = Some out.now
 out_file (Items image script out) = Some out.now
 out_file (Mirror image script out) = Some out.now
 
--- of files at most this one changed
+-- only this file may have changed
 abbrev pub OnlyFile : Option (List ℕ) → Outside → Outside → Type 0
 OnlyFile None host host' = host'.files ≡ host.files
 OnlyFile (Some out) host host' = SameBut out host.files host'.files
 
--- no file but OUT changed, whatever the end
+-- no file but OUT changed, however the command ended
 abbrev pub MayWrite : Command → Outside → Outside → Type 0
 MayWrite c host host' = OnlyFile (out_file (task_of c)) host host'

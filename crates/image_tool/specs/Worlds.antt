@@ -5,7 +5,7 @@ use Rattle.zs_host.specs.Outside.{Outside}
 use Rattle.handlers.specs.Registry.{Registered}
 use Rattle.image_jobs.specs.Stages.{Stage, stage}
 
--- files, what was printed and faults of the host; and the flash with the handlers that are registered
+-- the host's files, print and faults; and the flash with the registered handlers
 pub record World : Type 0 where
   pub outside : Outside
   pub stage : Stage

@@ -1,4 +1,4 @@
-// Printing and writing.
+// The output of a command: what it prints, and the file that it writes.
 ghost use Rattle.std.specs.Prelude.{◌≡◌};
 ghost use Rattle.image_jobs.specs.Jobs.{file_of};
 ghost use Rattle.image_jobs.specs.Refusals.{line_of};
@@ -10,7 +10,9 @@ use image_jobs::{Outcome, Refusal, refusal_line};
 use std::alloc::Global;
 use zs_host::{Host, HostFault};
 
-/// Prints the text, and then writes the file, if there is one.
+/// Prints the text, and then writes the file, if there is one. The file is written only after all
+/// of the text was printed. If the host fails or memory runs out, a part of the text may be
+/// printed, or the file may hold anything; no other file changes.
 pub fn deliver<H: Host>(alloc: Global, host: &mut H, outcome: &Outcome<'_>) -> Status
     ensures delivers { Delivers (H.outside host.old) (H.outside host.new) outcome.now.text.items
         (file_of outcome.now.file) result }
@@ -34,7 +36,8 @@ pub fn deliver<H: Host>(alloc: Global, host: &mut H, outcome: &Outcome<'_>) -> S
     }
 }
 
-/// Prints a line, and then answers the status.
+/// Prints a line, and returns the status. If the host fails or memory runs out, it returns that
+/// instead, and a part of the line may be printed. Files stay.
 pub fn report<H: Host>(alloc: Global, host: &mut H, line: &str, status: Status) -> Status
     ensures reports { Reports (H.outside host.old) (H.outside host.new) line.now status result }
     ensures files { (H.outside host.new).files ≡ (H.outside host.old).files }
@@ -63,7 +66,7 @@ fn status_of(refusal: &Refusal<'_>) -> Status
     }
 }
 
-/// Prints the line of the refusal.
+/// Prints the line of the refusal, and returns its status, as `report` does.
 pub fn refuse<H: Host>(alloc: Global, host: &mut H, refusal: &Refusal<'_>) -> Status
     ensures reports { Reports (H.outside host.old) (H.outside host.new) (line_of refusal.now)
         (status_of refusal.now) result }

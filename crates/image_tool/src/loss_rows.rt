@@ -1,13 +1,13 @@
-// Power is lost before each unit of a line, and the image is mounted.
+// Rows of power losses: power is lost before each unit of a line, and then the image is mounted.
 use crate::texts::{ALL, ERASED, FCB, NVS, RUN, RUN_ITEMS, ZMS};
 
-/// The first and the last number of units of the line before a loss, the answer to the mount behind
+/// The first and the last number of units of the line before a loss, the answer to the mount after
 /// it, and what is read then.
 pub(crate) type Loss = (u64, u64, &'static str, &'static str);
 
-/// A script in which CUT stands for the units that are spent before the loss, and what is printed,
-/// where LOST stands for those of the line that is cut, MOUNT and VALUE for what a loss gives. The
-/// lines before that one spend so many units.
+/// A script and what it prints. CUT in the script stands for the units before the loss. In what is
+/// printed, LOST stands for the units of the line that is cut, MOUNT and VALUE for what the loss
+/// gives. The lines before that one spend `before` units.
 pub(crate) struct Losses {
     pub(crate) shows: &'static str,
     pub(crate) spec: &'static str,

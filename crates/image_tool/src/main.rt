@@ -1,4 +1,5 @@
-//! The program `image_tool`: it runs scripts on images of flash that may lose power at any unit.
+//! The program `image_tool`: it runs scripts on images of flash, which may lose power
+//! before any unit.
 #![tactic(auto)]
 
 ghost use Rattle.std.specs.Prelude.{◌≡◌, [], ◌∷◌, ◌++◌, All, OnOk, IfOk, map};
@@ -33,7 +34,7 @@ pub use top::tool;
 use zs_host::{Host, RealHost};
 
 impl Status {
-    // What the process ends with.
+    // The exit code of the process.
     fn code(self) -> u8
         ensures { result ≡ exit_code self }
     {
@@ -49,7 +50,7 @@ impl Status {
     }
 }
 
-// Puts a handler of this kind that holds nothing behind others that hold nothing.
+// Appends a new handler of this kind to handlers that hold nothing.
 fn add(
     pool: &mut Vec<Box<dyn Handler>>,
     _kind: HandlerKind,
@@ -67,7 +68,7 @@ fn add(
     }
 }
 
-// What the process ends with after the command that the words are.
+// The exit code after the command that the words are.
 fn exit_after<H: Host, B: Bench>(
     alloc: Global,
     words: &[String],
@@ -87,7 +88,7 @@ fn exit_after<H: Host, B: Bench>(
     tool(alloc, words, host, bench, pool, registry).code()
 }
 
-// What the process ends with where the words are no text.
+// The exit code if the words are no text.
 fn exit_without_words<H: Host>(alloc: Global, host: &mut H) -> u8
     ensures { (ends : status) × (result ≡ exit_code ends)
         × NoCommandEnds (H.outside host.old) (H.outside host.new) ends }
@@ -151,7 +152,7 @@ fn start(rt: &HostRuntime) -> Result<u8, AllocError>
     }
 }
 
-// What the process ends with.
+// The exit code of the process.
 fn exit(rt: &HostRuntime) -> ExitCode
     ensures { ProcessExits (exit_status result) }
 {

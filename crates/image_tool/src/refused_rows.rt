@@ -1,11 +1,12 @@
-// Commands on images that hold other bytes than a blank one: most are refused, and so are some words and scripts.
+// Rows of commands on images with other bytes than a blank one has. Most are refused, and so are
+// some words and scripts.
 use crate::texts::{
     ALL, ERASED, FCB, FOUR, LONG, MIRROR, NVS, RUN, RUN_ITEMS, RUN_LOG, RUN_MIRROR, ZMS,
 };
 use image_jobs::USAGE;
 
-/// Bytes that are put into the file of a blank image, each from a place on, how many bytes of the
-/// file stay, a command, its status and what it prints.
+/// Bytes that are put into the file of a blank image, each from an offset on; how many bytes of the
+/// file stay; a command, its status, and what it prints.
 pub(crate) struct Refused {
     pub(crate) shows: &'static str,
     pub(crate) spec: &'static str,

@@ -9,13 +9,13 @@ pub enum Status {
     Usage,
     /// A line of the script is refused, or the script is too long.
     BadScript,
-    /// The file is no image, or not one that is served, or its area is damaged, or its settings do
-    /// not fit.
+    /// The file is no image, or not one that the command serves; or an area is damaged, or settings
+    /// do not fit it.
     BadImage,
     /// A call of the host failed.
     HostFault,
     /// There was not enough memory.
     NoMemory,
-    /// A file that is to be read is not there.
+    /// A file to be read does not exist.
     NoFile,
 }

@@ -1,19 +1,19 @@
-// What a command is to do.
+// The task of a command.
 ghost use Rattle.std.specs.Prelude.{◌≡◌};
 ghost use Rattle.image_tool.specs.Tasks.{task_of};
 
 use command_words::Command;
 use image_jobs::{Job, Output, Report, Source, Start};
 
-/// What a command is to do.
+/// The task of a command.
 #[derive(Clone, Copy, Debug, PartialEq, Eq)]
 pub enum Task<'a> {
-    /// Writes the blank image of a word into a file.
+    /// Writes the blank image that a word describes into a file.
     Build {
         out: &'a str,
         spec: &'a str,
     },
-    /// Carries out lines on an image.
+    /// Carries out lines of settings on an image.
     Settings(Job<'a>),
     /// Carries out the lines of a script on the log of an image.
     Log {
@@ -35,7 +35,7 @@ pub enum Task<'a> {
     },
 }
 
-/// What the command is to do.
+/// The task of the command.
 pub fn task_of<'a>(command: &Command<'a>) -> Task<'a>
     ensures { result ≡ task_of command.now }
 {

@@ -40,7 +40,7 @@ fn host_with(alloc: Global, spec: &str, script: &str) -> Result<MemHost, Fail> {
 
 // ---- rows
 
-// The host behind the commands of a row.
+// The host after the commands of a row.
 fn job_done<B: Bench>(alloc: Global, bench: &mut B, row: &Row) -> Result<MemHost, Fail> {
     let script = spelled(alloc, row.script)?;
     let mut host = host_with(alloc, row.spec, script.as_str())?;
@@ -61,7 +61,7 @@ fn has(file: &[u8], left: &[(usize, &[u8])]) -> bool {
 }
 
 // The commands of each row print its text and leave its bytes, on a bench that keeps all sectors
-// and on one that keeps those alone that are not erased.
+// and on one that keeps only those that are not erased.
 fn agree<R: Abort>(rt: &R, alloc: Global, rows: &[Row]) -> Result<(), Fail> {
     for row in rows {
         let flat = job_done(alloc, &mut FlatSim::new(alloc), row)?;
@@ -93,7 +93,7 @@ fn rows_of_sessions(rt: HostRuntime) -> Result<(), Fail> {
 }
 
 // As many names as a store takes, and one more. Each new name is compared with all others, so one
-// bench has to do.
+// bench must do.
 #[test]
 fn many_names(rt: HostRuntime) -> Result<(), Fail> {
     let alloc = rt.alloc();
@@ -119,7 +119,7 @@ fn generated_scripts(rt: HostRuntime) -> Result<(), Fail> {
 
 // ---- losses
 
-// The blank image of a row, its script, and what is printed where the loss is this one.
+// The blank image of a row, its script, and what is printed for this loss.
 #[derive(Drop)]
 struct Case {
     image: Vec<u8>,
@@ -141,7 +141,7 @@ fn case_of(alloc: Global, row: &Losses, loss: &Loss) -> Result<Case, Fail> {
     })
 }
 
-// Power is lost once so many units of the line were spent that the row cuts.
+// Power is lost after so many units of the line that the row cuts.
 fn loses<R: Abort>(
     rt: &R,
     alloc: Global,
@@ -203,7 +203,7 @@ fn summed(alloc: Global, printed: &[u8]) -> Result<(u64, Vec<u8>), Fail> {
     Ok((units, others))
 }
 
-// 500 sets on each store, with five losses: what was acknowledged is there in the end.
+// 500 sets on each store, with five losses: what was acknowledged is there at the end.
 #[test]
 fn long_runs(rt: HostRuntime) -> Result<(), Fail> {
     let alloc = rt.alloc();
@@ -281,8 +281,9 @@ fn short_files(rt: HostRuntime) -> Result<(), Fail> {
 
 // ---- hosts that fail
 
-// A command, the blank image and the script that it reads, how many calls of the host it makes,
-// which of them prints (`build` prints an empty text), its status where none fails, and what it prints.
+// A command, the blank image and the script that it reads, how many calls of the host it
+// makes, which of them prints (`build` prints an empty text), its status if none fails, and
+// what it prints.
 type Calls = (
     &'static str,
     &'static str,
@@ -362,7 +363,7 @@ static CALLS: [Calls; 10] = [
     ("run x.img", NVS, "", 1, 1, 2, USAGE),
 ];
 
-// Where one call of the host fails, nothing is called after it; what was printed before stays.
+// If one call of the host fails, nothing is called after it; what was printed before stays.
 fn fails<R: Abort>(rt: &R, alloc: Global, row: &Calls, n: u64) -> Result<(), Fail> {
     let (command, spec, script, calls, prints, status, text) = *row;
     let mut host = host_with(alloc, spec, script)?;

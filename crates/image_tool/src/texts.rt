@@ -1,4 +1,4 @@
-// Words of blank images and of commands, and texts that stand for longer ones.
+// The words of blank images and of commands, and texts that stand for longer ones.
 use std::alloc::{AllocError, Global};
 
 // Two sectors of 512 bytes. The file of such an image has a header of 36 bytes.
@@ -6,7 +6,7 @@ pub(crate) const NVS: &str = "bank=erasing/4/512/2,area=nvs/main/0/0/2";
 
 pub(crate) const ZMS: &str = "bank=rewritable/16/512/2,area=zms/main/0/0/2";
 
-// ZMS on a bank that is erased.
+// ZMS on an erasing bank.
 pub(crate) const ERASED: &str = "bank=erasing/16/512/2,area=zms/main/0/0/2";
 
 pub(crate) const FCB: &str = "bank=erasing/4/512/2,area=fcb/main/0/0/2";
@@ -133,8 +133,8 @@ fn with_repeated(alloc: Global, text: &str) -> Result<String, AllocError> {
     Ok(all)
 }
 
-/// The text with what stands for longer texts written out: `BYTE*COUNT ` for a value, and lines and
-/// answers that are repeated.
+/// The text, with what stands for longer texts written out: `BYTE*COUNT ` for a value, and lines
+/// and answers that are repeated.
 pub(crate) fn spelled(alloc: Global, text: &str) -> Result<String, AllocError> {
     if text.contains('*') || text.contains('(') {
         let repeated = with_repeated(alloc, text)?;
@@ -146,7 +146,7 @@ pub(crate) fn spelled(alloc: Global, text: &str) -> Result<String, AllocError> {
 // ---- long scripts
 
 /// The image of an area of four sectors of 4,096 bytes, and the units that the script of 500 sets
-/// spends on it but for what a line spent that was cut.
+/// spends on it, without those of the lines that are cut.
 pub(crate) static LONG_RUNS: [(&str, u64); 4] = [
     ("bank=erasing/4/4096/4,area=nvs/main/0/0/4", 3691),
     ("bank=rewritable/16/4096/4,area=zms/main/0/0/4", 1237),
@@ -154,8 +154,8 @@ pub(crate) static LONG_RUNS: [(&str, u64); 4] = [
     ("bank=erasing/4/4096/4,area=fcb/main/0/0/4", 4218),
 ];
 
-/// What it prints on each of them other than units, and a dump of what it leaves: each name has its
-/// last value that was acknowledged.
+/// What the script prints on each image other than units, and a dump of what it leaves: each name
+/// has its last acknowledged value.
 pub(crate) const LONG_REPORTED: &str =
     "lost 0\nvalue 19191919191919191919191919191919191919191919191919\nlost 1\n\
     value 4444444444444444444444444444444444444444444444444444\nlost 2\n\
@@ -191,7 +191,7 @@ fn digits_of(alloc: Global, number: u32, len: u32) -> Result<String, AllocError>
     digits.repeat(alloc, len as usize)
 }
 
-/// 500 sets of 40 names below three subtrees. Power is lost in one of each hundred, then come a
+/// 500 sets of 40 names under three subtrees. Power is lost in one of each hundred; then come a
 /// mount and a look at the name.
 pub(crate) fn long_script(alloc: Global) -> Result<String, AllocError> {
     let mut script = String::new(alloc);

@@ -1,4 +1,4 @@
-// The top call.
+// The top call of the program.
 ghost use Rattle.std.specs.Prelude.{◌≡◌, ℕ, [], All, List, map};
 ghost use Rattle.std.specs.String.{string_bytes};
 ghost use Rattle.flash_sim.specs.Device.{Device};
@@ -27,7 +27,7 @@ use session_jobs::{run_item_job, run_log_job, run_mirror_job};
 use std::alloc::Global;
 use zs_host::Host;
 
-// What the task is to print and write.
+// Carries out the task, and returns what is to be printed and written.
 fn prepare<'a, K: Backend, H: Host, B: Bench>(
     alloc: Global,
     task: &Task<'a>,
@@ -56,7 +56,7 @@ fn prepare<'a, K: Backend, H: Host, B: Bench>(
     }
 }
 
-// Carries out a task, and prints the line of its refusal.
+// Carries out a task and delivers its output, or prints the line of its refusal.
 fn carry_out<K: Backend, H: Host, B: Bench>(
     alloc: Global,
     task: &Task<'_>,
@@ -83,7 +83,7 @@ fn carry_out<K: Backend, H: Host, B: Bench>(
     }
 }
 
-/// Words that are no command, or no text: the usage line is printed.
+/// Prints the usage line, for words that are no command or no text. Files stay.
 pub fn no_words<H: Host>(alloc: Global, host: &mut H) -> Status
     ensures ends { NoCommandEnds (H.outside host.old) (H.outside host.new) result }
     ensures files { (H.outside host.new).files ≡ (H.outside host.old).files }
@@ -91,7 +91,7 @@ pub fn no_words<H: Host>(alloc: Global, host: &mut H) -> Status
     report(alloc, host, USAGE, Status::Usage)
 }
 
-// The top call over stores of any kind that serve the areas of every image.
+// The top call over any stores that serve the areas of every image.
 fn serve<K: Backend, H: Host, B: Bench>(
     alloc: Global,
     words: &[String],
@@ -122,17 +122,21 @@ fn serve<K: Backend, H: Host, B: Bench>(
     }
 }
 
-/// Carries out the command that the words after the program's name are. The pool has handlers that
+/// Carries out the command that the words after the program's name give. The pool has handlers that
 /// hold nothing and were never committed, and the registry has none.
 ///
-/// `build OUT SPEC` writes the blank image of SPEC. `run IMAGE SCRIPT OUT` carries out the lines of SCRIPT on the image, prints the texts
-/// of all answers, and then writes the image that is left. `dump IMAGE` prints the settings of the image. `migrate IMAGE OUT` jobs
-/// `mount` and `migrate`. `gen OUT BACKEND N` carries out a generated script of N lines on a blank image, and prints its summary.
-/// `log IMAGE SCRIPT OUT` carries out the lines of SCRIPT on the application log that is the image's only area, prints the texts of all
-/// answers, and then writes the image that is left. `items IMAGE SCRIPT OUT` does so with the numbered items of the image's only
-/// area, and `mirror IMAGE SCRIPT OUT` with the settings that its two store areas hold between them. What is refused prints one
-/// line, and nothing is written. Where the host fails or memory runs out before anything is printed, the bench is as it was, or it
-/// holds what the lines have made of the image so far.
+/// `build OUT SPEC` writes the blank image of SPEC. `run IMAGE SCRIPT OUT` carries out the lines of
+/// SCRIPT on the image, prints the texts of all answers, and then writes the image that is left.
+/// `dump IMAGE` prints the settings of the image. `migrate IMAGE OUT` carries out `mount` and
+/// `migrate` on the image, as `run` does. `gen OUT BACKEND N` carries out a generated script of N
+/// lines on a blank image, prints its summary, and writes the image that is left. `log IMAGE SCRIPT
+/// OUT` works as `run` on the application log that is the image's only area, `items IMAGE SCRIPT
+/// OUT` on the numbered items of the image's only area, and `mirror IMAGE SCRIPT OUT` on the
+/// settings that the image's two store areas hold between them.
+///
+/// A command that is refused prints one line and writes nothing. If the host fails or memory runs
+/// out before anything is printed, the bench is as before, or as the lines have left it so far. No
+/// file but OUT changes, however the command ends.
 pub fn tool<H: Host, B: Bench>(
     alloc: Global,
     words: &[String],

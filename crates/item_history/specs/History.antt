@@ -1,4 +1,4 @@
--- What is known of a version.
+-- What a look-up of a version answers.
 use Rattle.std.specs.Prelude.{◌≡◌, ℕ, ◌≤◌, List, [], length, slice_get, Some}
 use Rattle.item_history.specs.declared.history.Older.{Older}
 use Rattle.item_history.specs.declared.history.Older.TheVariants.{Value, Deleted, Gone}

@@ -7,8 +7,8 @@ use Rattle.item_laws.specs.Forms.{AtRest}
 use Rattle.item_store.specs.SectorFormat.{SectorFormat, IsSectorFormat}
 use Rattle.item_store.specs.Standing.{list_of}
 
--- At rest the items cost no more than all sectors but one have room for, so what is given as free
--- is never cut off at 0.
+-- At rest the items cost no more than all sectors but one have room for, so the free space is
+-- exactly what they leave of it.
 abbrev pub ItemsFit : Type 0
 ItemsFit =
     (k : SectorFormat) (sectors : List (List ℕ)) (size : ℕ)

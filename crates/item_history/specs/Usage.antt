@@ -5,7 +5,7 @@ use Rattle.item_laws.specs.PairRounds.{copies_cost, live_cost}
 use Rattle.item_store.specs.SectorFormat.{SectorFormat}
 use Rattle.item_history.specs.declared.usage.Space.{Space}
 
--- The pairs that are no item: deletes, and those behind which stands another of their id.
+-- The pairs that are not live: deletes, and those with a later pair of their id.
 unfoldable pub stale_pairs : List (ℕ × List ℕ) → List (ℕ × List ℕ)
 stale_pairs [] = []
 stale_pairs (pair ∷ later) =
@@ -15,7 +15,8 @@ stale_pairs (pair ∷ later) =
 abbrev pub stale_cost : (ℕ → ℕ) → List (ℕ × List ℕ) → ℕ
 stale_cost price pairs = copies_cost price (stale_pairs pairs)
 
--- In an area of so many sectors of a size, with this list. One sector is kept for collecting.
+-- The space of an area of so many sectors of this size, with this list. One sector is kept for
+-- garbage collection.
 abbrev pub space_of : SectorFormat → ℕ → ℕ → List (ℕ × List ℕ) → Space
 space_of k sectors size pairs = record {
   live = live_cost k.cost pairs;

@@ -20,9 +20,11 @@ use std::sync::ledger::Ledger;
 /// A version of an item.
 #[derive(Clone, Copy, Debug, PartialEq, Eq)]
 pub enum Older<'a> {
+    /// The bytes that the item had.
     Value(&'a [u8]),
+    /// The item was deleted.
     Deleted,
-    /// The area has not so many versions.
+    /// The area does not hold so many versions.
     Gone,
 }
 
@@ -67,9 +69,9 @@ fn version<'a, T: SlotSectors, F: Flash, L: Ledger>(
     }
 }
 
-/// The version of an item behind which its area has `n` newer ones: the newest at 0. `Gone` comes
-/// exactly where the area has at most `n` versions of it. The entries are looked at once, from the
-/// newest back, and no memory is taken.
+/// The version of an item with exactly `n` newer ones in its area: the newest at 0. `Gone` exactly
+/// if the area holds at most `n` versions of it. It reads the entries once, from the newest back,
+/// and allocates nothing.
 pub fn store_older<'a, T: SlotSectors, F: Flash, L: Ledger>(
     store: &Store<T>,
     flash: &'a F,

@@ -90,7 +90,7 @@ fn pass_sector<T: SlotSectors, F: Flash, L: Ledger>(
     Search::Left(left)
 }
 
-/// The entry of an id behind which stand so many newer ones of it, in an area at rest.
+/// The entry of an id with exactly `n` newer ones of it, in an area at rest.
 pub fn nth_entry<T: SlotSectors, F: Flash, L: Ledger>(
     flash: &F,
     area: &Area,

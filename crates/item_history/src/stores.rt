@@ -1,4 +1,4 @@
-// The same of stores over NVS and over ZMS.
+// The same for NVS and ZMS stores.
 ghost use Rattle.std.specs.Prelude.{◌≡◌};
 ghost use Rattle.flash_map.specs.Area.{sector_size};
 ghost use Rattle.item_history.specs.History.{IsVersion};
@@ -14,7 +14,7 @@ use nvs_gc::Nvs;
 use std::sync::ledger::Ledger;
 use zms_store::Zms;
 
-/// `store_older` of a store over NVS.
+/// `store_older` of an NVS store.
 pub fn nvs_older<'a, F: Flash, L: Ledger>(
     store: &Nvs,
     flash: &'a F,
@@ -29,7 +29,7 @@ pub fn nvs_older<'a, F: Flash, L: Ledger>(
     store_older(store.store(), flash, id as u32, n, steps)
 }
 
-/// `store_space` of a store over NVS.
+/// `store_space` of an NVS store.
 pub fn nvs_space<F: Flash, L: Ledger>(store: &Nvs, flash: &F, steps: &mut Steps<L>) -> Space
     requires { nvs.StandsOn (F.device flash.now) store.now }
     ensures { let d = F.device flash.now in let area = store.now.store.area in
@@ -39,7 +39,7 @@ pub fn nvs_space<F: Flash, L: Ledger>(store: &Nvs, flash: &F, steps: &mut Steps<
     store_space(store.store(), flash, steps)
 }
 
-/// `store_older` of a store over ZMS.
+/// `store_older` of a ZMS store.
 pub fn zms_older<'a, F: Flash, L: Ledger>(
     store: &Zms,
     flash: &'a F,
@@ -54,7 +54,7 @@ pub fn zms_older<'a, F: Flash, L: Ledger>(
     store_older(store.store(), flash, id, n, steps)
 }
 
-/// `store_space` of a store over ZMS.
+/// `store_space` of a ZMS store.
 pub fn zms_space<F: Flash, L: Ledger>(store: &Zms, flash: &F, steps: &mut Steps<L>) -> Space
     requires { zms.StandsOn (F.device flash.now) store.now }
     ensures { let d = F.device flash.now in let area = store.now.store.area in

@@ -20,9 +20,9 @@ use std::sync::ledger::Ledger;
 /// What the entries of an area take up, in bytes, each with its value.
 #[derive(Clone, Copy, Debug, PartialEq, Eq)]
 pub struct Space {
-    /// Those that are the last of their id and have a value.
+    /// Live entries: the last of their id, with a value.
     pub live: u64,
-    /// All others: values that were replaced, and deletes.
+    /// All other entries: values that were replaced, and deletes.
     pub stale: u64,
     /// What is left for items, once all stale entries are collected.
     pub free: u64,
@@ -103,8 +103,8 @@ fn room<T: SlotSectors, F: Flash>(flash: &F, area: &Area) -> u64
     u64::from(area.sectors - 1) * u64::from(T::capacity(&geometry))
 }
 
-/// What an area has of items and of other entries, and what room there is for more. The entries are
-/// looked at twice, and no memory is taken.
+/// How the space of an area is used: by live entries, by stale ones, and what is left. It reads the
+/// entries twice, and allocates nothing.
 pub fn store_space<T: SlotSectors, F: Flash, L: Ledger>(
     store: &Store<T>,
     flash: &F,

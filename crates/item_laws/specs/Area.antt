@@ -31,6 +31,7 @@ is_closed_at reading sectors place = reading.is_closed (sector_at sectors place)
 abbrev pub is_blank_at : Reading → List (List ℕ) → ℕ → Bool
 is_blank_at reading sectors place = reading.is_blank (sector_at sectors place)
 
+-- a sector that is not closed and follows a closed one
 abbrev pub follows_closed : Reading → List (List ℕ) → ℕ → Bool
 follows_closed reading sectors place =
     not (is_closed_at reading sectors place) && is_closed_at reading sectors (previous sectors place)
@@ -39,7 +40,7 @@ follows_closed reading sectors place =
 abbrev pub openings : Reading → List (List ℕ) → List ℕ
 openings reading sectors = filter (follows_closed reading sectors) (places sectors)
 
--- Where no sector is closed, the open one is the first that is not blank, or sector 0.
+-- If there is no such sector, the open one is the first that is not blank, or sector 0.
 unfoldable pub open_sector : Reading → List (List ℕ) → ℕ
 open_sector reading sectors =
     unwrap_or (slice_get (openings reading sectors) 0)
@@ -47,21 +48,21 @@ open_sector reading sectors =
 
 -- ---- the list, with this sector open
 
--- The sector that is ignored while a collection lasts: its victim, the next sector, once gc-done
--- stands in the open one, which has all copies then; and until then the open sector, whose copies are not
--- whole yet.
+-- The sector that is ignored during a garbage collection. Before gc-done it is the open sector,
+-- whose copies are not complete yet. Once gc-done stands there, it is the next sector, the victim.
 abbrev pub ignored_place : Reading → List (List ℕ) → ℕ → ℕ
 ignored_place reading sectors open_place =
     if reading.has_gc_done (sector_at sectors open_place) then next sectors open_place else open_place
 
--- The next sector is closed only while a collection lasts. Then each sector but the ignored one counts, and
--- else each.
+-- The next sector is closed only during a garbage collection. Then each sector but the ignored one
+-- counts; otherwise each sector does.
 abbrev pub counts_at : Reading → List (List ℕ) → ℕ → ℕ → Bool
 counts_at reading sectors open_place place =
     not
     (is_closed_at reading sectors (next sectors open_place)
     && (place == ignored_place reading sectors open_place))
 
+-- the pairs of the sectors that count, from the oldest sector to the open one
 unfoldable pub area_pairs : Reading → List (List ℕ) → ℕ → List (ℕ × List ℕ)
 area_pairs reading sectors open_place =
     flat_map (λ place. reading.pairs (sector_at sectors place))
@@ -69,7 +70,7 @@ area_pairs reading sectors open_place =
 
 -- ---- damage
 
--- a sector whose fence and costs are looked at: it counts and is not blank
+-- a sector whose fence and costs are checked: it counts and is not blank
 abbrev pub looked_at : Reading → List (List ℕ) → ℕ → ℕ → Bool
 looked_at reading sectors open_place place =
     counts_at reading sectors open_place place && not (is_blank_at reading sectors place)
@@ -79,7 +80,7 @@ abbrev pub first_of_kind : Why → (ℕ → Bool) → List (List ℕ) → Option
 first_of_kind why test sectors =
     option_map (λ place. record { sector = place; why = why }) (find test (places sectors))
 
--- the first sector of the first kind
+-- the first kind of damage, at the first sector that shows it
 unfoldable pub first_damage : Reading → List (List ℕ) → Option Damaged
 first_damage reading sectors =
     let open_place = open_sector reading sectors in

@@ -5,7 +5,7 @@ use Rattle.std.specs.Ordering.{nat_cmp, is_lt}
 use Rattle.std.specs.Cmp.Lexicographic.{slice_cmp}
 use Rattle.item_laws.specs.Items.{Items}
 
--- greater than these bytes in byte order, where there are any
+-- greater than these bytes in byte order, if there are any
 abbrev pub is_behind : Option (List ℕ) → List ℕ → Bool
 is_behind None bytes = true
 is_behind (Some after) bytes = is_lt (slice_cmp nat_cmp after bytes)
@@ -16,12 +16,12 @@ pub record HasBytes (least most : ℕ) (items : Items) (id : ℕ) (bytes : List 
   pub to : id ≤ most
   pub has : get items id ≡ Some bytes
 
--- an id of the range whose item has these bytes; none where no id has
+-- an id of the range whose item has these bytes; none if no id has
 abbrev pub IsIdOf : ℕ → ℕ → Items → List ℕ → Option ℕ → Type 0
 IsIdOf least most items bytes None = (id : ℕ) → ¬ HasBytes least most items id bytes
 IsIdOf least most items bytes (Some id) = HasBytes least most items id bytes
 
--- the least bytes of an item of the range that are greater than these; none where there are none
+-- the least bytes of an item of the range that are greater than these; none if there are none
 abbrev pub IsNextOf : ℕ → ℕ → Items → Option (List ℕ) → Option (List ℕ) → Type 0
 IsNextOf least most items after None =
     (id : ℕ) (bytes : List ℕ) → HasBytes least most items id bytes → is_behind after bytes ≡ false

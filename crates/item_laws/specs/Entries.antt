@@ -1,5 +1,5 @@
--- How a store's entries stand in the slots of a sector, and what they say. Definitions and laws on live
--- entries ask nothing else of a store.
+-- How a store's entries stand in the slots of a sector, and what they say. Definitions and laws on
+-- live entries ask nothing else of a store.
 use Rattle.std.specs.Prelude.{◌≡◌, ℕ, ◌+◌, ◌<◌, ◌≤◌, Bool, true, List, length, map, Option, Some}
 use Rattle.std.specs.List.{filter_map, range_with_len}
 use Rattle.item_laws.specs.Reading.{Reading}

@@ -10,7 +10,8 @@ use Rattle.item_laws.specs.Reading.{Reading, is_sound}
 abbrev pub distance : ℕ → ℕ → ℕ → ℕ
 distance count from place = if nat_le from place then place - from else count - from + place
 
--- From the open sector on round stand so many blank sectors, and then closed ones up to the open one.
+-- From the open sector on round stand so many blank sectors, and then closed ones up to the open
+-- one.
 pub record IsRing (reading : Reading) (sectors : List (List ℕ)) (place blanks : ℕ) : Type 0 where
   pub several : 2 ≤ length sectors
   pub within : place < length sectors
@@ -29,8 +30,8 @@ pub record AtRest (reading : Reading) (sectors : List (List ℕ)) (place : ℕ) 
   pub some : 0 < blanks
   pub sound : (k : ℕ) → k < length sectors → is_sound reading (sector_at sectors k) ≡ true
 
--- A collection before gc-done. The open sector is ignored, whatever it holds: it is blank, or has
--- copies, a cut copy or a cut gc-done.
+-- A garbage collection before gc-done. The open sector is ignored, whatever it holds: it is blank,
+-- or has copies, a torn copy or a torn gc-done.
 pub record Collecting (reading : Reading) (sectors : List (List ℕ)) (place : ℕ) : Type 0 where
   pub ring : IsRing reading sectors place 0
   pub not_done : reading.has_gc_done (sector_at sectors place) ≡ false

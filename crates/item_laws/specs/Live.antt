@@ -1,5 +1,5 @@
--- The entries of an area's list with their places, and which of them are live: the last of their id, with
--- bytes.
+-- The entries of an area's list with their places, and which of them are live: the last of their
+-- id, with bytes.
 use Rattle.std.specs.Prelude.{ℕ, Bool, false, ◌&&◌, List, [], length, map, fold, Option, Some, None, ◌==◌, nat_lt, if◌then◌else◌}
 use Rattle.std.specs.List.{filter_map, flat_map, range_with_len}
 use Rattle.std.specs.Option.{option_and_then, option_map, option_map_or}
@@ -12,7 +12,7 @@ module _ {Entry Placed : Type 0} (k : Entries Entry Placed) where
   abbrev pub list_of : List (List ℕ) → List (ℕ × List ℕ)
   list_of sectors = area_pairs k.reading sectors (open_sector k.reading sectors)
 
-  -- the entries of a sector with their places, where it counts with this one open
+  -- the entries of a sector with their places, if it counts with this one open
   abbrev pub counted_in : List (List ℕ) → ℕ → ℕ → List Placed
   counted_in sectors current place =
       if counts_at k.reading sectors current place then map (k.placed_at place)
@@ -24,6 +24,7 @@ module _ {Entry Placed : Type 0} (k : Entries Entry Placed) where
       let current = open_sector k.reading sectors in
       flat_map (counted_in sectors current) (round (length sectors) current)
 
+  -- the last of these entries that has the id
   abbrev pub last_of : ℕ → List Placed → Option Placed
   last_of id placed = fold (λ last p. if k.id p == id then Some p else last) None placed
 
@@ -32,7 +33,7 @@ module _ {Entry Placed : Type 0} (k : Entries Entry Placed) where
   last_in place id entries =
       fold (λ last e. if k.id (k.placed_at place e) == id then Some e else last) None entries
 
-  -- the last entry of an id, a delete too
+  -- the last entry of an id; it may be a delete
   abbrev pub last_placed : List (List ℕ) → ℕ → Option Placed
   last_placed sectors id = last_of id (all_placed sectors)
 

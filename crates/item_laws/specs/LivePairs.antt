@@ -6,7 +6,8 @@ use Rattle.std.specs.List.{list_any}
 abbrev pub names : ℕ → List (ℕ × List ℕ) → Bool
 names id pairs = list_any (λ pair. pair.0 == id) pairs
 
--- The pairs of the victim that are the last of their id in `victim ++ others` and have bytes, in order.
+-- The pairs of the victim that are the last of their id in `victim ++ others` and have bytes, in
+-- order.
 unfoldable pub live_pairs : List (ℕ × List ℕ) → List (ℕ × List ℕ) → List (ℕ × List ℕ)
 live_pairs [] others = []
 live_pairs (pair ∷ rest) others =

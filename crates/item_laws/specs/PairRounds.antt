@@ -1,5 +1,6 @@
--- Rounds of close and collect, on the parts of a list: one for each sector but the blank one before the
--- oldest, the oldest first, the open one last. What a pair takes up is a price by the length of its bytes.
+-- Rounds of close and collect, on the parts of a list: one for each sector but the blank one before
+-- the oldest, the oldest first, the open one last. What a pair takes up is a price by the length of
+-- its bytes.
 use Rattle.std.specs.Prelude.{◌≡◌, ℕ, ◌+◌, ◌<◌, List, [], ◌∷◌, ◌++◌, length, sum_by, All, ◌==◌, if◌then◌else◌}
 use Rattle.std.specs.List.{flat_map}
 use Rattle.item_laws.specs.LivePairs.{live_pairs}
@@ -20,15 +21,15 @@ joined parts = flat_map (λ part. part) parts
 abbrev pub live_cost : (ℕ → ℕ) → List (ℕ × List ℕ) → ℕ
 live_cost price pairs = copies_cost price (live_pairs pairs [])
 
--- The oldest part goes, and its live pairs are the new last one.
+-- The oldest part goes, and its live pairs are the new last part.
 unfoldable pub collect_oldest : List (List (ℕ × List ℕ)) → List (List (ℕ × List ℕ))
 collect_oldest [] = []
 collect_oldest (victim ∷ others) = others ++ live_pairs victim (joined others) ∷ []
 
--- Rounds that make no room, whatever parts are lists of: `live` says what is live of a part before others,
--- `cost` what a part costs. So many rounds led from the parts at the start to those now, each with the live
--- ones of the oldest part as the new last part. All of the new parts is live, and each of them and what is
--- needed cost more than a sector has.
+-- Rounds that make no room, whatever parts are lists of: `live` says what is live of a part before
+-- others, `cost` what a part costs. So many rounds led from the parts at the start to those now,
+-- each with the live ones of the oldest part as the new last part. Everything in the new parts is
+-- live, and each of them, with what is needed, costs more than a sector has.
 pub record LeavesNoRoom {A : Type 0} (live : List A → List A → List A) (cost : List A → ℕ) (need capacity : ℕ)
     (start now : List (List A)) (rounds : ℕ) : Type 0 where
   -- the parts that were not collected yet, and the new ones

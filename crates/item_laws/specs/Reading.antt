@@ -1,4 +1,5 @@
--- How a store reads the bytes of one sector. Definitions on a ring of sectors ask nothing else of a sector.
+-- How a store reads the bytes of one sector. Definitions on a ring of sectors ask nothing else of a
+-- sector.
 use Rattle.std.specs.Prelude.{◌≡◌, ℕ, Bool, true, false, not, ◌&&◌, ◌||◌, List, []}
 
 pub record Reading : Type 0 where

@@ -1,4 +1,5 @@
--- Collections and rounds of close and collect, on an area: what each makes of the parts of its list.
+-- Collections and rounds of close and collect, on an area: what each makes of the parts of its
+-- list.
 use Rattle.std.specs.Prelude.{◌≡◌, ℕ, ◌+◌, ◌<◌, List, [], ◌∷◌, ◌++◌, length, map, All}
 use Rattle.item_laws.specs.LivePairs.{live_pairs}
 use Rattle.item_laws.specs.Items.{SameItems}
@@ -12,8 +13,8 @@ abbrev pub parts : Reading → List (List ℕ) → ℕ → List (List (ℕ × Li
 parts reading sectors place =
     map (pairs_at reading sectors) (rest (length sectors) place) ++ pairs_at reading sectors place ∷ []
 
--- what a collection makes of an area: it is at rest with the same items, and the live pairs of the victim are
--- the open part
+-- what a collection makes of an area: it is at rest with the same items, and the live pairs of the
+-- victim are the open part
 pub record Collects (reading : Reading) (old : List (List ℕ)) (place : ℕ) (new : List (List ℕ)) : Type 0 where
   pub form : AtRest reading new place
   pub items : SameItems (area_pairs reading new place) (area_pairs reading old place)
@@ -26,8 +27,8 @@ pub record IsRound (reading : Reading) (old : List (List ℕ)) (place : ℕ) (ne
   pub items : SameItems (area_pairs reading new (next old place)) (area_pairs reading old place)
   pub parts : parts reading new (next old place) ≡ collect_oldest (parts reading old place)
 
--- No sector of an area at rest has room for what is needed: each pair is live, and in each sector but the
--- blank one its pairs and what is needed cost more than a sector has for them.
+-- No sector of an area at rest has room for what is needed: each pair is live, and in each sector
+-- but the blank one its pairs and what is needed cost more than a sector has for them.
 pub record IsCrammed (reading : Reading) (price : ℕ → ℕ) (need capacity : ℕ) (sectors : List (List ℕ))
     (place : ℕ) : Type 0 where
   pub all_live : live_pairs (area_pairs reading sectors place) [] ≡ area_pairs reading sectors place

@@ -21,6 +21,6 @@ slots first size sector = map (slot_at size sector) (range_with_len first (lengt
 unfoldable pub used_slots : (Slot → Bool) → ℕ → ℕ → List ℕ → List Slot
 used_slots is_used first size sector = take_while is_used (slots first size sector)
 
--- the start of the lowest used slot, where the slots above the first count as used
+-- the start of the lowest used slot; the slots above the first count as used
 abbrev pub low : (Slot → Bool) → ℕ → ℕ → List ℕ → ℕ
 low is_used first size sector = length sector - (length (used_slots is_used first size sector) + first) * size

@@ -8,7 +8,7 @@ pub record KeepsList (reading : Reading) (old new : List ℕ) : Type 0 where
   pub gc_done : reading.has_gc_done new ≡ reading.has_gc_done old
   pub closed : reading.is_closed new ≡ reading.is_closed old
 
--- the sector's part of the list has one pair more
+-- the sector's part of the list has one more pair
 pub record AddsPair (reading : Reading) (old new : List ℕ) (id : ℕ) (bytes : List ℕ) : Type 0 where
   pub list : reading.pairs new ≡ reading.pairs old ++ (id, bytes) ∷ []
   pub gc_done : reading.has_gc_done new ≡ reading.has_gc_done old

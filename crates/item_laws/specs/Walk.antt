@@ -16,7 +16,7 @@ module _ {Entry Placed : Type 0} (k : Entries Entry Placed) where
   abbrev pub entries_within : List ℕ → ℕ → List Entry
   entries_within sector n = entries_from sector k.first (min (k.slots sector) n)
 
-  -- those with their places, where the sector counts with this one open
+  -- those with their places, if the sector counts with this one open
   abbrev pub counted_within : List (List ℕ) → ℕ → ℕ → ℕ → List Placed
   counted_within sectors current place n =
       if counts_at k.reading sectors current place then map (k.placed_at place)

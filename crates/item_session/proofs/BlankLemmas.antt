@@ -25,7 +25,7 @@ use Rattle.zms_format.proofs.Erased.{cycle_none, erased-unused}
 use Rattle.zms_format.specs.Area.{is_clean}
 use Rattle.zms_cycle.specs.Sector.{cycle_of, is_fresh}
 use Rattle.flash_map.proofs.ErasedBytes.{erased_is}
-use Rattle.flash_sim.specs.declared.flash.Kind.{SectorFormat as BankKind}
+use Rattle.flash_sim.specs.declared.flash.Kind.{Kind as BankKind}
 use Rattle.flash_sim.specs.declared.flash.Kind.TheVariants.{Erasing, Rewritable}
 use Rattle.zms_format.proofs.FormatLemmas.{zms_is_format}
 use Rattle.item_session.specs.Laws.{NvsBlankIsFresh, ZmsBlankIsFresh}

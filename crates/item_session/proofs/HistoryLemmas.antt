@@ -36,7 +36,8 @@ none_kept pairs id none =
 
 -- ---- one line
 
--- what a line adds to the plain list, what it knows that, and that what is kept is the newest of it
+-- what a line adds to the plain list, that its report is true of it, and that what is kept is
+-- the newest of it
 pub record GoesOn (last : ℕ) (line : Line) (answer : Answer) (all : List (ℕ × List ℕ)) (old new : State) : Type 0 where
   pub added : List (ℕ × List ℕ)
   pub adds : Adds last line answer added

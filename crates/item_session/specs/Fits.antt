@@ -1,4 +1,4 @@
--- Lines that make no room, and so forget nothing.
+-- Lines that make no room, and so drop no version.
 use Rattle.std.specs.Prelude.{◌≡◌, ℕ, ⊤, true, List, ◌++◌, length}
 use Rattle.flash_sim.specs.Device.{Device}
 use Rattle.flash_map.specs.declared.area.Area.{Area}
@@ -20,7 +20,8 @@ FitsOpen format_of d area (Delete id) = has_room_at (format_on format_of d area)
 FitsOpen format_of d area Mount = RestsOn format_of d area
 FitsOpen format_of d area line = ⊤
 
--- what the area says of items is as before, but for what the line adds: each version that was kept still is
+-- the pairs of the area are as before, except for what the line adds: each version that
+-- was kept still is
 pub record ForgetsNone (format_of : Geometry → SectorFormat) (area : Area) (line : Line) (answer : Answer)
     (old new : Device)
     : Type 0 where

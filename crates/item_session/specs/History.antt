@@ -12,8 +12,8 @@ use Rattle.session_table.specs.Follows.{Follows}
 use Rattle.session_table.specs.Rules.{IsCounted}
 use Rattle.item_session.specs.Step.{Rules, State, Step, items}
 
--- a state, what its area said of items at the start, and behind it each set and delete that was carried
--- out since, the oldest first
+-- a state; the pairs of its area at the start, followed by each set and delete that was carried out
+-- since, the oldest first
 pub record Recorded : Type 0 where
   pub state : State
   pub all : List (ℕ × List ℕ)
@@ -26,8 +26,8 @@ history now id = versions now.all id
 abbrev pub plain_items : Recorded → Items
 plain_items now = items_of now.all
 
--- What a set or a delete adds: itself, where it was done with units; nothing, where it needed none; one
--- of the two, where power was lost in it.
+-- What a set or a delete adds: itself if it was done with units, nothing if it needed none, either
+-- of the two if power was lost in it.
 abbrev pub AddsPair : ℕ → ℕ × List ℕ → Answer → List (ℕ × List ℕ) → Type 0
 AddsPair last pair (answers.Done units) added =
     ((units ≡ 0) × (added ≡ [])) ⊎ ((IsCounted last → 0 < units) × (added ≡ pair ∷ []))
@@ -40,14 +40,14 @@ Adds last (Set id value) answer added = AddsPair last (id, value) answer added
 Adds last (Delete id) answer added = AddsPair last (id, []) answer added
 Adds last line answer added = added ≡ []
 
--- Of each id the newest of all its versions are kept, at least one where it has a value. The items are
+-- Of each id the newest of all its versions are kept, at least one if it has a value. The items are
 -- those of the plain list.
 pub record IsKept (now : Recorded) : Type 0 where
   pub versions_are : KeepsVersions now.all now.state.list
   pub items_are : items now.state ≡ plain_items now
 
--- `get` reports the item of the plain list, and `older` the version of the whole history, where it reports
--- one; none at 0 only of an id that has no value.
+-- `get` reports the item of the plain list. `older` reports the version of the whole history, if it
+-- reports one; it reports none at 0 only if the id has no value.
 abbrev pub ReportsHistory : Line → Answer → Recorded → Type 0
 ReportsHistory (Get id) (answers.Value value) now = get (plain_items now) id ≡ Some value
 ReportsHistory (Get id) answers.Absent now = get (plain_items now) id ≡ None
@@ -67,7 +67,7 @@ abbrev pub HistoryStep : Rules → ℕ → Line → Answer → Recorded → Reco
 HistoryStep rules last line answer old new =
     Step rules last line answer old.state new.state × Records last line answer old new
 
--- The history begins with what the area says at the start, and goes on line by line.
+-- The history begins with the pairs of the area at the start, and goes on line by line.
 pub record HasHistory (rules : Rules) (last : ℕ) (lines : List Line) (answers : List Answer) (old new : State)
     : Type 0 where
   pub all : List (ℕ × List ℕ)
@@ -78,7 +78,7 @@ pub record HasHistory (rules : Rules) (last : ℕ) (lines : List Line) (answers 
 
 -- ---- power
 
--- after this line power is on
+-- the line restores power
 abbrev pub restores : Line → Bool
 restores Mount = true
 restores line = false

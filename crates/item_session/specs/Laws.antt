@@ -24,14 +24,14 @@ use Rattle.item_session.specs.LineDone.{LineDone, Runs}
 use Rattle.item_session.specs.Step.{Rules, State, Step}
 use Rattle.item_session.specs.Whole.{IsBlankOn, IsFresh, KeepsWhole}
 
--- wherever power is lost, the items are those of a plain list, and what is kept of each id is the
--- newest of its history in that list
+-- wherever power is lost, the items are those of a plain list; of each id the newest versions in
+-- that list are kept
 abbrev pub HoldsAcknowledged : Type 0
 HoldsAcknowledged =
     (rules : Rules) (last : ℕ) (lines : List Line) (answers : List Answer) (old new : State)
     → Follows (Step rules last) lines answers old new → HasHistory rules last lines answers old new
 
--- power is off from a line in which it was lost to the next mount that answers `ok`
+-- power is off from a line in which it was lost until a mount answers `ok`
 abbrev pub LosesPower : Type 0
 LosesPower =
     (rules : Rules) (last : ℕ) (lines : List Line) (answers : List Answer) (old new : State)
@@ -44,15 +44,15 @@ RunsInRow =
     → Follows (Step rules last) lines answers old mid → Follows (Step rules last) more others mid new
     → Follows (Step rules last) (lines ++ more) (answers ++ others) old new
 
--- a run of a bench, line by line, follows the table, its counts and its plan are those that its answers
--- say, and no byte changed outside the area
+-- a run of a bench, line by line, follows the table; its counts and its plan are as its answers
+-- report, and no byte changes outside the area
 abbrev pub LinesMakeRuns : Type 0
 LinesMakeRuns =
     (format_of : Geometry → SectorFormat) (area : Area) (lines : List Line) (answers : List Answer)
     (old new : Device)
     → Follows (LineDone format_of area) lines answers old new → Runs format_of area lines answers old new
 
--- a line whose entry fits the open sector forgets no version, nor does a mount of an area at rest
+-- a line whose entry fits the open sector drops no version, nor does a mount of an area at rest
 abbrev pub ForgetsForRoom : Type 0
 ForgetsForRoom =
     (format_of : Geometry → SectorFormat) (area : Area) (line : Line) (answer : Answer) (old new : Device)
@@ -60,8 +60,8 @@ ForgetsForRoom =
     → FitsOpen format_of old area line
     → ForgetsNone format_of area line answer old new
 
--- From a fresh area the whole history of each id is kept as long as the sets and deletes of the lines, each
--- whatever it answered, cost no more than a sector has, wherever power is lost.
+-- From a fresh area on, the whole history of each id is kept as long as the sets and deletes of the
+-- lines, whatever they answered, cost at most what a sector has. This holds wherever power is lost.
 abbrev pub HistoryStaysWhole : Type 0
 HistoryStaysWhole =
     (format_of : Geometry → SectorFormat) (area : Area) (lines : List Line) (answers : List Answer)
@@ -70,7 +70,7 @@ HistoryStaysWhole =
     → Follows (LineDone format_of area) lines answers old new
     → KeepsWhole format_of area lines answers old new
 
--- areas of NVS and of ZMS that are blank are fresh
+-- blank areas of NVS and of ZMS are fresh
 abbrev pub BlankIsFresh : Role → (Geometry → SectorFormat) → Type 0
 BlankIsFresh role format_of =
     (d : Device) (area : Area) → IsLawful d.banks d.bytes → IsStoreArea role d.banks area → IsBlankOn d area

@@ -18,12 +18,12 @@ use Rattle.item_session.specs.declared.line.TheConstants.{VERSIONS_END}
 use Rattle.item_session.specs.declared.reading.Command.{Command}
 use Rattle.item_session.specs.declared.reading.Command.TheVariants as commands
 
--- where ids end
+-- the end of ids
 abbrev pub ids_end : Ids → ℕ
 ids_end Short = SHORT_END
 ids_end Long = LONG_END
 
--- the lines on items whose ids are below an end
+-- the lines on items whose ids are below `ids`
 abbrev pub item_forms : ℕ → List Form
 item_forms ids =
     form (codes "set") (below ids ∷ some_bytes ∷ [])
@@ -57,15 +57,15 @@ command_word commands.Cut = codes "cut"
 command_word commands.Uncut = codes "uncut"
 command_word commands.Mount = codes "mount"
 
--- the command of a first word; none where no line has it, whatever the end of ids
+-- the command of a first word; `None` if no line has that word, whatever the end of ids
 abbrev pub FindsCommand : List ℕ → Option Command → Type 0
 FindsCommand word None = (ids : ℕ) → list_any (has_word word) (item_forms ids) ≡ false
 FindsCommand word (Some command) = word ≡ command_word command
 
--- What reading a line answers.
+-- How the reading of a line ends.
 abbrev pub ReadsLine : ℕ → ℕ → List (List ℕ) → Result Line LineFault → Type 0
 ReadsLine ids limit words read = ReadsRow (item_forms ids) row_of limit words read
 
--- What reading a script answers.
+-- How the reading of a script ends.
 abbrev pub ReadsScript : Ids → ℕ → List ℕ → Result (Vec Line) ScriptFault → Type 0
 ReadsScript ids limit text read = ReadsLines (item_forms (ids_end ids)) row_of limit text read

@@ -1,4 +1,4 @@
--- What lines make of a bench.
+-- How lines change a bench.
 use Rattle.std.specs.Prelude.{◌≡◌, ℕ, ◌+◌, ◌≤◌, ⊤, Bool, true, false, None, List, [], ◌∷◌, if◌then◌else◌, All}
 use Rattle.flash_sim.specs.Device.{Device, counted}
 use Rattle.flash_map.specs.declared.area.Area.{Area}
@@ -28,7 +28,7 @@ abbrev pub powered_for : Line → Device → Device
 powered_for Mount d = turned_on d
 powered_for line d = d
 
--- counts and plan
+-- the counts and the plan after a line
 pub record Accounts (line : Line) (answer : Answer) (old new : Device) : Type 0 where
   pub spent : old.spent + units_of answer ≡ new.spent
   pub losses : new.losses ≡ counted old.losses (if is_lost answer then 1 else 0)
@@ -36,7 +36,8 @@ pub record Accounts (line : Line) (answer : Answer) (old new : Device) : Type 0 
   pub plan : IsCounted new.spent → new.plan ≡ plan_after old.plan line answer
   pub unplanned : PlansNoLoss line → StaysUnplanned old new
 
--- A set or a delete ends as the store's: it collects only where its entry does not fit, and so on.
+-- A set or a delete ends as the store's call does; for example, it collects only if its
+-- entry does not fit.
 abbrev pub WritesBy : (Geometry → SectorFormat) → Area → Line → Answer → Device → Device → Type 0
 WritesBy format_of area (Set id value) (answers.Done units) old new =
     Writes (format_on format_of old area) old new area id value
@@ -50,9 +51,9 @@ WritesBy format_of area (Delete id) (answers.Lost units) old new =
     StopsDeleting (format_on format_of old area) old new area id
 WritesBy format_of area line answer old new = ⊤
 
--- A mount spends what there is to redo, by the area's bytes, and its list is what that leaves. A cut one
--- spends at most the `lost` of that range, which may be above its `most`, and leaves that list or the one
--- before.
+-- A mount spends what there is to redo, by the area's bytes, and leaves the list that the redo
+-- makes. If it is cut, it spends at most the `lost` of that range, which may exceed its `most`, and
+-- leaves that list or the one before.
 abbrev pub Redoes : SectorFormat → Area → Answer → Device → Device → Type 0
 Redoes k area (answers.Done units) old new =
     let place = open_sector k.reading (sectors_of old area) in
@@ -66,7 +67,7 @@ Redoes k area (answers.Lost units) old new =
     × KeepsOrRedoes k (sectors_of old area) (sectors_of new area) place
 Redoes k area answer old new = ⊥
 
--- An area that shows no damage is mounted, and shows none afterwards. At rest nothing is done.
+-- An area that shows no damage is mounted, and keeps its items. At rest nothing is done.
 pub record MountsBy (format_of : Geometry → SectorFormat) (area : Area) (answer : Answer) (old new : Device)
     : Type 0 where
   pub undamaged : (format_on format_of old area).damage (sectors_of old area) ≡ None
@@ -85,9 +86,9 @@ asks line = false
 abbrev pub SameButPlan : Device → Device → Type 0
 SameButPlan old new = new ≡ record old { plan = new.plan }
 
--- A line was carried out by the table. But for the plan, the bench was touched in the area alone: a
--- loss of power lies in it, and without a unit no byte changed. A line on the plan changes nothing
--- else, and one that only asks changes nothing.
+-- A line was carried out by the table. Except for the plan, the bench was touched in the area
+-- alone: a power loss lies in it, and without a unit no byte changed. A line on the plan changes
+-- nothing else, and one that only asks changes nothing.
 pub record LineDone (format_of : Geometry → SectorFormat) (area : Area) (line : Line) (answer : Answer)
     (old new : Device)
     : Type 0 where

@@ -10,7 +10,7 @@ use Rattle.item_session.specs.Line.{ids_end, item_forms, row_of}
 abbrev pub OneMeaning : Type 0
 OneMeaning = (one other : Line) → row_of one ≡ row_of other → one ≡ other
 
--- words spell a line, or are refused for some cause
+-- words are a line, or are refused for some cause
 abbrev pub EachIsRead : Type 0
 EachIsRead = (ids : Ids) (limit : ℕ) (words : List (List ℕ)) → 0 < length words
     → ((line : Line) × Spells (item_forms (ids_end ids)) limit words (row_of line))

@@ -1,4 +1,4 @@
--- Units and losses in answers, and the plan of a loss: by two functions of an answer and one of a line.
+-- Units and losses in answers, and the plan of a loss.
 use Rattle.std.specs.Prelude.{◌≢◌, ℕ, ⊤, Bool, true, false, List, [], ◌∷◌, MatchBool, sum_by, count_by, if◌then◌else◌}
 use Rattle.flash_sim.specs.Device.{Plan, After, Lasts, LostAfter, lowered, dropped, replanned}
 use Rattle.script_lines.specs.Plan.{Replan}
@@ -24,13 +24,13 @@ units_in answers = sum_by units_of answers
 abbrev pub losses_in : List Answer → ℕ
 losses_in answers = count_by is_lost answers
 
--- what a line makes of the plan, before its answer does
+-- how a line itself changes the plan
 abbrev pub replan : Line → Replan
 replan (Cut units) = plans units
 replan Uncut = drops
 replan _ = keeps
 
--- the plan lasts through the answer's units, or is used up by them just where power is lost
+-- the plan lasts through the answer's units; or they use it up, exactly if power is lost
 abbrev pub Allows : Plan → Answer → Type 0
 Allows plan answer =
     MatchBool (is_lost answer) (LostAfter plan (units_of answer)) (Lasts plan (units_of answer))

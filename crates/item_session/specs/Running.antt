@@ -15,14 +15,15 @@ use Rattle.item_session.specs.LineDone.{LineDone, Runs}
 use Rattle.item_session.specs.Standing.{ShowsDamage, damage_on}
 use Rattle.item_session.specs.Step.{IsStored, kept}
 
--- Why a mount was not carried out: the area shows this damage, or memory was wanting. But for power,
+-- Why a mount was not carried out: the area shows this damage, or memory ran out. Except for power,
 -- which is on, nothing changed.
 abbrev pub MountStops : (Geometry → SectorFormat) → Area → Device → Device → SessionFault → Type 0
 MountStops format_of area old new (IsDamaged damaged) = ShowsDamage format_of area old new damaged
 MountStops format_of area old new NoMemory = new ≡ turned_on old
 
--- Memory was wanting for a line, which left the bench, but that a mount turned power on: for the bytes that
--- it reports, with power on, or for what a mount keeps of the area. No other line wants any.
+-- Memory ran out for a line, which left the bench as it was, except that a mount turned power on:
+-- for the bytes that the line reports, with power on, or for what a mount keeps of the area. No
+-- other line takes memory.
 abbrev pub WantsMemory : (Geometry → SectorFormat) → Area → Line → Device → Device → Type 0
 WantsMemory format_of area (Get id) old new =
     (new ≡ old) × (old.is_on ≡ true) × ((value : List ℕ) × IsStored (state_of format_of area old) id value)
@@ -33,16 +34,16 @@ WantsMemory format_of area (Older id n) old new =
 WantsMemory format_of area Mount old new = new ≡ turned_on old
 WantsMemory format_of area line old new = ⊥
 
--- Lines were carried out one after another, and as a whole they follow the table, and the counts, the
--- plan and the bytes of the bench are those that the answers say.
+-- Lines were carried out one after another. As a whole they follow the table; the counts, the plan
+-- and the bytes of the bench are as the answers say.
 pub record Ran (format_of : Geometry → SectorFormat) (area : Area) (lines : List Line) (answers : List Answer)
     (old new : Device)
     : Type 0 where
   pub in_turn : Follows (LineDone format_of area) lines answers old new
   pub whole : Runs format_of area lines answers old new
 
--- The first lines were carried out, and then memory was wanting, for the next one or for an answer.
--- Nothing changed behind them, but that power may be on, and that only where a mount was next.
+-- The first lines were carried out, and then memory ran out, for the next one or for an answer.
+-- Nothing changed after them, except that power may be on if a mount was next.
 pub record RunStops (format_of : Geometry → SectorFormat) (area : Area) (lines : List Line)
     (old new : Device) :
     Type 0 where
@@ -54,8 +55,8 @@ pub record RunStops (format_of : Geometry → SectorFormat) (area : Area) (lines
   pub ran : Ran format_of area prefix answers old mid
   pub left : (new ≡ mid) ⊎ ((more : List Line) × (rest ≡ Mount ∷ more) × (new ≡ turned_on mid))
 
--- All were carried out, with these answers; or the opening mount found the damage that the area shows;
--- or memory was wanting. An area that shows none is mounted.
+-- All lines were carried out, with these answers; or the opening mount found the damage that the
+-- area shows; or memory ran out. If all were carried out, the area showed no damage.
 abbrev pub RunEnds : (Geometry → SectorFormat) → Area → List Line → Device → Device
     → Result (List Answer) SessionFault → Type 0
 RunEnds format_of area lines old new (Ok answers) =

@@ -1,4 +1,4 @@
--- Between two lines.
+-- What holds between two lines.
 use Rattle.std.specs.Prelude.{◌≡◌, ℕ, true, false, List, Option, Some, None}
 use Rattle.flash_sim.specs.Device.{Device}
 use Rattle.flash_map.specs.declared.area.Area.{Area}
@@ -18,7 +18,8 @@ use Rattle.item_session.specs.Device.{TakesValues, turned_on}
 abbrev pub damage_on : (Geometry → SectorFormat) → Device → Area → Option Damaged
 damage_on format_of d area = (format_on format_of d area).damage (sectors_of d area)
 
--- a store may stand on the area, its bytes show no damage, and each value within its limit fits a sector
+-- a store may stand on the area, its bytes show no damage, and each value within its
+-- limit fits a sector
 pub record IsSound (role : Role) (format_of : Geometry → SectorFormat) (d : Device) (area : Area)
     : Type 0 where
   pub is_area : IsStoreArea role d.banks area
@@ -41,7 +42,7 @@ pub record IsReady {T : Type 0} (role : Role) (format_of : Geometry → SectorFo
   pub sound : IsSound role format_of d session.area
   pub mounted : IsMounted role format_of kept d session.area session.store
 
--- the area's bytes show the damage, and nothing changed but that power is on
+-- the area's bytes show the damage, and nothing changed, except that power is on
 abbrev pub ShowsDamage : (Geometry → SectorFormat) → Area → Device → Device → Damaged → Type 0
 ShowsDamage format_of area old new damaged = (damage_on format_of old area ≡ Some damaged)
     × (new ≡ turned_on old)

@@ -1,6 +1,6 @@
--- The table: which answers plain items, each with its versions, give to a line, and what they make of
--- them. The choices are whether power is lost in a line, whether a set or a delete stands then, how
--- many of the oldest versions are kept no more, and the units.
+-- The table: which answers plain items with their versions allow to a line, and the state after
+-- each. It leaves open whether power is lost in a line, whether a set or a delete stands then, how
+-- many of the oldest versions are dropped, and the units.
 use Rattle.std.specs.Prelude.{◌≡◌, ◌⊎◌, ℕ, ◌+◌, ◌-◌, ◌*◌, ◌<◌, ◌≤◌, Bool, true, false, List, [], length, slice_get, Some, None}
 use Rattle.std.specs.FinMap.{get, insert, remove}
 use Rattle.item_laws.specs.Costs.{items_cost}
@@ -14,12 +14,12 @@ use Rattle.item_session.specs.declared.answer.Answer.TheVariants as answers
 use Rattle.item_store.specs.Versions.{versions, AddsVersion, KeepsVersions}
 
 pub record State : Type 0 where
-  -- what the area says of items, from the oldest pair to the newest: an id with its bytes, none where
+  -- the pairs of the area, from the oldest to the newest: an id with its bytes, or with none if
   -- it was deleted
   pub list : List (ℕ × List ℕ)
   pub is_on : Bool
 
--- each id with the bytes that were said of it last, where there are any
+-- each id with the bytes of its last pair, if there are any
 abbrev pub items : State → Items
 items state = items_of state.list
 
@@ -35,21 +35,20 @@ IsOff state = state.is_on ≡ false
 
 -- ---- room and units
 
--- what the area's store asks for
+-- the figures of the area's store
 pub record Rules : Type 0 where
-  -- the bytes that a value of this length and its entry take up
+  -- the bytes that a value of this length takes with its entry
   pub cost : ℕ → ℕ
-  -- those that a sector has for values and entries
+  -- the bytes that a sector has for values and entries
   pub cap : ℕ
   pub sectors : ℕ
-  -- the most units of a collection with what goes before it, of a value of this length and its entry,
-  -- and of a mount
+  -- the most units of a round, of a value of this length with its entry, and of a mount
   pub round : ℕ
   pub entry : ℕ → ℕ
   pub mount : ℕ
 
--- Before its entry a set makes a round for each sector but one, at most; one is enough for a delete,
--- whose entry has no bytes.
+-- Before its entry, a set makes at most one round for each sector but one. One round is enough for
+-- a delete, whose entry has no bytes.
 abbrev pub most_to_set : Rules → List ℕ → ℕ
 most_to_set rules value = (rules.sectors - 1) * rules.round + rules.entry (length value)
 
@@ -64,7 +63,7 @@ IsStored state id value = get (items state) id ≡ Some value
 abbrev pub IsAbsent : State → ℕ → Type 0
 IsAbsent state id = get (items state) id ≡ None
 
--- the items stay, and of each id the newest versions
+-- the items stay, and so do the newest versions of each id
 pub record Stays (old new : State) : Type 0 where
   pub items_are : items new ≡ items old
   pub versions_are : KeepsVersions old.list new.list
@@ -81,7 +80,7 @@ pub record Loses (id : ℕ) (old new : State) : Type 0 where
 
 -- ---- sets
 
--- a value that is stored already changes nothing
+-- the set of a value that is stored already changes nothing
 abbrev pub SetIsDone : ℕ → ℕ → List ℕ → ℕ → State → State → Type 0
 SetIsDone last id value units old new =
     (IsStored old id value × (units ≡ 0) × (new ≡ old))
@@ -145,8 +144,8 @@ ReportsOlder id n answers.Deleted old new = (slice_get (kept old id) n ≡ Some 
 ReportsOlder id n answers.Gone old new = (length (kept old id) ≤ n) × (new ≡ old)
 ReportsOlder id n answer old new = ⊥
 
--- what the items cost, what the other versions cost that are kept, and what a collection of these would
--- leave free
+-- what the items cost, what the other kept versions cost, and what a collection of these
+-- would leave free
 abbrev pub ReportsSpace : Rules → Answer → State → State → Type 0
 ReportsSpace rules (answers.Space live stale free) old new =
     (live ≡ items_cost rules.cost (items old))
@@ -157,20 +156,20 @@ ReportsSpace rules answer old new = ⊥
 
 -- ---- power
 
--- the items stay, also where power is lost
+-- the items stay, even if power is lost
 abbrev pub Mounts : Rules → Answer → State → State → Type 0
 Mounts rules (answers.Done units) old new = (units ≤ rules.mount) × Stays old new × IsOn new
 Mounts rules (answers.Lost units) old new = (units ≤ rules.mount) × Stays old new × IsOff new
 Mounts rules answer old new = ⊥
 
--- a loss is planned, or none any more
+-- a loss is planned, or the plan is dropped
 abbrev pub Arms : Answer → State → State → Type 0
 Arms (answers.Done units) old new = (units ≡ 0) × (new ≡ old)
 Arms answer old new = ⊥
 
 -- ---- all lines
 
--- these are carried out with power off too
+-- lines that need power; the others are carried out with power off too
 abbrev pub needs_power : Line → Bool
 needs_power Mount = false
 needs_power (Cut units) = false
@@ -187,7 +186,7 @@ Answers rules last Mount answer old new = Mounts rules answer old new
 Answers rules last (Cut units) answer old new = Arms answer old new
 Answers rules last Uncut answer old new = Arms answer old new
 
--- with power off, `off` and no change; else by the line
+-- with power off the answer is `off` and nothing changes; else it is the line's
 abbrev pub Step : Rules → ℕ → Line → Answer → State → State → Type 0
 Step rules last line answers.Off old new = (needs_power line ≡ true) × IsOff old × (new ≡ old)
 Step rules last line answer old new =

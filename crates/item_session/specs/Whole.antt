@@ -29,7 +29,8 @@ line_cost cost line = 0
 abbrev pub free_on : (Geometry → SectorFormat) → Device → Area → ℕ
 free_on format_of d area = let k = format_on format_of d area in k.free (open_at k d area)
 
--- what a sector of the area has for values and entries, and the slots that it keeps beside these
+-- what a sector of the area has for values and entries, and the slots that it keeps beside
+-- these, in bytes
 abbrev pub cap_on : (Geometry → SectorFormat) → Device → Area → ℕ
 cap_on format_of d area = (format_on format_of d area).cap (sector_size d area)
 
@@ -40,22 +41,22 @@ spare_on format_of d area = 3 * (format_on format_of d area).slot
 abbrev pub IsBlankOn : Device → Area → Type 0
 IsBlankOn d area = All (λ sector. is_erased sector ≡ true) (sectors_of d area)
 
--- nothing was said of any item yet, and the open sector is all free
+-- no pair was written yet, and the open sector is all free
 pub record IsFresh (format_of : Geometry → SectorFormat) (d : Device) (area : Area) : Type 0 where
   pub list : list_on format_of d area ≡ []
   pub rests : RestsOn format_of d area
   pub room : cap_on format_of d area + spare_on format_of d area ≤ free_on format_of d area
 
--- a bench, all sets and deletes that were carried out so far, and what the lines cost so far: each set and
--- delete of them, whatever it answered
+-- a bench, all sets and deletes that were carried out so far, and what the lines so far cost: each
+-- set and delete, whatever it answered
 pub record Tracked : Type 0 where
   pub device : Device
   pub all : List (ℕ × List ℕ)
   pub costs : ℕ
 
--- The history goes on, and all of it is kept as long as the sets and deletes of the lines so far, each
--- whatever it answered, cost no more than a sector has. So long `gone` reports that there never was such a
--- version.
+-- The history goes on. All of it is kept as long as the sets and deletes of the lines so far,
+-- whatever they answered, cost at most what a sector has. Until then `gone` reports that there
+-- never was such a version.
 pub record WholeStep (format_of : Geometry → SectorFormat) (area : Area) (line : Line) (answer : Answer)
     (old new : Tracked)
     : Type 0 where
@@ -70,7 +71,7 @@ pub record WholeStep (format_of : Geometry → SectorFormat) (area : Area) (line
       (id n : ℕ) → line ≡ Older id n → answer ≡ answers.Gone
       → old.costs ≤ cap_on format_of old.device area → length (versions old.all id) ≤ n
 
--- The history begins empty, and goes on so line by line.
+-- The history begins empty, and goes on line by line.
 pub record KeepsWhole (format_of : Geometry → SectorFormat) (area : Area) (lines : List Line)
     (answers : List Answer)
     (old new : Device) : Type 0 where

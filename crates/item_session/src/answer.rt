@@ -7,10 +7,10 @@ use flash_sim::NoMemory;
 use script_lines::Bytes;
 use std::alloc::{AllocError, Global};
 
-/// What a line answers.
+/// The answer to a line.
 #[derive(Debug, Drop)]
 pub enum Answer {
-    /// Done, with so many units and erases.
+    /// The line was carried out. `units` counts units and erases.
     Done { units: u64 },
     /// The bytes of an item, or of a version of it.
     Value { value: Bytes },
@@ -18,15 +18,15 @@ pub enum Answer {
     Absent,
     /// This version is a delete.
     Deleted,
-    /// The area has no such version any more, or never had one.
+    /// The area does not have this version: it was collected, or there never was one.
     Gone,
-    /// What the items cost, what the other entries cost, and what is free beside the items, in
-    /// bytes.
+    /// In bytes: what the items cost, what the other entries cost, and what is free
+    /// beside the items.
     Space { live: u64, stale: u64, free: u64 },
-    /// There is no room for the item, after so many units and erases: the bytes that it costs, and
-    /// those that all items cost.
+    /// There is no room for the item. `units` counts the units and erases that were spent; `need`
+    /// is what the item costs, `live` what all items cost, both in bytes.
     NoSpace { units: u64, need: u64, live: u64 },
-    /// Power was lost after so many units and erases.
+    /// Power was lost after `units` units and erases.
     Lost { units: u64 },
     /// Power is off.
     Off,
@@ -57,11 +57,11 @@ fn written(alloc: Global, answer: &Answer) -> Result<String, AllocError>
     }
 }
 
-/// The bytes of an answer's text: one line with its LF, numbers in decimal, bytes in lower-case
-/// hexadecimal digits. A refusal for want of room gives its units alone.
+/// The text of an answer: one line with its LF, numbers in decimal, bytes in lower-case hexadecimal
+/// digits. A refusal for want of room shows its units alone.
 ///
 /// # Errors
-/// Want of memory alone.
+/// `NoMemory`.
 pub fn answer_text(alloc: Global, answer: &Answer) -> Result<Vec<u8>, NoMemory>
     ensures { IfOk result (λ text. text.items ≡ text_of answer.now) }
 {

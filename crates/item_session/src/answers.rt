@@ -1,4 +1,4 @@
-// Answers that contracts see as a list.
+// A list of answers that contracts see as a list.
 ghost use Rattle.std.specs.Prelude.{◌≡◌, [], ◌∷◌, ◌++◌, OnOk, OnErr};
 
 use crate::answer::Answer;
@@ -22,7 +22,7 @@ impl Model for Answers {
 }
 
 impl Answers {
-    /// No answers. Takes no memory.
+    /// An empty list. It takes no memory.
     pub fn new(alloc: Global) -> Answers
         ensures { result ≡ [] }
     {
@@ -31,10 +31,10 @@ impl Answers {
         }
     }
 
-    /// Puts an answer behind the others.
+    /// Appends an answer.
     ///
     /// # Errors
-    /// `NoMemory`, and the list is as before.
+    /// `NoMemory`: the list is as before.
     pub fn push(&mut self, item: Answer) -> Result<(), NoMemory>
         ensures ok { OnOk result (self.new ≡ self.old ++ item ∷ []) }
         ensures err { OnErr result (self.new ≡ self.old) }

@@ -4,19 +4,19 @@ ghost use Rattle.std.specs.Prelude.{◌≡◌, ℕ, ◌^◌, ◌≤◌};
 /// Which ids items have.
 #[derive(Clone, Copy, Debug, PartialEq, Eq)]
 pub enum Ids {
-    /// Ids of 16 bits, as those of NVS: 0 to 65,534.
+    /// Ids of 16 bits, as in NVS: 0 to 65,534.
     Short,
-    /// Ids of 32 bits, as those of ZMS: 0 to 4,294,967,294.
+    /// Ids of 32 bits, as in ZMS: 0 to 4,294,967,294.
     Long,
 }
 
-/// Short ids end here.
+/// Short ids are below this one.
 pub const SHORT_END: u64 = 0xFFFF;
 
-/// Long ids end here.
+/// Long ids are below this one.
 pub const LONG_END: u64 = 0xFFFF_FFFF;
 
-// Where ids end, as a type.
+// The end of ids, as a type.
 pub(crate) trait IdsEnd {
     ghost below: { ℕ };
 

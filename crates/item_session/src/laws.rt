@@ -1,56 +1,57 @@
 // Laws of the table. The functions do nothing: their contracts are the laws.
 ghost use Rattle.item_session.specs.Laws.{ForgetsForRoom, HistoryStaysWhole, HoldsAcknowledged, LinesAreServed, LinesMakeRuns, LosesPower, NvsBlankIsFresh, NvsTakesValues, RunsInRow, ZmsBlankIsFresh, ZmsTakesValues};
 
-/// Wherever power is lost, the items are those of a plain list: what the area said at the start,
-/// and behind it each acknowledged set and delete that spent units, and each lost one or not. What
-/// is kept of each id is the newest of its whole history in that list, and not empty where it has a
-/// value.
+/// Wherever power is lost, the items are those of a plain list. The list starts with what the area
+/// held at first. Each acknowledged set and delete that spent units is appended to it, and each
+/// lost one may be. Of each id the area keeps the newest versions in that list, and at least one if
+/// the id has a value.
 pub fn acknowledged_items_stand()
     ensures { HoldsAcknowledged }
 {}
 
-/// Power is off from a line in which it was lost to the next mount that answers `ok`.
+/// Power is off from a line in which it was lost until a mount answers `ok`.
 pub fn power_follows_losses()
     ensures { LosesPower }
 {}
 
-/// Two runs in a row are one run of the lines of both.
+/// Two runs in a row are one run of all their lines.
 pub fn two_runs()
     ensures { RunsInRow }
 {}
 
 /// Lines that are carried out one by one make a run: it follows the table, the counts and the plan
-/// are those that the answers say, and no byte changed outside the area.
+/// are as the answers report, and no byte changes outside the area.
 pub fn line_by_line()
     ensures { LinesMakeRuns }
 {}
 
-/// A version is forgotten only where room is made: not in a line whose entry fits the open sector,
-/// nor in a mount of an area at rest.
+/// A version is dropped only to make room: never by a line whose entry fits the open sector, nor by
+/// a mount of an area at rest.
 pub fn versions_go_for_room()
     ensures { ForgetsForRoom }
 {}
 
-/// From a fresh area the whole history of each id is kept as long as the sets and deletes of the
-/// lines, each whatever it answered, cost no more bytes than a sector has, wherever power is lost.
+/// From a fresh area on, the whole history of each id is kept as long as the sets and deletes of
+/// the lines, whatever they answered, cost at most the bytes that a sector has. This holds wherever
+/// power is lost.
 pub fn history_stays_whole()
     ensures { HistoryStaysWhole }
 {}
 
-/// An area each of whose bytes is FF is fresh: nothing was said of any item, and its open sector is
-/// all free, in areas of NVS and of ZMS.
+/// An area whose bytes are all FF is fresh, in NVS and in ZMS: it holds no item and no version, and
+/// its open sector is all free.
 pub fn blank_areas_are_fresh()
     ensures nvs { NvsBlankIsFresh }
     ensures zms { ZmsBlankIsFresh }
 {}
 
-/// The lines of a script that was read with an end of ids and a limit of values have ids and values
-/// within them.
+/// The lines of a script have ids below the end and values within the limit with which the
+/// script was read.
 pub fn lines_fit()
     ensures { LinesAreServed }
 {}
 
-/// Each value within an area's limit fits a sector of it, in areas of NVS and of ZMS.
+/// Each value within an area's limit fits a sector of the area, in NVS and in ZMS.
 pub fn areas_take_values()
     ensures nvs { NvsTakesValues }
     ensures zms { ZmsTakesValues }

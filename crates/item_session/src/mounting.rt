@@ -1,4 +1,4 @@
-// Mounting a store.
+// The mount of a store.
 ghost use Rattle.std.specs.Prelude.{◌≡◌, None, Some, IfOk, IfErr, OnOk};
 ghost use Rattle.item_store.specs.Standing.{IsStoreArea};
 ghost use Rattle.item_session.specs.declared.line.Line.TheVariants.{Mount};
@@ -14,15 +14,14 @@ use item_store::{SlotSectors, Store};
 use std::alloc::Global;
 use std::sync::ledger::Ledger;
 
-// A mount's answer, and the store that it made: none where power was lost.
+// The answer to a mount, and the mounted store; `None` if power was lost.
 #[derive(Drop)]
 pub(crate) struct Mounted<T> {
     pub(crate) answer: Answer,
     pub(crate) store: Option<Store<T>>,
 }
 
-// Turns power on, and mounts. Damage is that of the area; where it is found, or memory is wanting,
-// nothing else changed.
+// Turns power on, and mounts. If the area is damaged or memory runs out, nothing else changed.
 pub(crate) fn mount<T: SlotSectors, B: Bench, L: Ledger>(
     alloc: Global,
     bench: &mut B,

@@ -4,7 +4,7 @@ ghost use Rattle.item_session.specs.Plan.{units_of, is_lost};
 
 use crate::answer::Answer;
 
-/// The units and erases in an answer; none where it has none.
+/// The units and erases that an answer reports; 0 if it reports none.
 pub fn units_of(answer: &Answer) -> u64
     ensures { result ≡ units_of answer.now }
 {
@@ -16,7 +16,7 @@ pub fn units_of(answer: &Answer) -> u64
     }
 }
 
-/// Whether the answer reports a loss of power.
+/// Whether the answer reports a power loss.
 pub fn is_lost(answer: &Answer) -> bool
     ensures { result ≡ is_lost answer.now }
 {

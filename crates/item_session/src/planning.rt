@@ -1,4 +1,4 @@
-// Plans of losses.
+// Plans of power losses.
 ghost use Rattle.std.specs.Prelude.{◌≡◌};
 ghost use Rattle.item_session.specs.declared.line.Line.TheVariants.{Cut, Uncut};
 ghost use Rattle.item_session.specs.LineDone.{LineDone};
@@ -8,7 +8,7 @@ use flash_map::Area;
 use flash_sim::{Bench, Flash};
 use item_store::SlotSectors;
 
-// Plans a loss of power.
+// Plans a power loss after so many units and erases.
 pub(crate) fn plan_loss<T: SlotSectors, B: Bench>(bench: &mut B, area: &Area, units: u64) -> Answer
     ensures done { LineDone T.format_of area.now (Cut units) result (B.device bench.old)
         (B.device bench.new) }
@@ -19,7 +19,7 @@ pub(crate) fn plan_loss<T: SlotSectors, B: Bench>(bench: &mut B, area: &Area, un
     Answer::Done { units: 0 }
 }
 
-// Drops that plan.
+// Drops the plan.
 pub(crate) fn drop_plan<T: SlotSectors, B: Bench>(bench: &mut B, area: &Area) -> Answer
     ensures done { LineDone T.format_of area.now Uncut result (B.device bench.old)
         (B.device bench.new) }

@@ -1,4 +1,4 @@
-// One line of a script.
+// The reader of one line.
 ghost use Rattle.std.specs.Prelude.{◌≡◌, ℕ, ◌^◌, ◌≤◌};
 ghost use Rattle.text_parts.specs.Parts.{parts};
 ghost use Rattle.script_lines.specs.Forms.{ReadsField, ReadsOne, ReadsTwo};
@@ -53,7 +53,7 @@ fn command_of(word: &[u8]) -> Option<Command>
     }
 }
 
-// A number of 32 bits below the end.
+// Reads a number below `end`, which has at most 32 bits.
 fn read_small(alloc: Global, word: &[u8], end: u64) -> Result<u32, LineFault>
     requires { end ≤ 2 ^ 32 }
     ensures { (limit : ℕ) → ReadsField limit (below end) number word.now result }
@@ -71,7 +71,7 @@ fn id_alone(alloc: Global, rest: Option<&[u8]>, ids: u64) -> Result<u32, LineFau
     read_small(alloc, one_word(rest)?, ids)
 }
 
-// The bytes are looked at before the id, since their causes come first.
+// The bytes are read before the id, since their causes come first.
 fn id_and_bytes(
     alloc: Global,
     rest: Option<&[u8]>,
@@ -98,10 +98,10 @@ fn id_and_number(alloc: Global, rest: Option<&[u8]>, ids: u64) -> Result<(u32, u
     Ok((id, n))
 }
 
-/// The line that a text is, where ids are below an end and no value has more bytes than the limit.
+/// Reads a text as a line on items. Ids are below `ids`, and no value has more than `limit` bytes.
 ///
 /// # Errors
-/// The first cause of `LineWhy` for which it is none. Want of memory.
+/// `Refused` with the first cause of `LineWhy` if it is none; `NoMemory`.
 pub fn read_line(alloc: Global, text: &[u8], ids: u64, limit: usize) -> Result<Line, LineFault>
     requires { ids ≤ 2 ^ 32 }
     ensures { ReadsLine ids limit (parts 32 text.now) result }

@@ -1,4 +1,4 @@
-// Reading items, their versions and what they take up, with power on.
+// Lines that ask for items, their versions and the space that they take, with power on.
 ghost use Rattle.std.specs.Prelude.{◌≡◌, true, IfOk, OnErr};
 ghost use Rattle.item_store.specs.Stands.{StandsOn};
 ghost use Rattle.item_session.specs.declared.answer.Answer.TheVariants.{Value};
@@ -27,7 +27,7 @@ fn value_of(alloc: Global, bytes: &[u8]) -> Result<Answer, NoMemory>
     }
 }
 
-// The bytes of an item. `NoMemory`: there was none for these.
+// The bytes of an item. `NoMemory`: memory ran out for them.
 pub fn report_item<T: SlotSectors, B: Bench, L: Ledger>(
     alloc: Global,
     bench: &B,
@@ -50,7 +50,7 @@ pub fn report_item<T: SlotSectors, B: Bench, L: Ledger>(
     }
 }
 
-// A version of an item. `NoMemory`: there was none for its bytes.
+// A version of an item. `NoMemory`: memory ran out for its bytes.
 pub fn report_older<T: SlotSectors, B: Bench, L: Ledger>(
     alloc: Global,
     bench: &B,
@@ -76,7 +76,7 @@ pub fn report_older<T: SlotSectors, B: Bench, L: Ledger>(
     }
 }
 
-// What the items and their other versions cost, and what is free.
+// What the items and their other versions cost, and what is free, in bytes.
 pub fn report_space<T: SlotSectors, B: Bench, L: Ledger>(
     bench: &B,
     store: &Store<T>,

@@ -1,4 +1,4 @@
-// All lines of a script.
+// The run of all lines of a script.
 ghost use Rattle.std.specs.Prelude.{◌≡◌, ◌∷◌, true, All, None, OnOk};
 ghost use Rattle.item_store.specs.Standing.{IsStoreArea};
 ghost use Rattle.item_session.specs.declared.line.Line.TheVariants.{Mount};
@@ -16,13 +16,13 @@ use item_store::SlotSectors;
 use std::alloc::Global;
 use std::sync::ledger::Ledger;
 
-/// Mounts the store of an area, carries out lines one after another, and gives the answers to the
-/// mount and to each line. With power on after the lines a mount of the area would have nothing to
-/// do. An area without damage has none afterwards, whatever the result.
+/// Mounts the store of an area and carries out lines one after another. It returns the answers to
+/// the mount and to each line. If power is on after the last line, another mount of the area would
+/// have nothing to do. An area without damage has none afterwards, whatever the result.
 ///
 /// # Errors
-/// `Damaged` with the damage that the area shows; the bench is then as before, but that power is on.
-/// `NoMemory`; the bench is then what the first lines have made of it, but that power may be on where a
+/// `Damaged` with the damage that the area shows; the bench is then as before, except that power
+/// is on. `NoMemory`: the bench is as the first lines left it, except that power may be on if a
 /// mount was next.
 pub fn run_lines<T: SlotSectors, B: Bench, L: Ledger>(
     alloc: Global,

@@ -1,4 +1,4 @@
-// A whole script.
+// Scripts on numbered items.
 ghost use Rattle.std.specs.Prelude.{◌≡◌, IfOk, map};
 ghost use Rattle.script_lines.specs.Script.{ReadsLines};
 ghost use Rattle.item_session.specs.LineLaws.{EachIsRead, OneMeaning};
@@ -12,7 +12,7 @@ use script_lines::{LineFault, ScriptFault, ScriptLine, read_lines};
 use std::alloc::Global;
 use std::marker::PhantomData;
 
-// A line whose ids are below the end that the type says.
+// A line whose ids are below the end that its type gives.
 #[derive(Drop)]
 struct LineBelow<I> {
     line: Line,
@@ -68,16 +68,16 @@ fn read_below<I: IdsEnd>(
     }
 }
 
-/// The lines of a script on numbered items.
+/// Reads the lines of a script on numbered items.
 ///
-/// Lines end with LF, which the last may lack. An empty line and one that begins with `#` are
-/// skipped, and counted. A line's words are separated by one space. The lines are `set ID HEX`,
-/// `get ID`, `del ID`, `older ID N`, `space`, `cut N`, `uncut` and `mount`. ID is one of these ids
-/// and N below 2^32, in decimal without a sign or leading zeros; HEX is one byte at least and no
-/// more than the limit, in digits of either case.
+/// Each line ends with LF; the last may lack it. An empty line and one that begins with `#` are
+/// skipped, but counted. One space separates the words of a line. The lines are `set ID HEX`, `get
+/// ID`, `del ID`, `older ID N`, `space`, `cut N`, `uncut` and `mount`. ID is one of `ids`. The N of
+/// `older` is below `VERSIONS_END`, that of `cut` below `UNITS_END`. Numbers are in decimal without
+/// a sign or leading zeros. HEX is at least one byte and at most `limit`, in digits of either case.
 ///
 /// # Errors
-/// `BadLine` where a line is no line of these: the first such line, with its first cause. `NoMemory`.
+/// `BadLine` if a line is no such line: the first one, with its first cause. `NoMemory`.
 pub fn read_script(
     alloc: Global,
     bytes: &[u8],
@@ -92,13 +92,13 @@ pub fn read_script(
     }
 }
 
-/// No two lines say the same. That no text has two readings, or both a reading and a refusal, holds
-/// by any table: `script_lines::one_reading`.
+/// No two lines say the same. By `script_lines::one_reading`, no text has two readings, or both a
+/// reading and a refusal.
 pub fn one_meaning()
     ensures { OneMeaning }
 {}
 
-/// Words spell a line or are refused for some cause.
+/// Words are a line or are refused for some cause.
 pub fn each_is_read()
     ensures { EachIsRead }
 {}

@@ -1,4 +1,4 @@
-// A session, and carrying out one line in it.
+// A session, which carries out lines one by one.
 ghost use Rattle.std.specs.Prelude.{◌≡◌, ◌⊎◌, true, None, IfOk, IfErr, OnErr, OnOk};
 ghost use Rattle.item_store.specs.Standing.{IsStoreArea};
 ghost use Rattle.item_session.specs.declared.line.Line.TheVariants.{Mount};
@@ -24,17 +24,17 @@ use std::sync::ledger::Ledger;
 #[derive(Drop)]
 pub struct ItemSession<T> {
     pub(crate) area: Area,
-    // none once a mount lost power
+    // `None` after a mount in which power was lost
     pub(crate) store: Option<Store<T>>,
 }
 
 impl<T: SlotSectors> ItemSession<T> {
-    /// Turns power on, mounts the store of an area, and gives the session with the answer to that
-    /// mount. A mount of an area at rest spends nothing.
+    /// Turns power on, and mounts the store of an area. It returns the session with the answer to
+    /// that mount. A mount of an area at rest spends nothing.
     ///
     /// # Errors
-    /// `Damaged` with the damage that the area shows; the bench is then as before, but that power is
-    /// on. So it is at `NoMemory`.
+    /// `Damaged` with the damage that the area shows; `NoMemory`. After either the bench is as
+    /// before, except that power is on.
     pub fn open<B: Bench, L: Ledger>(
         alloc: Global,
         bench: &mut B,
@@ -66,13 +66,13 @@ impl<T: SlotSectors> ItemSession<T> {
         }
     }
 
-    /// Carries out a line. With power off `set`, `del`, `get`, `older` and `space` answer `off`. A
-    /// mount of an area at rest spends nothing, and each mount that is not cut succeeds.
+    /// Carries out a line. With power off, `set`, `del`, `get`, `older` and `space` answer `off`. A
+    /// mount of an area at rest spends nothing.
     ///
     /// # Errors
-    /// `NoMemory`, for the bytes that `get` or `older` reports, or for what a mount keeps of the area; no
-    /// other line wants memory. The bench is then as before, but that a mount turned power on; the
-    /// session carries out no more lines.
+    /// `NoMemory`, for the bytes that `get` or `older` reports, or for what a mount keeps of the
+    /// area; no other line takes memory. The bench is then as before, except that a mount turned
+    /// power on. The session cannot carry out more lines.
     pub fn carry_out<B: Bench, L: Ledger>(
         &mut self,
         alloc: Global,
@@ -98,7 +98,7 @@ impl<T: SlotSectors> ItemSession<T> {
     }
 }
 
-// Mounts anew an area that is not damaged.
+// Mounts an undamaged area again.
 fn mount_again<T: SlotSectors, B: Bench, L: Ledger>(
     alloc: Global,
     bench: &mut B,
@@ -126,7 +126,7 @@ fn mount_again<T: SlotSectors, B: Bench, L: Ledger>(
     }
 }
 
-// Carries out a line on an area that is not damaged, with the store that was mounted on it.
+// Carries out a line on an undamaged area, with the store that was mounted on it.
 fn run_line<T: SlotSectors, B: Bench, L: Ledger>(
     alloc: Global,
     line: &Line,

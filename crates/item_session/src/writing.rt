@@ -1,4 +1,4 @@
-// Setting and deleting items, with power on.
+// Lines that set and delete items, with power on.
 ghost use Rattle.std.specs.Prelude.{◌≡◌, true, None};
 ghost use Rattle.item_store.specs.Stands.{StandsOn};
 ghost use Rattle.item_session.specs.declared.line.Line.TheVariants.{Delete, Set};

@@ -41,7 +41,7 @@ not_below x y z less not_less =
 same_some : {X : Type 0} (x y : X) → Some x ≡ Some y → x ≡ y
 same_some x y e = cc
 
--- ---- the least bytes of those that were reported
+-- ---- the least bytes of those that were given
 
 module _ (least most : ℕ) (items : Items) (after : Option (List ℕ)) where
   -- of some bytes the least that are greater than these, which an item of the range has
@@ -52,7 +52,7 @@ module _ (least most : ℕ) (items : Items) (after : Option (List ℕ)) where
       × (is_behind after found ≡ true)
       × ((bytes : List ℕ) → Covered bytes → is_behind after bytes ≡ true → is_lt (slice_cmp nat_cmp bytes found) ≡ false)
 
-  -- all bytes of the range were reported
+  -- all bytes of the range were given
   pub least-end : (Covered : List ℕ → Type 0) (found : Option (List ℕ)) → ((id : ℕ) (bytes : List ℕ) → HasBytes least most items id bytes → Covered bytes) → IsLeastTo Covered found → IsNextOf least most items after found
   least-end Covered None all so_far = λ id bytes has. so_far bytes (all id bytes has)
   least-end Covered (Some found) all so_far = (so_far.0, so_far.1, λ id bytes has past. so_far.2 bytes (all id bytes has) past)
@@ -173,7 +173,7 @@ module _ {T : Type 0} (role : Role) (format_of : Geometry → SectorFormat) (kep
           has = value_by role format_of kept d store law lawful on (Some p) p.id (sym last.last) ∙ is;
         }
 
-    -- an item of the range was reported, where there is no next one
+    -- an item of the range was given, if there is no next one
     pub covered-all : GivesNext (format_of (geometry_of d store.area)) (sectors_of d store.area) store.current walk walk None → (id : ℕ) (bytes : List ℕ) → HasBytes least most (items_on format_of d store.area) id bytes → KnownBytes role format_of kept d store walk bytes
     covered-all all id bytes has = at (last_placed (slots k) here id) refl (own-id id (all_placed (slots k) here) None tt)
       where
@@ -193,7 +193,7 @@ module _ {T : Type 0} (role : Role) (format_of : Geometry → SectorFormat) (kep
           is = sym (value_by role format_of kept d store law lawful on (Some p) id (sym some)) ∙ has.has;
         }
 
-  -- what was reported with one entry more
+  -- what was given with one more entry
   pub covered-more : (old new : Lasts) (p : Placed)
       → ((q : Placed) → WasGiven (format_of (geometry_of d store.area)) (sectors_of d store.area) store.current new q → (q ≡ p) ⊎ WasGiven (format_of (geometry_of d store.area)) (sectors_of d store.area) store.current old q)
       → (bytes : List ℕ) → KnownBytes role format_of kept d store new bytes → (value_of (bytes_of (slots (format_of (geometry_of d store.area))) (sectors_of d store.area) p) ≡ Some bytes) ⊎ KnownBytes role format_of kept d store old bytes

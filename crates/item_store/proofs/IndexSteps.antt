@@ -90,7 +90,7 @@ knows-prefix limit last p later small none known knows =
     (All-cons (Contains (p ∷ later)) p [] (All-head (Contains (p ∷ later)) p later (All-contains_itself (p ∷ later))) (All-nil (Contains (p ∷ later))))) here)
     (known-prefix limit p later small known) knows
 
--- an entry of the table is that of an entry it knows
+-- an entry of the table is one of those that it was made of
 with-some : (o : Option Placed) → is_some (with_bytes o) ≡ true → is_some o ≡ true
 with-some None some = some
 with-some (Some p) some = refl

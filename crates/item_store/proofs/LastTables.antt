@@ -180,7 +180,7 @@ known-push : (limit : ℕ) (before : List Placed) (p : Placed) → p.id < limit 
 known-push limit before p small known =
     All-append (λ (q : Placed). q.id < limit) before (p ∷ []) known (All-cons (λ (q : Placed). q.id < limit) p [] small (All-nil (λ (q : Placed). q.id < limit)))
 
--- an entry which the table does not know
+-- an entry of an id that the table does not know
 pub knows-passed : (limit : ℕ) (last : LastSlots) (before : List Placed) (p : Placed) → p.id < limit → (IsKnown last.bound p.id → ⊥) → Knows limit last before → Knows limit last (before ++ p ∷ [])
 knows-passed limit last before p small unknown knows =
     still-full limit last last before p knows refl (record {
@@ -193,7 +193,7 @@ knows-passed limit last before p small unknown knows =
       known = known-push limit before p small knows.below.known;
     })
 
--- an entry which it knows, in place of those of its id
+-- an entry of an id that it knows, in place of those of the id
 pub knows-put : (limit : ℕ) (old new : LastSlots) (before : List Placed) (p : Placed) (xs mid ys : List Placed) → p.id < limit → IsKnown old.bound p.id → KnowsBelow limit old before
     → old.entries.items ≡ xs ++ (mid ++ ys) → new.entries.items ≡ xs ++ (held p ++ ys) → new.bound ≡ old.bound → length new.entries.items ≤ 800
     → All (λ q. q.id < p.id) xs → All (λ q. q.id ≡ p.id) mid → All (λ q. p.id < q.id) ys → KnowsBelow limit new (before ++ p ∷ [])

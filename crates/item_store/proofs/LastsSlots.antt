@@ -103,7 +103,7 @@ seen-so true false e is = sym e
 seen-so false bit e is = absurd (false≢true is)
 
 module _ (k : SectorFormat) (law : IsSectorFormat k) (sectors : List (List ℕ)) (current : ℕ) where
-  -- what was reported of a sector that counts
+  -- what was given of a sector that counts
   covered-is : (place left : ℕ) → counts_at k.reading sectors current place ≡ true → given_at k sectors current place left ≡ later_at k law sectors current place left
   covered-is place left counts = ap (λ (t : Bool). cond t (later_from k law sectors current place left) [] ++ behind k sectors current place) counts
 
@@ -148,7 +148,7 @@ module _ (k : SectorFormat) (law : IsSectorFormat k) (sectors : List (List ℕ))
           ∙ sym (now-is (has_id id) (same-ids old.least old.most id (own-range id own)));
     }
 
-    -- the last entry of an id that was reported by now
+    -- the last entry of an id that was given by now
     last-now : (p : Placed) (o : Option Placed) → o ≡ option_map (placed_at old.place) read → WasGiven k sectors current new p → last_of_id p.id (option_to_list o ++ later) ≡ Some p
     last-now p o is covered =
         ap (λ (x : Option Placed). last_of_id p.id (option_to_list x ++ later)) is
@@ -225,7 +225,7 @@ module _ (k : SectorFormat) (law : IsSectorFormat k) (sectors : List (List ℕ))
 
 -- ---- slots one after the other
 
--- a slot that gave no entry has reported none
+-- a slot without a new entry adds none to those given
 pub covered-before : (k : SectorFormat) (sectors : List (List ℕ)) (current : ℕ) (old : Lasts) (p : Placed) (o : Option Placed) (some : Bool) → some ≡ is_some o → some ≡ false
     → (Some p ≡ o) ⊎ WasGiven k sectors current old p → WasGiven k sectors current old p
 covered-before k sectors current old p o some is none (inl here) = absurd (false≢true (sym none ∙ is ∙ ap is_some (sym here)))

@@ -1,4 +1,4 @@
--- What a walk over the last entries of the ids in a range reported, from sector to sector.
+-- What a walk over the last entries of the ids in a range gave, from sector to sector.
 use Rattle.std.proofs.Common.{◌≡◌, ◌⊎◌, ℕ, zero, suc, ◌+◌, ◌-◌, ◌*◌, ◌^◌, ◌<◌, ◌≤◌, ◌/◌, Bool, true, false, ◌||◌, cond, eqb, leb, List, [], ◌++◌, length, map, Option, Some, None, refl, sym, ap, subst, ◌∙◌, inl, inr, arith}
 use Rattle.std.specs.Prelude.{replicate, IfSome}
 use Rattle.std.specs.List.{All, filter_map, flat_map, range_with_len}
@@ -45,7 +45,7 @@ module _ (least most : ℕ) where
         (All-weaker (λ (p : Placed). in_range least most p.id ≡ false) (λ (p : Placed). eqb p.id id ≡ false)
         (λ p other. ne_eqb p.id id (λ (e : p.id ≡ id). false≢true (sym other ∙ ap (in_range least most) e ∙ own))) xs others)
 
-    -- before others they report nothing of an id of the range
+    -- before others they add no entry of an id of the range
     pub others-any : has_id id (xs ++ ys) ≡ has_id id ys
     others-any = list_any-append (λ (p : Placed). eqb p.id id) xs ys ∙ ap (λ (t : Bool). t || has_id id ys) none-has
 
@@ -132,7 +132,7 @@ module _ (k : SectorFormat) (sectors : List (List ℕ)) (current : ℕ) where
     abbrev pub back_walk : Lasts
     back_walk = record { least = old.least; most = old.most; place = place; left = left; seen = old.seen }
 
-    -- all that was reported stands behind the sector before
+    -- all that was given stands behind the sector before
     left-behind : given_at k sectors current old.place old.left ≡ behind k sectors current place
     left-behind =
         ap (given_at k sectors current old.place) none_left ∙ covered-all old.place ∙ more_seen k sectors current low old.place at.inside apart ∙ ap (behind k sectors current) (sym back)
@@ -155,7 +155,7 @@ module _ (k : SectorFormat) (sectors : List (List ℕ)) (current : ℕ) where
 
   -- ---- the end
 
-  -- with no slot left in the oldest sector all is reported
+  -- with no slot left in the oldest sector all was given
   covered-whole : current < length sectors → after (length sectors) current < length sectors → current ≡ open_sector k.reading sectors → given_at k sectors current (after (length sectors) current) 0 ≡ all_placed (slots k) sectors
   covered-whole low high is =
       let oldest : ℕ = after (length sectors) current in

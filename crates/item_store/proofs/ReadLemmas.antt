@@ -1,4 +1,4 @@
--- A store whose slots hold entries of its own format, each with a place for its bytes.
+-- A store whose slots hold entries of its own, each with a place for its bytes.
 use Rattle.std.proofs.Common.{◌≡◌, ℕ, Bool, true, false, cond, eqb, List, [], ◌∷◌, length, map, Option, Some, refl, sym, ap, ◌∙◌, inl, inr}
 use Rattle.std.specs.Prelude.{fold}
 use Rattle.std.specs.Option.{option_map, option_map_or}

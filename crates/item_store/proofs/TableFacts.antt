@@ -43,7 +43,7 @@ module _ {T : Type 0} (role : Role) (format_of : Geometry → SectorFormat) (kep
         | inr some ↦ ap (λ (t : Bool). option_and_then value (cond t None (Some p))) (ne_eqb p.len 0 some)
       ]
 
-  -- the item of an id that the table says of
+  -- the item of an id that the table knows
   pub covered-value : (id : ℕ) → IsKnown last.bound id
       → get (items_on format_of d store.area) id ≡ option_and_then (λ p. value_of (bytes_of (slots (format_of (geometry_of d store.area))) (sectors_of d store.area) p)) (last_of_id id last.entries.items)
   covered-value id covered =
@@ -90,7 +90,7 @@ module _ {T : Type 0} (role : Role) (format_of : Geometry → SectorFormat) (kep
     pub next-none : last.bound ≡ None → IsNextIn after last.entries.items None → IsNextId (items_on format_of d store.area) after None
     next-none all next = λ id behind. covered-value id (subst (λ (b : Option ℕ). IsKnown b id) (sym all) tt) ∙ ap (option_and_then value) (next id behind)
 
-    -- an id that was found behind all of the table's is none which it knows
+    -- an id that was found behind all of the table's is one that it does not know
     pub next-ungiven : (next : Option ℕ) → IsNextIn after last.entries.items None → IsNextId (items_on format_of d store.area) after next → IfSome next (λ id. IsKnown last.bound id → ⊥)
     next-ungiven None none is = tt
     next-ungiven (Some id) none is = λ covered. is.1 (covered-value id covered ∙ ap (option_and_then value) (none id is.0))

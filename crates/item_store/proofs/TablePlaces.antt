@@ -115,7 +115,7 @@ module _ (xs : List Placed) (after : Option ℕ) (first : ℕ) (rises : Rises xs
   pub next-nowhere : length xs ≤ first → IsNextIn after xs None
   next-nowhere past = λ id own. last-none id xs (λ k d lt is. before k d (omega arith) (omega arith) (subst (IsBehind after) (sym is) own))
 
--- ---- what a table has is among the entries which it knows
+-- ---- what a table has is among the entries that it was made of
 
 -- its entry is the last one of its id in it
 own-last : (xs : List Placed) → Rises xs → (i : ℕ) (d : Placed) → i < length xs → last_of_id (get_or xs i d).id xs ≡ Some (get_or xs i d)

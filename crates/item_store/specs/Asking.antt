@@ -4,13 +4,13 @@ use Rattle.std.specs.Ordering.{nat_cmp, is_lt}
 use Rattle.std.specs.Cmp.Lexicographic.{slice_cmp}
 use Rattle.item_laws.specs.Bytes.{is_behind}
 
--- less than these bytes in byte order, where there are any
+-- less than these bytes in byte order, if there are any
 abbrev pub is_below : List ℕ → Option (List ℕ) → Bool
 is_below bytes None = true
 is_below bytes (Some least) = is_lt (slice_cmp nat_cmp bytes least)
 
--- The bytes of an item, where they are greater than these and less than the least so far; else the least so
--- far.
+-- The bytes of an item, if they are greater than these and less than the least so far; else the
+-- least so far.
 abbrev pub lesser_of : Option (List ℕ) → Option (List ℕ) → Option (List ℕ) → Option (List ℕ)
 lesser_of after None least = least
 lesser_of after (Some bytes) least =

@@ -23,13 +23,13 @@ latest_of slot placed = fold (λ latest p. if p.id % 64 == slot then Some p else
 abbrev pub stands_at : Placed → ℕ × ℕ
 stands_at p = (p.sector, p.slot)
 
--- Each of the 64 cache slots has the place of the latest of these entries whose ids are its own, and nothing
--- where none is.
+-- Each of the 64 cache slots has the place of the latest of these entries whose ids are its own, or
+-- nothing if there is none.
 pub record IsCacheOf (cache : List (Option (ℕ × ℕ))) (placed : List Placed) : Type 0 where
   pub slots : length cache ≡ 64
   pub latest : (id : ℕ) → place_of cache id ≡ option_map stands_at (latest_of (id % 64) placed)
 
--- one of these entries more, in the last slot of a sector
+-- one more of these entries, in the last slot of a sector
 pub record AddsEntry (k : SectorFormat) (old new : List (List ℕ)) (place id len : ℕ) : Type 0 where
   pub slot : ℕ
   pub last : slot + 1 ≡ k.first + k.count (sector_at new place)
@@ -38,14 +38,14 @@ pub record AddsEntry (k : SectorFormat) (old new : List (List ℕ)) (place id le
 
 -- ---- behind a round
 
--- A round from this sector on made of an area at rest what it is now.
+-- A round from this sector on turned an area at rest into what it is now.
 pub record IsPassDone (k : SectorFormat) (size : ℕ) (old new : List (List ℕ)) (place : ℕ) : Type 0 where
   pub rested : AtRest k.reading old place
   pub long : length new ≡ length old
   pub does_pass : DoesPassAt k size old new place
 
--- By whatever round this sector became the open one, of a cache of the list before it came one of the list
--- behind it.
+-- Whatever round made this sector the open one: it turned a cache of the list before it into a
+-- cache of the list after it.
 abbrev pub FollowsRound : SectorFormat → List (List ℕ) → ℕ → List (Option (ℕ × ℕ)) → List (Option (ℕ × ℕ))
     → Type 0
 FollowsRound k new newest before behind =

@@ -9,20 +9,20 @@ use Rattle.item_store.specs.SectorFormat.{SectorFormat, is_clean_at}
 use Rattle.item_store.specs.Spending.{round_units}
 use Rattle.item_store.specs.Standing.{SpendsIn, SpendsUpTo}
 
--- The open sector was clean, and no byte and no unit changed.
+-- The open sector was clean, and nothing changed.
 pub record FindsClean (k : SectorFormat) (old new : Device) (area : Area) (place : ℕ) : Type 0 where
   pub clean : is_clean_at k (sectors_of old area) place ≡ true
   pub same : new ≡ old
 
--- The open sector was not clean, and a whole round was made, with the room that it leaves and the units that
--- it spends.
+-- The open sector was not clean, and a whole round was made: the room that it leaves, and the units
+-- that it spends.
 pub record DoesPass (k : SectorFormat) (old new : Device) (area : Area) (place : ℕ) : Type 0 where
   pub used : is_clean_at k (sectors_of old area) place ≡ false
   pub does_pass : DoesPassAt k (sector_size old area) (sectors_of old area) (sectors_of new area) place
   pub units : SpendsIn old new (round_units k (sectors_of old area) place)
 
--- The open sector was not clean, and power was lost in the round: the list is as before, or as the whole
--- round leaves it, and no more units are spent than a round that is cut spends at most.
+-- The open sector was not clean, and power was lost in the round: the list is as before, or as the
+-- whole round leaves it, and no more units are spent than a round that is cut spends at most.
 pub record StopsPass (k : SectorFormat) (old new : Device) (area : Area) (place : ℕ) : Type 0 where
   pub used : is_clean_at k (sectors_of old area) place ≡ false
   pub list : KeepsOrDoesPass k (sectors_of old area) (sectors_of new area) place
@@ -33,7 +33,7 @@ abbrev pub PassEnds : {T : Type 0} → SectorFormat → Device → Device → Ar
 PassEnds k old new area place (Ok _) = DoesPass k old new area place
 PassEnds k old new area place (Err _) = StopsPass k old new area place
 
--- Closing and collecting, with this sector open. Power is lost in a round alone.
+-- Closing and collecting, with this sector open. Only a round can lose power.
 abbrev pub RoundEnds : {T : Type 0} → SectorFormat → Device → Device → Area → ℕ → Result T PowerLost → Type 0
 RoundEnds k old new area place (Ok _) = FindsClean k old new area place ⊎ DoesPass k old new area place
 RoundEnds k old new area place (Err _) = StopsPass k old new area place

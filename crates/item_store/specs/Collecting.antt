@@ -16,7 +16,8 @@ use Rattle.item_store.specs.Standing.{list_of}
 use Rattle.item_store.specs.Steps.{Adds}
 use Rattle.std.specs.Prelude.{if◌then◌else◌}
 
--- The open sector has no entry and all its room, and is ready for an entry. No other sector changed.
+-- The open sector has no entry and all its room, and is ready for an entry. No other sector
+-- changed.
 pub record HasBegun (k : SectorFormat) (old new : List (List ℕ)) (place : ℕ) : Type 0 where
   pub only : ChangesOnly old new place
   pub clean : k.is_clean (sector_at new place) ≡ true
@@ -75,8 +76,8 @@ pub record CollectsAt (k : SectorFormat) (old new : List (List ℕ)) (place : �
 abbrev pub fits_beside : SectorFormat → ℕ → List (ℕ × List ℕ) → ℕ → Bool
 fits_beside k size pairs len = nat_le (copies_cost k.cost pairs + k.cost len) (k.cap size)
 
--- A whole round. Afterwards a value fits the open sector exactly where it does beside the copies, and a
--- delete fits.
+-- A whole round. Afterwards a value fits the open sector exactly if it fits beside the copies, and
+-- a delete fits.
 pub record DoesPassAt (k : SectorFormat) (size : ℕ) (old new : List (List ℕ)) (place : ℕ) : Type 0 where
   pub round : IsRound k.reading old place new
   pub room : (len : ℕ) → 0 < len → fits k (sector_at new (next old place)) len
@@ -106,7 +107,8 @@ KeepsOrDoesPass k old new place =
 
 -- ---- mounting
 
--- What a mount has to do with this sector open. The next sector is closed only while a collection lasts.
+-- What a mount has to do with this sector open. The next sector is closed only while a collection
+-- lasts.
 abbrev pub redo_of : SectorFormat → List (List ℕ) → ℕ → Redo
 redo_of k sectors place =
     if is_closed_at k.reading sectors (next sectors place) then

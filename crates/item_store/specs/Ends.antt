@@ -36,7 +36,7 @@ pub record CopyEnds {T X E : Type 0} (format_of : Geometry → SectorFormat) (ke
   pub spends : OnOk result (SpendsIn old new (copy_units (format_on format_of old on) entry))
   pub spends_lost : OnErr result (SpendsUpTo old new (copy_units (format_on format_of old on) entry))
 
--- How that ends which a mount does again. On `Ok` the area is at rest. An area at rest is left alone.
+-- How the redo of a mount ends. On `Ok` the area is at rest. On `Err` it was not.
 pub record RedoEnds {T X E : Type 0} (format_of : Geometry → SectorFormat) (keep : Geometry → List ℕ → T)
     (old new : Device) (on : Area) (place : ℕ) (held : T) (result : Result X E) : Type 0 where
   pub rested : OnOk result (AtRest (format_on format_of old on).reading (sectors_of new on) place)
@@ -65,7 +65,8 @@ pub record RedoEnds {T X E : Type 0} (format_of : Geometry → SectorFormat) (ke
       (SpendsUpTo old new
       (redo_units k (sectors_of old on) place (redo_of k (sectors_of old on) place)))
 
--- How the next sector opens: made ready for entries, or with the collection of the sector behind it.
+-- How the next sector opens: made ready for entries, or with the collection of the sector behind
+-- it.
 pub record OpenEnds {T X E : Type 0} (format_of : Geometry → SectorFormat) (keep : Geometry → List ℕ → T)
     (old new : Device) (on : Area) (place : ℕ) (held : T) (result : Result X E) : Type 0 where
   pub opens :

@@ -20,8 +20,8 @@ abbrev pub IsOther : ℕ → ℕ → Option Entry → Type 0
 IsOther least most None = Unit {0}
 IsOther least most (Some e) = in_range least most e.id ≡ false
 
--- no entry of a sector's list in the slots from the one with this number on has an id of the range, up to
--- another one
+-- no entry in the slots of a sector's list from this number up to another one has an id of the
+-- range
 abbrev pub AreOthers : SectorFormat → List ℕ → ℕ → ℕ → ℕ → ℕ → Type 0
 AreOthers k b from to least most =
     (slot : ℕ) → k.first + from ≤ slot → slot < k.first + to → IsOther least most (k.in_slot b slot)
@@ -43,8 +43,8 @@ abbrev pub given_at : SectorFormat → List (List ℕ) → ℕ → ℕ → ℕ �
 given_at k sectors current place left =
     counted_from k sectors current place left ++ behind k sectors current place
 
--- A walk stands at a place of the list. The ids of the entries behind it are noted, as far as they are in its
--- range.
+-- A walk stands at a place of the list. The ids of the entries behind it are noted, as far as they
+-- are in its range.
 pub record IsAt (k : SectorFormat) (sectors : List (List ℕ)) (current : ℕ) (walk : Lasts) : Type 0 where
   pub inside : walk.place < length sectors
   pub left : walk.left ≤ k.count (sector_at sectors walk.place)
@@ -65,7 +65,7 @@ pub record IsLastIn (k : SectorFormat) (sectors : List (List ℕ)) (walk : Lasts
   pub own : in_range walk.least walk.most p.id ≡ true
   pub last : last_placed (slots k) sectors p.id ≡ Some p
 
--- The next one is given, or there is none left.
+-- The walk gives the next one, or there is none left.
 abbrev pub GivesNext : SectorFormat → List (List ℕ) → ℕ → Lasts → Lasts → Option Placed → Type 0
 GivesNext k sectors current old new None =
     (p : Placed) → IsLastIn k sectors old p → WasGiven k sectors current old p
@@ -84,6 +84,6 @@ abbrev pub sectors_left : ℕ → ℕ → ℕ → ℕ
 sectors_left count current place =
     if nat_lt current place then place - (current + 1) else place + (count - (current + 1))
 
--- No more slots than this are left to be looked at: no sector has more than 2 ^ 15.
+-- At most so many slots are left to be read: no sector has more than 2 ^ 15.
 abbrev pub slots_left : ℕ → ℕ → Lasts → ℕ
 slots_left count current walk = sectors_left count current walk.place * 0x8001 + walk.left

@@ -13,19 +13,19 @@ use Rattle.item_store.specs.SectorFormat.{SectorFormat}
 use Rattle.item_store.specs.Listed.{format_on, entries_on}
 use Rattle.item_store.specs.Seen.{HasSeen}
 
--- the last of these entries that has the id, a delete too
+-- the last of these entries that has the id; it may be a delete
 abbrev pub last_of_id : ℕ → List Placed → Option Placed
 last_of_id id placed = fold (λ last p. if p.id == id then Some p else last) None placed
 
--- the entry, where it has bytes
+-- the entry, if it has bytes
 abbrev pub with_bytes : Option Placed → Option Placed
 with_bytes placed = option_and_then (λ p. if p.len == 0 then None else Some p) placed
 
--- the entry alone, or none where it has no bytes
+-- the entry alone, or none if it has no bytes
 abbrev pub held : Placed → List Placed
 held p = if p.len == 0 then [] else p ∷ []
 
--- an id below the bound; where there is none, each id
+-- an id below the bound; if there is none, each id
 abbrev pub IsKnown : Option ℕ → ℕ → Type 0
 IsKnown None id = Unit {0}
 IsKnown (Some bound) id = id < bound
@@ -34,9 +34,9 @@ IsKnown (Some bound) id = id < bound
 abbrev pub Rises : List Placed → Type 0
 Rises entries = AllPairs (λ p q. p.id < q.id) entries
 
--- A table knows the ids below its bound: of each it has the last one of these entries, where that has
--- bytes. It has no other entries, and they stand in the order of their ids. These entries' ids are below a
--- limit.
+-- A table knows the ids below its bound: of each it has the last one of these entries, if that has
+-- bytes. It has no other entries, and they stand in the order of their ids. These entries' ids are
+-- below a limit.
 pub record KnowsBelow (limit : ℕ) (last : LastSlots) (placed : List Placed) : Type 0 where
   pub covered : (id : ℕ) → IsKnown last.bound id
       → last_of_id id last.entries.items ≡ with_bytes (last_of_id id placed)
@@ -54,8 +54,8 @@ pub record HadBytes (ids greatest : ℕ) (placed : List Placed) : Type 0 where
   pub bytes : All (λ p. ¬ (p.len ≡ 0)) entries
   pub among : All (Contains placed) entries
 
--- So does a table of 800 places. It has a bound only where more ids than it has places had bytes, none of
--- them above that bound; otherwise it knows each id.
+-- The same of a table of 800 places. It has a bound only if more ids than it has places had bytes,
+-- none of them above the bound; otherwise it knows each id.
 pub record Knows (limit : ℕ) (last : LastSlots) (placed : List Placed) : Type 0 where
   pub below : KnowsBelow limit last placed
   pub full : (bound : ℕ) → last.bound ≡ Some bound → HadBytes 801 bound placed
@@ -71,8 +71,8 @@ pub record Covers (limit : ℕ) (last : LastSlots) (seen : Seen) (placed : List 
 
 -- ---- reading a table
 
--- at this place is the entry of an id, with lesser ones before it and greater ones behind it, or none between
--- them
+-- at this place is the entry of an id, with lesser ones before it and greater ones behind it, or
+-- none between them
 abbrev pub Splits : List Placed → ℕ → Result ℕ ℕ → Type 0
 Splits entries id (Ok at) =
     AllWithin (λ p. p.id < id) entries 0 at × HoldsAt (λ p. p.id ≡ id) entries at

@@ -30,10 +30,11 @@ bytes_on format_of d area p = live.bytes_of (slots (format_on format_of d area))
 
 -- ---- what it is
 
+-- this is what is kept of the sector
 abbrev pub IsKeptOn : {T : Type 0} → (Geometry → List ℕ → T) → Device → Area → ℕ → T → Type 0
 IsKeptOn kept d area place held = held ≡ kept (geometry_of d area) (sector_on d area place)
 
--- behind a call: the area has the geometry that it had
+-- after a call, by the geometry that the area had before
 abbrev pub IsKeptAfter : {T : Type 0} → (Geometry → List ℕ → T) → Device → Device → Area → ℕ → T → Type 0
 IsKeptAfter kept old new area place held = held ≡ kept (geometry_of old area) (sector_on new area place)
 
@@ -114,13 +115,13 @@ abbrev pub AddsOn : (Geometry → SectorFormat) → Device → Device → Area �
 AddsOn format_of old new area place id bytes =
     Adds (format_on format_of old area) (sector_on old area place) (sector_on new area place) id bytes
 
--- no more is gone of what was free than a value of this length and its entry cost
+-- no more free space is lost than a value of this length and its entry cost
 abbrev pub LeavesRoomOn : (Geometry → SectorFormat) → Device → Device → Area → ℕ → ℕ → Type 0
 LeavesRoomOn format_of old new area place len =
     let k = format_on format_of old area in
     LeavesRoom k (sector_on old area place) (sector_on new area place) (k.cost len)
 
--- a sound sector stays so
+-- a sound sector stays sound
 abbrev pub KeepsSoundOn : (Geometry → SectorFormat) → Device → Device → Area → ℕ → Type 0
 KeepsSoundOn format_of old new area place =
     let k = format_on format_of old area in
@@ -171,8 +172,8 @@ pub record IsSource (format_of : Geometry → SectorFormat) (d : Device) (on : A
   pub there : StandsThereOn format_of d on from
   pub some : 0 < from.len
 
--- How a put ends. On `Ok` the sector has one pair more; where power was lost, its list is as before or has
--- the pair.
+-- How a put ends. On `Ok` the sector has one more pair. If power was lost, its list is as before or
+-- has the pair.
 pub record PutEnds {T X E : Type 0} (format_of : Geometry → SectorFormat) (keep : Geometry → List ℕ → T)
     (old new : Device)
     (on : Area) (place id : ℕ) (bytes : List ℕ) (held : T) (result : Result X E) : Type 0 where
@@ -194,7 +195,7 @@ pub record IsMarked {T : Type 0} (format_of : Geometry → SectorFormat) (keep :
   pub kept : IsKeptAfter keep old new on place held
   pub spends : SpendsIn old new ((format_on format_of old on).units.done (sector_on old on place))
 
--- power was lost in that
+-- power was lost while gc-done was programmed
 pub record StopsMarking (format_of : Geometry → SectorFormat) (old new : Device) (on : Area) (place : ℕ)
     : Type 0 where
   pub lost : KeepsMarksOn format_of old new on place

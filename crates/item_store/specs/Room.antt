@@ -41,8 +41,8 @@ newest ps = fold (λ older part. part) [] ps
 abbrev pub leaves_room : SectorFormat → ℕ → ℕ → List (List (ℕ × List ℕ)) → ℕ → Bool
 leaves_room k size len ps n = fits_beside k size (newest (collected n ps)) len
 
--- Rounds, given by the sectors before each, the last round's first. A value of this length had room before
--- none.
+-- Rounds, given by the sectors before each, the last round first. Before each of them a value of
+-- this length had no room.
 abbrev pub Rounds : SectorFormat → ℕ → ℕ → List (List ℕ) → List (List (List ℕ)) → List (List ℕ) → Type 0
 Rounds k size len old [] new = new ≡ old
 Rounds k size len old (mid ∷ before) new =
@@ -78,14 +78,14 @@ RoundsFrom k d area len before new = Rounds k (sector_size d area) len (sectors_
 abbrev pub most_rounds : SectorFormat → Device → Area → ℕ → ℕ
 most_rounds k d area rounds = rounds * k.units.round (sector_size d area)
 
--- Rounds were made until a value of this length had room, or one for each sector but the blank one; where it
--- had room at first, none was made. The items stay. For a delete one round is enough.
+-- Rounds were made until a value of this length had room, or one for each sector but the blank one.
+-- If it had room at first, none was made. The items stay. For a delete one round is enough.
 pub record MakesRoom (k : SectorFormat) (old new : Device) (area : Area) (len : ℕ) : Type 0 where
   pub before : List (List (List ℕ))
   pub rounds : RoundsFrom k old area len before (sectors_of new area)
   pub parts : parts_at k new area ≡ collected (length before) (parts_at k old area)
   pub none : before ≡ [] → new ≡ old
-  -- how many they are is known from the list: the least number, but 0, that leaves room
+  -- the list says how many they are: the least number above 0 that leaves room
   pub least : 0 < len → (n : ℕ) → 0 < n → n < length before → leaves_room_at k old area len n ≡ false
   pub exact : 0 < len → 0 < length before
       → has_room_at k new area len ≡ leaves_room_at k old area len (length before)
@@ -96,23 +96,24 @@ pub record MakesRoom (k : SectorFormat) (old new : Device) (area : Area) (len : 
   pub spends : SpendsIn old new (rounds_units k before)
   pub at_most : SpendsBetween old new 0 (most_rounds k old area (length before))
 
--- what a sector of the area has
+-- what a sector of the area has for values and entries
 abbrev pub cap_at : SectorFormat → Device → Area → ℕ
 cap_at k d area = k.cap (sector_size d area)
 
--- Each pair of the area is live, and each sector but the blank one has no room for so many bytes beside its
--- pairs.
+-- Each pair of the area is live, and each sector but the blank one has no room for so many bytes
+-- beside its pairs.
 abbrev pub IsCrammedFor : SectorFormat → Device → Area → ℕ → Type 0
 IsCrammedFor k d area need =
     IsCrammed k.reading k.cost need (cap_at k d area) (sectors_of d area)
     (open_sector k.reading (sectors_of d area))
 
--- After a round for each sector but the blank one there is no room: the live items leave none, neither in all
--- sectors together nor in any of them.
+-- After a round for each sector but the blank one there is no room: the live items leave none,
+-- neither in all sectors together nor in any of them.
 pub record IsFull (k : SectorFormat) (old new : Device) (area : Area) (len : ℕ) : Type 0 where
   pub full : (area.sectors - 1) * (cap_at k old area - k.cost len) < live_cost k.cost (list_at k old area)
   pub crammed : IsCrammedFor k new area (k.cost len)
 
+-- rounds made no room for a value of this length
 abbrev pub FindsFull : SectorFormat → Device → Device → Area → ℕ → Type 0
 FindsFull k old new area len =
     MakesRoom k old new area len × (has_room_at k new area len ≡ false) × IsFull k old new area len

@@ -1,5 +1,5 @@
--- What a store of items asks of its sectors. Nothing else in this crate knows how a sector holds an entry,
--- what it programs for it, or how a damage looks.
+-- What a store of items asks of its sectors. Nothing else in this crate knows how a sector holds an
+-- entry, what is programmed for it, or what damage looks like.
 use Rattle.std.specs.Prelude.{◌≡◌, ℕ, ◌+◌, ◌*◌, ◌<◌, ◌≤◌, max, Bool, true, false, List, length, map, Option, Some, None, ◌==◌, nat_le, if◌then◌else◌}
 use Rattle.std.specs.List.{filter_map, range_with_len}
 use Rattle.flash_map.specs.declared.faults.Damaged.{Damaged}
@@ -11,8 +11,7 @@ use Rattle.item_laws.specs.Entries.{Entries}
 use Rattle.item_store.specs.declared.entry.Entry.{Entry}
 use Rattle.item_store.specs.declared.entry.Placed.{Placed}
 
--- A step that ends whole spends so many units at least, and so many at most. One that is cut spends no more
--- than `lost`.
+-- A step that completes spends from `least` to `most` units. One that is cut spends at most `lost`.
 pub record Range : Type 0 where
   pub least : ℕ
   pub most : ℕ
@@ -30,7 +29,7 @@ CoversWhole range = range.most ≤ range.lost
 
 -- What the steps in one sector spend, by the bytes of the sector before.
 pub record Units : Type 0 where
-  -- making a sector that is in use by no list ready for entries
+  -- making a sector with no entry ready for entries
   pub begin : List ℕ → Range
   -- a value of this length and its entry, in a sector that is ready, or is made so before
   pub put : List ℕ → ℕ → Range
@@ -39,8 +38,8 @@ pub record Units : Type 0 where
   pub done : List ℕ → Range
   pub close : List ℕ → Range
   pub clear : List ℕ → Range
-  -- the same in any sector: a collection is known by what is copied, not by what the bytes of a sector become
-  -- on the way
+  -- the same in any sector: the units of a collection follow from what is copied, not from what the
+  -- bytes of a sector become on the way
   pub any_copy : ℕ → Range
   pub any_done : Range
   pub any_clear : Range
@@ -64,6 +63,7 @@ pub record AreUnits (u : Units) : Type 0 where
   pub done_in : (b : List ℕ) → LiesIn (u.done b) u.any_done
   pub clear_in : (b : List ℕ) → LiesIn (u.clear b) u.any_clear
 
+-- how the sectors of an area of one geometry hold entries
 pub record SectorFormat : Type 0 where
   pub reading : Reading
   -- where the slots of a sector's list begin, how many they are, and the entry in one
@@ -80,9 +80,9 @@ pub record SectorFormat : Type 0 where
   pub slot : ℕ
   -- what a sector of this size has for values and entries
   pub cap : ℕ → ℕ
-  -- the bytes between what stands of values in a sector, cut ones too, and its slots
+  -- the bytes between the values of a sector, torn ones included, and its slots
   pub free : List ℕ → ℕ
-  -- the sector has no entry, and all that a sector has is free in it
+  -- the sector has no entry and all its space is free
   pub is_clean : List ℕ → Bool
   -- entries can be put into the sector
   pub is_ready : List ℕ → Bool
@@ -125,7 +125,7 @@ slots k = record {
   cost = k.cost;
 }
 
--- What is true of the sectors of every such store. A sector has at least 512 bytes.
+-- The laws of a sector format. A sector has at least 512 bytes.
 pub record IsSectorFormat (k : SectorFormat) : Type 0 where
   pub reads : IsReading k.reading
   -- the list of a sector is that of its entries
@@ -138,9 +138,10 @@ pub record IsSectorFormat (k : SectorFormat) : Type 0 where
   pub sound : (b : List ℕ) → 512 ≤ length b → is_sound k.reading b ≡ true → k.within b ≡ true
   pub costs : (b : List ℕ) → 512 ≤ length b → is_sound k.reading b ≡ true
       → stored_cost k.cost (k.reading.pairs b) ≤ k.cap (length b)
-  -- a clean sector holds nothing, and has room for three slots beside what it has for values and entries
+  -- a clean sector holds nothing, and has room for three slots beside what it has for values and
+  -- entries
   pub clean : (b : List ℕ) → k.is_clean b ≡ true → k.reading.is_blank b ≡ true
-  -- so is each sector with no entry, where sectors are not made ready as they open
+  -- so is each sector with no entry, if sectors are not made ready as they open
   pub blank : k.opens_ready ≡ false → (b : List ℕ) → k.reading.is_blank b ≡ true → k.is_clean b ≡ true
   pub room : (b : List ℕ) → 512 ≤ length b → k.is_clean b ≡ true → k.free b ≡ k.cap (length b) + 3 * k.slot
   -- an open sector that is not clean takes entries
@@ -148,10 +149,11 @@ pub record IsSectorFormat (k : SectorFormat) : Type 0 where
       → k.reading.is_closed b ≡ false → k.is_ready b ≡ true
   pub begun : (b : List ℕ) → k.is_ready b ≡ true → k.units.begin b ≡ record { least = 0; most = 0; lost = 0 }
   pub units : AreUnits k.units
-  -- no bytes take up less than they are, and no sector has more than its size
+  -- a value takes up at least its bytes, and a sector has at most its size
   pub least : (len : ℕ) → len ≤ k.cost len
   pub most : (size : ℕ) → k.cap size ≤ size
-  -- a round's close, and its copies of pairs that a sector has room for, into a sector that held nothing
+  -- a round's close, and its copies of pairs that a sector has room for, into a sector that held
+  -- nothing
   pub round : (size : ℕ) (closed opened : List ℕ) (pairs : List (ℕ × List ℕ)) → 512 ≤ size
       → length closed ≡ size → k.reading.is_blank opened ≡ true → copies_cost k.cost pairs ≤ k.cap size
       → (k.units.close closed).lost
@@ -169,8 +171,8 @@ pub record IsSectorFormat (k : SectorFormat) : Type 0 where
   pub damaged : (sectors : List (List ℕ)) → k.damage sectors ≡ None → first_damage k.reading sectors ≡ None
   pub undamaged : (sectors : List (List ℕ)) → first_damage k.reading sectors ≡ None → k.damage sectors ≡ None
 
--- Whether a value of this length fits a sector. A length of 0 is a delete. Slots stay for gc-done, a delete
--- and the fence.
+-- Whether a value of this length fits a sector. A length of 0 is a delete. Slots stay for gc-done,
+-- a delete and the fence.
 abbrev pub fits : SectorFormat → List ℕ → ℕ → Bool
 fits k b len =
     if len == 0 then nat_le (2 * k.slot) (k.free b) else nat_le

@@ -8,19 +8,20 @@ use Rattle.item_store.specs.declared.entry.Placed.{Placed}
 use Rattle.item_store.specs.declared.seen.Seen.{Seen}
 use Rattle.item_store.specs.SectorFormat.{SectorFormat, slots}
 
--- The key of an id, a number of 16 bits: of an id without bit 31 its low 16 bits, of one with it bit 30, bits
--- 4 to 15 and bits 0 to 2. So each id of 16 bits has a key of its own, and so have the first eight names and
--- the first eight values of a hash group.
+-- The key of an id, a number of 16 bits: of an id without bit 31 its low 16 bits, of one with it
+-- bit 30, bits 4 to 15 and bits 0 to 2. So each id of 16 bits has a key of its own, and so have the
+-- first eight names and the first eight values of a hash group.
 unfoldable pub key_of : ℕ → ℕ
 key_of id =
     if nat_lt id 0x8000_0000 then id % 0x1_0000 else id / 0x4000_0000 % 2 * 0x8000 + id % 0x1_0000 / 0x10 * 8
     + id % 8
 
--- The usual id of a key: it has bit 31 and the bits of the key, and no others. No id of 16 bits is one.
+-- The usual id of a key: it has bit 31 and the bits of the key, and no others. No id of 16 bits is
+-- one.
 unfoldable pub usual_id : ℕ → ℕ
 usual_id key = 0x8000_0000 + key / 0x8000 * 0x4000_0000 + key % 0x8000 / 8 * 0x10 + key % 8
 
--- the entry has another id than the usual one of its key
+-- the entry's id is not the usual one of its key
 abbrev pub is_other : Placed → Bool
 is_other p = not (p.id == usual_id (key_of p.id))
 
@@ -32,15 +33,16 @@ is_long p = not (nat_lt p.id 0x1_0000)
 abbrev pub has_bit : List ℕ → ℕ → Bool
 has_bit bytes n = bit_at (slice_index bytes (n / 8)) (n % 8) == 1
 
--- The bits are those of the keys of these entries' ids, which are below a limit; `mixed` says whether one of
--- them is another one than the usual one of its key, and `long` whether one has more than 16 bits.
+-- The bits are those of the keys of these entries' ids, which are below a limit; `mixed` says
+-- whether one of them is not the usual one of its key, and `long` whether one has more than 16
+-- bits.
 pub record HasSeen (limit : ℕ) (seen : Seen) (placed : List Placed) : Type 0 where
   pub bit : (key : ℕ) → key < 2 ^ 16 → has_bit seen.bits key ≡ list_any (λ p. key_of p.id == key) placed
   pub others : seen.mixed ≡ list_any is_other placed
   pub longs : seen.long ≡ list_any is_long placed
   pub known : All (λ p. p.id < limit) placed
 
--- Where the key of this id was noted, this very id was: it and each one that was noted are the usual ones of
+-- If the key of this id was noted, this very id was: it and each noted one are the usual ones of
 -- their keys, or all have 16 bits.
 abbrev pub IsExact : Seen → ℕ → Type 0
 IsExact seen id = (seen.mixed ≡ false × id ≡ usual_id (key_of id)) ⊎ (seen.long ≡ false × id < 2 ^ 16)

@@ -9,7 +9,7 @@ use Rattle.item_store.specs.SectorFormat.{Range, SectorFormat, making_ready}
 abbrev pub none : Range
 none = record { least = 0; most = 0; lost = 0 }
 
--- One and then the other. A loss in the other comes behind the whole of the one.
+-- One and then the other. A power loss in the other comes after the whole of the one.
 abbrev pub both : Range → Range → Range
 both one other = record {
   least = one.least + other.least;
@@ -38,20 +38,20 @@ ready_units k sectors place = making_ready k (sector_at sectors place)
 abbrev pub again_units : SectorFormat → List (List ℕ) → ℕ → Range
 again_units k sectors place = both (ready_units k sectors place) (collect_units k sectors place)
 
--- A sector that just became the open one: where the next sector is closed, that is collected into it.
+-- A sector that just became the open one: if the next sector is closed, that is collected into it.
 abbrev pub open_units : SectorFormat → List (List ℕ) → ℕ → Range
 open_units k sectors place =
     if is_closed_at k.reading sectors (next sectors place) then again_units k sectors place
     else (if k.opens_ready then ready_units k sectors place else none)
 
--- Whether a round from this open sector has a victim: the sector after the next one, where it is closed once
--- this one is.
+-- Whether a round from this open sector has a victim: the sector after the next one, if it is
+-- closed once this one is.
 abbrev pub has_victim : SectorFormat → List (List ℕ) → ℕ → Bool
 has_victim k sectors place =
     let victim = next sectors (next sectors place) in
     (victim == place) || is_closed_at k.reading sectors victim
 
--- A round of close and collect from this open sector. Where there is no victim, there is nothing to collect.
+-- A round of close and collect from this open sector. Without a victim there is nothing to collect.
 abbrev pub round_units : SectorFormat → List (List ℕ) → ℕ → Range
 round_units k sectors place =
     let opened = next sectors place in

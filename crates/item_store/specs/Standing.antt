@@ -41,12 +41,14 @@ IsUndamagedAt k d area = k.damage (sectors_of d area) ≡ None
 abbrev pub RestsAt : SectorFormat → Device → Area → Type 0
 RestsAt k d area = AtRest k.reading (sectors_of d area) (open_sector k.reading (sectors_of d area))
 
--- the sectors read as the same items, of each of which the newest versions stay, and are not damaged
+-- the sectors read as the same items, of each of which the newest versions stay, and are not
+-- damaged
 pub record KeepsItems (k : SectorFormat) (old new : List (List ℕ)) : Type 0 where
   pub items : items k new ≡ items k old
   pub versions : KeepsVersions (list_of k old) (list_of k new)
   pub undamaged : k.damage new ≡ None
 
+-- a call that completes spends from the least to the most units of the range
 abbrev pub SpendsIn : Device → Device → Range → Type 0
 SpendsIn old new range = SpendsBetween old new range.least range.most
 

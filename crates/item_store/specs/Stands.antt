@@ -15,8 +15,8 @@ use Rattle.item_store.specs.SectorFormat.{SectorFormat}
 use Rattle.item_store.specs.Collecting.{redo_of, redo_list, redo_units, KeepsOrRedoes}
 use Rattle.item_store.specs.Standing.{IsStoreArea, list_at, KeepsItems, SpendsIn, SpendsUpTo}
 
--- The store is up: the area is not damaged and at rest, and the store knows its open sector and where the
--- latest entries stand.
+-- The store is up: the area is not damaged and at rest, and the store knows its open sector and
+-- where the latest entries stand.
 pub record StandsOn {T : Type 0} (role : Role) (format_of : Geometry → SectorFormat)
     (kept : Geometry → List ℕ → T)
     (d : Device) (store : Store T) : Type 0 where
@@ -31,7 +31,7 @@ pub record StandsOn {T : Type 0} (role : Role) (format_of : Geometry → SectorF
   pub undamaged : (format_of (geometry_of d store.area)).damage (sectors_of d store.area) ≡ None
   pub cached : IsCacheOn format_of d store.area store.cache
 
--- So it does on this area with this sector open, but for the cache, which stands apart.
+-- The same on this area with this sector open, without the cache.
 pub record StandsAt {T : Type 0} (role : Role) (format_of : Geometry → SectorFormat)
     (kept : Geometry → List ℕ → T)
     (d : Device) (on : Area) (place : ℕ) (known : T) : Type 0 where
@@ -43,9 +43,9 @@ pub record StandsAt {T : Type 0} (role : Role) (format_of : Geometry → SectorF
       ≡ false
   pub undamaged : (format_of (geometry_of d on)).damage (sectors_of d on) ≡ None
 
--- The area is damaged, and then nothing changed; or it is not, and its items stay, whether power is lost or
--- not. What is spent is what there is to redo: at rest nothing is done. The list is the one that this leaves;
--- where power was lost, that or the one before. Where memory is wanting nothing changed.
+-- If the area is damaged, or memory runs out, nothing changed. Otherwise the items stay, whether
+-- power is lost or not. A mount spends what there is to redo: at rest nothing. The list is the one
+-- that the redo leaves; after a power loss, that one or the one before.
 abbrev pub MountEnds : {T : Type 0} → Role → (Geometry → SectorFormat) → (Geometry → List ℕ → T) → Device
     → Device
     → Area → Result (Store T) MountFault → Type 0

@@ -13,7 +13,7 @@ pub record Keeps (k : SectorFormat) (old new : List ℕ) : Type 0 where
   pub used : k.reading.is_blank old ≡ false → k.reading.is_blank new ≡ false
   pub sound : is_sound k.reading old ≡ true → is_sound k.reading new ≡ true
 
--- no more is gone of what was free between its values and its slots than this
+-- no more than this is lost of the free bytes between its values and its slots
 abbrev pub LeavesRoom : SectorFormat → List ℕ → List ℕ → ℕ → Type 0
 LeavesRoom k old new cost = k.free old ≤ k.free new + cost
 
@@ -22,8 +22,8 @@ pub record KeepsMarks (k : SectorFormat) (old new : List ℕ) : Type 0 where
   pub closed : k.reading.is_closed new ≡ k.reading.is_closed old
   pub gc_done : k.reading.has_gc_done new ≡ k.reading.has_gc_done old
 
--- A sector with no entry is ready for one, and has none yet; one in use, or ready before, is as it was. A
--- clean one stays so. What an entry spends in it is known before.
+-- A sector with no entry is ready for one, and has none yet. One in use, or ready before, is as it
+-- was. A clean one stays clean. What an entry spends in it stays the same.
 pub record Begins (k : SectorFormat) (old new : List ℕ) : Type 0 where
   pub blank : k.reading.is_blank old ≡ true → k.reading.is_blank new ≡ true
   pub clean : k.is_clean old ≡ true → k.is_clean new ≡ true
@@ -37,7 +37,7 @@ pub record Begins (k : SectorFormat) (old new : List ℕ) : Type 0 where
 abbrev pub new_entry : ℕ → ℕ → ℕ → Entry
 new_entry slot id len = record { slot = slot; id = id; len = len }
 
--- the sector's list has one pair more, whose cost is gone from the room
+-- the sector's list has one more pair, whose cost is gone from the room
 pub record Adds (k : SectorFormat) (old new : List ℕ) (id : ℕ) (bytes : List ℕ) : Type 0 where
   pub list : ring.AddsPair k.reading old new id bytes
   pub long : length new ≡ length old
@@ -47,13 +47,14 @@ pub record Adds (k : SectorFormat) (old new : List ℕ) (id : ℕ) (bytes : List
   pub ready : k.is_ready new ≡ true
   pub free : k.free new + k.cost (length bytes) ≡ k.free old
 
--- gc-done stands in a slot more; a list that costs no more than the sector has for it leaves it sound
+-- gc-done takes one more slot; the sector is sound if its list costs no more than it has for it
 pub record Marks (k : SectorFormat) (old new : List ℕ) : Type 0 where
   pub list : ring.MarksDone k.reading old new
   pub long : length new ≡ length old
   pub free : k.free new + k.slot ≡ k.free old
   pub sound : stored_cost k.cost (k.reading.pairs old) ≤ k.cap (length old) → is_sound k.reading new ≡ true
 
+-- the sector is closed, and its list stays
 pub record Closes (k : SectorFormat) (old new : List ℕ) : Type 0 where
   pub list : ring.Closes k.reading old new
   -- each entry stays in its slot
@@ -67,8 +68,8 @@ pub record Clears (k : SectorFormat) (old new : List ℕ) : Type 0 where
   pub ready : k.is_ready new ≡ true
   pub long : length new ≡ length old
 
--- It was cut: the marks stay, or the sector is clean. Where a sector is made ready as soon as it is open, it
--- is as before, or clean.
+-- The emptying was cut: the marks stay, or the sector is clean. If sectors are made ready as they
+-- open, it is as before, or clean.
 pub record StopsClearing (k : SectorFormat) (old new : List ℕ) : Type 0 where
   pub either : KeepsMarks k old new ⊎ (k.is_clean new ≡ true)
   pub opens : k.opens_ready ≡ true → (new ≡ old) ⊎ (k.is_clean new ≡ true)

@@ -17,11 +17,11 @@ use Rattle.item_store.specs.Versions.{KeepsVersions, AddsVersion}
 
 -- ---- one entry
 
--- A value of this length and its entry, in this sector: it is made ready for entries first.
+-- The units of a value of this length and its entry in this sector, which is made ready first.
 abbrev pub SpendsEntry : SectorFormat → Device → Device → List ℕ → ℕ → Type 0
 SpendsEntry k old new sector len = SpendsIn old new (both (k.units.begin sector) (k.units.put sector len))
 
--- Power was lost while its sector was made ready, or behind that.
+-- The same if power was lost while the sector was made ready, or after that.
 abbrev pub StopsEntry : SectorFormat → Device → Device → List ℕ → ℕ → Type 0
 StopsEntry k old new sector len = SpendsUpTo old new (both (k.units.begin sector) (k.units.put sector len))
 
@@ -29,7 +29,7 @@ StopsEntry k old new sector len = SpendsUpTo old new (both (k.units.begin sector
 abbrev pub open_at : SectorFormat → Device → Area → List ℕ
 open_at k d area = open_bytes k (sectors_of d area)
 
--- the list is as before, or has one pair more
+-- the list is as before, or has one more pair
 abbrev pub KeepsOrAdds : SectorFormat → Device → Device → Area → ℕ × List ℕ → Type 0
 KeepsOrAdds k old new area pair =
     (list_at k new area ≡ list_at k old area) ⊎ (list_at k new area ≡ list_at k old area ++ pair ∷ [])
@@ -40,8 +40,8 @@ KeepsOrAddsVersion k old new area id bytes =
     KeepsVersions (list_at k old area) (list_at k new area)
     ⊎ AddsVersion (list_at k old area) (list_at k new area) id bytes
 
--- The list has one pair more, whose cost is gone from what was free in the open sector, and a mount would
--- have nothing to do.
+-- The list has one more pair, whose cost is gone from what was free in the open sector, and a mount
+-- would have nothing to do.
 pub record PutsPair (k : SectorFormat) (old new : Device) (area : Area) (id : ℕ) (bytes : List ℕ)
     : Type 0 where
   pub list : list_at k new area ≡ list_at k old area ++ (id, bytes) ∷ []
@@ -50,8 +50,8 @@ pub record PutsPair (k : SectorFormat) (old new : Device) (area : Area) (id : �
   pub room : k.free (open_at k new area) + k.cost (length bytes) ≡ k.free (open_at k old area)
   pub entry : SpendsEntry k old new (open_at k old area) (length bytes)
 
--- Power was lost: the list is the old one, or has the pair. No more is gone of what was free than the pair
--- costs, and a mount would have nothing to do.
+-- Power was lost: the list is the old one, or has the pair. No more is gone of what was free than
+-- the pair costs, and a mount would have nothing to do.
 pub record StopsPutting (k : SectorFormat) (old new : Device) (area : Area) (id : ℕ) (bytes : List ℕ)
     : Type 0 where
   pub list : KeepsOrAdds k old new area (id, bytes)
@@ -63,6 +63,7 @@ pub record StopsPutting (k : SectorFormat) (old new : Device) (area : Area) (id 
 
 -- ---- rounds that make room, and the entry behind them
 
+-- rounds made room, and the pair was appended
 pub record Appends (k : SectorFormat) (old new : Device) (area : Area) (id : ℕ) (bytes : List ℕ)
     : Type 0 where
   -- the device behind the last round
@@ -86,10 +87,12 @@ pub record StopsInEntry (k : SectorFormat) (old new : Device) (area : Area) (id 
   pub room : has_room_at k mid area (length bytes) ≡ true
   pub stops : StopsPutting k mid new area id bytes
 
+-- power was lost in a round, or in the entry behind the last round
 abbrev pub StopsAppending : SectorFormat → Device → Device → Area → ℕ → List ℕ → Type 0
 StopsAppending k old new area id bytes =
     StopsMakingRoom k old new area (length bytes) ⊎ StopsInEntry k old new area id bytes
 
+-- how an append ends; the answer says whether there was room
 abbrev pub AppendEnds : {T : Type 0} → SectorFormat → Device → Device → Area → ℕ → List ℕ → Result Bool T
     → Type 0
 AppendEnds k old new area id bytes (Ok true) = Appends k old new area id bytes
@@ -122,7 +125,7 @@ pub record Writes (k : SectorFormat) (old new : Device) (area : Area) (id : ℕ)
       → SpendsEntry k old new (open_at k old area) (length bytes)
   pub at_most : SpendsBetween old new 0 (most_write k old area (length bytes))
 
--- no round of collections makes room
+-- no number of rounds makes room
 pub record FindsNoSpace (k : SectorFormat) (old new : Device) (area : Area) (id : ℕ) (bytes : List ℕ)
     (need live : ℕ)
     : Type 0 where
@@ -149,6 +152,7 @@ pub record StopsWriting (k : SectorFormat) (old new : Device) (area : Area) (id 
       → StopsEntry k old new (open_at k old area) (length bytes)
   pub at_most : SpendsBetween old new 0 (most_write k old area (length bytes))
 
+-- how a write ends
 abbrev pub WriteEnds : {T : Type 0} → SectorFormat → Device → Device → Area → ℕ → List ℕ → Result T WriteFault
     → Type 0
 WriteEnds k old new area id bytes (Ok _) = Writes k old new area id bytes
@@ -162,7 +166,7 @@ WriteEnds k old new area id bytes (Err PowerLost) = StopsWriting k old new area 
 abbrev pub IsAbsent : SectorFormat → Device → Area → ℕ → Type 0
 IsAbsent k d area id = get (items_at k d area) id ≡ None
 
--- the id has none any more, and all others stay
+-- the id has no item any more, and all others stay
 pub record Deletes (k : SectorFormat) (old new : Device) (area : Area) (id : ℕ) : Type 0 where
   pub items : items_at k new area ≡ remove (items_at k old area) id
   pub versions : ¬ IsAbsent k old area id
@@ -184,6 +188,7 @@ pub record StopsDeleting (k : SectorFormat) (old new : Device) (area : Area) (id
   pub entry : has_room_at k old area 0 ≡ true → StopsEntry k old new (open_at k old area) 0
   pub at_most : SpendsBetween old new 0 (write_units k (sector_size old area) 1 0)
 
+-- how a delete ends
 abbrev pub DeleteEnds : {T : Type 0} → SectorFormat → Device → Device → Area → ℕ → Result T Lost → Type 0
 DeleteEnds k old new area id (Ok _) = Deletes k old new area id
 DeleteEnds k old new area id (Err _) = StopsDeleting k old new area id

@@ -17,7 +17,7 @@ use crate::store::Store;
 use flash_sim::{Flash, Steps};
 use std::sync::ledger::Ledger;
 
-// Whether bytes are greater than some others and less than others still, where there are such.
+// Whether the bytes are greater than `after` and less than `least`, as far as these are given.
 fn is_between(bytes: &[u8], after: Option<&[u8]>, least: Option<&[u8]>) -> bool
     ensures { result
         ≡ (is_behind (option_map (λ other. other.now) after.entry) bytes.now
@@ -59,9 +59,9 @@ impl<T: SlotSectors> Store<T> {
         }
     }
 
-    /// The id of an item that has these bytes, of the ids from `least` to `most`, no more than
-    /// 0x1_0020; any of them where several have. It is one walk over the list at most, from its
-    /// newest entry back.
+    /// An id from `least` to `most` whose item has these bytes; any of them if several have, `None`
+    /// if none has. The range has at most 0x1_0020 ids. This takes one walk over the list at most,
+    /// from its newest entry back.
     pub fn id_of<F: Flash, L: Ledger>(
         &self,
         flash: &F,
@@ -90,8 +90,7 @@ impl<T: SlotSectors> Store<T> {
         None
     }
 
-    // The bytes of an entry, where they are greater than some and less than the least so far; else
-    // the least so far.
+    // The bytes of an entry if they are greater than `after` and less than `least`; else `least`.
     fn lesser_bytes<'a, F: Flash, L: Ledger>(
         &self,
         flash: &'a F,
@@ -122,8 +121,9 @@ impl<T: SlotSectors> Store<T> {
         }
     }
 
-    /// The least bytes of an item that are greater than `after`, or the least of all, of the ids
-    /// from `least` to `most`, no more than 0x1_0020. It is one walk over the list.
+    /// The least bytes of an item with an id from `least` to `most`: of those greater than `after`,
+    /// or of all if `after` is not given; `None` if there are none. The range has at most 0x1_0020
+    /// ids. This takes one walk over the list.
     pub fn next_of<'a, F: Flash, L: Ledger>(
         &self,
         flash: &'a F,

@@ -15,7 +15,7 @@ use flash_sim::{Flash, Steps};
 use lookup_cache::Cache;
 use std::sync::ledger::Ledger;
 
-/// So many slots a cache has.
+/// How many slots the cache of a store has.
 pub const CACHE_SLOTS: usize = 64;
 
 impl Notes for Cache {
@@ -26,7 +26,7 @@ impl Notes for Cache {
     }
 }
 
-/// Makes it the cache of the list, whatever it had. Each sector that counts is looked at once.
+/// Fills the cache from the list, whatever it held before. It reads each sector that counts once.
 pub fn fill<T: SlotSectors, F: Flash, L: Ledger>(
     flash: &F,
     on: &OpenArea<'_, T>,
@@ -44,10 +44,9 @@ pub fn fill<T: SlotSectors, F: Flash, L: Ledger>(
     note_among(flash, on, 0, older, cache, steps);
 }
 
-/// Keeps it the cache of the list behind a round by which this sector became the open one. What
-/// stood in the sector after it, the victim, is forgotten, and the entries of the open one are
-/// noted, which stand last. Where the round had no victim, no entry of the list stood in that
-/// sector.
+/// Updates the cache after a round that opened this sector. It forgets the places in the next
+/// sector, the victim, and notes the entries of the open sector, which stand last. If the round had
+/// no victim, the next sector held no entry of the list.
 pub fn follow_round<T: SlotSectors, F: Flash, L: Ledger>(
     flash: &F,
     area: &Area,

@@ -1,4 +1,4 @@
-// Closing, collecting, and what a mount has to do again.
+// Closing a sector, garbage collection, and what a mount has to redo.
 ghost use Rattle.std.specs.Prelude.{◌≡◌, ◌+◌, ◌*◌, ◌<◌, ◌≤◌, ◌∷◌, [], true, false, None, is_err, IfOk, OnOk, OnErr, ◌⊎◌};
 ghost use Rattle.flash_map.specs.Area.{geometry_of, sectors_of, sector_at, ChangesOnly};
 ghost use Rattle.flash_map.specs.Touches.{Touches};
@@ -114,7 +114,7 @@ fn copy_live<T: SlotSectors, F: Flash, L: Ledger>(
     Ok(())
 }
 
-// A whole collection into an open sector that has no entry and is ready for one.
+// A whole garbage collection into an open sector that has no entry and is ready for one.
 fn collect<T: SlotSectors, F: Flash, L: Ledger>(
     flash: &mut F,
     area: &Area,
@@ -207,7 +207,7 @@ fn prepare<T: SlotSectors, F: Flash, L: Ledger>(
     Ok(())
 }
 
-// A collection into an open sector that may hold a part of it.
+// A whole garbage collection into an open sector that may hold a part of it.
 fn collect_again<T: SlotSectors, F: Flash, L: Ledger>(
     flash: &mut F,
     area: &Area,
@@ -251,7 +251,7 @@ fn collect_again<T: SlotSectors, F: Flash, L: Ledger>(
     collect(flash, area, opened, current, steps)
 }
 
-// What a mount has to do with this sector open.
+// What a mount has to do, with this sector open.
 fn what_to_redo<T: SlotSectors, F: Flash, L: Ledger>(
     flash: &F,
     area: &Area,
@@ -276,7 +276,7 @@ fn what_to_redo<T: SlotSectors, F: Flash, L: Ledger>(
     }
 }
 
-// What a mount does with this sector open.
+// Does what a mount has to do, with this sector open.
 pub fn redo<T: SlotSectors, F: Flash, L: Ledger>(
     flash: &mut F,
     area: &Area,
@@ -310,9 +310,9 @@ pub fn redo<T: SlotSectors, F: Flash, L: Ledger>(
     }
 }
 
-// What a round does with the next sector, which has no entry, once it is the open one. Where the
-// sector after it is closed, that is collected into it; else it is made ready for entries, where
-// sectors are so as soon as they open.
+// What a round does with the next sector, which has no entry, once it is the open one. If the
+// sector after it is closed, it collects that one. Otherwise it makes the open sector ready for
+// entries, if sectors are made ready as they open.
 fn open_next<T: SlotSectors, F: Flash, L: Ledger>(
     flash: &mut F,
     area: &Area,
@@ -347,8 +347,8 @@ fn open_next<T: SlotSectors, F: Flash, L: Ledger>(
     Ok(())
 }
 
-// Closes the open sector, which is not clean, and opens the next one; collects the one behind that,
-// where it is closed then. Gives the sector that is open then.
+// Closes the open sector, which is not clean, and opens the next one. If the sector after that is
+// closed, it is collected. Returns the sector that is open then.
 pub fn round<T: SlotSectors, F: Flash, L: Ledger>(
     flash: &mut F,
     area: &Area,

@@ -114,8 +114,8 @@ impl<T: SlotSectors> Store<T> {
         sector_cost::<T, F, L>(flash, &self.area, place, &live, steps)
     }
 
-    /// What all items cost, in bytes: the bytes of each with its entry. The list is walked over
-    /// once, from its newest sector to its oldest.
+    /// What all items cost, in bytes: the bytes of each with its entry. This takes one walk over
+    /// the list, from its newest sector to its oldest.
     #[inline(never)]
     pub fn live_cost<F: Flash, L: Ledger>(&self, flash: &F, steps: &mut Steps<L>) -> u64
         requires { StandsOn T.role T.format_of T.kept (F.device flash.now) self.now }

@@ -1,28 +1,36 @@
 // Entries at their places, and what a mount has to do.
 
-/// An entry of a sector's list. Its bytes are what the sector holds for this slot.
+/// An entry of a sector's list. The format of the sector says where its bytes lie.
 #[derive(Clone, Copy, Debug, PartialEq, Eq)]
 pub struct Entry {
+    /// The number of the slot.
     pub slot: u32,
+    /// The id of the item.
     pub id: u32,
+    /// Bytes of the value; 0 is a delete.
     pub len: u32,
 }
 
-/// The same with the number of its sector.
+/// An entry with the number of its sector.
 #[derive(Clone, Copy, Debug, Default, Drop, PartialEq, Eq)]
 pub struct Placed {
+    /// The sector, counted from 0 in the area.
     pub sector: u32,
+    /// The number of the slot.
     pub slot: u32,
+    /// The id of the item.
     pub id: u32,
+    /// Bytes of the value; 0 is a delete.
     pub len: u32,
 }
 
 /// What a mount has to do before the area is at rest.
 #[derive(Clone, Copy, Debug, PartialEq, Eq)]
 pub enum Redo {
+    /// No garbage collection was cut.
     Nothing,
-    /// The next sector is the victim of a collection that is done but for its emptying.
+    /// A garbage collection is done but for its last step: to empty the next sector, the victim.
     ClearNext,
-    /// The open sector is that of a collection that was cut.
+    /// A garbage collection was cut before gc-done: it starts again into the open sector.
     CollectAgain,
 }

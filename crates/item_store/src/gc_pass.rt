@@ -1,4 +1,4 @@
-// Mounting, and closing with a collection.
+// Mounting, and a round: a close with the garbage collection that follows.
 ghost use Rattle.std.specs.Prelude.{◌≡◌, ◌∷◌, [], false, is_err, length, OnOk, OnErr, ◌⊎◌};
 ghost use Rattle.flash_map.specs.Area.{sector_size, sectors_of};
 ghost use Rattle.flash_map.specs.Faults.{mount_lost};
@@ -23,12 +23,12 @@ use std::alloc::Global;
 use std::sync::ledger::Ledger;
 
 impl<T: SlotSectors> Store<T> {
-    /// Reads the area and carries out what a loss of power left undone. The items stay, also where
-    /// power is lost. At rest nothing changes; an area in which anything changed is not blank then,
-    /// also where power is lost.
+    /// Reads the area and completes what a power loss left undone. The items stay, even if power is
+    /// lost again. An area at rest stays as it is. If anything changed, some sector is not blank
+    /// afterwards, even if power was lost.
     ///
     /// # Errors
-    /// `NoMemory`, before anything else; `Damaged`; in both nothing was programmed. `PowerLost`.
+    /// `Damaged` and `NoMemory`: nothing changed. `PowerLost`, only if the area was not at rest.
     pub fn mount<F: Flash, L: Ledger>(
         alloc: Global,
         flash: &mut F,
@@ -55,7 +55,7 @@ impl<T: SlotSectors> Store<T> {
         }
     }
 
-    // The same with the memory of its cache.
+    // The same, with the memory of the cache at hand.
     fn mount_with<F: Flash, L: Ledger>(
         mut cache: Cache,
         flash: &mut F,
@@ -110,27 +110,27 @@ impl<T: SlotSectors> Store<T> {
         &self.area
     }
 
-    /// Whether no call answered that power was lost.
+    /// Whether the store is up: no call has returned `PowerLost`.
     pub fn is_up(&self) -> bool
         ensures { result ≡ self.now.up }
     {
         self.up
     }
 
-    /// The number of the open sector, where the newest entries stand.
+    /// The number of the open sector, which takes the next entry.
     pub fn open_sector(&self) -> u32
         ensures { result ≡ self.now.current }
     {
         self.current
     }
 
-    /// Closes the open sector and collects the oldest one, unless the open one is clean. The items
-    /// stay, also where power is lost. What does not fit then is kept out by the copied items
-    /// alone, and a delete fits.
+    /// Closes the open sector and collects the oldest one. If the open sector is clean, nothing
+    /// changes. The items stay, even if power is lost. After a round, a value fits the open sector
+    /// exactly if it fits beside the items copied there, and a delete fits.
     ///
     /// # Errors
-    /// `PowerLost`, only where the open sector is not clean. The list is as before or as after the collection, and the store is
-    /// down.
+    /// `PowerLost`, only if the open sector is not clean: the list is as before or as after the
+    /// round, and the store is down.
     pub fn close_and_collect<F: Flash, L: Ledger>(
         &mut self,
         flash: &mut F,
@@ -164,7 +164,7 @@ impl<T: SlotSectors> Store<T> {
         self.run_pass(flash, steps)
     }
 
-    // Closes the open sector, which is not clean, and collects.
+    // A round: closes the open sector, which is not clean, and collects.
     pub(crate) fn run_pass<F: Flash, L: Ledger>(
         &mut self,
         flash: &mut F,

@@ -14,10 +14,10 @@ use flash_sim::{Flash, Steps};
 use std::sync::ledger::Ledger;
 
 impl<T: SlotSectors> Store<T> {
-    /// Makes a table of the last entries of ids, by one walk over the list, and by a search for
-    /// each id that shares its key: of 800 ids at most, the least that have bytes. It
-    /// knows each id where no more than 800 ids ever had bytes in the list. It does so as long as the area
-    /// stays as it is.
+    /// Makes a table of the last entries of ids: of 800 ids at most, the least that have bytes. It
+    /// knows each id if at most 800 ids ever had bytes in the list. It is valid as long as the area
+    /// stays as it is. This takes one walk over the list, and a search for each id that shares its
+    /// key.
     pub fn fill_last_slots<F: Flash, L: Ledger>(
         &self,
         flash: &F,
@@ -35,8 +35,8 @@ impl<T: SlotSectors> Store<T> {
         fill_last_slots(flash, &on, last, steps)
     }
 
-    /// The bytes of an item, as `get` gives them, by a table of last entries. Where the table knows
-    /// of the id, it is one step at most; else it is what `get` does.
+    /// The bytes of an item, as `get` gives them. If the table knows the id, this takes at most one
+    /// step; otherwise it does what `get` does.
     pub fn get_by<'a, F: Flash, L: Ledger>(
         &self,
         flash: &'a F,
@@ -59,9 +59,9 @@ impl<T: SlotSectors> Store<T> {
         }
     }
 
-    /// The least id behind this one that has a value, or the least of all, as `next_id` gives it,
-    /// by a table of last entries. Where the table has one, or knows all ids, nothing is looked
-    /// at; else the list is searched.
+    /// The least id greater than `after` that has a value, or the least of all, as `next_id` gives
+    /// it. If the table knows that id, or knows each id, this takes no step; otherwise it searches
+    /// the list.
     pub fn next_by<F: Flash, L: Ledger>(
         &self,
         flash: &F,

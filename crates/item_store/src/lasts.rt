@@ -26,14 +26,14 @@ const BYTES: usize = 0x2004;
 pub struct Lasts {
     pub(crate) least: u32,
     pub(crate) most: u32,
-    // the sector that is looked at, and how many of its first slots are left
+    // the sector that is being read, and how many of its first slots are left
     pub(crate) place: u32,
     pub(crate) left: u32,
     // the ids of the entries behind these slots, as far as they are in the range
     pub(crate) seen: [u8; BYTES],
 }
 
-// How many of the first slots of a sector have to be looked at; none where it does not count.
+// How many of the first slots of a sector have to be read; none if it does not count.
 fn reach_counting<T: SlotSectors, F: Flash, L: Ledger>(
     flash: &F,
     on: &OpenArea<'_, T>,
@@ -65,7 +65,7 @@ fn reach_counting<T: SlotSectors, F: Flash, L: Ledger>(
 }
 
 impl Lasts {
-    /// Before the newest entry.
+    /// A walk that stands before the newest entry.
     pub fn start<T: SlotSectors, F: Flash, L: Ledger>(
         flash: &F,
         on: &OpenArea<'_, T>,
@@ -93,7 +93,7 @@ impl Lasts {
         }
     }
 
-    // Whether an id is in the range and was not noted. It is noted then.
+    // Whether an id is in the range and was not noted before. It is noted then.
     fn is_new(&mut self, id: u32) -> bool
         requires { self.old.most < self.old.least + 0x1_0020 }
         ensures new { result
@@ -117,8 +117,8 @@ impl Lasts {
         true
     }
 
-    // Looks at the last one of the slots that are left. Its entry is the next one where its id is
-    // in the range and was not noted.
+    // Reads the last of the slots that are left. Its entry is the next one if its id is in the
+    // range and was not noted before.
     fn look_at_slot<T: SlotSectors, F: Flash, L: Ledger>(
         &mut self,
         flash: &F,
@@ -158,7 +158,7 @@ impl Lasts {
         }
     }
 
-    // The next one of the sector that is looked at.
+    // The next one of the sector that is being read.
     fn next_here<T: SlotSectors, F: Flash, L: Ledger>(
         &mut self,
         flash: &F,
@@ -192,7 +192,7 @@ impl Lasts {
         None
     }
 
-    // Goes to the end of the sector before the one that was looked at.
+    // Goes to the end of the sector before the one that was read.
     fn step_back<T: SlotSectors, F: Flash, L: Ledger>(
         &mut self,
         flash: &F,
@@ -220,7 +220,7 @@ impl Lasts {
         self.left = reach_counting(flash, on, self.place, self.least, self.most, steps);
     }
 
-    /// The last entry of the next id that was not given so far.
+    /// The last entry of the next id that the walk did not give yet; `None` at its end.
     pub fn next<T: SlotSectors, F: Flash, L: Ledger>(
         &mut self,
         flash: &F,

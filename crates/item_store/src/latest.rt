@@ -1,6 +1,6 @@
 // The last entries of ids, by one walk over the list of an area, from its newest entry to its
-// oldest. Where ids neither all have 16 bits nor are all the usual ones of their keys, the list is
-// searched besides for those whose keys were seen.
+// oldest. If some ids have more than 16 bits and some are not the usual ones of their keys, the
+// walk also searches the list for ids whose keys were seen.
 ghost use Rattle.std.specs.Prelude.{◌≡◌, ◌+◌, ◌<◌, ◌≤◌, ◌++◌, ◌∷◌, ◌^◌, ◌&&◌, ◌==◌, ℕ, List, [], true, false, None, Some, is_some, length};
 ghost use Rattle.std.specs.Option.{option_map, option_to_list};
 ghost use Rattle.std.specs.List.Sorted.{IsSearchInRange};
@@ -26,16 +26,16 @@ use arrayvec::ArrayVec;
 use flash_sim::{Flash, Steps};
 use std::sync::ledger::Ledger;
 
-// A table has so many entries at most, of 16 bytes each.
+// The most entries of a table, of 16 bytes each.
 const ENTRIES: usize = 800;
 
-/// Of each id below a bound the last one of some entries, where that has bytes. There is a bound
-/// only where more ids than the table has places had bytes.
+/// A table of last entries: for each id below its bound, the last entry of the id, if that has
+/// bytes. It has a bound only if more ids had bytes than it has places.
 #[derive(Drop)]
 pub struct LastSlots {
     // in the order of their ids
     pub(crate) entries: ArrayVec<Placed, ENTRIES>,
-    // Of this id and greater ones nothing is known. Where there is no bound, each id is known.
+    // It knows the ids below this one. With no bound it knows each id.
     pub(crate) bound: Option<u32>,
 }
 
@@ -53,7 +53,7 @@ fn search(entries: &[Placed], id: u32) -> Result<usize, usize>
 }
 
 impl LastSlots {
-    /// Among no entries.
+    /// A table of no entries.
     pub fn new() -> LastSlots
         ensures { (limit : ℕ) → Knows limit result [] }
     {
@@ -63,7 +63,7 @@ impl LastSlots {
         }
     }
 
-    // Among no entries, again.
+    // Empties the table.
     fn clear(&mut self)
         ensures { (limit : ℕ) → Knows limit self.new [] }
     {
@@ -90,7 +90,7 @@ impl LastSlots {
         self.bound.is_none()
     }
 
-    /// The entry of an id, where the table has one.
+    /// The entry of an id, if the table has one.
     pub fn entry_of(&self, id: u32) -> Option<Placed>
         ensures { Rises self.now.entries.items → result ≡ last_of_id id self.now.entries.items }
     {
@@ -100,7 +100,7 @@ impl LastSlots {
         }
     }
 
-    // From this place on the ids are behind the given one, and before it none is.
+    // Where the entries begin whose ids are greater than `after`.
     fn first_behind(&self, after: Option<u32>) -> usize
         ensures before { Rises self.now.entries.items
             → AllWithin (λ p. IsBehind after p.id → ⊥) self.now.entries.items 0 result }
@@ -117,7 +117,8 @@ impl LastSlots {
         }
     }
 
-    /// The entry of the least id behind this one, or of the least of all.
+    /// The entry of the least id greater than `after`, or of the least of all if `after` is not
+    /// given.
     pub fn next(&self, after: Option<u32>) -> Option<Placed>
         ensures { Rises self.now.entries.items → IsNextIn after self.now.entries.items result }
     {
@@ -140,7 +141,7 @@ impl LastSlots {
     }
 
     // Puts an entry with bytes at its place, as the last one of an id of which the table has none.
-    // Where the table is full, the greatest id goes out of it, this one or another.
+    // If the table is full, the greatest id goes, this one or another.
     fn put_new(&mut self, at: usize, placed: &Placed)
         requires inside { at ≤ length self.old.entries.items }
         ensures { (limit : ℕ) (before : List PlacedEntry) → placed.now.id < limit
@@ -162,7 +163,7 @@ impl LastSlots {
         self.entries.insert(at, *placed);
     }
 
-    // Takes an entry as the last one of its id, which the table knows and has none.
+    // Takes an entry as the last one of its id. The table knows the id, and has no entry of it.
     fn put(&mut self, placed: &Placed)
         ensures { (limit : ℕ) (before : List PlacedEntry) → placed.now.id < limit
             → last_of_id placed.now.id before ≡ None → IsKnown self.old.bound placed.now.id
@@ -189,7 +190,7 @@ impl LastSlots {
         }
     }
 
-    // Takes an entry that stands before others, where none of them has its id.
+    // Takes an entry that stands before others, unless one of them has its id.
     fn take_older(&mut self, placed: &Placed, has_later: bool)
         ensures { (limit : ℕ) (later : List PlacedEntry) → placed.now.id < limit
             → has_later ≡ is_some (last_of_id placed.now.id later)
@@ -200,7 +201,7 @@ impl LastSlots {
         }
     }
 
-    // Whether the table has an entry of the id. Then those that it knows have one.
+    // Whether the table has an entry of the id. If so, the entries that it was made of have one.
     fn has(&self, id: u32) -> bool
         ensures { (limit : ℕ) (later : List PlacedEntry) → Knows limit self.now later
             → result ≡ true → is_some (last_of_id id later) ≡ true }
@@ -212,7 +213,7 @@ impl LastSlots {
     }
 }
 
-// Whether an entry of this very id is known, as far as that is sure.
+// Whether an entry of exactly this id was seen. `false` says nothing.
 fn was_known<T: SlotSectors>(last: &LastSlots, seen: &Seen, id: u32) -> bool
     ensures { (geometry : geometry_type) (later : List PlacedEntry)
         → ((T.format_of geometry).ids ≤ 2 ^ 16 → id < 2 ^ 16)
@@ -238,7 +239,7 @@ fn share_place(one: &Placed, other: &Placed) -> bool
     one.sector == other.sector && one.slot == other.slot
 }
 
-// Whether an entry behind this one has its id. The list is searched only where one was seen that
+// Whether an entry behind this one has its id. The list is searched only if an entry was seen that
 // may have it.
 fn has_later<T: SlotSectors, F: Flash, L: Ledger>(
     flash: &F,
@@ -262,7 +263,7 @@ fn has_later<T: SlotSectors, F: Flash, L: Ledger>(
     }
 }
 
-// Indexes an entry that was read, before those that it has. Its id is noted.
+// Takes an entry that was read and stands before those taken so far. Its id is noted.
 fn index_entry<T: SlotSectors, F: Flash, L: Ledger>(
     flash: &F,
     on: &OpenArea<'_, T>,
@@ -285,8 +286,8 @@ fn index_entry<T: SlotSectors, F: Flash, L: Ledger>(
     seen.add(placed.id);
 }
 
-// Indexes the entry in a slot, if there is one, before those that it has. The id is read
-// first: where one of this id is known, the slot is passed over, and its CRC is not looked at.
+// Takes the entry in a slot, if there is one, before those taken so far. The id is read first: if
+// an entry of this id was seen, the slot is skipped, and its CRC is not checked.
 fn index_slot<T: SlotSectors, F: Flash, L: Ledger>(
     flash: &F,
     on: &OpenArea<'_, T>,
@@ -319,7 +320,7 @@ fn index_slot<T: SlotSectors, F: Flash, L: Ledger>(
     }
 }
 
-// Indexes the entries of a sector that counts, before those behind it.
+// Takes the entries of a sector that counts, before those behind it.
 fn index_sector<T: SlotSectors, F: Flash, L: Ledger>(
     flash: &F,
     on: &OpenArea<'_, T>,
@@ -351,7 +352,7 @@ fn index_sector<T: SlotSectors, F: Flash, L: Ledger>(
     }
 }
 
-// The same, where the sector counts.
+// The same if the sector counts; otherwise it takes none.
 fn index_counting<T: SlotSectors, F: Flash, L: Ledger>(
     flash: &F,
     on: &OpenArea<'_, T>,
@@ -376,7 +377,7 @@ fn index_counting<T: SlotSectors, F: Flash, L: Ledger>(
     }
 }
 
-// Indexes all entries of the list, from the newest sector to the oldest.
+// Takes all entries of the list, from the newest sector to the oldest.
 #[inline(never)]
 fn index_all<T: SlotSectors, F: Flash, L: Ledger>(
     flash: &F,
@@ -399,8 +400,8 @@ fn index_all<T: SlotSectors, F: Flash, L: Ledger>(
     index_counting(flash, on, oldest, last, &mut seen, steps);
 }
 
-/// Makes a table of the last entry of each id in the list, as far as it has room for them. What it
-/// knew before is gone. Each sector that counts is looked at once.
+/// Fills the table with the last entry of each id in the list, as far as it has room. What it held
+/// before is gone. It reads each sector that counts once.
 pub fn fill_last_slots<T: SlotSectors, F: Flash, L: Ledger>(
     flash: &F,
     on: &OpenArea<'_, T>,

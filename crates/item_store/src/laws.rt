@@ -7,7 +7,8 @@ ghost use Rattle.item_laws.specs.LivePairs.{live_pairs};
 ghost use Rattle.item_laws.specs.PairRounds.{joined, collect_oldest};
 ghost use Rattle.item_store.specs.Versions.{versions, KeepsVersions};
 
-/// A pair at the list's end is one version more of its id, the newest, and of no other id.
+/// A pair at the end of the list is one more version of its id, the newest. The versions of every
+/// other id stay.
 pub fn one_version_more()
     ensures { (pairs : List (ℕ × List ℕ)) (pair : ℕ × List ℕ) (id : ℕ)
         → versions (pairs ++ pair ∷ []) id
@@ -20,8 +21,9 @@ pub fn newest_version()
         → last pairs id ≡ option_and_then value_of (slice_get (versions pairs id) 0) }
 {}
 
-/// Where the newest versions stay, the items do. They stay in one step after another, and with one
-/// pair more behind both lists. A collection keeps them, and so does a round.
+/// If the newest versions stay, the items stay. Versions that stay in each of two steps stay in
+/// both together, and with one more pair at the end of both lists. A garbage collection keeps the
+/// newest versions, and so does a round.
 pub fn versions_stay()
     ensures items { (old new : List (ℕ × List ℕ)) → KeepsVersions old new → SameItems new old }
     ensures again { (a b c : List (ℕ × List ℕ)) → KeepsVersions a b → KeepsVersions b c

@@ -31,7 +31,7 @@ pub struct LiveEntries {
 }
 
 impl LiveEntries {
-    /// None so far.
+    /// No slot is marked yet.
     pub fn new() -> LiveEntries
         ensures { (index : ℕ) → index < 2 ^ 15 → has_bit result.bits index ≡ false }
     {
@@ -76,8 +76,8 @@ pub fn is_live<T: SlotSectors, F: Flash, L: Ledger>(
     }
 }
 
-// The same by what was seen behind it. The list is searched only where an id of the same key was
-// seen that may be another one.
+// The same, by what was seen behind it. The list is searched only if an id of the same key was seen
+// that may differ.
 fn is_live_by<T: SlotSectors, F: Flash, L: Ledger>(
     flash: &F,
     on: &OpenArea<'_, T>,
@@ -145,8 +145,8 @@ fn look_at<T: SlotSectors, F: Flash, L: Ledger>(
     }
 }
 
-/// Notes the live entries of a sector that counts, by what was seen behind it; none was noted so
-/// far. The ids of its own entries are noted too.
+/// Marks the live entries of a sector that counts, by what was seen behind it. None was marked
+/// before. The ids of its own entries are noted as seen.
 pub fn live_by<T: SlotSectors, F: Flash, L: Ledger>(
     flash: &F,
     on: &OpenArea<'_, T>,
@@ -185,7 +185,7 @@ pub fn live_by<T: SlotSectors, F: Flash, L: Ledger>(
     }
 }
 
-/// Notes the live entries of a sector that counts; none was noted so far.
+/// Marks the live entries of a sector that counts. None was marked before.
 #[inline(never)]
 pub fn live_entries<T: SlotSectors, F: Flash, L: Ledger>(
     flash: &F,
@@ -211,7 +211,7 @@ pub fn live_entries<T: SlotSectors, F: Flash, L: Ledger>(
     live_by(flash, on, place, &mut seen, live, steps);
 }
 
-/// The entry in a slot of a sector's list, where it is live.
+/// The entry in a slot of a sector's list, if it is live.
 pub fn live_in<T: SlotSectors, F: Flash, L: Ledger>(
     flash: &F,
     area: &Area,

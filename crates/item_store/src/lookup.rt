@@ -40,7 +40,7 @@ pub fn counts<T: SlotSectors, F: Flash, L: Ledger>(
     }
 }
 
-/// The last entry of the id in one sector, where that counts with `current` open.
+/// The last entry of the id in one sector, if that counts with `current` open.
 fn find_at<T: SlotSectors, F: Flash, L: Ledger>(
     flash: &F,
     on: &OpenArea<'_, T>,
@@ -93,7 +93,7 @@ pub fn find_among<T: SlotSectors, F: Flash, L: Ledger>(
     None
 }
 
-/// The last entry of the id in the list, a delete too, with this sector open.
+/// The last entry of the id in the list, with this sector open. It may be a delete.
 pub fn find<T: SlotSectors, F: Flash, L: Ledger>(
     flash: &F,
     on: &OpenArea<'_, T>,

@@ -18,11 +18,12 @@ use flash_map::Area;
 use flash_sim::{Flash, Steps};
 use std::sync::ledger::Ledger;
 
-/// What is noted of entries, one after the other.
+/// Notes on entries, taken one after the other.
 pub trait Notes {
-    /// These entries were noted. Their ids are below this limit.
+    /// These entries were noted. Their ids are below the limit.
     ghost noted: { ℕ → Self → List PlacedEntry → Type 0 };
 
+    /// Notes one more entry, behind those noted so far.
     fn note(&mut self, placed: &Placed)
         ensures { (limit : ℕ) (before : List PlacedEntry) → placed.now.id < limit
             → noted limit self.old before → noted limit self.new (before ++ placed.now ∷ []) };
@@ -75,7 +76,7 @@ pub fn note_sector<T: SlotSectors, N: Notes, F: Flash, L: Ledger>(
     }
 }
 
-// Notes them where the sector counts with `current` open.
+// Notes the entries of a sector if it counts with `current` open.
 fn note_counting<T: SlotSectors, N: Notes, F: Flash, L: Ledger>(
     flash: &F,
     on: &OpenArea<'_, T>,
@@ -96,7 +97,7 @@ fn note_counting<T: SlotSectors, N: Notes, F: Flash, L: Ledger>(
     }
 }
 
-/// Notes those of the sectors from `first` to the one before `end`, of those that count.
+/// Notes the entries of the sectors from `first` to the one before `end`, as far as these count.
 pub fn note_among<T: SlotSectors, N: Notes, F: Flash, L: Ledger>(
     flash: &F,
     on: &OpenArea<'_, T>,

@@ -23,7 +23,7 @@ use crate::walking::walk;
 use flash_sim::{Flash, Steps};
 use std::sync::ledger::Ledger;
 
-// Whether an id is behind `after` and less than `least`, where there are such.
+// Whether an id is greater than `after` and less than `least`, as far as these are given.
 fn is_between(id: u32, after: Option<u32>, least: Option<u32>) -> bool
     ensures { result ≡ is_between id after least }
 {
@@ -31,9 +31,9 @@ fn is_between(id: u32, after: Option<u32>, least: Option<u32>) -> bool
 }
 
 impl<T: SlotSectors> Store<T> {
-    /// The bytes of an item: none where the id has no entry, or its last one is a delete. Where no
-    /// entry has an id of the same cache slot there is no step, and where the latest such entry has
-    /// this id there are at most two; else the list is searched.
+    /// The bytes of an item; `None` if the id has no entry or its last entry is a delete. If no
+    /// entry shares the id's cache slot, this takes no step. If the latest entry that shares it has
+    /// this id, it takes at most two. Otherwise it searches the list.
     pub fn get<'a, F: Flash, L: Ledger>(
         &self,
         flash: &'a F,
@@ -55,8 +55,8 @@ impl<T: SlotSectors> Store<T> {
         self.search(flash, &latest, id, steps)
     }
 
-    /// Whether an item may be there: `true` exactly where an entry of the list has an id of the
-    /// same cache slot. Else the id has none. It looks at the cache alone.
+    /// Whether the id may have an item: `true` exactly if an entry of the list shares the id's
+    /// cache slot. If `false`, the id has no item. It reads only the cache.
     pub fn may_hold(&self, id: u32) -> bool
         ensures exactly { (d : Device) → StandsOn T.role T.format_of T.kept d self.now
             → result ≡ is_some (latest_on T.format_of d self.now.area id) }
@@ -67,7 +67,7 @@ impl<T: SlotSectors> Store<T> {
         self.cache.start_of(id).is_some()
     }
 
-    // The latest entry of the id's cache slot, a delete too.
+    // The latest entry of the id's cache slot. It may be a delete.
     fn latest<F: Flash, L: Ledger>(
         &self,
         flash: &F,
@@ -107,7 +107,7 @@ impl<T: SlotSectors> Store<T> {
         self.bytes_at(flash, &placed, steps)
     }
 
-    // The bytes that an entry gives its id; none where it is a delete.
+    // The bytes that an entry gives its id; `None` if it is a delete.
     pub(crate) fn bytes_at<'a, F: Flash, L: Ledger>(
         &self,
         flash: &'a F,
@@ -130,7 +130,7 @@ impl<T: SlotSectors> Store<T> {
         Some(T::value(flash, &self.area, placed, steps))
     }
 
-    // The id, where it is behind `after`, less than `least` and has a value; else `least`.
+    // The id, if it is greater than `after`, less than `least` and has a value; else `least`.
     fn lesser<F: Flash, L: Ledger>(
         &self,
         flash: &F,
@@ -195,7 +195,7 @@ impl<T: SlotSectors> Store<T> {
         }
     }
 
-    // The least of `least` and of the ids that the entries of a sector have, are behind `after` and
+    // The least of `least` and of those ids of a sector's entries that are greater than `after` and
     // have a value.
     fn next_in<F: Flash, L: Ledger>(
         &self,
@@ -232,7 +232,8 @@ impl<T: SlotSectors> Store<T> {
         next
     }
 
-    /// The least id behind this one that has a value, or the least of all.
+    /// The least id greater than `after` that has a value, or the least of all if `after` is not
+    /// given; `None` if there is none.
     pub fn next_id<F: Flash, L: Ledger>(
         &self,
         flash: &F,
@@ -252,10 +253,10 @@ impl<T: SlotSectors> Store<T> {
         least
     }
 
-    /// The next older entry of the list: the one before the entry in this sector and slot, or the
-    /// newest one where no place is given. Deletes are among them. `None` comes exactly
-    /// at the oldest entry of the list. From a place without an entry it is the newest of the entries before that
-    /// place, in the round to the open sector.
+    /// The next older entry of the list, deletes included: the one before the entry in this sector
+    /// and slot, or the newest one if no place is given. From a place without an entry it is the
+    /// newest entry before that place, in the round to the open sector. `None` exactly if there is
+    /// no older entry.
     pub fn walk<F: Flash, L: Ledger>(
         &self,
         flash: &F,

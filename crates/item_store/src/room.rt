@@ -58,11 +58,12 @@ pub fn fits<T: SlotSectors, F: Flash, L: Ledger>(
     T::cost(&geometry, len) + spare * slot <= free
 }
 
-/// Closes and collects, round after round, until a value of this length fits the open sector. Says
-/// whether it does. The items stay, also where power is lost, and the cache follows each round.
+/// Closes and collects, round after round, until a value of this length fits the open sector or
+/// each sector but the blank one was collected. Says whether the value fits. The items stay, even
+/// if power is lost. The cache follows each round.
 ///
 /// # Errors
-/// `PowerLost`.
+/// `PowerLost`, in a round: the items stay.
 pub fn make_room<T: SlotSectors, F: Flash, L: Ledger>(
     flash: &mut F,
     area: &Area,

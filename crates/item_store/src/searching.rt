@@ -15,8 +15,8 @@ use crate::sectors::SlotSectors;
 use flash_sim::{Flash, Steps};
 use std::sync::ledger::Ledger;
 
-/// The last entry of the id in this sector and those before it, in the round to the open one. Of
-/// those that count, a delete too.
+/// The last entry of the id in this sector and those before it, in the round to the open one, as
+/// far as these count. It may be a delete.
 pub fn find_up_to<T: SlotSectors, F: Flash, L: Ledger>(
     flash: &F,
     on: &OpenArea<'_, T>,

@@ -1,4 +1,4 @@
-// The trait of a store's sectors.
+// The trait of a sector format.
 ghost use Rattle.std.specs.Prelude.{◌≡◌, ℕ, ◌+◌, ◌*◌, ◌^◌, ◌<◌, ◌≤◌, ◌∷◌, [], false, List, length, Some, None, is_err, Option, IfOk, IfErr, IfSome, IsTrue, OnOk, OnErr};
 ghost use Rattle.std.specs.Option.{option_map};
 ghost use Rattle.flash_map.specs.declared.area.Geometry.{Geometry as geometry_type};
@@ -19,8 +19,8 @@ use flash_map::{Area, Damaged, Geometry};
 use flash_sim::{Flash, PowerLost, Steps};
 use std::sync::ledger::Ledger;
 
-/// What a store keeps of its open sector, and the calls on sectors. An item's bytes and their entry
-/// go into one sector.
+/// A sector format: what a store keeps of its open sector, and the calls on sectors. An item's
+/// bytes and their entry go into one sector.
 pub trait SlotSectors: Copy {
     /// The role of the areas that it serves.
     ghost role: { role_type };
@@ -33,7 +33,7 @@ pub trait SlotSectors: Copy {
 
     // ---- numbers
 
-    /// The number of the first slot of an entry.
+    /// The number of the first slot that may hold an entry.
     fn first_slot() -> u32
         ensures value { (geometry : geometry_type) → result ≡ (format_of geometry).first }
         ensures small { result < 2 ^ 8 };
@@ -52,12 +52,12 @@ pub trait SlotSectors: Copy {
         ensures value { result ≡ (format_of geometry.now).cost len }
         ensures small { result < 2 ^ 18 };
 
-    /// What a sector has for values and entries, in bytes.
+    /// What a sector has for values and their entries, in bytes.
     fn capacity(geometry: &Geometry) -> u32
         requires unit { IsUnit geometry.now.unit }
         ensures { result ≡ (format_of geometry.now).cap geometry.now.sector };
 
-    /// The bytes of a slot.
+    /// The size of a slot, in bytes.
     fn slot_size(geometry: &Geometry) -> u32
         requires unit { IsUnit geometry.now.unit }
         ensures value { result ≡ (format_of geometry.now).slot }
@@ -69,7 +69,7 @@ pub trait SlotSectors: Copy {
 
     // ---- reading
 
-    /// Whether a sector has no entry, and all that a sector has is free in it.
+    /// Whether a sector has no entry and all its space is free.
     fn is_clean<F: Flash, L: Ledger>(
         flash: &F,
         area: &Area,
@@ -105,7 +105,7 @@ pub trait SlotSectors: Copy {
         ensures { (geometry : geometry_type) (b : List ℕ) → self.now ≡ kept geometry b
             → result ≡ (format_of geometry).reading.has_gc_done b };
 
-    /// The bytes between what stands of values in the sector, cut ones too, and its slots.
+    /// The free bytes of the sector: those between its values, torn ones included, and its slots.
     fn free<F: Flash, L: Ledger>(
         &self,
         flash: &F,
@@ -119,7 +119,8 @@ pub trait SlotSectors: Copy {
         ensures { let d = F.device flash.now in
             result ≡ (format_on format_of d area.now).free (sector_on d area.now place) };
 
-    /// How many slots the list of the sector has of which this is kept.
+    /// How many slots the list of the sector has, as `slots` gives it, by what is kept of the
+    /// sector.
     fn own_slots<F: Flash, L: Ledger>(
         &self,
         flash: &F,
@@ -142,7 +143,7 @@ pub trait SlotSectors: Copy {
             result ≡ (format_on format_of d area.now).count (sector_on d area.now place) }
         ensures few { result ≤ 2 ^ 15 };
 
-    /// The entry in a slot of a sector's list. It is one step at most.
+    /// The entry in a slot of a sector's list. This takes at most one step.
     fn entry_in<F: Flash, L: Ledger>(
         flash: &F,
         area: &Area,
@@ -161,8 +162,8 @@ pub trait SlotSectors: Copy {
         ensures short { IfSome result (λ p. p.len < 2 ^ 16) }
         ensures step { steps.new ≤ steps.old + 1 };
 
-    /// The id that a slot of a sector's list has where an entry has its own, whether it has an
-    /// entry or not. It is one step at most.
+    /// The id in a slot of a sector's list: that of its entry, if it has one. This takes at most
+    /// one step.
     fn id_in<F: Flash, L: Ledger>(
         flash: &F,
         area: &Area,
@@ -180,7 +181,7 @@ pub trait SlotSectors: Copy {
             (format_on format_of d area.now).ids ≤ 2 ^ 16 → result < 2 ^ 16 }
         ensures step { steps.new ≤ steps.old + 1 };
 
-    /// The bytes of an entry of a sector's list. It is one step at most.
+    /// The bytes of an entry of a sector's list. This takes at most one step.
     fn value<'a, F: Flash, L: Ledger>(
         flash: &'a F,
         area: &Area,
@@ -210,8 +211,8 @@ pub trait SlotSectors: Copy {
             ≡ option_map (placed_at place)
             (last_in (slots k) place id ((slots k).entries (sector_on d area.now place))) };
 
-    /// How many slots of a sector's list have to be looked at for the ids from `least` to `most`:
-    /// those behind them have no entry of these.
+    /// How many slots of a sector's list have to be read for the ids from `least` to `most`: the
+    /// slots behind them have no entry of these ids.
     fn reach<F: Flash, L: Ledger>(
         flash: &F,
         area: &Area,
@@ -254,7 +255,7 @@ pub trait SlotSectors: Copy {
     /// Makes the sector ready for entries. One that is ready stays as it is.
     ///
     /// # Errors
-    /// `PowerLost`: its marks are as before, and its list where it is in use; nothing is gone of what was free.
+    /// `PowerLost`: its list and its marks are as before, and no free space is lost.
     fn begin<F: Flash, L: Ledger>(
         &mut self,
         flash: &mut F,
@@ -274,10 +275,11 @@ pub trait SlotSectors: Copy {
         ensures ends { let d = F.device flash.old in let e = F.device flash.new in
             BeginEnds format_of kept d e area.now place self.new result };
 
-    /// Puts an item's bytes and their entry. No bytes are a delete.
+    /// Programs an item's bytes and their entry. No bytes are a delete.
     ///
     /// # Errors
-    /// `PowerLost`: the sector's list is as before, or with the pair, and no more is gone of what was free than the pair costs.
+    /// `PowerLost`: the sector's list is as before or has the pair too, and no more free space is
+    /// lost than the pair costs.
     fn put<F: Flash, L: Ledger>(
         &mut self,
         flash: &mut F,
@@ -336,7 +338,7 @@ pub trait SlotSectors: Copy {
             ((format_on format_of d area.now).units.copy (sector_on d area.now place)
             from.now.len)) };
 
-    /// Marks the sector as one that has all copies.
+    /// Programs gc-done: the sector has all copies.
     ///
     /// # Errors
     /// `PowerLost`: the sector's marks are as before.
@@ -363,8 +365,8 @@ pub trait SlotSectors: Copy {
     /// Closes the open sector, which is not clean.
     ///
     /// # Errors
-    /// `PowerLost`: the sector's list is as before, or the sector is closed. One with no entry is itself as before, or
-    /// closed.
+    /// `PowerLost`: the sector's list is as before, or the sector is closed. A sector with no entry
+    /// is as before in all its bytes, or closed.
     fn close<F: Flash, L: Ledger>(
         &self,
         flash: &mut F,
@@ -393,7 +395,8 @@ pub trait SlotSectors: Copy {
     /// Empties a sector.
     ///
     /// # Errors
-    /// `PowerLost`: its marks are as before, or it is clean.
+    /// `PowerLost`: its marks are as before, or it is clean. If sectors are made ready as they
+    /// open, it is as before in all its bytes, or clean.
     fn clear<F: Flash, L: Ledger>(
         flash: &mut F,
         area: &Area,
@@ -420,7 +423,7 @@ pub trait SlotSectors: Copy {
 
     // ---- reading an area
 
-    /// The open sector, or what is wrong with the area.
+    /// Reads the area: which sector is open, or how the area is damaged.
     fn scan<F: Flash, L: Ledger>(
         flash: &F,
         area: &Area,
@@ -437,6 +440,6 @@ pub trait SlotSectors: Copy {
             (λ damaged. (format_on format_of d area.now).damage (sectors_of d area.now)
             ≡ Some damaged) };
 
-    /// The format is one.
+    /// The format of each geometry obeys the laws of a sector format.
     ghost lawful: { (geometry : geometry_type) → IsUnit geometry.unit → IsSectorFormat (format_of geometry) };
 }

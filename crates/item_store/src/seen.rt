@@ -29,7 +29,7 @@ fn key_of(id: u32) -> u32
     }
 }
 
-// The id of a key, where ids are long, that has bit 31 and the bits of the key, and no others.
+// The usual id of a key: it has bit 31 and the bits of the key, and no others.
 #[tactic(auto, unfolding(crate::specs::Seen::usual_id))]
 fn usual_id(key: u32) -> u32
     requires { key < 2 ^ 16 }
@@ -42,14 +42,14 @@ fn usual_id(key: u32) -> u32
 #[derive(Drop)]
 pub struct Seen {
     pub(crate) bits: [u8; BYTES],
-    // some id is another one than the usual one of its key, where ids are long
+    // some id is not the usual one of its key
     pub(crate) mixed: bool,
     // some id has more than 16 bits
     pub(crate) long: bool,
 }
 
 impl Seen {
-    /// None so far.
+    /// No id was seen yet.
     pub fn new() -> Seen
         ensures { (limit : ℕ) → HasSeen limit result [] }
     {
@@ -67,8 +67,8 @@ impl Seen {
         has_bit(&self.bits, key_of(id))
     }
 
-    /// Whether this id and each one that was noted are the usual ones of their keys, where ids are
-    /// long, or all have 16 bits. Then one that has the key of this id is this id.
+    /// `true` only if this id and each noted one are the usual ids of their keys, or all of them
+    /// have 16 bits. Then a noted id with the key of this id is this id.
     pub fn is_exact(&self, id: u32) -> bool
         ensures { IsTrue result → IsExact self.now id }
     {
@@ -100,8 +100,8 @@ impl Notes for Seen {
     }
 }
 
-/// Adds the ids of the entries in the sectors behind a place, in the round to the open one. Each is
-/// looked at once.
+/// Adds the ids of the entries in the sectors behind a place, in the round to the open one. It
+/// reads each sector once.
 pub fn note_behind<T: SlotSectors, F: Flash, L: Ledger>(
     flash: &F,
     on: &OpenArea<'_, T>,

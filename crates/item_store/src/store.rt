@@ -12,6 +12,6 @@ pub struct Store<T> {
     pub(crate) opened: T,
     // where the latest entry of each cache slot's ids stands
     pub(crate) cache: Cache,
-    // no call answered that power was lost
+    // no call has returned `PowerLost`
     pub(crate) up: bool,
 }

@@ -50,7 +50,7 @@ fn newest_in<T: SlotSectors, F: Flash, L: Ledger>(
     None
 }
 
-// The newest entry in the first so many slots of a sector's list, where that counts with `current`
+// The newest entry in the first so many slots of a sector's list, if that counts with `current`
 // open.
 fn newest_at<T: SlotSectors, F: Flash, L: Ledger>(
     flash: &F,
@@ -77,7 +77,7 @@ fn newest_at<T: SlotSectors, F: Flash, L: Ledger>(
     }
 }
 
-// The newest entry of a sector, where that counts.
+// The newest entry of a sector, if that counts.
 fn newest_of<T: SlotSectors, F: Flash, L: Ledger>(
     flash: &F,
     on: &OpenArea<'_, T>,
@@ -183,10 +183,10 @@ fn newest_up_to<T: SlotSectors, F: Flash, L: Ledger>(
     newest_before(flash, on, place, steps)
 }
 
-/// The next older entry of the list: the one before the entry in this sector and slot, or the
-/// newest one where no place is given. `None` comes exactly at the oldest entry of the list. From a place
-/// without an entry it is the newest of the entries before that place, in the round to the open
-/// sector.
+/// The next older entry of the list, deletes included: the one before the entry in this sector and
+/// slot, or the newest one if no place is given. From a place without an entry it is the newest
+/// entry before that place, in the round to the open sector. `None` exactly if there is no older
+/// entry.
 pub fn walk<T: SlotSectors, F: Flash, L: Ledger>(
     flash: &F,
     on: &OpenArea<'_, T>,

@@ -102,8 +102,8 @@ fn put_noted<T: SlotSectors, F: Flash, L: Ledger>(
 }
 
 impl<T: SlotSectors> Store<T> {
-    // Makes room for a pair, and appends it where there is some. Says whether there is. Where power
-    // is lost, the store is down.
+    // Makes room for a pair and appends it if there is room. Says whether there is. After a power
+    // loss the store is down.
     fn append<F: Flash, L: Ledger>(
         &mut self,
         flash: &mut F,
@@ -185,13 +185,13 @@ impl<T: SlotSectors> Store<T> {
         }
     }
 
-    /// Sets an item. Bytes that the item has already are not programmed again.
+    /// Sets an item. If the item has these bytes already, nothing is programmed.
     ///
     /// # Errors
-    /// `TooLong` exactly where the bytes and their entry cost more than a sector has for them; then nothing was
-    /// programmed. `NoSpace` where no round of collections makes room: each sector but the blank one then has live items
-    /// alone, which leave no room for this one; the items are as before. `PowerLost`: the items are as before, or with
-    /// this one, and the store is down.
+    /// `TooLong` exactly if the bytes and their entry cost more than a sector has for them: nothing
+    /// was programmed. `NoSpace` if no garbage collection makes room: every sector but the blank
+    /// one then holds live items only, with no room for this one beside them. The items stay.
+    /// `PowerLost`: the items are as before or with this one set, and the store is down.
     pub fn write<F: Flash, L: Ledger>(
         &mut self,
         flash: &mut F,
@@ -236,10 +236,10 @@ impl<T: SlotSectors> Store<T> {
         }
     }
 
-    /// Deletes an item. Where the id has none, nothing is programmed. It always finds room.
+    /// Deletes an item. If the id has none, nothing is programmed. A delete always finds room.
     ///
     /// # Errors
-    /// `PowerLost`: the items are as before, or without this one, and the store is down.
+    /// `PowerLost`: the items are as before or without this one, and the store is down.
     pub fn delete<F: Flash, L: Ledger>(
         &mut self,
         flash: &mut F,

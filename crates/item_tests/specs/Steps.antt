@@ -1,4 +1,4 @@
--- What steps in a sector of ZMS leave for the ones behind them.
+-- What steps in a sector of ZMS leave for the next ones.
 use Rattle.std.specs.Prelude.{◌≡◌, ℕ, List, length}
 use Rattle.flash_sim.specs.Device.{Device}
 use Rattle.flash_map.specs.declared.area.Area.{Area}

@@ -1,4 +1,4 @@
-// Calls of a store over any sectors, and what they answer, spend and leave.
+// Calls of a store over any sectors: what they answer, spend and leave.
 ghost use Rattle.std.specs.Prelude.{◌≡◌, ◌<◌, ◌≤◌, length, IfOk, OnOk};
 ghost use Rattle.flash_map.specs.declared.area.Geometry.{Geometry};
 ghost use Rattle.item_store.specs.Listed.{format_on};
@@ -14,12 +14,12 @@ use std::process::Abort;
 use std::sync::ledger::Ledger;
 use std::test::Fail;
 
-// The id; the byte and the length of the value that is written, a delete where the length is 0; the
-// units that are spent; need and live where there is no space, both 0 where it is too long; the
-// byte and the length of the value got after the call.
+// The id; the byte and the length of the value that is written, a delete if the length is 0; the
+// units that are spent; need and live if there is no space, both 0 if the value is too long; the
+// byte and the length of the value that a get then gives.
 pub type Call = (u32, (u8, usize), u64, Option<(u64, u64)>, (u8, usize));
 
-/// A store, whose mount spends so many units.
+/// Mounts a store. The mount spends so many units.
 pub fn mounted<T: SlotSectors, B: Bench, L: Ledger, R: Abort>(
     rt: &R,
     alloc: Global,
@@ -40,7 +40,7 @@ pub fn mounted<T: SlotSectors, B: Bench, L: Ledger, R: Abort>(
     Ok(store)
 }
 
-// Writes or deletes an item. Gives need and live where there is no space.
+// Writes or deletes an item. Returns need and live if there is no space.
 fn carry_out<T: SlotSectors, B: Bench, L: Ledger>(
     bench: &mut B,
     store: &mut Store<T>,
@@ -94,7 +94,7 @@ fn agrees<T: SlotSectors, B: Bench, L: Ledger, R: Abort>(
     Ok(())
 }
 
-/// Carries out these calls.
+/// Carries out these calls, and checks each.
 pub fn carries_out<T: SlotSectors, B: Bench, L: Ledger, R: Abort>(
     rt: &R,
     alloc: Global,
@@ -115,7 +115,7 @@ pub fn carries_out<T: SlotSectors, B: Bench, L: Ledger, R: Abort>(
     Ok(())
 }
 
-/// The ids with a value, in order, and what all items cost.
+/// Checks the ids with a value, in order, and what all items cost.
 pub fn shows<T: SlotSectors, B: Bench, L: Ledger, R: Abort>(
     rt: &R,
     bench: &B,
@@ -138,8 +138,8 @@ pub fn shows<T: SlotSectors, B: Bench, L: Ledger, R: Abort>(
     assert_eq!(rt; (end, store.live_cost(bench, steps)), (None, cost));
 }
 
-/// The item of an id up to 9 has these bytes. No item has the other ones, which are less, and none
-/// is between the two.
+/// Checks that an item of an id up to 9 has these bytes, that no item has the other ones, which are
+/// less, and that none is between the two.
 pub fn asks<T: SlotSectors, B: Bench, L: Ledger, R: Abort>(
     rt: &R,
     bench: &B,
@@ -157,8 +157,8 @@ pub fn asks<T: SlotSectors, B: Bench, L: Ledger, R: Abort>(
     assert_eq!(rt; (here, none, next), (Some(id), None, true));
 }
 
-/// The entries from the newest to the oldest: the sector, the slot, the id, and the length of the
-/// value.
+/// Checks the entries from the newest to the oldest: the sector, the slot, the id, and the
+/// length of the value.
 pub fn walks<T: SlotSectors, B: Bench, L: Ledger, R: Abort>(
     rt: &R,
     bench: &B,
@@ -186,7 +186,7 @@ pub fn walks<T: SlotSectors, B: Bench, L: Ledger, R: Abort>(
     assert_eq!(rt; store.walk(bench, after, steps), None);
 }
 
-/// A close with a collection, which spends so many units.
+/// Closes the open sector and collects, which spends so many units.
 pub fn closes<T: SlotSectors, B: Bench, L: Ledger, R: Abort>(
     rt: &R,
     bench: &mut B,
@@ -205,7 +205,7 @@ pub fn closes<T: SlotSectors, B: Bench, L: Ledger, R: Abort>(
     Ok(())
 }
 
-/// Such a close that is cut after so many units. The store is down, and power is back.
+/// Cuts such a close after so many units. The store is down, and power is back.
 pub fn close_is_cut<T: SlotSectors, B: Bench, L: Ledger, R: Abort>(
     rt: &R,
     bench: &mut B,
@@ -222,7 +222,7 @@ pub fn close_is_cut<T: SlotSectors, B: Bench, L: Ledger, R: Abort>(
     bench.restore();
 }
 
-/// The same of a write.
+/// Cuts a write after so many units. The store is down, and power is back.
 pub fn write_is_cut<T: SlotSectors, B: Bench, L: Ledger, R: Abort>(
     rt: &R,
     bench: &mut B,
@@ -244,7 +244,7 @@ pub fn write_is_cut<T: SlotSectors, B: Bench, L: Ledger, R: Abort>(
     bench.restore();
 }
 
-/// The value of an id, no bytes where it has none, is got by at most so many views.
+/// Looks up the value of an id, no bytes if it has none, with at most so many views.
 pub fn looks_up<T: SlotSectors, B: Views, L: Ledger, R: Abort>(
     rt: &R,
     bench: &B,

@@ -1,4 +1,4 @@
-// What is said of versions of items, and of the room of an area.
+// What a store reports of versions of items, and of the room of an area.
 ghost use Rattle.item_store.specs.Stands.{StandsOn};
 
 use flash_sim::{Bench, Steps};
@@ -19,7 +19,7 @@ fn shape(older: Older<'_>) -> Option<(u8, usize)> {
     }
 }
 
-/// These versions are reported, and then this space.
+/// Checks that these versions are reported, and then this space.
 pub fn reports<T: SlotSectors, B: Bench, L: Ledger, R: Abort>(
     rt: &R,
     bench: &B,

@@ -57,7 +57,7 @@ const COLLECTED_SPACE: Space = Space {
     free: 372,
 };
 
-// One id three times, and what is said of it.
+// One id three times, and what is reported of it.
 const THREE: [Call; 3] = [
     (1, (1, 1), 3, None, (1, 1)),
     (1, (2, 1), 3, None, (2, 1)),
@@ -114,7 +114,7 @@ pub(crate) fn load_blank<B: Bench>(alloc: Global, bench: &mut B, size: usize) ->
     Ok(())
 }
 
-// What is on the flash behind a collection, and how it reads.
+// What is on the flash after a collection, and how it reads.
 fn rounds<B: Bench, L: Ledger, R: Abort>(
     rt: &R,
     alloc: Global,
@@ -191,7 +191,7 @@ fn losses<B: Bench, L: Ledger, R: Abort>(
     Ok(())
 }
 
-// How many views a look-up takes: none where the cache slot is empty, at most two where its latest
+// How many views a look-up takes: none if the cache slot is empty, at most two if its latest
 // entry has the id.
 fn look_ups<B: Views, L: Ledger, R: Abort>(
     rt: &R,
@@ -211,7 +211,7 @@ fn look_ups<B: Views, L: Ledger, R: Abort>(
     Ok(())
 }
 
-// The same of an id that was deleted, behind a collection.
+// The same for an id that was deleted, after a collection.
 fn look_up_of_deleted<B: Views, L: Ledger, R: Abort>(
     rt: &R,
     alloc: Global,
@@ -228,7 +228,7 @@ fn look_up_of_deleted<B: Views, L: Ledger, R: Abort>(
     Ok(())
 }
 
-// The same behind a round: the cache has the place of the last value put.
+// The same after a round: the cache has the place of the last value put.
 fn look_up_behind_a_round<B: Views, L: Ledger, R: Abort>(
     rt: &R,
     alloc: Global,

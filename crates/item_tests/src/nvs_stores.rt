@@ -40,7 +40,7 @@ fn on_blank<B: Bench, L: Ledger>(
     Ok(Nvs::mount(alloc, bench, area, steps)?)
 }
 
-// Writes or deletes an item. Gives need and live where there is no space.
+// Writes or deletes an item. Returns need and live if there is no space.
 fn carry_out<B: Bench, L: Ledger>(
     bench: &mut B,
     nvs: &mut Nvs,
@@ -108,7 +108,7 @@ fn carries_out<B: Bench, L: Ledger, R: Abort>(
     Ok(nvs)
 }
 
-// One item is left, behind the id before it, and it costs this.
+// One item is left: it follows the id before it, and costs this.
 fn one_item<B: Bench, L: Ledger, R: Abort>(
     rt: &R,
     bench: &B,
@@ -130,8 +130,8 @@ fn one_item<B: Bench, L: Ledger, R: Abort>(
     );
 }
 
-// Behind a collection the item is found by its bytes and has one older version, and the area this
-// room.
+// After a collection the item is found by its bytes and has one older version, and the area
+// has this room.
 fn reported<B: Bench, L: Ledger, R: Abort>(rt: &R, bench: &B, nvs: &Nvs, steps: &mut Steps<L>)
     requires stands { StandsOn (B.device bench.now) nvs.now }
 {
@@ -152,7 +152,7 @@ fn reported<B: Bench, L: Ledger, R: Abort>(rt: &R, bench: &B, nvs: &Nvs, steps: 
     assert_eq!(rt; (least, older, oldest), (true, true, true));
 }
 
-// What is on the flash behind a collection.
+// What is on the flash after a collection.
 fn rounds<B: Bench, L: Ledger, R: Abort>(
     rt: &R,
     alloc: Global,

@@ -79,7 +79,7 @@ pub(crate) const ON_BLANK: [Call; 17] = [
     (7, (3, 8), 1, None, (3, 8)),
 ];
 
-// The same on a bank that is erased, where a close fills nothing.
+// The same on an erasing bank, where a close fills nothing.
 const ON_ERASED: [Call; 17] = [
     (1, (7, 1), 2, None, (7, 1)),
     (1, (7, 1), 0, None, (7, 1)),
@@ -116,8 +116,8 @@ const INTO_USED: [Call; 4] = [
     (3, (68, 150), 14, None, (68, 150)),
 ];
 
-// The open sector has no entry, and two units of a value that was cut: the next value stands behind
-// them.
+// The open sector has no entry, and two units of a value that was cut; the next value
+// stands after them.
 const LEFT: [Put; 3] = [(496, EMPTY), (0, [17; 16]), (16, [17; 16])];
 
 const BEHIND_LEFT: [Call; 4] = [
@@ -129,8 +129,7 @@ const BEHIND_LEFT: [Call; 4] = [
 
 pub(crate) const ONE: [Call; 1] = [(7, (5, 9), 3, None, (5, 9))];
 
-// The end of that sector: a unit behind its entries, the entry, the close entry and the empty
-// entry.
+// The end of that sector: a unit under its entries, the entry, the close entry and the empty entry.
 pub(crate) const ENDS: [u8; 64] = [
     0x6F, 0, 0, 0, 0, 0, 0, 0, 0, 0, 0, 0, 0, 0, 0, 0, 0x69, 1, 9, 0, 7, 0, 0, 0, 0, 0, 0, 0, 0, 0,
     0, 0, 0x1E, 1, 0, 0, 0xFF, 0xFF, 0xFF, 0xFF, 0xD0, 1, 0, 0, 1, 0, 0, 0, 0x61, 1, 0xFF, 0xFF,
@@ -252,7 +251,7 @@ fn after_a_cut<B: Bench, L: Ledger, R: Abort>(
     Ok(())
 }
 
-// The same calls and others on a bank that is erased.
+// The same calls and others on an erasing bank.
 fn erases<B: Bench, L: Ledger, R: Abort>(
     rt: &R,
     alloc: Global,
@@ -273,7 +272,7 @@ fn erases<B: Bench, L: Ledger, R: Abort>(
     Ok(())
 }
 
-// What is on the flash behind one write and the close of its sector; and a close that is cut, with
+// What is on the flash after one write and the close of its sector; and a close that is cut, with
 // the mount after it.
 fn lays<B: Bench, L: Ledger, R: Abort>(
     rt: &R,

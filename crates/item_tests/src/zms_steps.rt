@@ -54,7 +54,7 @@ fn fills<F: Flash, L: Ledger>(flash: &mut F, area: &Area, steps: &mut Steps<L>) 
     Ok(())
 }
 
-// The first of them in the second sector, with gc-done behind it.
+// The first of them in the second sector, followed by gc-done.
 fn copies<F: Flash, L: Ledger>(flash: &mut F, area: &Area, steps: &mut Steps<L>) -> Result<(), Fail>
     requires second { IsZmsSector (F.device flash.old) area.now 1 }
     requires first { BeginsWith (F.device flash.old) area.now 0 7 NINE }

@@ -57,7 +57,7 @@ fn mounted<B: Bench, L: Ledger>(
     Ok(zms)
 }
 
-// Writes or deletes an item. Gives need and live where there is no space.
+// Writes or deletes an item. Returns need and live if there is no space.
 fn carry_out<B: Bench, L: Ledger>(
     bench: &mut B,
     zms: &mut Zms,
@@ -124,7 +124,7 @@ fn carries_out<B: Bench, L: Ledger, R: Abort>(
     Ok(zms)
 }
 
-// What is on the flash behind one write and the close of its sector.
+// What is on the flash after one write and the close of its sector.
 fn lays<B: Bench, L: Ledger, R: Abort>(
     rt: &R,
     alloc: Global,
@@ -173,8 +173,8 @@ fn ids<B: Bench, L: Ledger, R: Abort>(rt: &R, bench: &B, zms: &Zms, steps: &mut 
     assert_eq!(rt; (end, zms.live_cost(bench, steps)), (None, 64));
 }
 
-// An item by its bytes, none by bytes that were overwritten; and the least bytes behind others, of
-// ids up to 8.
+// An item by its bytes, none by bytes that were overwritten; and the least bytes above others,
+// of ids up to 8.
 fn asks<B: Bench, L: Ledger, R: Abort>(rt: &R, bench: &B, zms: &Zms, steps: &mut Steps<L>)
     requires stands { StandsOn (B.device bench.now) zms.now }
 {
@@ -203,7 +203,7 @@ fn reads<B: Bench, L: Ledger, R: Abort>(
     Ok(())
 }
 
-// One item of one byte on a blank area: its version, none behind it, and the room.
+// One item of one byte on a blank area: its version, none after it, and the room.
 fn reports<B: Bench, L: Ledger, R: Abort>(
     rt: &R,
     alloc: Global,
@@ -227,7 +227,7 @@ fn reports<B: Bench, L: Ledger, R: Abort>(
     Ok(())
 }
 
-// A close with power for so many units. Whether it ended.
+// A close with power for so many units. The answer is whether it ended.
 fn close_with<B: Bench, L: Ledger>(
     bench: &mut B,
     zms: &mut Zms,

@@ -13,7 +13,7 @@ use Rattle.log_session.specs.LineDone.{Accounts}
 spent_is : (spent spent' more : ℕ) → spent' ≡ counted spent more → spent + (spent' - spent) ≡ spent'
 spent_is spent spent' more is = omega arith
 
--- where the count is not at its end, it reports the units
+-- as long as the count is not at its end, it gives the units
 pub units_are : (spent spent' more : ℕ) → spent' ≡ counted spent more → spent' < 2 ^ 64 - 1 → more ≡ spent' - spent
 units_are spent spent' more is below = omega arith
 

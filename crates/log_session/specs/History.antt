@@ -1,4 +1,4 @@
--- Which records a log has had, and which of them were dropped.
+-- Which records a log has had, and which of these were dropped.
 use Rattle.std.specs.Prelude.{◌≡◌, ◌⊎◌, ℕ, ◌+◌, ◌<◌, Bool, true, false, List, [], ◌∷◌, ◌++◌, length, if◌then◌else◌}
 use Rattle.flash_map.specs.declared.area.Geometry.{Geometry}
 use Rattle.event_ring.specs.Appending.{torn_body}
@@ -10,39 +10,40 @@ use Rattle.log_session.specs.declared.answer.Answer.TheVariants.{Appended, Lost}
 use Rattle.log_session.specs.Plan.{is_lost}
 use Rattle.log_session.specs.Step.{Drops, State, Step}
 
--- What an append leaves behind the log: its record; where power was lost, its record or none, or by chance
--- one with a prefix of its body, but not all of it, and then FF. Other lines leave none.
+-- What an append adds at the end of the log: its record; if power was lost, its record or none, or
+-- by chance one with a part of its body, from its start, and then FF. Other lines add none.
 abbrev pub Leaves : Line → Answer → List (List ℕ) → Type 0
 Leaves (Put body) (Appended units dropped) records = records ≡ body ∷ []
 Leaves (Put body) (Lost units false) records = (records ≡ []) ⊎ (records ≡ body ∷ [])
 Leaves (Put body) (Lost units true) records = (n : ℕ) × (n < length body) × (records ≡ torn_body body n ∷ [])
 Leaves line answer records = records ≡ []
 
--- so many of the oldest records are dropped, and one sector has room for them
+-- so many of the oldest records are dropped; one sector has room for them
 abbrev pub TakesPrefix : Geometry → List (List ℕ) → ℕ → Type 0
 TakesPrefix geometry log taken = (rest : List (List ℕ)) × Drops geometry taken log rest
 
--- So many of the oldest records it drops: as many as it reports, or some of the oldest where power
--- was lost, and other lines none.
+-- How many of the oldest records a line drops: an append as many as it reports, or any number if
+-- power was lost; other lines none.
 abbrev pub Takes : Geometry → Line → Answer → List (List ℕ) → ℕ → Type 0
 Takes geometry (Put body) (Appended units dropped) log taken =
     (taken ≡ dropped) × TakesPrefix geometry log taken
 Takes geometry (Put body) (Lost units chance) log taken = TakesPrefix geometry log taken
 Takes geometry line answer log taken = taken ≡ 0
 
--- a state, all records that were in the log so far, the oldest first, and how many of them were dropped
+-- a state, all records that were in the log so far, the oldest first, and how many of
+-- them were dropped
 pub record Logged : Type 0 where
   pub state : State
   pub all : List (List ℕ)
   pub dropped : ℕ
 
--- the log is all records but those that were dropped, which are the first ones
+-- the log is all records but the first ones, which were dropped
 pub record HoldsRest (now : Logged) : Type 0 where
   pub prefix : List (List ℕ)
   pub are : now.all ≡ prefix ++ now.state.log
   pub count : length prefix ≡ now.dropped
 
--- what a line adds to both
+-- what a line adds to the records and to the dropped ones
 pub record Records (geometry : Geometry) (line : Line) (answer : Answer) (old new : Logged) : Type 0 where
   pub left : List (List ℕ)
   pub leaves : Leaves line answer left
@@ -55,8 +56,8 @@ abbrev pub LogStep : Geometry → ℕ → Line → Answer → Logged → Logged 
 LogStep geometry last line answer old new =
     Step geometry last line answer old.state new.state × Records geometry line answer old new × HoldsRest new
 
--- After each line the log is all records so far, from those of the start on, but the first ones, which were
--- dropped.
+-- After each line the log is all records so far, from those of the start on, except the first ones,
+-- which were dropped.
 pub record IsAfterDrops (geometry : Geometry) (last : ℕ) (lines : List Line) (answers : List Answer)
     (old new : State) : Type 0 where
   pub all : List (List ℕ)
@@ -68,7 +69,7 @@ pub record IsAfterDrops (geometry : Geometry) (last : ℕ) (lines : List Line) (
 
 -- ---- power
 
--- after this line power is on
+-- the line restores power
 abbrev pub restores : Line → Bool
 restores Mount = true
 restores line = false

@@ -19,14 +19,14 @@ use Rattle.log_session.specs.History.{IsAfterDrops, PowerStep}
 use Rattle.log_session.specs.LineDone.{IsServed, LineDone, Runs}
 use Rattle.log_session.specs.Step.{State, Step}
 
--- wherever power is lost, the log holds every acknowledged record that no drop took, in order, and behind it
--- what lost appends left
+-- wherever power is lost, the log holds, in order, every acknowledged record that was not dropped,
+-- and what lost appends left
 abbrev pub HoldsAcknowledged : Type 0
 HoldsAcknowledged =
     (geometry : Geometry) (last : ℕ) (lines : List Line) (answers : List Answer) (old new : State)
     → Follows (Step geometry last) lines answers old new → IsAfterDrops geometry last lines answers old new
 
--- power is off from a line in which it was lost to the next mount that answers `ok`
+-- power is off from a line in which it was lost until a mount answers `ok`
 abbrev pub LosesPower : Type 0
 LosesPower =
     (geometry : Geometry) (last : ℕ) (lines : List Line) (answers : List Answer) (old new : State)
@@ -40,8 +40,8 @@ RunsInRow =
     → Follows (Step geometry last) lines answers old mid → Follows (Step geometry last) more others mid new
     → Follows (Step geometry last) (lines ++ more) (answers ++ others) old new
 
--- a run of a bench, line by line, follows the table, its counts and its plan are those that its answers say,
--- and no byte changed outside the area
+-- a run of a bench, line by line, follows the table; its counts and its plan are as its answers
+-- report, and no byte changes outside the area
 abbrev pub LinesMakeRuns : Type 0
 LinesMakeRuns =
     (area : Area) (lines : List Line) (answers : List Answer) (old new : Device)
@@ -53,15 +53,15 @@ LinesAreServed =
     (limit : ℕ) (text : List ℕ) (lines : List Line)
     → IsScript log_forms limit text (map row_of lines) → All (IsServed limit) lines
 
--- Lines that are carried out one by one on an area that mounts and appends reached from a blank one are
--- mounts and appends too.
+-- Lines that are carried out one by one lead from an area that mounts and appends reach from a
+-- blank one to another such area.
 abbrev pub RunsReach : Type 0
 RunsReach =
     (area : Area) (lines : List Line) (answers : List Answer) (old new : Device)
     → IsReached area old → Follows (LineDone area) lines answers old new → IsReached area new
 
--- On such an area a line drops records only where the items cost more than all sectors but one have room for,
--- less the longest record in each.
+-- On such an area an append drops records only if the items cost more than all sectors but one have
+-- room for, less the longest record in each.
 abbrev pub DropsWhereFull : Type 0
 DropsWhereFull =
     (area : Area) (body : List ℕ) (units dropped : ℕ) (old new : Device)

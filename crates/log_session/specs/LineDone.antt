@@ -1,4 +1,4 @@
--- What lines make of a bench.
+-- How lines change a bench.
 use Rattle.std.specs.Prelude.{◌≡◌, ℕ, ◌+◌, ◌≤◌, ⊤, Bool, true, false, List, [], ◌∷◌, length, None, Some, Result, Ok, Err, if◌then◌else◌, All}
 use Rattle.flash_sim.specs.Device.{Device, counted}
 use Rattle.flash_sim.specs.declared.flash.Loss.{Loss}
@@ -24,11 +24,11 @@ use Rattle.log_session.specs.Plan.{units_of, is_lost, units_in, losses_in, repla
 use Rattle.session_table.specs.Rules.{IsCounted}
 use Rattle.log_session.specs.Step.{State, Step}
 
--- the state that the flash's bytes and power are
+-- the state, by the bytes and the power of the flash
 abbrev pub state_of : Area → Device → State
 state_of area d = record { log = log_on d area; is_on = d.is_on }
 
--- a line's body is one that an area takes whose values have at most so many bytes
+-- the line's body has 1 to `limit` bytes
 abbrev pub IsServed : ℕ → Line → Type 0
 IsServed limit (Put body) = (1 ≤ length body) × (length body ≤ limit)
 IsServed limit line = ⊤
@@ -41,7 +41,7 @@ abbrev pub powered_for : Line → Device → Device
 powered_for Mount d = turned_on d
 powered_for line d = d
 
--- counts and plan
+-- the counts and the plan after a line
 pub record Accounts (line : Line) (answer : Answer) (old new : Device) : Type 0 where
   pub spent : old.spent + units_of answer ≡ new.spent
   pub losses : new.losses ≡ counted old.losses (if is_lost answer then 1 else 0)
@@ -49,18 +49,18 @@ pub record Accounts (line : Line) (answer : Answer) (old new : Device) : Type 0 
   pub plan : IsCounted new.spent → new.plan ≡ plan_after old.plan line answer
   pub unplanned : PlansNoLoss line → StaysUnplanned old new
 
--- the bench shows whether the units that were put before the loss spell another record
+-- the bench shows whether the units before the loss spell another record
 pub record ShowsChance (area : Area) (chance : Bool) (d : Device) : Type 0 where
   pub loss : Loss
   pub last : d.last_loss ≡ Some loss
   pub is : chance ≡ chance_on d area loss
 
--- at the loss of an append alone
+-- only an answer to an append says so
 abbrev pub ReportsChance : Area → Line → Answer → Device → Type 0
 ReportsChance area (Put body) (Lost units chance) d = ShowsChance area chance d
 ReportsChance area line answer d = ⊤
 
--- the log that stood open on the area appended the body, and ended so
+-- the log that was open on the area appended the body, and that ended so
 pub record AppendsOn (area : Area) (body : List ℕ) (end : Result ℕ LogFault) (old new : Device) : Type 0 where
   pub before : Ring
   pub after : Ring
@@ -68,15 +68,15 @@ pub record AppendsOn (area : Area) (body : List ℕ) (end : Result ℕ LogFault)
   pub same_area : before.area ≡ area
   pub ends : LogAppends old new before after body end
 
--- A record is put as the log appends it: the oldest records are dropped only where the record does
--- not fit and no sector but one is free.
+-- A record is put as the log appends it: the oldest records are dropped only if the record does not
+-- fit and no sector but one is free.
 abbrev pub PutsBy : Area → Line → Answer → Device → Device → Type 0
 PutsBy area (Put body) (Appended units dropped) old new = AppendsOn area body (Ok dropped) old new
 PutsBy area (Put body) (Lost units chance) old new = AppendsOn area body (Err PowerLost) old new
 PutsBy area line answer old new = ⊤
 
--- An area that shows no damage is mounted: the erases that it wants are carried out, no more of them where
--- power is lost, and all items stay, the torn ones too.
+-- An area that shows no damage is mounted: the erases that are due are carried out, some or all of
+-- them if power is lost, and all items stay, the torn ones too.
 pub record MountsBy (area : Area) (answer : Answer) (old new : Device) : Type 0 where
   pub undamaged : ring_damage old area ≡ None
   pub at_most : units_of answer ≤ erases_on old area
@@ -87,9 +87,9 @@ pub record MountsBy (area : Area) (answer : Answer) (old new : Device) : Type 0 
 abbrev pub SameButPlan : Device → Device → Type 0
 SameButPlan old new = new ≡ record old { plan = new.plan }
 
--- A line was carried out by the table. But for the plan, the bench was touched in the area alone: a loss of
--- power lies in it, and without a unit no byte changed. A line on the plan changes nothing else, and one that
--- lists the records changes nothing.
+-- A line was carried out by the table. Except for the plan, the bench was touched in the area
+-- alone: a power loss lies in it, and without a unit no byte changed. A line on the plan changes
+-- nothing else, and one that lists the records changes nothing.
 pub record LineDone (area : Area) (line : Line) (answer : Answer) (old new : Device) : Type 0 where
   pub step : (last : ℕ) → new.spent ≤ last
       → Step (geometry_of old area) last line answer (state_of area old) (state_of area new)
@@ -102,7 +102,7 @@ pub record LineDone (area : Area) (line : Line) (answer : Answer) (old new : Dev
   pub plans : (replan line ≡ keeps_plan → ⊥) → SameButPlan old new
   pub chance : ReportsChance area line answer new
 
--- at the loss of the last line
+-- only a loss in the last line says so
 abbrev pub ReportsLastChance : Area → List Line → List Answer → Device → Type 0
 ReportsLastChance area [] answers d = ⊤
 ReportsLastChance area (line ∷ lines) [] d = ⊤

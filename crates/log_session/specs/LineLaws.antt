@@ -9,7 +9,7 @@ use Rattle.log_session.specs.Line.{log_forms, row_of}
 abbrev pub OneMeaning : Type 0
 OneMeaning = (one other : Line) → row_of one ≡ row_of other → one ≡ other
 
--- words spell a line, or are refused for some cause
+-- words are a line, or are refused for some cause
 abbrev pub EachIsRead : Type 0
 EachIsRead = (limit : ℕ) (words : List (List ℕ)) → 0 < length words
     → ((line : Line) × Spells log_forms limit words (row_of line))

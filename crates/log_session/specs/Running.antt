@@ -11,13 +11,13 @@ use Rattle.log_session.specs.declared.fault.SessionFault.TheVariants.{Damaged as
 use Rattle.log_session.specs.LineDone.{LineDone, Runs}
 use Rattle.log_session.specs.Standing.{ShowsDamage}
 
--- Lines were carried out one after another, and as a whole they follow the table, and the counts, the plan
--- and the bytes of the bench are those that the answers say.
+-- Lines were carried out one after another. As a whole they follow the table; the counts, the plan
+-- and the bytes of the bench are as the answers say.
 pub record Ran (area : Area) (lines : List Line) (answers : List Answer) (old new : Device) : Type 0 where
   pub in_turn : Follows (LineDone area) lines answers old new
   pub whole : Runs area lines answers old new
 
--- the mount and the first lines were carried out, and then memory was wanting
+-- the mount and the first lines were carried out, and then memory ran out
 pub record RunStops (area : Area) (lines : List Line) (old new : Device) : Type 0 where
   pub prefix : List Line
   pub rest : List Line
@@ -26,8 +26,8 @@ pub record RunStops (area : Area) (lines : List Line) (old new : Device) : Type 
   pub answers : List Answer
   pub ran : Ran area prefix answers old new
 
--- All were carried out, with these answers; or the opening mount found the damage that the area shows; or
--- memory was wanting. An area that shows none is mounted.
+-- All lines were carried out, with these answers; or the opening mount found the damage that the
+-- area shows; or memory ran out. Only in the second case was the area damaged.
 abbrev pub RunEnds : Area → List Line → Device → Device → Result (List Answer) SessionFault → Type 0
 RunEnds area lines old new (Ok answers) = (ring_damage old area ≡ None) × Ran area lines answers old new
 RunEnds area lines old new (Err (IsDamaged damaged)) = ShowsDamage area old new damaged

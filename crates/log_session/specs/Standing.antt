@@ -1,4 +1,4 @@
--- Between two lines.
+-- What holds between two lines.
 use Rattle.std.specs.Prelude.{◌≡◌, true, false, Option, Some, None}
 use Rattle.flash_sim.specs.Device.{Device}
 use Rattle.flash_map.specs.declared.area.Area.{Area}
@@ -24,6 +24,6 @@ pub record IsReady (d : Device) (session : LogSession) : Type 0 where
   pub sound : IsSound d session.area
   pub mounted : IsMounted d session.area session.log
 
--- the area's bytes show the damage, and nothing changed but that power is on
+-- the area's bytes show the damage, and nothing changed, except that power is on
 abbrev pub ShowsDamage : Area → Device → Device → Damaged → Type 0
 ShowsDamage area old new damaged = (ring_damage old area ≡ Some damaged) × (new ≡ turned_on old)

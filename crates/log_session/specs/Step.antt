@@ -1,6 +1,6 @@
--- The table: which answers a plain list of records gives to a line, and what they make of it. The choices are
--- whether power is lost in a line, what a lost append leaves then, how many of the oldest records an append
--- drops, and the units.
+-- The table: which answers a plain list of records allows to a line, and the state after each. It
+-- leaves open whether power is lost in a line, what a lost append leaves then, how many of the
+-- oldest records an append drops, and the units.
 use Rattle.std.specs.Prelude.{◌≡◌, ◌⊎◌, ℕ, ◌+◌, ◌-◌, ◌/◌, ◌≤◌, Bool, true, false, List, [], ◌∷◌, ◌++◌, length, sum_by}
 use Rattle.flash_map.specs.declared.area.Geometry.{Geometry}
 use Rattle.flash_map.specs.Units.{padded}
@@ -29,16 +29,17 @@ IsOff state = state.is_on ≡ false
 abbrev pub record_units : Geometry → List ℕ → ℕ
 record_units geometry body = record_cost geometry.unit (length body) / geometry.unit
 
--- those of a sector's header
+-- the units of a sector's header
 abbrev pub header_units : Geometry → ℕ
 header_units geometry = padded geometry.unit 8 / geometry.unit
 
--- the most that an append spends: it drops the oldest sector, opens the next one, and puts its record
+-- the most units and erases of an append: it drops the oldest sector, opens the next one, and
+-- puts its record
 abbrev pub most_to_put : Geometry → List ℕ → ℕ
 most_to_put geometry body = header_units geometry + 1 + record_units geometry body
 
--- An append spends the units of its record; and those of a header, where a sector is opened; and an erase as
--- well, where the oldest sector is dropped, in which alone records may be dropped.
+-- An append spends the units of its record; those of a header too, if a sector is opened; and an
+-- erase as well, if the oldest sector is dropped. Only then can records be dropped.
 abbrev pub PutUnits : Geometry → List ℕ → ℕ → ℕ → Type 0
 PutUnits geometry body dropped units =
     ((units ≡ record_units geometry body) × (dropped ≡ 0))
@@ -51,14 +52,15 @@ records_cost geometry bodies = sum_by (λ body. record_cost geometry.unit (lengt
 
 -- ---- appending
 
--- So many of the oldest records are dropped, which one sector has room for, and these are left.
+-- So many of the oldest records are dropped, and these are left. One sector has room for
+-- the dropped ones.
 pub record Drops (geometry : Geometry) (dropped : ℕ) (log rest : List (List ℕ)) : Type 0 where
   pub prefix : List (List ℕ)
   pub are : log ≡ prefix ++ rest
   pub count : dropped ≡ length prefix
   pub one_sector : records_cost geometry prefix ≤ geometry.sector - padded geometry.unit 8
 
--- so many records are dropped, and this one stands behind the others
+-- so many records are dropped, and this one stands after the others
 pub record AddsRecord (geometry : Geometry) (last : ℕ) (body : List ℕ) (units dropped : ℕ) (old new : State) :
     Type 0 where
   pub rest : List (List ℕ)
@@ -67,8 +69,8 @@ pub record AddsRecord (geometry : Geometry) (last : ℕ) (body : List ℕ) (unit
   pub units_are : IsCounted last → PutUnits geometry body dropped units
   pub at_most : units ≤ most_to_put geometry body
 
--- Power is off. Nothing was dropped, or the oldest records; then the record stands, or by chance a torn one,
--- or neither.
+-- Power is off. Nothing was dropped, or the oldest records were. Then the record stands, or by
+-- chance a torn one, or neither.
 pub record LosesRecord (geometry : Geometry) (body : List ℕ) (units : ℕ) (chance : Bool) (old new : State) :
     Type 0 where
   pub dropped : ℕ
@@ -90,18 +92,18 @@ abbrev pub Reports : Answer → State → State → Type 0
 Reports (Log bodies) old new = (bodies ≡ old.log) × (new ≡ old)
 Reports answer old new = ⊥
 
--- the log stays, also where power is lost
+-- the log stays, even if power is lost
 abbrev pub Mounts : Answer → State → State → Type 0
 Mounts (Done units) old new = new ≡ record old { is_on = true }
 Mounts (Lost units false) old new = new ≡ record old { is_on = false }
 Mounts answer old new = ⊥
 
--- a loss is planned, or none any more
+-- a loss is planned, or the plan is dropped
 abbrev pub Arms : Answer → State → State → Type 0
 Arms (Done units) old new = (units ≡ 0) × (new ≡ old)
 Arms answer old new = ⊥
 
--- these are carried out with power off too
+-- lines that need power; the others are carried out with power off too
 abbrev pub needs_power : Line → Bool
 needs_power Mount = false
 needs_power (Cut units) = false
@@ -115,7 +117,7 @@ Answers geometry last Mount answer old new = Mounts answer old new
 Answers geometry last (Cut units) answer old new = Arms answer old new
 Answers geometry last Uncut answer old new = Arms answer old new
 
--- with power off, `off` and no change; else by the line
+-- with power off the answer is `off` and nothing changes; else it is the line's
 abbrev pub Step : Geometry → ℕ → Line → Answer → State → State → Type 0
 Step geometry last line Off old new = (needs_power line ≡ true) × IsOff old × (new ≡ old)
 Step geometry last line answer old new =

@@ -10,18 +10,18 @@ use flash_sim::NoMemory;
 use script_lines::Bytes;
 use std::alloc::{AllocError, Global};
 
-/// What a line answers.
+/// The answer to a line.
 #[derive(Debug, Drop)]
 pub enum Answer {
-    /// Done, with so many units and erases.
+    /// The line was carried out. `units` counts units and erases.
     Done { units: u64 },
-    /// A record was appended, with so many units and erases, and so many records that check were
-    /// dropped for it.
+    /// A record was appended, with `units` units and erases. `dropped` records that pass their CRC
+    /// were dropped for it.
     Appended { units: u64, dropped: u32 },
     /// The bodies of all records, the oldest first.
     Log { bodies: Bodies },
-    /// Power was lost after so many units and erases, and whether a record that was cut checks by
-    /// chance.
+    /// Power was lost after `units` units and erases. `chance`: a record that was cut passes its
+    /// CRC by chance.
     Lost { units: u64, chance: bool },
     /// Power is off.
     Off,
@@ -34,7 +34,7 @@ fn add(text: &mut Vec<u8>, bytes: &[u8]) -> Result<(), AllocError>
     text.extend_from_slice(bytes)
 }
 
-// The digits of a body, or `-` where it is empty.
+// The digits of a body, or `-` if it is empty.
 fn digits_or_dash(digits: &[u8]) -> &[u8]
     ensures { result.now ≡ dashed digits.now }
 {
@@ -94,11 +94,11 @@ fn written(alloc: Global, answer: &Answer) -> Result<Vec<u8>, AllocError>
     Ok(text.into_bytes())
 }
 
-/// The bytes of an answer's text: each line with its LF, numbers in decimal, bytes in lower-case
+/// The text of an answer: each line with its LF, numbers in decimal, bytes in lower-case
 /// hexadecimal digits, an empty body as `-`.
 ///
 /// # Errors
-/// Want of memory alone.
+/// `NoMemory`.
 pub fn answer_text(alloc: Global, answer: &Answer) -> Result<Vec<u8>, NoMemory>
     ensures { IfOk result (λ text. text.items ≡ text_of answer.now) }
 {

@@ -1,4 +1,4 @@
-// Appending a record, with power on.
+// Lines that append a record, with power on.
 ghost use Rattle.std.specs.Prelude.{◌≡◌, true, None, Some};
 ghost use Rattle.event_ring.specs.Standing.{IsOpen};
 ghost use Rattle.fcb_ring.specs.Chance.{chance_on};
@@ -16,8 +16,7 @@ use flash_sim::{Bench, Flash, Steps};
 use script_lines::Bytes;
 use std::sync::ledger::Ledger;
 
-// Whether the units that were put before the last loss spell, by chance, another record in the
-// area.
+// Whether the units before the last loss spell, by chance, another record in the area.
 fn spells_another<B: Bench, L: Ledger>(bench: &B, area: &Area, steps: &mut Steps<L>) -> bool
     requires { IsRingArea (B.device bench.now).banks area.now }
     ensures { (loss : loss_type) → (B.device bench.now).last_loss ≡ Some loss

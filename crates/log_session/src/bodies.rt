@@ -1,4 +1,4 @@
-// Bodies of records, which contracts see as a list.
+// A list of bodies that contracts see as a list.
 ghost use Rattle.std.specs.Prelude.{◌≡◌, [], ◌∷◌, ◌++◌, OnOk, OnErr};
 
 use flash_sim::NoMemory;
@@ -6,7 +6,7 @@ use script_lines::Bytes;
 use std::alloc::Global;
 use std::marker::Model;
 
-/// The bodies of records in order.
+/// The bodies of records, in order.
 #[derive(Debug, Drop)]
 pub struct Bodies {
     items: Vec<Bytes>,
@@ -21,7 +21,7 @@ impl Model for Bodies {
 }
 
 impl Bodies {
-    /// No bodies. Takes no memory.
+    /// An empty list. It takes no memory.
     pub fn new(alloc: Global) -> Bodies
         ensures { result ≡ [] }
     {
@@ -30,10 +30,10 @@ impl Bodies {
         }
     }
 
-    /// Puts a body behind the others.
+    /// Appends a body.
     ///
     /// # Errors
-    /// `NoMemory`, and the list is as before.
+    /// `NoMemory`: the list is as before.
     pub fn push(&mut self, item: Bytes) -> Result<(), NoMemory>
         ensures ok { OnOk result (self.new ≡ self.old ++ item ∷ []) }
         ensures err { OnErr result (self.new ≡ self.old) }

@@ -1,42 +1,43 @@
 // Laws of the table. The functions do nothing: their contracts are the laws.
 ghost use Rattle.log_session.specs.Laws.{DropsWhereFull, HoldsAcknowledged, LinesAreServed, LinesMakeRuns, LosesPower, RunsInRow, RunsReach};
 
-/// Wherever power is lost, the log is what is left of the first log and the records that appends
-/// left behind it, once the oldest of them were dropped: each acknowledged append left its record,
-/// each lost one left it or did not, or by chance a torn one; and just so many were dropped as the
-/// answers say, and at a loss any number, but never more at once than one sector has room for.
+/// Wherever power is lost, the log is the first log followed by the records that appends left,
+/// without the oldest ones, which were dropped. Each acknowledged append left its record. Each
+/// lost one left it, or nothing, or by chance a torn record. As many records were dropped as
+/// the answers say. A lost append dropped any number. No append drops more at once than one
+/// sector has room for.
 pub fn acknowledged_records_stand()
     ensures { HoldsAcknowledged }
 {}
 
-/// Power is off from a line in which it was lost to the next mount that answers `ok`.
+/// Power is off from a line in which it was lost until a mount answers `ok`.
 pub fn power_follows_losses()
     ensures { LosesPower }
 {}
 
-/// Two runs in a row are one run of the lines of both.
+/// Two runs in a row are one run of all their lines.
 pub fn two_runs()
     ensures { RunsInRow }
 {}
 
 /// Lines that are carried out one by one make a run: it follows the table, the counts and the plan
-/// are those that the answers say, and no byte changed outside the area.
+/// are as the answers report, and no byte changes outside the area.
 pub fn line_by_line()
     ensures { LinesMakeRuns }
 {}
 
-/// The lines of a script that was read with a limit of bodies have bodies within it.
+/// The lines of a script have bodies within the limit with which the script was read.
 pub fn lines_fit()
     ensures { LinesAreServed }
 {}
 
-/// From a blank area, or one that mounts and appends have reached, lines lead to one that mounts
-/// and appends reach, whatever is lost.
+/// A blank area is reached, and so is each area that mounts and appends lead to from a reached one.
+/// Lines lead from a reached area to a reached one, wherever power is lost.
 pub fn runs_reach()
     ensures { RunsReach }
 {}
 
-/// On such an area an append drops records only where the items cost more bytes than all sectors
+/// On a reached area, an append drops records only if the items cost more bytes than all sectors
 /// but one have room for, less the longest record in each.
 pub fn lines_drop_where_full()
     ensures { DropsWhereFull }

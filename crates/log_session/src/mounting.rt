@@ -1,4 +1,4 @@
-// Mounting a log.
+// The mount of a log.
 ghost use Rattle.std.specs.Prelude.{◌≡◌, None, Some, IfOk, IfErr, OnOk};
 ghost use Rattle.fcb_ring.specs.Standing.{IsRingArea, erases_on, ring_damage};
 ghost use Rattle.log_session.specs.declared.answer.Answer.TheVariants.{Done};
@@ -12,14 +12,14 @@ use flash_map::{Area, Damaged, MountFault};
 use flash_sim::{Bench, Flash, Steps};
 use std::sync::ledger::Ledger;
 
-// A mount's answer, and the log that it made: none where power was lost.
+// The answer to a mount, and the mounted log; `None` if power was lost.
 #[derive(Drop)]
 pub(crate) struct Mounted {
     pub(crate) answer: Answer,
     pub(crate) log: Option<EventLog>,
 }
 
-// Turns power on, and mounts. Damage is that of the area, and then nothing else changed.
+// Turns power on, and mounts. If the area is damaged, nothing else changed.
 pub(crate) fn mount<B: Bench, L: Ledger>(
     bench: &mut B,
     area: &Area,

@@ -1,4 +1,4 @@
-// Plans of losses.
+// Plans of power losses.
 ghost use Rattle.log_session.specs.declared.line.Line.TheVariants.{Cut, Uncut};
 ghost use Rattle.log_session.specs.LineDone.{LineDone};
 ghost use Rattle.std.specs.Prelude.{◌≡◌};
@@ -7,7 +7,7 @@ use crate::answer::Answer;
 use flash_map::Area;
 use flash_sim::{Bench, Flash};
 
-// Plans a loss of power.
+// Plans a power loss after so many units and erases.
 pub(crate) fn plan_loss<B: Bench>(bench: &mut B, area: &Area, units: u64) -> Answer
     ensures done { LineDone area.now (Cut units) result (B.device bench.old) (B.device bench.new) }
     ensures same { B.device bench.new
@@ -17,7 +17,7 @@ pub(crate) fn plan_loss<B: Bench>(bench: &mut B, area: &Area, units: u64) -> Ans
     Answer::Done { units: 0 }
 }
 
-// Drops that plan.
+// Drops the plan.
 pub(crate) fn drop_plan<B: Bench>(bench: &mut B, area: &Area) -> Answer
     ensures done { LineDone area.now Uncut result (B.device bench.old) (B.device bench.new) }
     ensures same { B.device bench.new

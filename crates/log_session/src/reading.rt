@@ -1,4 +1,4 @@
-// One line of a script.
+// The reader of one line.
 ghost use Rattle.std.specs.Prelude.{◌≡◌};
 ghost use Rattle.text_parts.specs.Parts.{parts};
 ghost use Rattle.script_lines.specs.Forms.{ReadsOne};
@@ -48,10 +48,10 @@ fn bytes_alone(alloc: Global, rest: Option<&[u8]>, limit: usize) -> Result<Bytes
     read_bytes(alloc, one_word(rest)?, limit)
 }
 
-/// The line that a text is, where no body has more bytes than the limit.
+/// Reads a text as a line on a log. No body has more than `limit` bytes.
 ///
 /// # Errors
-/// The first cause of `LineWhy` for which it is none. Want of memory.
+/// `Refused` with the first cause of `LineWhy` if it is none; `NoMemory`.
 pub fn read_line(alloc: Global, text: &[u8], limit: usize) -> Result<Line, LineFault>
     ensures { ReadsLine limit (parts 32 text.now) result }
 {

@@ -1,4 +1,4 @@
-// Listing the records of a log, with power on.
+// Lines that list the records of a log, with power on.
 ghost use Rattle.std.specs.Prelude.{◌≡◌, true, IfOk};
 ghost use Rattle.event_ring.specs.Items.{log_on};
 ghost use Rattle.event_ring.specs.Standing.{IsOpen};
@@ -14,7 +14,7 @@ use script_lines::Bytes;
 use std::alloc::Global;
 use std::sync::ledger::Ledger;
 
-// The same bytes.
+// A copy of bytes.
 fn copied(alloc: Global, bytes: &[u8]) -> Result<Bytes, NoMemory>
     ensures { IfOk result (λ copy. copy ≡ bytes.now) }
 {

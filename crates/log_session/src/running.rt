@@ -1,4 +1,4 @@
-// All lines of a script.
+// The run of all lines of a script.
 ghost use Rattle.std.specs.Prelude.{◌≡◌, ◌∷◌, true, All, None, OnOk};
 ghost use Rattle.fcb_ring.specs.Standing.{IsRingArea, erases_on, ring_damage};
 ghost use Rattle.flash_map.specs.Area.{value_limit};
@@ -15,13 +15,13 @@ use flash_sim::{Bench, Flash, Steps};
 use std::alloc::Global;
 use std::sync::ledger::Ledger;
 
-/// Mounts the log of an area, carries out lines one after another, and gives the answers to the
-/// mount and to each line. With power on after the lines a mount of the area would have nothing to
-/// do. An area without damage has none afterwards, whatever the result.
+/// Mounts the log of an area and carries out lines one after another. It returns the answers to the
+/// mount and to each line. If power is on after the last line, another mount of the area would have
+/// nothing to do. An area without damage has none afterwards, whatever the result.
 ///
 /// # Errors
-/// `Damaged` with the damage that the area shows; the bench is then as before, but that power is on. `NoMemory`; the bench is
-/// then what the first lines have made of it.
+/// `Damaged` with the damage that the area shows; the bench is then as before, except that power is
+/// on. `NoMemory`: the bench is as the mount and the first lines left it.
 pub fn run_lines<B: Bench, L: Ledger>(
     alloc: Global,
     lines: &[Line],

@@ -1,4 +1,4 @@
-// A session, and carrying out one line in it.
+// A session, which carries out lines one by one.
 ghost use Rattle.std.specs.Prelude.{◌≡◌, true, None, IfOk, IfErr, OnErr, OnOk};
 ghost use Rattle.fcb_ring.specs.Standing.{IsRingArea, erases_on, ring_damage};
 ghost use Rattle.flash_map.specs.Area.{value_limit};
@@ -23,16 +23,16 @@ use std::sync::ledger::Ledger;
 #[derive(Drop)]
 pub struct LogSession {
     pub(crate) area: Area,
-    // none once a mount lost power
+    // `None` after a mount in which power was lost
     pub(crate) log: Option<EventLog>,
 }
 
 impl LogSession {
-    /// Turns power on, mounts the log of an area, and gives the session with the answer to that
-    /// mount. A mount of an area at rest spends nothing. It takes no memory.
+    /// Turns power on, and mounts the log of an area. It returns the session with the answer to
+    /// that mount. A mount of an area at rest spends nothing. It takes no memory.
     ///
     /// # Errors
-    /// The damage that the area shows; the bench is then as before, but that power is on.
+    /// The damage that the area shows; the bench is then as before, except that power is on.
     pub fn open<B: Bench, L: Ledger>(
         bench: &mut B,
         area: &Area,
@@ -62,11 +62,12 @@ impl LogSession {
         }
     }
 
-    /// Carries out a line. With power off `put` and `all` answer `off`. A mount of an area at rest
-    /// spends nothing, and each mount that is not cut succeeds.
+    /// Carries out a line. With power off, `put` and `all` answer `off`. A mount of an area at rest
+    /// spends nothing.
     ///
     /// # Errors
-    /// `NoMemory`, where the line is `all` and power is on; nothing changed then.
+    /// `NoMemory`, only if the line is `all` and power is on; nothing changed then, and the
+    /// session goes on.
     pub fn carry_out<B: Bench, L: Ledger>(
         &mut self,
         alloc: Global,
@@ -91,7 +92,7 @@ impl LogSession {
     }
 }
 
-// Mounts anew an area that is not damaged.
+// Mounts an undamaged area again.
 fn mount_again<B: Bench, L: Ledger>(
     bench: &mut B,
     area: &Area,
@@ -114,7 +115,7 @@ fn mount_again<B: Bench, L: Ledger>(
     }
 }
 
-// Carries out a line on an area that is not damaged, with the log that was mounted on it.
+// Carries out a line on an undamaged area, with the log that was mounted on it.
 fn run_line<B: Bench, L: Ledger>(
     alloc: Global,
     line: &Line,

@@ -6,8 +6,8 @@ use flash_sim::NoMemory;
 use std::alloc::Global;
 use std::marker::Model;
 
-/// For each cache slot the sector and the slot where an entry was put. Ids share a cache slot where
-/// they leave the same remainder by the number of cache slots.
+/// For each cache slot, the sector and the slot where an entry was put, or nothing. Ids that leave
+/// the same remainder by the number of cache slots share a cache slot.
 #[derive(Debug, Drop)]
 pub struct Cache {
     places: Vec<Option<(u32, u32)>>,
@@ -26,10 +26,10 @@ impl Model for Cache {
 impl Cache {
     ghost use Rattle.lookup_cache.specs.Places.{place_of, with_note, without, cleared};
 
-    /// A cache of `n` slots in which nothing is noted.
+    /// A cache of `n` empty slots.
     ///
     /// # Errors
-    /// There is no memory.
+    /// `NoMemory` if memory runs out.
     pub fn with_slots(alloc: Global, n: usize) -> Result<Cache, NoMemory>
         requires { 1 ≤ n }
         ensures { IfOk result (λ cache. cache ≡ replicate n None) }
@@ -46,8 +46,8 @@ impl Cache {
         self.places[index] = Some((sector, slot));
     }
 
-    /// The sector and the slot that were noted last for the id's cache slot, where they were not
-    /// forgotten since.
+    /// The sector and the slot that were noted last for the id's cache slot, unless it was cleared
+    /// since.
     pub fn start_of(&self, id: u32) -> Option<(u32, u32)>
         ensures { result ≡ place_of self.now id }
     {
@@ -73,7 +73,7 @@ impl Cache {
     }
 }
 
-// The place, where it is not in the sector.
+// The place, unless it lies in the sector.
 fn outside(place: Option<(u32, u32)>, sector: u32) -> Option<(u32, u32)>
     ensures { result ≡ without_sector sector place }
 {

@@ -4,7 +4,7 @@ ghost use Rattle.std.specs.Prelude.{◌≡◌, ◌≢◌, ◌↔◌, ◌≤◌, 
 ghost use Rattle.lookup_cache.specs.Places.{place_of, without};
 ghost use Rattle.lookup_cache.specs.History.{Event, cache_after, IsLastNoted};
 
-/// A place is found exactly where it was the last that was noted for the id's cache slot, and its
+/// The cache gives a place for an id exactly if it was noted last for the id's cache slot and its
 /// sector was not forgotten since.
 pub fn found_is_last_noted()
     ensures { (slots : ℕ) (events : List Event) (id sector slot : ℕ) → 1 ≤ slots

@@ -12,7 +12,7 @@ use Rattle.fcb_ring.specs.Entries.{entries, bodies}
 use Rattle.fcb_ring.specs.Standing.{ring_damage}
 use Rattle.migrator.specs.Areas.{is_store_at, first_store, selector_of}
 
--- an index, and FF less the index
+-- the body of a choice: an index, and FF less the index
 abbrev pub is_choice : List ℕ → Bool
 is_choice body = (length body == 2) && (slice_index body 1 == 0xFF - slice_index body 0)
 
@@ -25,11 +25,11 @@ abbrev pub last : {X : Type 0} → List X → Option X
 last [] = None
 last (x ∷ list) = option_or (last list) (Some x)
 
--- the last of what is found in the elements of a list
+-- the last of what `found` gives for the elements of a list
 unfoldable pub latest : {X Y : Type 0} → (X → Option Y) → List X → Option Y
 latest found list = last (filter_map found list)
 
--- the store area that the last of these records names that names one
+-- the store area that is named by the last of these records that names one
 abbrev pub chosen : List Area → List (List ℕ) → Option ℕ
 chosen areas list = latest (named areas) list
 
@@ -37,23 +37,24 @@ chosen areas list = latest (named areas) list
 abbrev pub choice_in : List Area → RecordAt × List ℕ → Option (RecordAt × ℕ)
 choice_in areas entry = option_map (λ index. (entry.0, index)) (named areas entry.1)
 
--- the last of these records that does
+-- the last of these records that names a store area, with that area
 abbrev pub last_choice : List Area → List (RecordAt × List ℕ) → Option (RecordAt × ℕ)
 last_choice areas list = latest (choice_in areas) list
 
 abbrev pub last_record : List Area → List (RecordAt × List ℕ) → Option RecordAt
 last_record areas list = option_map (λ (choice : RecordAt × ℕ). choice.0) (last_choice areas list)
 
--- the active area by these sectors of a selector's area, which show no damage
+-- the active area, by the sectors of a selector's area that shows no damage
 abbrev pub active_by : List Area → Geometry → List (List ℕ) → ℕ
 active_by areas geometry sectors =
     unwrap_or (chosen areas (bodies (entries geometry.unit sectors))) (first_store areas)
 
--- and by the selector's area on a device
+-- the active area, by the selector's area on a device
 abbrev pub active_in : List Area → Device → Area → ℕ
 active_in areas d selector = active_by areas (geometry_of d selector) (sectors_of d selector)
 
--- The active area of a map: the one that its selector names. Where it has none, it is the first store area.
+-- The active area of a map: the one that its selector names. Without a selector it is the
+-- first store area.
 abbrev pub active_with : List Area → Device → Option Area → ℕ
 active_with areas d None = first_store areas
 active_with areas d (Some selector) = active_in areas d selector
@@ -61,6 +62,6 @@ active_with areas d (Some selector) = active_in areas d selector
 abbrev pub active_on : List Area → Device → ℕ
 active_on areas d = active_with areas d (selector_of areas)
 
--- the damage that its selector shows, where it has one
+-- the damage that the map's selector shows, if it has one
 abbrev pub selector_damage_on : List Area → Device → Option Damaged
 selector_damage_on areas d = option_and_then (ring_damage d) (selector_of areas)

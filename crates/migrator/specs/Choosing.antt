@@ -1,4 +1,4 @@
--- What the calls of a selector make of its area.
+-- How the calls of a selector change its area.
 use Rattle.std.specs.Prelude.{◌≡◌, ◌⊎◌, ℕ, ◌+◌, ◌-◌, ◌*◌, ◌≤◌, true, false, List, [], ◌∷◌, ◌++◌, length, Option, Some, None, Result, Ok, Err, ◌==◌, if◌then◌else◌}
 use Rattle.flash_sim.specs.Device.{Device}
 use Rattle.flash_map.specs.declared.area.Area.{Area}
@@ -16,7 +16,7 @@ use Rattle.fcb_ring.specs.Standing.{StandsOn as RingStandsOn, HasEntriesOn, entr
 use Rattle.migrator.specs.declared.selecting.Selector.{Selector}
 use Rattle.migrator.specs.Active.{active_in, last_record}
 
--- a ring that takes records and keeps no room
+-- a ring that takes records and has no reserve
 pub record IsOpen (d : Device) (ring : Ring) : Type 0 where
   pub stands : RingStandsOn d ring
   pub ready : ring.stage ≡ Ready
@@ -28,7 +28,7 @@ choice_of index = index ∷ (0xFF - index) ∷ []
 
 -- ---- mounting
 
--- how mounting ends: the damage of the area, and then nothing changed; or it shows none
+-- how a mount ends: the area shows this damage, and nothing changed; or it shows none
 abbrev pub SelectorMounts : Device → Device → Area → Result Selector MountFault → Type 0
 SelectorMounts old new area (Ok selector) =
     (ring_damage old area ≡ None) × IsOpen new selector.ring × (selector.ring.area ≡ area)
@@ -48,14 +48,15 @@ abbrev pub ChoiceIsCut : List Area → Device → Device → Area → Ring → �
 ChoiceIsCut areas old new area after index =
     OldOrChosen areas old new area index × (ring_damage new area ≡ None) × (is_up after.stage ≡ false)
 
--- The record that names the area fits, or a sector beside the scratch one is free: it stands behind the
--- others of the list, and just its units were spent, with those of a header where that sector was opened.
+-- The record that names the area fits, or a sector beside the scratch one is free. The record
+-- stands after the others of the list. The record's units were spent, and those of a header if a
+-- sector was opened.
 pub record AddsChoice (old new : Device) (ring : Ring) (index : ℕ) : Type 0 where
   pub room : CanAppend old ring (choice_of index) 0
   pub list : AddsRecord old new ring.area (place_for old ring (choice_of index) 0) (choice_of index)
   pub units : Spends old new (units_for old ring (choice_of index) 0)
 
--- how the record that names the area is put, where it fits
+-- how the put of the record that names the area ends; it is put only if it fits
 abbrev pub PutEnds : {T : Type 0} → List Area → Device → Device → Ring → Ring → ℕ → Result T AppendFault
     → Type 0
 PutEnds areas old new before after index (Ok x) =
@@ -74,7 +75,7 @@ ChooseEnds areas old new before after index (Err lost) = ChoiceIsCut areas old n
 
 -- ---- a collection
 
--- the copies in the scratch sector: the record given, where it is of the oldest sector
+-- the copies in the scratch sector: the given record, if it stands in the oldest sector
 abbrev pub copies_of : Device → Ring → Option RecordAt → List (List ℕ)
 copies_of d ring None = []
 copies_of d ring (Some r) = if r.sector == ring.oldest then body_at d ring.area r ∷ [] else []
@@ -83,15 +84,15 @@ copies_of d ring (Some r) = if r.sector == ring.oldest then body_at d ring.area 
 abbrev pub copy_units : Device → Area → List (RecordAt × List ℕ) → ℕ
 copy_units d area copies = length copies * record_units d area 2
 
--- The scratch sector has these copies, and the ring writes on behind them.
+-- The scratch sector has these copies, and the ring goes on after them.
 pub record Copied (old new : Device) (before after : Ring) (last : Option RecordAt) : Type 0 where
   pub copies : bodies (sector_list new before.area (newest_place before)) ≡ copies_of old before last
   pub oldest : after.oldest ≡ before.oldest
   pub used : after.used ≡ before.used
   pub end : after.end ≤ header_on old before.area + cost_on old before.area 2
 
--- The list that a collection of the oldest sector leaves: the records of the others, and behind them, if it
--- was of the oldest sector, a copy of the last that names a store area.
+-- The list that a collection of the oldest sector leaves: the records of the other sectors, and
+-- then a copy of the last record that names a store area, if that was in the oldest sector.
 pub record LeavesList (areas : List Area) (old : Device) (ring : Ring) (list : List (RecordAt × List ℕ)) :
     Type 0 where
   pub rest : List (RecordAt × List ℕ)
@@ -100,7 +101,7 @@ pub record LeavesList (areas : List Area) (old : Device) (ring : Ring) (list : L
   pub copied : bodies copies ≡ copies_of old ring (last_record areas (entries_on old ring.area))
   pub are : list ≡ rest ++ copies
 
--- the units of a collection that made these copies: those of a header, of the copies, and an erase
+-- the units of a collection with these copies: those of a header and of the copies, and one erase
 abbrev pub collection_units : Device → Area → List (RecordAt × List ℕ) → ℕ
 collection_units d area copies = header_units d area + copy_units d area copies + 1
 
@@ -113,8 +114,8 @@ pub record Collected (areas : List Area) (old new : Device) (before after : Ring
   pub list : LeavesList areas old before (entries_on new before.area)
   pub units : Spends old new (collection_units old before.area list.copies)
 
--- The oldest sector was collected, and the record that names the area stands behind the list that this
--- leaves.
+-- The oldest sector was collected, and the record that names the area stands after the list
+-- that this leaves.
 pub record CollectsAndAdds (areas : List Area) (old new : Device) (ring : Ring) (index : ℕ) : Type 0 where
   pub left : List (RecordAt × List ℕ)
   pub collected : LeavesList areas old ring left
@@ -122,8 +123,8 @@ pub record CollectsAndAdds (areas : List Area) (old new : Device) (ring : Ring) 
   pub list : HasEntriesOn new ring.area (left ++ (at, choice_of index) ∷ [])
   pub units : Spends old new (collection_units old ring.area collected.copies + record_units old ring.area 2)
 
--- What the choice of an area makes of the list: one record more, which names the area. Only where it does not
--- fit and no sector but the scratch one is free, the oldest is collected first.
+-- How the choice of an area changes the list: by one record more, which names the area. If that
+-- does not fit, and no sector but the scratch one is free, the oldest is collected first.
 abbrev pub Chooses : List Area → Device → Device → Ring → ℕ → Type 0
 Chooses areas old new ring index =
     AddsChoice old new ring index
@@ -131,7 +132,7 @@ Chooses areas old new ring index =
     ((stays_for old ring (choice_of index) 0 ≡ false) × (is_scratch_left ring ≡ true)
     × CollectsAndAdds areas old new ring index)
 
--- the most units and erases of the choice of an area, whole or cut: two headers, a copy, a record, and an
--- erase
+-- the most units and erases of the choice of an area, whole or cut: two headers, a copy, a
+-- record, and one erase
 abbrev pub choice_units : Device → Area → ℕ
 choice_units d area = 2 * header_units d area + 2 * record_units d area 2 + 1

@@ -1,4 +1,4 @@
--- What a migration makes of the areas, and how it ends.
+-- How a migration changes the areas, and how it ends.
 use Rattle.std.specs.Prelude.{◌≡◌, ◌⊎◌, ℕ, ◌+◌, ◌*◌, Bool, true, false, List, [], ◌∷◌, Option, Some, None, Result, Ok, Err}
 use Rattle.std.specs.FinMap as finite
 use Rattle.std.specs.List.{slice_get}
@@ -33,7 +33,7 @@ migrate_lost (Err TooManyNames) = false
 migrate_lost (Err PowerLost) = true
 migrate_lost (Err NoMemory) = false
 
--- it says why the settings were not moved, and not that power was lost
+-- the answer says why the settings were not moved, and power was not lost
 abbrev pub is_refused : {T : Type 0} → Result T MigrateFault → Bool
 is_refused (Ok x) = false
 is_refused (Err NoTarget) = true
@@ -42,14 +42,14 @@ is_refused (Err TooManyNames) = true
 is_refused (Err PowerLost) = false
 is_refused (Err NoMemory) = true
 
--- what a copy of all settings is for the migration
+-- the result of the copy of all settings, as a migration answers it
 abbrev pub filled_as : {T : Type 0} → T → Result (Unit {0}) SetFault → Result T MigrateFault
 filled_as to (Ok x) = Ok to
 filled_as to (Err (NoPlace need live)) = Err (NoSpace need live)
 filled_as to (Err OneTooMany) = Err TooManyNames
 filled_as to (Err CopyLost) = Err PowerLost
 
--- and what the record that names the area is
+-- the result of the choice of the area, as a migration answers it
 abbrev pub moved_as : {T : Type 0} → T → Result (Unit {0}) Lost → Result T MigrateFault
 moved_as moved (Ok x) = Ok moved
 moved_as moved (Err lost) = Err PowerLost
@@ -58,7 +58,7 @@ moved_as moved (Err lost) = Err PowerLost
 abbrev pub target_area : List Area → ℕ → Option Area
 target_area areas active = option_and_then (slice_get areas) (target areas active)
 
--- the areas on which a migration works: that one, and the selector's
+-- the areas on which a migration works: the target and the selector's
 abbrev pub worked_on : List Area → Area → ℕ → List Area
 worked_on areas selector active =
     option_map_or (λ area. area ∷ selector ∷ []) (target_area areas active) (selector ∷ [])
@@ -67,8 +67,8 @@ worked_on areas selector active =
 abbrev pub room_on : (Area → Geometry → Room) → Device → Area → Room
 room_on room d area = room area (geometry_of d area)
 
--- The selector and a store are mounted on areas of a lawful map: the ring is the selector's, and the store's
--- area is active. The store is one that serves each area in which settings are stored.
+-- The selector and a store are mounted on areas of a lawful map. The store's area is active. Stores
+-- of this type serve every store area.
 pub record IsServed {S : Type 0} (serves : Area → Geometry → Type 0) (mounted_on : S → Area)
     (stands : S → Geometry → List (List ℕ) → Type 0)
     (areas : List Area) (d : Device) (ring : Ring) (state : S) (active : ℕ) : Type 0 where
@@ -81,7 +81,7 @@ pub record IsServed {S : Type 0} (serves : Area → Geometry → Type 0) (mounte
   pub up : StandsOn mounted_on stands d state
   pub is_active : active ≡ active_on areas d
 
--- how opening an area with no settings ends
+-- how the opening of an area with no settings ends
 abbrev pub OpenEnds : {T : Type 0} → Map → Result T MigrateFault → Type 0
 OpenEnds copy (Ok x) = copy ≡ finite.empty
 OpenEnds copy (Err NoTarget) = ⊥
@@ -100,7 +100,7 @@ FillEnds room sectors settings copy (Err (NoSpace need live)) =
 FillEnds room sectors settings copy (Err PowerLost) = Unit {0}
 FillEnds room sectors settings copy (Err NoMemory) = Unit {0}
 
--- The settings are those that the active area of the map reads as; neither it nor the selector is damaged.
+-- The active area of the map reads as these settings; neither it nor the selector is damaged.
 pub record ReadsAs (damage : Area → Geometry → List (List ℕ) → Option Damaged)
     (contents : Area → Geometry → List (List ℕ) → Map)
     (areas : List Area) (d : Device) (settings : Map) : Type 0 where
@@ -120,27 +120,28 @@ pub record IsMoved (damage : Area → Geometry → List (List ℕ) → Option Da
   pub reads : on contents new area ≡ settings
   pub free : NoneTooMany room settings None
 
--- The most units and erases of filling an area, whole or cut: it is erased and mounted, and so many settings
--- are put into it.
+-- The most units and erases of filling an area, whole or cut: it is erased and mounted, and `names`
+-- settings are put into it.
 abbrev pub fill_units : Geometry → ℕ → ℕ
 fill_units geometry names = geometry.sectors + mount_units geometry + names * command_units geometry
 
--- The most units and erases of moving so many settings to an area, whole or cut: it is filled, and then
--- chosen.
+-- The most units and erases of moving `names` settings to an area, whole or cut: it is filled,
+-- and then chosen.
 abbrev pub move_units : Device → Area → Area → ℕ → ℕ
 move_units d selector area names = fill_units (geometry_of d area) names + choice_units d selector
 
--- and of a migration: those of moving them to the target; none where there is no target
+-- the most units and erases of a migration: those of moving the settings to the target; 0
+-- if there is none
 abbrev pub migrate_units : Device → List Area → Area → ℕ → ℕ → ℕ
 migrate_units d areas selector active names =
     option_map_or (λ area. move_units d selector area names) (target_area areas active) 0
 
--- the active area is the one that was
+-- the active area is as before
 abbrev pub StaysActive : List Area → Area → Device → Device → Type 0
 StaysActive areas selector old new = active_in areas new selector ≡ active_in areas old selector
 
--- The settings of a mounted store may move to this area. It, the store's area and the selector's share no
--- sector; the selector takes records.
+-- The settings of a mounted store can move to this area. It, the store's area and the selector's
+-- share no sector. The selector takes records.
 pub record CanMove {S : Type 0} (serves : Area → Geometry → Type 0) (mounted_on : S → Area)
     (stands : S → Geometry → List (List ℕ) → Type 0) (d : Device) (ring : Ring) (state : S) (to : Area) :
     Type 0 where
@@ -155,15 +156,15 @@ pub record CanMove {S : Type 0} (serves : Area → Geometry → Type 0) (mounted
   pub selector_source : AreApart ring.area (mounted_on state)
   pub selector_target : AreApart ring.area to
 
--- The selector's area shows no damage, and the selector still takes records. Where power was lost, it may be
--- down.
+-- The selector's area shows no damage, and the selector still takes records; if power was lost,
+-- it may be down.
 pub record KeepsSelector (new : Device) (before after : Ring) (is_lost : Bool) : Type 0 where
   pub area : after.area ≡ before.area
   pub sound : ring_damage new before.area ≡ None
   pub open_ring : is_lost ≡ false → IsOpen new after
   pub lost : is_lost ≡ true → (is_up after.stage ≡ false) ⊎ IsOpen new after
 
--- How moving the settings to the area at this index ends.
+-- How the move of the settings to the area at this index ends.
 abbrev pub MoveEnds : {S : Type 0} → (S → Area) → (Area → Geometry → List (List ℕ) → Option Damaged)
     → (Area → Geometry → List (List ℕ) → Map)
     → Room → List Area → Area → Area → ℕ → Map → Device → Device → Result (S × ℕ) MigrateFault → Type 0
@@ -195,7 +196,7 @@ Migrates mounted damage contents room areas selector active settings old new res
     × MoveEnds mounted damage contents (room_on room old area) areas selector area index settings old new
     result
 
--- how a migration ends: there is no target exactly where it says so, and then nothing changed
+-- how a migration ends: `NoTarget` exactly if there is no target, and then nothing changed
 abbrev pub MigrateEnds : {S : Type 0} → (S → Area) → (Area → Geometry → List (List ℕ) → Option Damaged)
     → (Area → Geometry → List (List ℕ) → Map)
     → (Area → Geometry → Room) → List Area → Area → ℕ → Map → Device → Device → Result (S × ℕ) MigrateFault

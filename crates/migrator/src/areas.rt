@@ -14,7 +14,7 @@ fn stores(role: Role) -> bool
     }
 }
 
-/// Whether the area at this index stores settings; where there is no area, it does not.
+/// Whether the area at this index stores settings. It does not if there is no such area.
 pub fn is_store_at(map: &FlashMap, index: usize) -> bool
     ensures { result ≡ is_store_at map.now index }
 {
@@ -24,7 +24,7 @@ pub fn is_store_at(map: &FlashMap, index: usize) -> bool
     }
 }
 
-// The first store area of so many from this one on.
+// The first store area from index `from` up to `end`.
 fn store_from(map: &FlashMap, from: usize, end: usize) -> Option<usize>
     requires { from ≤ end }
     ensures { result ≡ store_from map.now from (end - from) }
@@ -32,15 +32,15 @@ fn store_from(map: &FlashMap, from: usize, end: usize) -> Option<usize>
     (from..end).find(|index| is_store_at(map, *index))
 }
 
-// The first store area; 0 where there is none.
+// The index of the first store area; 0 if there is none.
 pub(crate) fn first_store(map: &FlashMap) -> usize
     ensures { result ≡ first_store map.now }
 {
     store_from(map, 0, map.len()).unwrap_or(0)
 }
 
-/// The store area behind this one in the order of the map, round its end. None exactly where there
-/// is no other.
+/// The index of the next store area after this one in the order of the map, round its end; `None`
+/// exactly if there is no other.
 pub fn target(map: &FlashMap, active: usize) -> Option<usize>
     requires { active < length map.now }
     ensures target { result ≡ target map.now active }

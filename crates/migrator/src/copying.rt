@@ -1,4 +1,4 @@
-// Copying all settings from one store into another.
+// The copy of all settings from one store into another.
 ghost use Rattle.std.specs.Prelude.{◌≡◌, ℕ, ◌*◌, ◌<◌, ◌≤◌, ◌∷◌, [], List, true, false, length, Some};
 ghost use Rattle.std.specs.FinMap as finite;
 ghost use Rattle.flash_map.specs.Area.{geometry_of, sectors_of, value_limit};
@@ -20,8 +20,8 @@ use flash_sim::{Flash, Steps};
 use setting_name::Name;
 use std::sync::ledger::Ledger;
 
-/// What was put when it is the turn of a name are the settings of all lesser names. The function
-/// does nothing; its contract is the law.
+/// When it is the turn of a name, the copy has the settings of all lesser names. The function does
+/// nothing; its contract is the law.
 pub fn put_in_order()
     ensures { (settings : settings_type) → PutsInOrder settings }
 {}
@@ -60,7 +60,7 @@ fn value_of<F: Flash, K: Backend, L: Ledger>(
     }
 }
 
-// Puts one setting into the other store.
+// Copies one setting into the other store.
 fn copy_one<F: Flash, K: Backend, L: Ledger>(
     from: &K,
     to: &mut K,
@@ -89,7 +89,7 @@ fn copy_one<F: Flash, K: Backend, L: Ledger>(
     to.set(flash, name, value.as_slice(), steps)
 }
 
-// Puts all settings into the other store, which has none, in the byte order of their names.
+// Copies all settings, in the byte order of their names, into the other store, which has none.
 #[tactic(auto, using(flash_map::proofs::Touches::then))]
 pub(crate) fn copy_all<F: Flash, K: Backend, L: Ledger>(
     from: &K,

@@ -1,5 +1,5 @@
-//! Several settings stores, a selector that records which of them is active, and the migration of
-//! all settings to the next one.
+//! Several settings stores, a selector that records which one is active, and the migration of all
+//! settings to the next one.
 #![tactic(auto)]
 
 mod areas;

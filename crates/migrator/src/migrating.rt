@@ -1,4 +1,4 @@
-// Moving all settings to another area.
+// The migration of all settings to another area.
 ghost use Rattle.std.specs.Prelude.{◌≡◌, ◌⊎◌, ◌+◌, ◌<◌, ◌∷◌, [], true, false, Some, None, IfOk, OnErr, OnOk, count_by, is_err};
 ghost use Rattle.std.specs.FinMap as finite;
 ghost use Rattle.flash_map.specs.Area.{sectors_of, geometry_of, AreApart};
@@ -27,8 +27,8 @@ use std::sync::ledger::Ledger;
 pub enum MigrateFault {
     /// There is no other store area.
     NoTarget,
-    /// A setting finds no room in the target: the bytes that it needs, and those that the settings
-    /// before it cost.
+    /// The target has no room for a setting. `need` is what that setting needs, `live` what those
+    /// before it cost, both in bytes.
     NoSpace { need: u64, live: u64 },
     /// A name would be one too many for the target.
     TooManyNames,
@@ -38,7 +38,7 @@ pub enum MigrateFault {
     NoMemory,
 }
 
-// Erases an area, which then reads as no settings.
+// Erases the sectors of an area that are not erased. It then reads as no settings.
 fn erase<F: Flash, K: Backend, L: Ledger>(
     flash: &mut F,
     area: &Area,
@@ -92,7 +92,7 @@ fn open_blank<F: Flash, K: Backend, L: Ledger>(
     }
 }
 
-// The store, where all settings were put into it, or why they were not.
+// The store, if all settings were put into it; else why not.
 fn filled_as<K: Backend>(to: K, copied: Result<(), SetFault>) -> Result<K, MigrateFault>
     ensures { result ≡ filled_as to copied }
 {
@@ -104,7 +104,7 @@ fn filled_as<K: Backend>(to: K, copied: Result<(), SetFault>) -> Result<K, Migra
     }
 }
 
-// The store and its index, where the selector names it.
+// The store and its index, if the selector names it now.
 fn moved_as<K: Backend>(
     to: K,
     index: usize,
@@ -119,12 +119,12 @@ fn moved_as<K: Backend>(
 }
 
 /// Erases an area, mounts a store on it, and puts all settings of another store into it, in the
-/// byte order of their names. The source stays as it is. Whatever the result, it spends at most so
-/// many units and erases as the area's geometry and the count of the settings say (`fill_units`).
+/// byte order of their names. The source stays as it is. Whatever the result, it spends at most the
+/// units and erases that `fill_units` gives for the area's geometry and the count of settings.
 ///
 /// # Errors
-/// `TooManyNames` and `NoSpace` where the area has no place for a setting beside those of lesser names, `NoMemory`, `PowerLost`:
-/// the area may then have any settings. Never `NoTarget`.
+/// `TooManyNames` and `NoSpace` if the area has no place for a setting beside those of lesser
+/// names; `NoMemory`; `PowerLost`. The area may then hold any settings. Never `NoTarget`.
 pub fn fill<F: Flash, K: Backend, L: Ledger>(
     alloc: Global,
     from: &K,
@@ -204,15 +204,16 @@ fn move_to<F: Flash, K: Backend, L: Ledger>(
     moved_as(to, index as usize, chosen)
 }
 
-/// Moves all settings to the next store area of the map, which is then the active one. It gives a
-/// store on that area, and the area's index. The source's sectors stay as they are, and whatever
-/// happens the active area reads as the same settings. Whatever the result, it spends at most the
-/// units and erases of filling that area once and of choosing it (`migrate_units`).
+/// Moves all settings to the next store area of the map, and makes that area the active one. It
+/// returns the store on that area, and the area's index. The sectors of the source stay as they
+/// are. Whatever happens, the active area reads as the same settings. It spends at most the units
+/// and erases of filling the target once and choosing it (`migrate_units`).
 ///
 /// # Errors
-/// `NoTarget` exactly where there is no other store area, and then nothing changed. `TooManyNames` and `NoSpace` where the
-/// target has no place for a setting beside those of lesser names, `NoMemory`: the source is still active. `PowerLost`: the
-/// source is active, or the target, which then has all settings; the selector is down, or takes calls as before.
+/// `NoTarget` exactly if there is no other store area; nothing changed then. `TooManyNames` and
+/// `NoSpace` if the target has no place for a setting beside those of lesser names, and `NoMemory`:
+/// the source is still active. `PowerLost`: the source is active, or the target, which then has all
+/// settings; the selector is down, or takes calls as before.
 pub fn migrate<F: Flash, K: Backend, L: Ledger>(
     alloc: Global,
     flash: &mut F,

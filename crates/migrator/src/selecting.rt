@@ -1,5 +1,5 @@
-// The selector: a ring of records, the last of which that names a store area says which one is
-// active.
+// The selector: a ring of records. The last record that names a store area says which
+// one is active.
 ghost use Rattle.std.specs.Prelude.{◌≡◌, ◌+◌, ◌<◌, ◌∷◌, [], List, true, false, is_err, None, Some, OnOk, OnErr};
 ghost use Rattle.std.specs.Option.{option_map, option_or, ForSome};
 ghost use Rattle.flash_map.specs.declared.area.Area.{Area as area_type};
@@ -20,7 +20,7 @@ use flash_map::{Area, FlashMap, MountFault};
 use flash_sim::{Flash, PowerLost, Steps};
 use std::sync::ledger::Ledger;
 
-/// A selector that was mounted.
+/// A mounted selector. It records which store area is active.
 #[derive(Debug, Drop)]
 pub struct Selector {
     pub(crate) ring: Ring,
@@ -38,7 +38,7 @@ fn named(map: &FlashMap, body: &[u8]) -> Option<u8>
     }
 }
 
-// A record, where it names a store area, or else the one before.
+// A record, if it names a store area; else the one before.
 fn newer(entry: RecordAt, index: Option<u8>, last: Option<(RecordAt, u8)>) -> Option<(RecordAt, u8)>
     ensures { result ≡ option_or (option_map (λ i. (entry, i)) index) last }
 {
@@ -84,7 +84,7 @@ fn last_record<F: Flash, L: Ledger>(
     }
 }
 
-// Copies the last record that names a store area, where it is one of the oldest sector.
+// Copies the last record that names a store area, if it stands in the oldest sector.
 fn copy_last<F: Flash, L: Ledger>(
     ring: &mut Ring,
     flash: &mut F,
@@ -119,7 +119,7 @@ fn copy_last<F: Flash, L: Ledger>(
     }
 }
 
-// Collects the oldest sector. The active area stays, also where power is lost.
+// Collects the oldest sector. The active area stays, even if power is lost.
 #[tactic(auto, using(flash_map::proofs::Touches::then))]
 fn collect<F: Flash, L: Ledger>(
     ring: &mut Ring,
@@ -159,7 +159,7 @@ fn choice_of(index: u8) -> [u8; 2]
     [index, 0xFF - index]
 }
 
-// Puts the record that names an area, where it fits.
+// Puts the record that names an area, if it fits.
 fn put_choice<F: Flash>(ring: &mut Ring, flash: &mut F, index: u8) -> Result<(), AppendFault>
     requires mounted { IsOpen (F.device flash.old) ring.old }
 
@@ -209,11 +209,12 @@ fn collect_and_put<F: Flash, L: Ledger>(
 }
 
 impl Selector {
-    /// Mounts the selector on its area. The records and the active area stay, also where power is
-    /// lost. It takes no memory.
+    /// Mounts the selector on its area. The records and the active area stay, even if power is
+    /// lost. It erases the sectors that are due (`erases_on`), and takes no memory.
     ///
     /// # Errors
-    /// `Damaged` exactly where the area's records are damaged, and then nothing was programmed; `PowerLost`. Never `NoMemory`.
+    /// `Damaged` exactly if the area shows damage; nothing was programmed then. `PowerLost`: the
+    /// active area is as before. Never `NoMemory`.
     pub fn mount<F: Flash, L: Ledger>(
         flash: &mut F,
         area: Area,
@@ -247,14 +248,15 @@ impl Selector {
         }
     }
 
-    /// Whether no call answered that power was lost.
+    /// Whether the selector is up. A call that answers `PowerLost` takes it down.
     pub fn is_up(&self) -> bool
         ensures { result ≡ is_up self.now.ring.stage }
     {
         self.ring.is_up()
     }
 
-    /// The store area that the last record names that names one; else the first of the map.
+    /// The index of the active store area: the last record that names a store area says it. If none
+    /// does, it is the first store area of the map.
     pub fn active<F: Flash, L: Ledger>(
         &self,
         flash: &F,
@@ -270,13 +272,15 @@ impl Selector {
         }
     }
 
-    /// Makes a store area the active one: one record more names it, also where it is active
-    /// already. Only where that does not fit and no sector but the scratch one is free, the oldest
-    /// sector is collected first; the last record that names a store area is kept.
+    /// Makes a store area the active one, by one record more that names it, even if it is active
+    /// already. If that record does not fit, and no sector but the scratch one is free, the
+    /// oldest sector is collected first; the last record that names a store area is kept.
+    /// Whatever the result, it spends at most as many units and erases as `choice_units` gives
+    /// for the area's geometry.
     ///
     /// # Errors
-    /// `PowerLost`. The active area is then as before, or the one that was chosen, and the selector is down. It spends at most so
-    /// many units and erases as the area's geometry says (`choice_units`), whatever the result.
+    /// `PowerLost`: the active area is as before, or the one that was chosen, and the
+    /// selector is down.
     pub fn choose<F: Flash, L: Ledger>(
         &mut self,
         flash: &mut F,

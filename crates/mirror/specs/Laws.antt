@@ -1,4 +1,4 @@
--- The laws on prices, and on areas all of whose bytes are FF.
+-- The laws on prices, and on areas whose bytes are all FF.
 use Rattle.std.specs.Prelude.{◌≡◌, ℕ, ◌+◌, ◌-◌, ◌*◌, ◌/◌, ◌<◌, ◌≤◌, ◌==◌, ◌&&◌, Bool, true, false, not, nat_le, List, [], ◌∷◌, length, replicate, None, count_by, refl}
 use Rattle.std.specs.FinMap.{contains_key, empty, entries, keys, len, len-entries}
 use Rattle.std.specs.List.{list_all}
@@ -67,7 +67,7 @@ alike-nvs : (geometry : Geometry) (settings : Map) (name : List ℕ)
 alike-nvs geometry settings name =
     all-alike (keys settings) ∙ length-map (entries settings) (λ e. e.0) ∙ sym (len-entries settings)
 
--- ---- the numbers of room are made of the prices
+-- ---- the `Room` of an area follows from its prices
 
 nvs-room : (geometry : Geometry) → IsRoomBy (room_as Nvs geometry) (prices_as Nvs geometry)
 nvs-room geometry = record {
@@ -108,7 +108,7 @@ never-chance area geometry sectors loss (inl role) =
 never-chance area geometry sectors loss (inr role) =
     ap (λ (r : Role). chance_as r area geometry sectors loss) role
 
--- ---- areas all of whose bytes are FF
+-- ---- areas whose bytes are all FF
 
 both : (b c : Bool) → (b && c) ≡ true → (b ≡ true) × (c ≡ true)
 both true c is = (refl, is)

@@ -20,7 +20,7 @@ use Rattle.mirror.specs.Room.{Prices, IsMirrored, FitsOn, IsTightOn, too_many_on
 
 -- ---- one side
 
--- A store is up on a lawful area of a role that may be mirrored.
+-- A store is up on a lawful area of a role that can be mirrored.
 pub record SideStands {S : Type 0} (mounted_on : S → Area) (stands : S → Geometry → List (List ℕ) → Type 0)
     (d : Device) (side : Side S) : Type 0 where
   pub lawful : IsLawfulFor d.banks side.area
@@ -33,7 +33,7 @@ pub record SameSide {S : Type 0} (old new : Side S) : Type 0 where
   pub area : new.area ≡ old.area
   pub place : new.place ≡ old.place
 
--- of two areas the one that comes first in the map, and the other one
+-- the area that comes first in the map, and the other one
 module _ {S : Type 0} (trusted other : Side S) where
   abbrev pub lower : Area
   lower = if nat_lt trusted.place other.place then trusted.area else other.area
@@ -41,15 +41,15 @@ module _ {S : Type 0} (trusted other : Side S) where
   abbrev pub higher : Area
   higher = if nat_lt trusted.place other.place then other.area else trusted.area
 
--- What a command makes of one side: it has these settings then. Where there is nothing to do, nothing is
--- programmed.
+-- A command was carried out on one side, which has these settings then. If there is nothing to do,
+-- nothing is programmed.
 pub record IsDone (contents : Area → Geometry → List (List ℕ) → Map) (old new : Device) (area : Area)
     (nothing : Type 0) (after : Map) : Type 0 where
   pub settings : on contents new area ≡ after
   pub idle : nothing → new ≡ old
   pub spends : ¬ nothing → SpendsSome old new
 
--- Power was lost in it: the side has the settings of before, or these.
+-- Power was lost in the command: the side has its old settings, or these.
 pub record IsCut (contents : Area → Geometry → List (List ℕ) → Map) (old new : Device) (area : Area)
     (nothing : Type 0) (after : Map) : Type 0 where
   pub some : ¬ nothing
@@ -67,8 +67,8 @@ SideCommand contents old new area nothing after (Err lost) = IsCut contents old 
 abbrev pub IsWithin : Map → Map → Type 0
 IsWithin settings others = (name value : List ℕ) → IsStored settings name value → IsStored others name value
 
--- The stores of two areas of one map are up, have no sector in common, hold the same settings, and these fit
--- both.
+-- The stores of two areas are up, share no sector, and hold the same settings, which
+-- fit both areas.
 pub record IsMirror {S : Type 0} (mounted_on : S → Area) (stands : S → Geometry → List (List ℕ) → Type 0)
     (contents : Area → Geometry → List (List ℕ) → Map)
     (room : Area → Geometry → Room) (prices : Area → Geometry → Prices) (d : Device) (trusted other : Side S)
@@ -83,10 +83,10 @@ pub record IsMirror {S : Type 0} (mounted_on : S → Area) (stands : S → Geome
   pub trusted_fits : FitsOn room prices d trusted.area (on contents d trusted.area)
   pub other_fits : FitsOn room prices d other.area (on contents d trusted.area)
 
--- ---- what a command leaves of both
+-- ---- what a command leaves in both areas
 
--- Power was lost in a command. Neither area is damaged. The trusted one has the settings of before or the new
--- ones, and the other one those of before, or the new ones where the trusted one has them.
+-- Power was lost in a command. Neither area is damaged. Each has the old settings or the new ones;
+-- the other one has the new ones only if the trusted one has.
 pub record IsCutBoth (damage : Area → Geometry → List (List ℕ) → Option Damaged)
     (contents : Area → Geometry → List (List ℕ) → Map) (new : Device) (trusted other : Area)
     (before after : Map) : Type 0 where
@@ -103,7 +103,7 @@ pub record FitBoth (room : Area → Geometry → Room) (prices : Area → Geomet
   pub trusted_fits : FitsOn room prices d trusted settings
   pub other_fits : FitsOn room prices d other settings
 
--- the settings of before a command fit both areas, and so do the new ones
+-- the settings before a command fit both areas, and so do the new ones
 abbrev pub FitEither : (Area → Geometry → Room) → (Area → Geometry → Prices) → Device → Area → Area → Map
     → Map → Type 0
 FitEither room prices d trusted other before after =
@@ -123,7 +123,8 @@ pub record IsFew (room : Area → Geometry → Room) (d : Device) (trusted other
   pub trusted_few : too_many_on room d trusted settings name ≡ false
   pub other_few : too_many_on room d other settings name ≡ false
 
--- and both have room for the value, or the name has it already
+-- the name is one too many in neither area, and both have room for the value, or the name
+-- has it already
 pub record HasRoom (room : Area → Geometry → Room) (d : Device) (trusted other : Area) (settings : Map)
     (name value : List ℕ) : Type 0 where
   pub few : IsFew room d trusted other settings name
@@ -137,14 +138,14 @@ pub record SetsBoth (contents : Area → Geometry → List (List ℕ) → Map) (
   pub same : IsStored (on contents old trusted) name value → new ≡ old
   pub spends : ¬ IsStored (on contents old trusted) name value → SpendsSome old new
 
--- one area has no room, by these numbers
+-- one area has no room; these are the need of the put and what all settings cost
 pub record IsFull (room : Area → Geometry → Room) (d : Device) (area : Area) (settings : Map)
     (name value : List ℕ) (need live : ℕ) : Type 0 where
   pub tight : IsTightOn room d area settings name value
   pub needs : need ≡ (room_on room d area).need settings name value
   pub lives : live ≡ (room_on room d area).cost settings
 
--- how looking for room in one area ends
+-- how the check for room in one area ends
 abbrev pub LooksForRoom : {T : Type 0} → (Area → Geometry → Room) → Device → Area → Map → List ℕ → List ℕ
     → Result T SetFault → Type 0
 LooksForRoom room d area settings name value (Ok x) = ¬ IsTightOn room d area settings name value
@@ -153,7 +154,8 @@ LooksForRoom room d area settings name value (Err (NoSpace need live)) =
 LooksForRoom room d area settings name value (Err TooManyNames) = ⊥
 LooksForRoom room d area settings name value (Err PowerLost) = ⊥
 
--- The lower of the two has no room, or the higher one alone, and the map has another value or none.
+-- The lower of the two areas has no room, or only the higher one has none; and the name has another
+-- value or none.
 pub record FindsNoRoom (room : Area → Geometry → Room) (d : Device) (low high : Area) (settings : Map)
     (name value : List ℕ) (need live : ℕ) : Type 0 where
   pub other : ¬ IsStored settings name value
@@ -161,7 +163,7 @@ pub record FindsNoRoom (room : Area → Geometry → Room) (d : Device) (low hig
       IsFull room d low settings name value need live
       ⊎ ((¬ IsTightOn room d low settings name value) × IsFull room d high settings name value need live)
 
--- how looking for room in both areas ends
+-- how the check for room in both areas ends
 abbrev pub LooksForBoth : {S T : Type 0} → (Area → Geometry → Room) → Device → Side S → Side S → Map → List ℕ
     → List ℕ → Result T SetFault → Type 0
 LooksForBoth room d trusted other settings name value (Ok x) =

@@ -1,4 +1,4 @@
--- What a mount of a mirror makes of its areas, and how it ends.
+-- How a mount of a mirror changes its areas, and how it ends.
 use Rattle.std.specs.Prelude.{◌≡◌, ◌⊎◌, ⊤, ℕ, ◌+◌, Bool, true, false, min, max, List, [], ◌∷◌, Option, Some, None, Result, Ok, Err, unwrap_or}
 use Rattle.std.specs.List.{slice_get}
 use Rattle.flash_sim.specs.Device.{Device}
@@ -37,7 +37,7 @@ mount_lost (Err (Unfit area)) = false
 mount_lost (Err PowerLost) = true
 mount_lost (Err NoMemory) = false
 
--- why the area at this place was not mounted, in the words of the mirror
+-- why the area at this place was not mounted, as the mirror's mount answers it
 abbrev pub fault_at : ℕ → MountFault → MirrorMount
 fault_at place (MountDamaged shown) = IsDamaged place shown
 fault_at place MountLost = PowerLost
@@ -53,14 +53,16 @@ worked_on selector trusted other = selector ∷ trusted ∷ other ∷ []
 
 -- ---- the selector
 
--- how naming an area ends: the selector names it, or the one of before
+-- how the naming of an area ends: the selector names it; or power was lost, and it names it or
+-- the one before
 abbrev pub NameEnds : {T E : Type 0} → List Area → Device → Device → Area → ℕ → Result T E → Type 0
 NameEnds areas old new selector index (Ok x) =
     (active_in areas new selector ≡ index) × (ring_damage new selector ≡ None)
 NameEnds areas old new selector index (Err lost) =
     OldOrChosen areas old new selector index × (ring_damage new selector ≡ None)
 
--- Power was lost while the selector was mounted or named the trusted area. The selector is not damaged.
+-- Power was lost while the selector was mounted or named the trusted area. The selector
+-- is not damaged.
 pub record IsCutTrust (areas : List Area) (old new : Device) : Type 0 where
   pub sound : selector_damage_on areas old ≡ None
   pub sound_still : selector_damage_on areas new ≡ None
@@ -77,7 +79,7 @@ pub record NamesTrusted (areas : List Area) (old new : Device) : Type 0 where
   pub active : active_on areas new ≡ trusted_on areas old
   pub rests : SelectorRests areas new
 
--- how mounting the selector ends, with the trusted area
+-- how the mount of the selector ends, with the place of the trusted area
 abbrev pub TrustEnds : List Area → Device → Device → Result ℕ MirrorMount → Type 0
 TrustEnds areas old new (Ok place) = (place ≡ trusted_on areas old) × NamesTrusted areas old new
 TrustEnds areas old new (Err (IsDamaged place shown)) =
@@ -101,7 +103,7 @@ SideEnds mounted_on stands damage old new area place (Err (Unfit other)) = ⊥
 SideEnds mounted_on stands damage old new area place (Err PowerLost) = on damage old area ≡ None
 SideEnds mounted_on stands damage old new area place (Err NoMemory) = new ≡ old
 
--- how looking whether settings fit one area ends
+-- how the check whether settings fit one area ends
 abbrev pub FitEnds : {T : Type 0} → (Area → Geometry → Room) → (Area → Geometry → Prices) → Device → Area → ℕ
     → Map → Result T MirrorMount → Type 0
 FitEnds room prices d area place settings (Ok x) = FitsOn room prices d area settings
@@ -117,7 +119,8 @@ abbrev pub FitsAt : (Area → Geometry → Room) → (Area → Geometry → Pric
 FitsAt room prices areas d place settings =
     (area : Area) → slice_get areas place ≡ Some area → FitsOn room prices d area settings
 
--- Settings do not fit the area at the lower of two places, or not the one at the higher place alone.
+-- Settings do not fit the area at the lower of two places; or they fit that one, and not the one at
+-- the higher place.
 abbrev pub UnfitAt : (Area → Geometry → Room) → (Area → Geometry → Prices) → List Area → Device → ℕ → ℕ → Map
     → ℕ → Type 0
 UnfitAt room prices areas d trusted other settings place =
@@ -126,7 +129,7 @@ UnfitAt room prices areas d trusted other settings place =
     ((place ≡ max trusted other) × FitsAt room prices areas d (min trusted other) settings
     × ¬ FitsAt room prices areas d place settings)
 
--- how looking whether settings fit two areas ends
+-- how the check whether settings fit two areas ends
 abbrev pub BothFitEnds : {T : Type 0} → (Area → Geometry → Room) → (Area → Geometry → Prices) → List Area
     → Device → ℕ → ℕ → Map → Result T MirrorMount → Type 0
 BothFitEnds room prices areas d trusted other settings (Ok x) =
@@ -137,13 +140,13 @@ BothFitEnds room prices areas d trusted other settings (Err (Unfit place)) =
 BothFitEnds room prices areas d trusted other settings (Err PowerLost) = ⊥
 BothFitEnds room prices areas d trusted other settings (Err NoMemory) = ⊤
 
--- a store that is kept where this holds, and else is not
+-- a store that is kept exactly if this holds
 abbrev pub IsKeptIf : {S : Type 0} → Option S → S → Type 0 → Type 0
 IsKeptIf (Some kept) store holds = (kept ≡ store) × holds
 IsKeptIf None store holds = ¬ holds
 
--- An area that may be made a copy of the trusted store: it shares no sector with that store's area, is of an
--- image of the same version, and has room for the map.
+-- An area that can become a copy of the trusted store: it shares no sector with that store's area,
+-- has the same version, and has room for the map.
 pub record MayCopyTrusted {S : Type 0} (serves : Area → Geometry → Type 0) (mounted_on : S → Area)
     (stands : S → Geometry → List (List ℕ) → Type 0) (contents : Area → Geometry → List (List ℕ) → Map)
     (room : Area → Geometry → Room) (prices : Area → Geometry → Prices) (d : Device) (trusted : S)
@@ -164,8 +167,8 @@ pub record HoldsMap (damage : Area → Geometry → List (List ℕ) → Option D
   pub sound : on damage d area ≡ None
   pub reads : on contents d area ≡ settings
 
--- How the mount of the other area ends: it holds the map of the trusted one; or there is no store, and then
--- it was damaged, or held another map.
+-- How the mount of the other area ends: it holds the map of the trusted one; or there is no store,
+-- because it was damaged or held another map.
 abbrev pub HoldEnds : {S : Type 0} → (S → Area) → (S → Geometry → List (List ℕ) → Type 0)
     → (Area → Geometry → List (List ℕ) → Option Damaged) → (Area → Geometry → List (List ℕ) → Map)
     → Device → Device → Area → Map → Result (Option S) MirrorMount → Type 0
@@ -187,7 +190,7 @@ IsNotRefused (Err TooManyNames) = ⊥
 IsNotRefused (Err MoveLost) = ⊤
 IsNotRefused (Err MoveNoMemory) = ⊤
 
--- a repair in the words of the mirror
+-- the result of a repair, as the mirror's mount answers it
 abbrev pub RepairsAs : {S : Type 0} → Result S MigrateFault → Result S MirrorMount → Type 0
 RepairsAs (Ok store) result = result ≡ Ok store
 RepairsAs (Err NoTarget) result = ⊥
@@ -196,7 +199,7 @@ RepairsAs (Err TooManyNames) result = ⊥
 RepairsAs (Err MoveLost) result = result ≡ Err PowerLost
 RepairsAs (Err MoveNoMemory) result = result ≡ Err NoMemory
 
--- how opening the other area ends: it holds the map of the trusted one
+-- how the opening of the other area ends: it holds the map of the trusted one
 abbrev pub OtherEnds : {S : Type 0} → (S → Area) → (S → Geometry → List (List ℕ) → Type 0) → Device → Area
     → Type 0 → Result S MirrorMount → Type 0
 OtherEnds mounted_on stands new area same (Ok store) =
@@ -234,8 +237,8 @@ module _ (damage : Area → Geometry → List (List ℕ) → Option Damaged)
     pub untouched : sectors_of new other ≡ sectors_of old other
     pub unfits : UnfitAt room prices areas old place (other_place areas place) (on contents old trusted) unfit
 
-  -- Power was lost in the trusted area, while it was mounted: the other one is untouched. Or it was lost
-  -- later, in the other one, and then the map fits both.
+  -- Power was lost in the trusted area while it was mounted, and the other one is untouched; or it
+  -- was lost later, in the other one, and the map fits both.
   abbrev pub StopsIn : (Area → Geometry → Room) → (Area → Geometry → Prices) → List Area → Device → Device
       → Area → Area → ℕ → Type 0
   StopsIn room prices areas old new trusted other place =
@@ -244,9 +247,8 @@ module _ (damage : Area → Geometry → List (List ℕ) → Option Damaged)
       (FitsAt room prices areas old place (on contents old trusted)
       × FitsAt room prices areas old (other_place areas place) (on contents old trusted))
 
-  -- What a mount of both areas leaves of what they hold, however it ends. The trusted one keeps its settings,
-  -- and is all FF afterwards only where it was so before; and where the other one holds the same map, it goes
-  -- on holding it.
+  -- What a mount of both areas keeps, however it ends. The trusted one keeps its settings, and is
+  -- all FF afterwards only if it was so before. If the other one holds the same map, it still does.
   pub record SparesBoth (old new : Device) (trusted other : Area) : Type 0 where
     pub written : StaysWritten old new trusted
     pub kept : on damage old trusted ≡ None → KeepsArea old new trusted
@@ -254,7 +256,7 @@ module _ (damage : Area → Geometry → List (List ℕ) → Option Damaged)
         on damage old trusted ≡ None → HoldsMap damage contents old other (on contents old trusted)
         → HoldsMap damage contents new other (on contents old trusted)
 
--- how mounting both areas ends, where the one at this place is trusted
+-- how the mount of both areas ends; the one at this place is trusted
 abbrev pub BothEnds : {S : Type 0} → (S → Area) → (S → Geometry → List (List ℕ) → Type 0)
     → (Area → Geometry → List (List ℕ) → Option Damaged) → (Area → Geometry → List (List ℕ) → Map)
     → (Area → Geometry → Room) → (Area → Geometry → Prices) → List Area → Device → Device → Area → Area → ℕ
@@ -289,8 +291,8 @@ module _ (damage : Area → Geometry → List (List ℕ) → Option Damaged)
 
   module _ {S : Type 0} (mounted_on : S → Area) (stands : S → Geometry → List (List ℕ) → Type 0)
       (room : Area → Geometry → Room) (prices : Area → Geometry → Prices) where
-    -- Both stores are up and hold the map of the trusted area. Neither that area nor the selector was
-    -- damaged.
+    -- Both stores are up and hold the map of the trusted area. Neither that area nor the
+    -- selector was damaged.
     pub record IsMounted (areas : List Area) (old new : Device) (mirror : Mirror S) : Type 0 where
       pub undamaged : damage_shown damage areas old ≡ None
       pub placed : ArePlaced areas old mirror.trusted.area mirror.other.area
@@ -300,8 +302,8 @@ module _ (damage : Area → Geometry → List (List ℕ) → Option Damaged)
       pub rests : SelectorRests areas new
       pub mirrors : IsMirror mounted_on stands contents room prices new mirror.trusted mirror.other
 
-  -- The map of the trusted area does not fit both areas: not the one at the lower place, or not the one at
-  -- the higher place alone. The other area is untouched.
+  -- The map of the trusted area does not fit the area at the lower place; or it fits that one, and
+  -- not the one at the higher place. The other area is untouched.
   pub record IsUnfit (room : Area → Geometry → Room) (prices : Area → Geometry → Prices) (areas : List Area)
       (old new : Device) (unfit : ℕ) : Type 0 where
     pub undamaged : damage_shown damage areas old ≡ None
@@ -313,8 +315,9 @@ module _ (damage : Area → Geometry → List (List ℕ) → Option Damaged)
     pub unfits : UnfitAt room prices areas old (trusted_on areas old)
         (other_place areas (trusted_on areas old)) (on contents old trusted) unfit
 
-  -- The selector or the trusted area is damaged. No byte of an area for settings changed, and the map trusts
-  -- the same area and shows the same damage; the selector names the area that it named, or the trusted one.
+  -- The selector or the trusted area is damaged. No byte of a store area changed. The map
+  -- trusts the same area and shows the same damage. The selector names the area that it named,
+  -- or the trusted one.
   pub record FindsDamage (areas : List Area) (selector : Area) (old new : Device) (place : ℕ)
       (shown : Damaged) : Type 0 where
     pub is_shown : damage_shown damage areas old ≡ Some (place, shown)
@@ -323,8 +326,8 @@ module _ (damage : Area → Geometry → List (List ℕ) → Option Damaged)
     pub active : (active_on areas new ≡ active_on areas old) ⊎ (active_on areas new ≡ trusted_on areas old)
     pub touches : Touches (selector ∷ []) old new false
 
-  -- Power was lost behind the selector, in the trusted area, which was not damaged and keeps its settings.
-  -- The other one is untouched.
+  -- Power was lost after the selector's mount, in the trusted area, which was undamaged and keeps
+  -- its settings. The other one is untouched.
   pub record StopsInTrusted (areas : List Area) (selector : Area) (old new : Device) : Type 0 where
     pub trusted : Area
     pub there : slice_get areas (trusted_on areas old) ≡ Some trusted
@@ -332,7 +335,8 @@ module _ (damage : Area → Geometry → List (List ℕ) → Option Damaged)
     pub kept : KeepsTrusted areas old new trusted
     pub touches : Touches (selector ∷ trusted ∷ []) old new true
 
-  -- Or behind both of these, in the other area, which was mounted or repaired: the map fits both.
+  -- Power was lost later still, in the other area, while it was mounted or repaired: the
+  -- map fits both.
   pub record StopsInOther (room : Area → Geometry → Room) (prices : Area → Geometry → Prices)
       (areas : List Area) (old new : Device) : Type 0 where
     pub trusted : Area
@@ -343,8 +347,8 @@ module _ (damage : Area → Geometry → List (List ℕ) → Option Damaged)
     pub other_fits : FitsAt room prices areas old (other_place areas (trusted_on areas old))
         (on contents old trusted)
 
-  -- Power was lost: while the selector was mounted or named the trusted area; or later, in the trusted area;
-  -- or later still, in the other one.
+  -- Power was lost: while the selector was mounted or named the trusted area; or later, in the
+  -- trusted area; or later still, in the other one.
   pub record IsCutMount (room : Area → Geometry → Room) (prices : Area → Geometry → Prices)
       (areas : List Area) (selector : Area) (old new : Device) : Type 0 where
     pub trust : IsCutTrust areas old new
@@ -353,7 +357,7 @@ module _ (damage : Area → Geometry → List (List ℕ) → Option Damaged)
         ⊎ StopsInTrusted areas selector old new
         ⊎ StopsInOther room prices areas old new
 
-  -- There was not enough memory. Where the trusted area was not damaged, it keeps its settings.
+  -- There was not enough memory. If the trusted area was undamaged, it keeps its settings.
   pub record LacksMemory (areas : List Area) (old new : Device) : Type 0 where
     pub sound : selector_damage_on areas old ≡ None
     pub kept : (trusted : Area) → slice_get areas (trusted_on areas old) ≡ Some trusted
@@ -376,7 +380,7 @@ MirrorMounts mounted_on stands damage contents room prices areas selector old ne
 MirrorMounts mounted_on stands damage contents room prices areas selector old new (Err NoMemory) =
     LacksMemory damage contents areas old new
 
--- A mount has nothing to do: neither in the selector, which names the trusted area, nor in the two areas,
+-- A mount has nothing to do in the selector, which names the trusted area, nor in the two areas,
 -- which hold one map.
 pub record IsAtRest (damage : Area → Geometry → List (List ℕ) → Option Damaged)
     (contents : Area → Geometry → List (List ℕ) → Map) (rests : Area → Geometry → List (List ℕ) → Type 0)
@@ -392,11 +396,11 @@ pub record IsAtRest (damage : Area → Geometry → List (List ℕ) → Option D
 
 -- ---- what it spends
 
--- the most units and erases of mounting the other area and repairing it, with so many names
+-- the most units and erases of the mount and the repair of the other area, with so many names
 abbrev pub other_units : Geometry → ℕ → ℕ
 other_units geometry names = mount_units geometry + fill_units geometry names
 
--- and of mounting both areas, where the map has so many names
+-- the most units and erases of the mount of both areas, if the map has so many names
 abbrev pub both_units : Device → Area → Area → ℕ → ℕ
 both_units d trusted other names =
     mount_units (geometry_of d trusted) + other_units (geometry_of d other) names

@@ -1,4 +1,4 @@
--- What settings cost in an area, by its role. Nothing is mirrored in areas of the other roles.
+-- What settings cost in an area, by its role. Areas of the other roles cannot be mirrored.
 use Rattle.flash_map.specs.declared.area.Area.{Area}
 use Rattle.flash_map.specs.declared.area.Geometry.{Geometry}
 use Rattle.flash_map.specs.declared.area.Role.{Role}
@@ -11,7 +11,7 @@ use Rattle.backend_zms.specs.declared.hash.TheConstants.{GROUP_SIZE}
 use Rattle.mirror.specs.Room.{Prices}
 use Rattle.mirror.specs.declared.store.TheConstants.{NVS_NAMES}
 
--- of NVS: all names are of one class, and so an area has so many at most
+-- NVS: all names have one class, so `most` bounds the names of an area
 abbrev pub of_nvs : Geometry → Prices
 of_nvs geometry = record {
   price = nvs_price geometry;
@@ -21,7 +21,7 @@ of_nvs geometry = record {
   most = NVS_NAMES;
 }
 
--- of ZMS: names are of the groups of their hashes, and there is no count
+-- ZMS: the class of a name is the group of its hash, and there is no count
 abbrev pub of_zms : Geometry → Prices
 of_zms geometry = record {
   price = zms_price geometry;

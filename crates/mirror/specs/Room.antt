@@ -1,4 +1,4 @@
--- How much a map may cost so that no put of it ever finds an area full.
+-- How much a map may cost, so that no put of its settings finds an area full.
 use Rattle.std.specs.Prelude.{◌≡◌, ◌⊎◌, ℕ, ◌-◌, ◌*◌, ◌+◌, ◌<◌, ◌≤◌, ◌==◌, ◌&&◌, Bool, true, not, nat_le, List, count_by, replicate}
 use Rattle.std.specs.List.{list_all}
 use Rattle.std.specs.FinMap.{empty, contains_key, keys}
@@ -13,9 +13,9 @@ use Rattle.backend_api.specs.Room.{Room}
 use Rattle.named_items.specs.PairRoom.{pair_room}
 use Rattle.migrator.specs.Migrating.{room_on}
 
--- What the numbers of room of an area are made of, where a name and its value are an item each.
+-- The prices from which the `Room` of an area follows, if a name and its value are an item each.
 pub record Prices : Type 0 where
-  -- what bytes of this length cost with their entry
+  -- what an item of this length costs with its entry, in bytes
   pub price : ℕ → ℕ
   -- what a count of names costs
   pub counted : ℕ
@@ -25,7 +25,7 @@ pub record Prices : Type 0 where
   pub class : List ℕ → ℕ
   pub most : ℕ
 
--- how many names are of the same class
+-- how many names have the class of this one
 abbrev pub alike : Prices → Map → List ℕ → ℕ
 alike p settings name = count_by (λ other. p.class other == p.class name) (keys settings)
 
@@ -33,11 +33,11 @@ alike p settings name = count_by (λ other. p.class other == p.class name) (keys
 abbrev pub too_many : Prices → Map → List ℕ → Bool
 too_many p settings name = not (contains_key settings name) && nat_le p.most (alike p settings name)
 
--- the numbers of room that they make
+-- the `Room` that follows from the prices
 abbrev pub room_by : Prices → Room
 room_by p = pair_room p.price p.cap p.counted (too_many p)
 
--- The numbers are made of these prices, and longer bytes cost no less.
+-- The `Room` follows from these prices, and longer items cost no less.
 pub record IsRoomBy (room : Room) (p : Prices) : Type 0 where
   pub cap : room.cap ≡ p.cap
   pub cost : (settings : Map) → room.cost settings ≡ (room_by p).cost settings
@@ -48,16 +48,17 @@ pub record IsRoomBy (room : Room) (p : Prices) : Type 0 where
   pub too_many : (settings : Map) (name : List ℕ) → room.too_many settings name ≡ too_many p settings name
   pub rises : (short long : ℕ) → short ≤ long → p.price short ≤ p.price long
 
--- areas of these roles may be mirrored
+-- areas of these roles can be mirrored
 abbrev pub IsMirrored : Area → Type 0
 IsMirrored area = (area.role ≡ Nvs) ⊎ (area.role ≡ Zms)
 
--- the greatest cost of one write: of a new name as long as names are, with a value as long as the area allows
+-- the greatest cost of one write: a new name of the greatest length, with a value as long as
+-- the area allows
 abbrev pub greatest : Room → ℕ → ℕ
 greatest room limit = room.largest empty (replicate NAME_LIMIT 0x6E) (replicate limit 0)
 
--- What a map may cost in an area of so many sectors. One of the sectors is kept free, and each of the others
--- has room for it as long as it is no fuller than this.
+-- The most that a map may cost in an area of so many sectors. One of the sectors is kept free, and
+-- each of the others has room for one write more as long as it is no fuller than this.
 abbrev pub mirror_room : Room → ℕ → ℕ → ℕ
 mirror_room room sectors limit = (sectors - 1) * (room.cap - greatest room limit)
 
@@ -65,11 +66,11 @@ mirror_room room sectors limit = (sectors - 1) * (room.cap - greatest room limit
 abbrev pub HasFewNames : Prices → Map → Type 0
 HasFewNames p settings = (name : List ℕ) → contains_key settings name ≡ true → alike p settings name ≤ p.most
 
--- of a list of classes, none stands there more often than that
+-- in a list of classes, each stands at most `most` times
 abbrev pub have_few : ℕ → List ℕ → Bool
 have_few most classes = list_all (λ class. nat_le (count_by (λ other. other == class) classes) most) classes
 
--- the map may stand in an area of so many sectors
+-- the map fits an area of so many sectors
 pub record Fits (room : Room) (p : Prices) (sectors limit : ℕ) (settings : Map) : Type 0 where
   pub cost : room.cost settings ≤ mirror_room room sectors limit
   pub few : HasFewNames p settings

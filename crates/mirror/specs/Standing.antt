@@ -1,4 +1,4 @@
--- When the store of a mirror stands on its area: as the backend under it does.
+-- When the store of a mirror stands on its area: when the backend under it does.
 use Rattle.std.specs.Prelude.{◌≡◌, ℕ, Bool, true, List, None}
 use Rattle.flash_map.specs.declared.area.Area.{Area}
 use Rattle.flash_map.specs.declared.area.Geometry.{Geometry}
@@ -10,11 +10,11 @@ use Rattle.mirror.specs.declared.store.MirrorStore.{MirrorStore}
 abbrev pub area_of : MirrorStore → Area
 area_of state = backend.area_of state.backend
 
--- it is up, and knows these sectors of its area as they are
+-- it is up, and what it keeps in memory is true of these sectors of its area
 abbrev pub Stands : MirrorStore → Geometry → List (List ℕ) → Type 0
 Stands state geometry sectors = backend.Stands state.backend geometry sectors
 
--- no call answered that power was lost
+-- whether it is up: a call that answers `PowerLost` takes it down
 abbrev pub is_up : MirrorStore → Bool
 is_up state = backend.is_up state.backend
 

@@ -1,4 +1,4 @@
--- Which of two store areas is trusted, and the map that an image reads as by it.
+-- Which of two store areas is trusted, and the map that an image then reads as.
 use Rattle.std.specs.Prelude.{◌≡◌, ◌≢◌, ◌⊎◌, ℕ, ◌&&◌, Bool, true, false, not, List, length, find, Option, Some, None, unwrap_or, if◌then◌else◌}
 use Rattle.std.specs.List.{slice_get, range_with_len}
 use Rattle.std.specs.Option.{option_and_then, option_map, option_map_or, option_or}
@@ -17,14 +17,14 @@ use Rattle.mirror.specs.Room.{IsMirrored}
 abbrev pub is_blank_at : List Area → Device → ℕ → Bool
 is_blank_at areas d place = option_map_or (is_blank_on d) (slice_get areas place) false
 
--- the other area, where this one is all FF and that one is not
+-- the other area, if this one is all FF and the other is not; else this one
 abbrev pub trusted_with : List Area → Device → ℕ → Option ℕ → ℕ
 trusted_with areas d active None = active
 trusted_with areas d active (Some other) =
     if is_blank_at areas d active && not (is_blank_at areas d other) then other else active
 
--- The trusted area of a map: the active one, or the other where the active one is all FF and the other is
--- not.
+-- The trusted area of a map: the active one, or the other one if the active one is all FF and
+-- the other is not.
 abbrev pub trusted_on : List Area → Device → ℕ
 trusted_on areas d = trusted_with areas d (active_on areas d) (target areas (active_on areas d))
 
@@ -37,8 +37,8 @@ selector_place areas = unwrap_or (selector_found areas) 0
 
 -- ---- the map
 
--- The map has a selector and just two store areas, each of a role that may be mirrored, on which the backend
--- works.
+-- The map has a selector and exactly two store areas. Both have a role that can be mirrored, and
+-- the backend serves them.
 pub record IsMirrorMap (serves : Area → Geometry → Type 0) (areas : List Area) (d : Device) : Type 0 where
   pub lawful : IsLawfulMap d.banks areas
   pub served : (place : ℕ) (area : Area) → slice_get areas place ≡ Some area → is_store area ≡ true
@@ -59,7 +59,7 @@ module _ (damage : Area → Geometry → List (List ℕ) → Option Damaged) whe
   abbrev pub trusted_damage : List Area → Device → Option Damaged
   trusted_damage areas d = option_and_then (on damage d) (slice_get areas (trusted_on areas d))
 
-  -- the damage that the map shows, and where: the selector's, or else that of the trusted area
+  -- the damage that the map shows, with its place: the selector's, or else the trusted area's
   abbrev pub damage_shown : List Area → Device → Option (ℕ × Damaged)
   damage_shown areas d =
       option_or (option_map (λ shown. (selector_place areas, shown)) (selector_damage_on areas d))
@@ -74,7 +74,7 @@ module _ (damage : Area → Geometry → List (List ℕ) → Option Damaged) whe
     pub undamaged : on damage d area ≡ None
     pub reads : on contents d area ≡ settings
 
-  -- Both areas read as the map, as they do at rest.
+  -- Both areas read as this map, as they do at rest.
   pub record BothRead (contents : Area → Geometry → List (List ℕ) → Map) (areas : List Area) (d : Device)
       (settings : Map) : Type 0 where
     pub sound : selector_damage_on areas d ≡ None

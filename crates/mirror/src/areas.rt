@@ -9,7 +9,7 @@ use flash_sim::{Flash, Steps};
 use migrator::is_store_at;
 use std::sync::ledger::Ledger;
 
-// The place of the selector's area, where there is one.
+// The place of the selector's area, if there is one.
 fn selector_found(map: &FlashMap) -> Option<usize>
     ensures { result ≡ selector_found map.now }
 {
@@ -17,14 +17,14 @@ fn selector_found(map: &FlashMap) -> Option<usize>
     (0..count).find(|place| !is_store_at(map, *place))
 }
 
-// The place of the selector's area; 0 where there is none.
+// The place of the selector's area; 0 if there is none.
 pub(crate) fn selector_place(map: &FlashMap) -> usize
     ensures { result ≡ selector_place map.now }
 {
     selector_found(map).unwrap_or(0)
 }
 
-// Whether each byte of the area is FF.
+// Whether the bytes of the area are all FF.
 pub(crate) fn is_blank<F: Flash, L: Ledger>(flash: &F, area: &Area, steps: &mut Steps<L>) -> bool
     requires { IsLawfulArea (F.device flash.now).banks area.now }
     ensures { result ≡ is_blank_on (F.device flash.now) area.now }

@@ -1,4 +1,4 @@
-// Whether two stores have one map.
+// Comparing the maps of two stores.
 ghost use Rattle.std.specs.Prelude.{◌≡◌, ℕ, List, true, false, option_map};
 ghost use Rattle.std.specs.Bool.{MatchBool};
 ghost use Rattle.std.specs.FinMap as finite;
@@ -14,7 +14,7 @@ use flash_sim::{Flash, Steps};
 use setting_name::Name;
 use std::sync::ledger::Ledger;
 
-// Whether the name has the same value in both, where the first has one.
+// Whether the name has the same value in both stores, if it has one in the first.
 fn has_same<K: Priced, F: Flash, L: Ledger>(
     store: &K,
     other: &K,
@@ -39,7 +39,7 @@ fn has_same<K: Priced, F: Flash, L: Ledger>(
     }
 }
 
-// Whether each name of the first has the same value in the other.
+// Whether each name of the first store has the same value in the other.
 fn is_within<K: Priced, F: Flash, L: Ledger>(
     store: &K,
     other: &K,
@@ -65,7 +65,7 @@ fn is_within<K: Priced, F: Flash, L: Ledger>(
     true
 }
 
-// Whether both have one map.
+// Whether both stores have one map.
 pub(crate) fn hold_one_map<K: Priced, F: Flash, L: Ledger>(
     store: &K,
     other: &K,

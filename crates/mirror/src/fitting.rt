@@ -21,7 +21,7 @@ use setting_name::Name;
 use std::alloc::Global;
 use std::sync::ledger::Ledger;
 
-// What a map may cost in an area.
+// The most that a map may cost in an area, in bytes.
 pub(crate) fn mirror_room<K: Priced, F: Flash>(flash: &F, area: &Area) -> u64
     requires area { IsLawfulFor (F.device flash.now).banks area.now }
     requires role { IsMirrored area.now }
@@ -34,7 +34,7 @@ pub(crate) fn mirror_room<K: Priced, F: Flash>(flash: &F, area: &Area) -> u64
     u64::from(area.sectors - 1) * K::cap(flash, area).saturating_sub(greatest)
 }
 
-// How many of these are the same.
+// How many of the classes equal this one.
 fn count_same(classes: &[u32], class: u32) -> u64
     ensures { result ≡ count_by (λ other. other == class) classes.now }
 {
@@ -45,7 +45,7 @@ fn count_same(classes: &[u32], class: u32) -> u64
     count
 }
 
-// Whether no class stands there more often than so many times.
+// Whether each class stands there at most `most` times.
 fn are_few(classes: &[u32], most: u32) -> bool
     ensures { result ≡ have_few most classes.now }
 {
@@ -139,7 +139,7 @@ pub(crate) fn is_too_many<K: Priced, F: Flash, L: Ledger>(
     alike(store, flash, area, name, steps) >= u64::from(K::most(flash, area))
 }
 
-// What a put needs in an area.
+// What a put needs in an area, in bytes.
 fn need<K: Priced, F: Flash, L: Ledger>(
     store: &K,
     flash: &F,
@@ -168,7 +168,7 @@ fn need<K: Priced, F: Flash, L: Ledger>(
     }
 }
 
-// Looks whether the map of a store and a put would cost no more than an area may have.
+// Checks whether the map of a store, with this put, costs at most what an area may have.
 pub(crate) fn look_for_room<K: Priced, F: Flash, L: Ledger>(
     store: &K,
     flash: &F,

@@ -1,5 +1,5 @@
 //! A mirror: two areas of NVS or ZMS that hold the same settings. A command goes to the trusted
-//! area first and then to the other, and a mount repairs the other after a power loss.
+//! area first and then to the other one. A mount repairs the other one after a power loss.
 #![tactic(auto)]
 
 mod areas;

@@ -21,7 +21,7 @@ use flash_sim::{Flash, PowerLost, Steps};
 use setting_name::Name;
 use std::sync::ledger::Ledger;
 
-/// Two areas that hold one map of settings.
+/// A mirror: two areas that hold one map of settings. Reads go to the trusted area.
 #[derive(Drop)]
 pub struct Mirror<K: Backend> {
     pub(crate) trusted: Side<K>,
@@ -36,7 +36,7 @@ impl<K: Priced> Mirror<K> {
         self.trusted.place < self.other.place
     }
 
-    // Of the two areas the one that comes first in the map.
+    // The area that comes first in the map.
     fn lower(&self) -> &Area
         ensures { result.now ≡ lower self.now.trusted self.now.other }
     {
@@ -47,7 +47,7 @@ impl<K: Priced> Mirror<K> {
         }
     }
 
-    // And the other one.
+    // The area that comes second in the map.
     fn higher(&self) -> &Area
         ensures { result.now ≡ higher self.now.trusted self.now.other }
     {
@@ -74,7 +74,7 @@ impl<K: Priced> Mirror<K> {
             || is_too_many(store, flash, &self.other.area, name, steps)
     }
 
-    // Looks whether a put is refused, before anything is programmed.
+    // Checks whether a put is refused, before anything is programmed.
     fn look_for_room<F: Flash, L: Ledger>(
         &self,
         flash: &F,
@@ -151,22 +151,21 @@ impl<K: Priced> Mirror<K> {
         }
     }
 
-    /// The place in the map of the trusted area.
+    /// The place of the trusted area in the map.
     pub fn trusted(&self) -> usize
         ensures { result ≡ self.now.trusted.place }
     {
         self.trusted.place
     }
 
-    /// Whether no call answered that power was lost.
+    /// Whether the mirror is up. A call that answers `PowerLost` takes it down.
     pub fn is_up(&self) -> bool
         ensures { result ≡ K.runs self.now.trusted.store && K.runs self.now.other.store }
     {
         self.trusted.store.is_up() && self.other.store.is_up()
     }
 
-    /// The value of a name, as long as the areas allow; none where it has no value. It is read from
-    /// the trusted area.
+    /// The value of a name, read from the trusted area; `None` if it has none.
     pub fn get<'a, F: Flash, L: Ledger>(
         &self,
         flash: &'a F,
@@ -182,7 +181,8 @@ impl<K: Priced> Mirror<K> {
         self.trusted.store.get(flash, name, steps)
     }
 
-    /// The least name in byte order that is greater than `after`, or the least of all.
+    /// The least name in byte order that is greater than `after`, or the least of all if `after` is
+    /// `None`; `None` if there is none.
     pub fn next_name<F: Flash, L: Ledger>(
         &self,
         flash: &F,
@@ -199,15 +199,18 @@ impl<K: Priced> Mirror<K> {
     }
 
     /// Gives a name a value that is not empty and no longer than the areas allow, in the trusted
-    /// area and then in the other one. An equal value programs nothing. It takes no memory, and
-    /// spends at most the units and erases of one command in each area.
+    /// area first and then in the other one. If the name has this value already, nothing is
+    /// programmed. It takes no memory, and spends at most the units and erases of one command in
+    /// each area (`command_units`).
     ///
     /// # Errors
-    /// `TooManyNames` exactly where the name would be one too many in one of the areas. `NoSpace` exactly where it would not, the
-    /// map does not hold just that value under the name, and the map and the put would cost more than an area may have
-    /// (`mirror_room`): with the numbers of the area that comes first in the map, if it is that one. Both are looked at before
-    /// anything is programmed. `PowerLost`: the mirror is down; the trusted area is as before or has the value, and so is the
-    /// other one, which has the value only where the trusted one has it. The map fits both areas, with the value too.
+    /// `TooManyNames` exactly if the name would be one too many in one of the areas. `NoSpace`
+    /// exactly if it would not, the name has another value or none, and the map with this put would
+    /// cost more than one of the areas may have (`mirror_room`). It gives the figures of the area
+    /// that comes first in the map, if that one is full, else those of the other one. Both checks
+    /// come before anything is programmed. `PowerLost`: the mirror is down. Each area is as before
+    /// or has the value; the other one has it only if the trusted one does. The map fits both
+    /// areas, with the value and without it.
     pub fn set<F: Flash, L: Ledger>(
         &mut self,
         flash: &mut F,
@@ -245,13 +248,14 @@ impl<K: Priced> Mirror<K> {
         }
     }
 
-    /// Takes a name's value away, in the trusted area and then in the other one. An absent name
-    /// programs nothing. It never answers for room, takes no memory, and spends at most the units
-    /// and erases of one command in each area.
+    /// Deletes a name, in the trusted area first and then in the other one. If the name has no
+    /// value, nothing is programmed. It is never refused for want of room, takes no memory, and
+    /// spends at most the units and erases of one command in each area (`command_units`).
     ///
     /// # Errors
-    /// `PowerLost`: the mirror is down; the trusted area is as before or without the name, and so is the other one, which is
-    /// without it only where the trusted one is. The map fits both areas, without the name too.
+    /// `PowerLost`: the mirror is down. Each area is as before or without the name; the other
+    /// one is without it only if the trusted one is. The map fits both areas, with the name
+    /// and without it.
     pub fn delete<F: Flash, L: Ledger>(
         &mut self,
         flash: &mut F,

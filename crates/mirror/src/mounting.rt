@@ -1,4 +1,4 @@
-// Mounting a mirror, and repairing the area that is not trusted.
+// The mount of a mirror, and the repair of the area that is not trusted.
 ghost use Rattle.std.specs.Prelude.{◌≡◌, ◌+◌, ◌<◌, ◌∷◌, [], true, false, length, None, Some, OnOk};
 ghost use Rattle.std.specs.FinMap as finite;
 ghost use Rattle.std.specs.List.{slice_get};
@@ -44,7 +44,7 @@ pub enum MirrorMount {
     NoMemory,
 }
 
-// Why the area at this place was not mounted, in the words of the mirror.
+// Why the area at this place was not mounted, as the mirror's mount answers it.
 pub(crate) fn fault_at(place: usize, fault: MountFault) -> MirrorMount
     ensures { result ≡ fault_at place fault }
 {
@@ -95,7 +95,7 @@ fn mount_side<K: Priced, F: Flash, L: Ledger>(
     }
 }
 
-// Looks whether the map of the trusted area fits the area at this place.
+// Checks whether the map of the trusted area fits the area at this place.
 fn look_for_fit<K: Priced, F: Flash, L: Ledger>(
     alloc: Global,
     trusted: &Side<K>,
@@ -117,7 +117,7 @@ fn look_for_fit<K: Priced, F: Flash, L: Ledger>(
     }
 }
 
-// Looks whether the map of the trusted area fits both areas, that at the lower place first.
+// Checks whether the map of the trusted area fits both areas, the one at the lower place first.
 fn look_for_both<K: Priced, F: Flash, L: Ledger>(
     alloc: Global,
     trusted: &Side<K>,
@@ -140,7 +140,7 @@ fn look_for_both<K: Priced, F: Flash, L: Ledger>(
     look_for_fit(alloc, trusted, flash, &area_at(map, high), high, steps)
 }
 
-// The store where it holds the map of the trusted area; none where it holds another one.
+// The store, if it holds the map of the trusted area; `None` if it holds another one.
 fn if_same<K: Priced, F: Flash, L: Ledger>(
     trusted: &K,
     store: K,
@@ -162,8 +162,8 @@ fn if_same<K: Priced, F: Flash, L: Ledger>(
     }
 }
 
-// Mounts the other area. None exactly where it is damaged, or holds another map than the trusted
-// one.
+// Mounts the other area. `None` exactly if it is damaged, or holds another map than
+// the trusted one.
 fn mount_other<K: Priced, F: Flash, L: Ledger>(
     alloc: Global,
     trusted: &K,
@@ -200,7 +200,7 @@ fn mount_other<K: Priced, F: Flash, L: Ledger>(
     }
 }
 
-// The store that was filled, or why it was not. No put of a repair is refused.
+// The store, if it was filled; else why not. No put of a repair is refused.
 fn repaired_as<K: Backend>(filled: Result<K, MigrateFault>) -> Result<K, MirrorMount>
     requires { IsNotRefused filled }
     ensures { RepairsAs filled result }
@@ -243,7 +243,7 @@ fn repair<K: Priced, F: Flash, L: Ledger>(
     repaired_as(filled)
 }
 
-// Mounts the other area, and repairs it where it is damaged or holds another map, and only there.
+// Mounts the other area, and repairs it exactly if it is damaged or holds another map.
 fn open_other<K: Priced, F: Flash, L: Ledger>(
     alloc: Global,
     trusted: &K,
@@ -292,7 +292,7 @@ fn other_place(map: &FlashMap, trusted: usize) -> usize
     target(map, trusted).unwrap_or(trusted)
 }
 
-// Mounts both areas, where the one at this place is trusted.
+// Mounts both areas. The one at this place is trusted.
 fn mount_both<K: Priced, F: Flash, L: Ledger>(
     alloc: Global,
     flash: &mut F,
@@ -366,20 +366,22 @@ fn mount_both<K: Priced, F: Flash, L: Ledger>(
 }
 
 impl<K: Priced> Mirror<K> {
-    /// Mounts the selector, trusts the area that it names, or the other one where that is all FF
-    /// and the other is not, which the selector then names; mounts the trusted area, and then the
-    /// other one. Where the other one is damaged or holds another map, and only there, it is
-    /// erased, and all settings are put into it.
+    /// Mounts the selector and trusts the area that it names. If that area is all FF and the other
+    /// one is not, it trusts the other one, and has the selector name it. Then it mounts the
+    /// trusted area, and after it the other one. Exactly if the other one is damaged or holds
+    /// another map, it is erased, and all settings are put into it.
     ///
     /// Whatever the result, the same area is trusted afterwards, and the mirror reads as the same
-    /// map. A mount spends at most so many units and erases as a mount of each of the three areas,
-    /// a choice of the selector, and a repair of the map's names do; and none where nothing is to
-    /// do.
+    /// map. A mount spends at most the units and erases of the selector's mount, one choice, the
+    /// mounts of both areas, and one repair for the map's names. If there is nothing to do, it
+    /// spends nothing.
     ///
     /// # Errors
-    /// `Damaged` exactly where the selector or the trusted area is damaged; no byte of an area for settings changed then. `Unfit`
-    /// exactly where the map does not fit one of the areas: with the lower place, if it is that one; the other area is then untouched.
-    /// `PowerLost`: in the other area only where the map fits both. `NoMemory`.
+    /// `Damaged` exactly if the selector or the trusted area is damaged; no byte of a store area
+    /// changed then. `Unfit` exactly if the map does not fit one of the areas: it gives the lower
+    /// place, if the map does not fit there, else the higher one; the other area is untouched then.
+    /// `PowerLost`: power was lost in the other area only if the map fits both. `NoMemory`: the
+    /// trusted area keeps its settings, if it was undamaged.
     pub fn mount<F: Flash, L: Ledger>(
         alloc: Global,
         flash: &mut F,

@@ -1,4 +1,4 @@
-// What a mirror asks of a backend beside its calls.
+// What a mirror needs of a backend, besides its calls.
 ghost use Rattle.std.specs.Prelude.{◌≡◌, ◌≤◌, ◌^◌, ◌<◌, ℕ, List, Bool, false, true, None};
 ghost use Rattle.std.specs.FinMap as finite;
 ghost use Rattle.flash_sim.specs.Bank.{IsLawful};
@@ -18,14 +18,13 @@ use flash_map::Area;
 use flash_sim::Flash;
 use setting_name::Name;
 
-/// A backend whose numbers of room can be known from the lengths of names and values, and which
-/// never takes what a loss of power left for another record, on areas of the roles that may be
-/// mirrored.
+/// A backend whose `Room` follows from the lengths of names and values, and which never takes what
+/// a power loss left for another record. Both hold on areas of the roles that can be mirrored.
 pub trait Priced: Backend {
-    /// What the numbers of room of an area with this geometry are made of.
+    /// The prices of an area with this geometry, from which its `Room` follows.
     ghost prices: { area_type → Geometry → Prices };
 
-    /// What bytes of this length cost with their entry, in bytes.
+    /// What an item of this length costs, in bytes: its data and its entry.
     fn price<F: Flash>(flash: &F, area: &Area, length: u32) -> u64
         requires lawful { IsLawfulFor (F.device flash.now).banks area.now }
         requires role { IsMirrored area.now }
@@ -34,7 +33,7 @@ pub trait Priced: Backend {
             ≡ (prices area.now (geometry_of (F.device flash.now) area.now)).price length }
         ensures small { result < 2 ^ 16 };
 
-    /// What a count of names costs, in bytes; 0 where there is none.
+    /// What the count of names costs, in bytes; 0 if areas have none.
     fn counted<F: Flash>(flash: &F, area: &Area) -> u64
         requires lawful { IsLawfulFor (F.device flash.now).banks area.now }
         requires role { IsMirrored area.now }
@@ -49,7 +48,7 @@ pub trait Priced: Backend {
         ensures value { result ≡ (prices area.now (geometry_of (F.device flash.now) area.now)).cap }
         ensures small { result < 2 ^ 16 };
 
-    /// The class of a name: of each class an area has so many names at most (`most`).
+    /// The class of a name. An area has at most `most` names of each class.
     fn class<F: Flash>(flash: &F, area: &Area, name: &Name) -> u32
         requires lawful { IsLawfulFor (F.device flash.now).banks area.now }
         requires role { IsMirrored area.now }
@@ -62,18 +61,18 @@ pub trait Priced: Backend {
         requires role { IsMirrored area.now }
         ensures { result ≡ (prices area.now (geometry_of (F.device flash.now) area.now)).most };
 
-    // The numbers of room are made of these prices.
+    // The `Room` of an area follows from its prices.
     ghost is_room: { (area : area_type) (geometry : Geometry) → IsMirrored area → IsRoomBy (Self.room area geometry) (prices area geometry) };
 
-    // What a loss of power left is never another record.
+    // What a power loss left is never another record.
     ghost never_chance: { (area : area_type) (geometry : Geometry) (sectors : List (List ℕ)) (loss : loss_type) → IsMirrored area → Self.chance area geometry sectors loss ≡ false };
 
-    // A lawful area all of whose bytes are FF is not damaged, and has no settings.
+    // A lawful area whose bytes are all FF is undamaged, and has no settings.
     ghost blank_reads: { (d : Device) (area : area_type) → IsLawful d.banks d.bytes → IsLawfulFor d.banks area → Self.serves area (geometry_of d area) → is_blank_on d area ≡ true → on Self.damage d area ≡ None };
 
     ghost blank_empty: { (d : Device) (area : area_type) → IsLawful d.banks d.bytes → IsLawfulFor d.banks area → Self.serves area (geometry_of d area) → is_blank_on d area ≡ true → on Self.contents d area ≡ finite.empty };
 
-    // And a mount has nothing to do there.
+    // A mount has nothing to do there.
     ghost blank_rests: { (d : Device) (area : area_type) → IsLawful d.banks d.bytes → IsLawfulFor d.banks area
         → Self.serves area (geometry_of d area) → is_blank_on d area ≡ true → HoldsOn Self.rests d area };
 }

@@ -18,7 +18,7 @@ use flash_sim::{Flash, PowerLost, Steps};
 use setting_name::Name;
 use std::sync::ledger::Ledger;
 
-/// A store on one of the two areas.
+/// A side of a mirror: the store on one of its two areas.
 #[derive(Drop)]
 pub struct Side<K: Backend> {
     pub(crate) store: K,
@@ -66,7 +66,7 @@ pub(crate) fn put<K: Priced, F: Flash, L: Ledger>(
     }
 }
 
-// Takes a name's value away on one side.
+// Deletes a name on one side.
 pub(crate) fn take<K: Priced, F: Flash, L: Ledger>(
     side: &mut Side<K>,
     flash: &mut F,

@@ -17,11 +17,10 @@ use std::alloc::Global;
 use std::sync::ledger::Ledger;
 use zms_cycle::{capacity as zms_capacity, cost as zms_cost};
 
-// How many names an NVS area may have.
+// The most names of an NVS area.
 const NVS_NAMES: u32 = 511;
 
-/// A store of settings on an area, which is the one for the area's role, with what names and values
-/// cost there.
+/// A store of settings on an area, by the area's role, with the prices of names and values there.
 #[derive(Debug, Drop)]
 pub struct MirrorStore {
     backend: AnyBackend,

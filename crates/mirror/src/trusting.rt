@@ -1,4 +1,4 @@
-// Mounting the selector, and finding the trusted area.
+// The mount of the selector, and the choice of the trusted area.
 ghost use Rattle.std.specs.Prelude.{◌≡◌, ◌<◌, ◌∷◌, [], true, is_err, length, OnOk, Some};
 ghost use Rattle.flash_map.specs.declared.area.Area.{Area as area_type};
 ghost use Rattle.flash_map.specs.Spending.{SpendsAtMost};
@@ -17,7 +17,7 @@ use flash_sim::{Flash, PowerLost, Steps};
 use migrator::{Selector, area_at, target};
 use std::sync::ledger::Ledger;
 
-// Whether each byte of the area at this place is FF.
+// Whether the bytes of the area at this place are all FF.
 fn is_blank_at<F: Flash, L: Ledger>(
     flash: &F,
     map: &FlashMap,
@@ -31,7 +31,7 @@ fn is_blank_at<F: Flash, L: Ledger>(
     is_blank(flash, &area_at(map, place), steps)
 }
 
-// The trusted area, where this one is active.
+// The place of the trusted area, if the one at this place is active.
 fn trusted_with<F: Flash, L: Ledger>(
     flash: &F,
     map: &FlashMap,
@@ -55,7 +55,7 @@ fn trusted_with<F: Flash, L: Ledger>(
     }
 }
 
-// Has the selector name the trusted area, where another one is active.
+// Makes the selector name the trusted area, if another one is active.
 fn name_trusted<F: Flash, L: Ledger>(
     flash: &mut F,
     map: &FlashMap,
@@ -85,7 +85,7 @@ fn name_trusted<F: Flash, L: Ledger>(
     selector.choose(flash, map, trusted as u8, steps)
 }
 
-// Mounts the selector, and has it name the trusted area, which it gives.
+// Mounts the selector, and makes it name the trusted area. The answer is the place of that area.
 pub(crate) fn trust<K: Priced, F: Flash, L: Ledger>(
     flash: &mut F,
     map: &FlashMap,

@@ -1,5 +1,5 @@
-// Walks over the names of a store's map, for the numbers of room of an area, which may be another
-// one than the store's.
+// Walks over the names of a store's map, for the room of an area, which may be another one
+// than the store's.
 ghost use Rattle.std.specs.Prelude.{◌≡◌, ◌+◌, ◌<◌, ◌≤◌, ◌^◌, ℕ, List, true, length, map, IfOk, if◌then◌else◌};
 ghost use Rattle.std.specs.FinMap as finite;
 ghost use Rattle.flash_map.specs.Area.{geometry_of};
@@ -17,7 +17,7 @@ use setting_name::Name;
 use std::alloc::Global;
 use std::sync::ledger::Ledger;
 
-// How many bytes the value of a name has; 0 where it has none.
+// How many bytes the value of a name has.
 fn value_length<K: Priced, F: Flash, L: Ledger>(
     store: &K,
     flash: &F,
@@ -36,7 +36,7 @@ fn value_length<K: Priced, F: Flash, L: Ledger>(
     }
 }
 
-// What a name and its value cost in an area.
+// What a name and its value cost in an area, in bytes.
 fn pair_price<K: Priced, F: Flash, L: Ledger>(
     store: &K,
     flash: &F,
@@ -58,7 +58,7 @@ fn pair_price<K: Priced, F: Flash, L: Ledger>(
     K::price(flash, area, name.bytes().len() as u32) + K::price(flash, area, length)
 }
 
-// What the map of a store costs in an area.
+// What the map of a store costs in an area, in bytes.
 pub(crate) fn map_cost<K: Priced, F: Flash, L: Ledger>(
     store: &K,
     flash: &F,
@@ -89,7 +89,7 @@ pub(crate) fn one_if(is: bool) -> u64
     if is { 1 } else { 0 }
 }
 
-// How many names of the map of a store are of the same class in an area.
+// How many names of the map of a store have the class of this name in an area.
 pub(crate) fn alike<K: Priced, F: Flash, L: Ledger>(
     store: &K,
     flash: &F,

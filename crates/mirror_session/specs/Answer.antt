@@ -1,5 +1,5 @@
 -- The lines of words that an answer is printed in, and their text: those of a line on settings, and
--- what `blank` alone answers.
+-- those that only `blank` gives.
 use Rattle.std.specs.Prelude.{ℕ, ⊤, false, List, [], ◌∷◌, codes}
 use Rattle.script_lines.specs.declared.answer.Answer.TheVariants as settings
 use Rattle.script_lines.specs.Answer.{lines_text, one}
@@ -10,7 +10,7 @@ use Rattle.mirror_session.specs.declared.answer.Answer.TheVariants.{Plain, On, N
 abbrev pub done : ℕ → Answer
 done units = Plain (settings.Done units)
 
--- with no chance, which there is in a ring of records alone
+-- with no chance, which only a ring of records has
 abbrev pub lost : ℕ → Answer
 lost units = Plain (settings.Lost units false)
 

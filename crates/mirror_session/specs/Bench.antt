@@ -1,4 +1,4 @@
--- What the bytes of a map of areas are to the table.
+-- What the table knows of a map of areas, by its bytes.
 use Rattle.std.specs.Prelude.{ℕ, ◌+◌, min, max, ◌&&◌, ◌||◌, nat_lt, Bool, not, List, length, find, Option, Some, None, unwrap_or, if◌then◌else◌}
 use Rattle.std.specs.List.{range_with_len}
 use Rattle.std.specs.Option.{option_or}
@@ -32,7 +32,7 @@ abbrev pub meanings : (Area → Geometry → List (List ℕ) → Option Damaged)
 meanings damage contents room prices =
     record { damage = damage; contents = contents; room = room; prices = prices }
 
--- a bench, and whether the last mount was whole and no area was replaced since
+-- a bench, and whether the last mount was whole and no area was replaced after it
 pub record Moment : Type 0 where
   pub device : Device
   pub whole : Bool
@@ -60,14 +60,14 @@ labelled areas label = find (is_labelled areas label) (range_with_len 0 (length 
 
 -- ---- numbers
 
--- what a put needs and what all settings cost, where an area of so many sectors has no room for the put
+-- what a put needs and what all settings cost, if an area of so many sectors has no room for it
 abbrev pub lacking : Room → ℕ → ℕ → Map → List ℕ → List ℕ → Option (ℕ × ℕ)
 lacking room sectors limit settings name value =
     if nat_lt (mirror_room room sectors limit) (room.cost settings + room.need settings name value)
     then Some (room.need settings name value, room.cost settings)
     else None
 
--- of the area at this place
+-- the room of the area at this place
 abbrev pub room_at : Meanings → List Area → List Bank → ℕ → Room
 room_at m areas banks place = m.room (area_at areas place) (geometry_in banks (area_at areas place))
 
@@ -89,7 +89,7 @@ lower_place areas = min (first_store areas) (beside_in areas (first_store areas)
 abbrev pub higher_place : List Area → ℕ
 higher_place areas = max (first_store areas) (beside_in areas (first_store areas))
 
--- their numbers, where the count of units is so much in the end
+-- the rules of the two areas, for a run whose last count of units is `last`
 abbrev pub rules_of : Meanings → List Area → List Bank → ℕ → Rules
 rules_of m areas banks last = record {
   beside = beside_in areas;

@@ -1,5 +1,5 @@
--- Which commands of a run stand: those of the lines that were done, and each one in which power was lost or
--- not.
+-- Which commands of a run stand: those of the lines that were done. A command in which power was
+-- lost stands or does not.
 use Rattle.std.specs.Prelude.{◌≡◌, Bool, true, false, List, [], ◌++◌, if◌then◌else◌}
 use Rattle.backend_api.specs.Commands.{Command, all_applied}
 use Rattle.backend_api.specs.Map.{Map}
@@ -12,7 +12,7 @@ use Rattle.mirror_session.specs.Plan.{as_plain, is_lost}
 use Rattle.mirror_session.specs.State.{State, Rules, IsOn}
 use Rattle.mirror_session.specs.Step.{Step, commands_of}
 
--- with power on both areas read as the settings
+-- with power on, both areas read as the settings
 abbrev pub IsMirrored : State → Type 0
 IsMirrored s = IsOn s → s.other ≡ s.settings
 
@@ -21,8 +21,8 @@ pub record Logged : Type 0 where
   pub state : State
   pub log : List Command
 
--- A line adds those of its commands that stand: all where it was done, the first of them where
--- power was lost. With power on both areas read as the start after all commands that stand.
+-- A line adds those of its commands that stand: all if it was done, the first of them if power was
+-- lost. With power on, both areas read as what all commands that stand make of the first settings.
 pub record LogStep (r : Rules) (start : Map) (line : Line) (answer : Answer) (old new : Logged) : Type 0 where
   pub step : Step r line answer old.state new.state
   pub done : List Command
@@ -31,9 +31,9 @@ pub record LogStep (r : Rules) (start : Map) (line : Line) (answer : Answer) (ol
   pub reads : IsOn new.state → new.state.settings ≡ all_applied start new.log
   pub both : IsMirrored new.state
 
--- Whenever the settings are read, and in the end, they are those of the start after the commands that stand,
--- line by line. Whether one in which power was lost stands may be settled by a later line, as where the area
--- that had it is replaced.
+-- Whenever the settings are read, and at the end, they are those that the commands that stand make
+-- of the first ones, line by line. A later line may settle whether a command in which power was
+-- lost stands; for example, the area that had it is replaced.
 pub record IsAfterPrefix (r : Rules) (lines : List Line) (answers : List Answer) (old new : State) :
     Type 0 where
   pub log : List Command
@@ -45,7 +45,7 @@ pub record IsAfterPrefix (r : Rules) (lines : List Line) (answers : List Answer)
 
 -- ---- power
 
--- after this line power is on
+-- the line restores power
 abbrev pub restores : Line → Bool
 restores Mount = true
 restores line = false

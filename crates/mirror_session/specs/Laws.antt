@@ -14,28 +14,29 @@ use Rattle.mirror_session.specs.History.{IsAfterPrefix, IsMirrored, PowerStep}
 use Rattle.mirror_session.specs.State.{State, Rules}
 use Rattle.mirror_session.specs.Step.{Step}
 
--- From before the opening mount on, wherever power is lost and an area is replaced, the settings are those
--- after commands of the lines in their order, all of the acknowledged ones among them.
+-- From before the opening mount on, wherever power is lost and an area is replaced, the
+-- settings are those that commands of the lines make, in their order, with every acknowledged
+-- one among them.
 abbrev pub HoldsAcknowledged : Type 0
 HoldsAcknowledged =
     (r : Rules) (lines : List Line) (answers : List Answer) (old new : State)
     → old.is_whole ≡ false → old.is_on ≡ false
     → Follows (Step r) lines answers old new → IsAfterPrefix r lines answers old new
 
--- With power on both areas read as the settings.
+-- With power on, both areas read as the settings.
 abbrev pub StaysMirrored : Type 0
 StaysMirrored =
     (r : Rules) (lines : List Line) (answers : List Answer) (old new : State)
     → IsMirrored old → Follows (Step r) lines answers old new → IsMirrored new
 
--- Power is off from a line in which it was lost to the next mount that answers `ok`.
+-- Power is off from a line in which it was lost until a mount answers `ok`.
 abbrev pub LosesPower : Type 0
 LosesPower =
     (r : Rules) (lines : List Line) (answers : List Answer) (old new : State)
     → Follows (Step r) lines answers old new → Follows PowerStep lines answers old.is_on new.is_on
 
--- The selector names another area only behind a mount that found the one of before all FF, and the other one
--- not.
+-- The selector names another area only after a mount that found the area named before all FF, and
+-- the other one not.
 abbrev pub KeepsNamed : Type 0
 KeepsNamed =
     (r : Rules) (line : Line) (answer : Answer) (old new : State)
@@ -49,8 +50,8 @@ RunsInRow =
     → Follows (Step r) lines answers old mid → Follows (Step r) more others mid new
     → Follows (Step r) (lines ++ more) (answers ++ others) old new
 
--- A run of a bench, line by line, follows the table, its counts and its plan are those that its answers say,
--- and no byte changed outside the areas of the map.
+-- A run of a bench, line by line, follows the table; its counts and its plan are as its answers
+-- report, and no byte changes outside the areas of the map.
 abbrev pub LinesMakeRuns : Type 0
 LinesMakeRuns =
     (m : Meanings) (areas : List Area) (lines : List Line) (answers : List Answer) (old new : Moment)

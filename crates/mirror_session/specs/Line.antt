@@ -47,15 +47,15 @@ command_word commands.Cut = codes "cut"
 command_word commands.Uncut = codes "uncut"
 command_word commands.Blank = codes "blank"
 
--- the command of a first word; none where no line has it
+-- the command of a first word; `None` if no line has that word
 abbrev pub FindsCommand : List ℕ → Option Command → Type 0
 FindsCommand word None = list_any (has_word word) mirror_forms ≡ false
 FindsCommand word (Some command) = word ≡ command_word command
 
--- What reading a line answers.
+-- How the reading of a line ends.
 abbrev pub ReadsLine : ℕ → List (List ℕ) → Result Line LineFault → Type 0
 ReadsLine limit words read = ReadsRow mirror_forms row_of limit words read
 
--- What reading a script answers.
+-- How the reading of a script ends.
 abbrev pub ReadsScript : ℕ → List ℕ → Result (Vec Line) ScriptFault → Type 0
 ReadsScript limit text read = ReadsLines mirror_forms row_of limit text read

@@ -1,4 +1,4 @@
--- What lines make of a bench.
+-- How lines change a bench.
 use Rattle.std.specs.Prelude.{◌≡◌, ◌⊎◌, ℕ, ◌+◌, ◌*◌, ◌≤◌, ⊤, Bool, true, false, List, [], ◌∷◌, length, replicate, slice_set, Some, None, if◌then◌else◌}
 use Rattle.std.specs.FinMap as finite
 use Rattle.std.specs.List.{slice_get}
@@ -32,7 +32,7 @@ use Rattle.session_table.specs.Rules.{IsCounted}
 use Rattle.mirror_session.specs.State.{State, IsOn}
 use Rattle.mirror_session.specs.Step.{Step}
 
--- a line's value is one that the areas take
+-- the areas take the line's value
 abbrev pub IsServed : ℕ → Line → Type 0
 IsServed limit (Set name value) = length value ≤ limit
 IsServed limit line = ⊤
@@ -47,13 +47,13 @@ abbrev pub replaces : Line → Answer → Bool
 replaces (Blank label) (Plain (settings.Done units)) = true
 replaces line answer = false
 
--- the banks, the count of loads, and each byte outside the areas
+-- the banks and each byte outside the areas stay, and so many loads were counted
 pub record Keeps (areas : List Area) (loads : ℕ) (old new : Device) : Type 0 where
   pub banks : new.banks ≡ old.banks
   pub loaded : new.loads ≡ counted old.loads loads
   pub outside : SameOutside areas old new
 
--- counts and plan
+-- the counts and the plan after a line
 pub record Accounts (line : Line) (answer : Answer) (old new : Device) : Type 0 where
   pub spent : old.spent + units_of answer ≡ new.spent
   pub losses : new.losses ≡ counted old.losses (if is_lost answer then 1 else 0)
@@ -63,12 +63,12 @@ pub record Accounts (line : Line) (answer : Answer) (old new : Device) : Type 0 
 
 -- ---- what a line does to the areas
 
--- the one that the selector names, and the one beside it
+-- the store area that the selector names, and the other one
 abbrev pub store_areas : List Area → Device → List Area
 store_areas areas d =
     area_at areas (active_on areas d) ∷ area_at areas (beside_in areas (active_on areas d)) ∷ []
 
--- all bytes of an area are FF then, and the flash was loaded so
+-- the flash is loaded anew, with FF in each byte of an area
 abbrev pub blanked : Device → Area → Device
 blanked d area =
     let size = sector_size d area in
@@ -76,26 +76,25 @@ blanked d area =
     overwritten (bytes_of d area.bank) (area.first * size) (replicate (area.sectors * size) 0xFF) in
     loaded d d.banks (slice_set d.bytes area.bank bytes)
 
--- the area with the label is blank then, and nothing else changed but that power is on at the flash
+-- the area with the label is blank now; nothing else changed, except that the flash has power
 abbrev pub Blanks : List Area → List ℕ → Device → Device → Type 0
 Blanks areas label old new =
     (place : ℕ) × (labelled areas label ≡ Some place) × (new ≡ blanked old (area_at areas place))
 
--- what a line that replaced an area makes of the bytes
+-- how a line that replaced an area left the bytes
 abbrev pub Replaced : List Area → Line → Answer → Device → Device → Type 0
 Replaced areas (Blank label) (Plain (settings.Done units)) old new = Blanks areas label old new
 Replaced areas line answer old new = ⊤
 
--- the areas that a line works on: a command on the two store areas alone, and another line on those of the
--- map
+-- the areas that a line works on: a command on the two store areas, every other line on
+-- those of the map
 abbrev pub worked_on : List Area → Line → Device → List Area
 worked_on areas (Set name value) d = store_areas areas d
 worked_on areas (Del name) d = store_areas areas d
 worked_on areas line d = areas
 
--- The named area and the one beside it are as power left them in the command: neither is damaged, the named
--- one has the settings of before or the new ones, and the other one has the new ones only where the named one
--- has.
+-- Power was lost in the command. Neither the named area nor the other one is damaged. Each has the
+-- old settings or the new ones; the other one has the new ones only if the named one has.
 abbrev pub CutsBoth : Meanings → List Area → Command → Device → Device → Type 0
 CutsBoth m areas command old new =
     let named = area_at areas (active_on areas old) in
@@ -109,8 +108,8 @@ Cuts m areas (Set name value) (Plain (settings.Lost units chance)) old new =
 Cuts m areas (Del name) (Plain (settings.Lost units chance)) old new = CutsBoth m areas (Delete name) old new
 Cuts m areas line answer old new = ⊤
 
--- A mount spends at most so many units and erases as a mount of each of the three areas, a choice of the
--- selector, and a repair of the map's names do.
+-- A mount spends at most the units and erases of the selector's mount, one choice, the mounts of
+-- both areas, and one repair for the map's names.
 abbrev pub MountsWithin : Meanings → List Area → ℕ → Device → Type 0
 MountsWithin m areas units old =
     (selector trusted other : Area) → selector_of areas ≡ Some selector
@@ -118,8 +117,8 @@ MountsWithin m areas units old =
     → slice_get areas (other_place areas (trusted_on areas old)) ≡ Some other
     → units ≤ trust_units old selector + both_units old trusted other (finite.len (on m.contents old trusted))
 
--- A mount that was whole found no damage. One that was cut found none in the selector, and none in the area
--- that is read, or the loss lies in the selector's area.
+-- A whole mount found no damage. One that was cut found none in the selector; it found none in the
+-- area that is read either, or power was lost in the selector's area.
 abbrev pub Finds : Meanings → List Area → Line → Answer → Device → Device → Type 0
 Finds m areas Mount (Plain (settings.Done units)) old new =
     (damage_shown m.damage areas old ≡ None) × MountsWithin m areas units old
@@ -143,33 +142,33 @@ FitsBoth m areas banks settings =
     (place : ℕ) (area : Area) → slice_get areas place ≡ Some area → is_store area ≡ true
     → FitsIn m banks area settings
 
--- What the mirror reads as fits both store areas; and so does what the other area reads as, where an area may
--- be replaced.
+-- The settings of the mirror fit both store areas. So do those of the other area, as long as an
+-- area may be replaced.
 pub record AllFit (m : Meanings) (areas : List Area) (banks : List Bank) (s : State) : Type 0 where
   pub settings : FitsBoth m areas banks s.settings
   pub other : s.is_whole ≡ true → FitsBoth m areas banks s.other
 
--- so it is at this moment
+-- this holds at this moment
 abbrev pub FitNow : Meanings → List Area → Moment → Type 0
 FitNow m areas now = AllFit m areas now.device.banks (state_of m areas now)
 
--- and after a mount that was whole
+-- this holds after a whole mount
 abbrev pub FitsThen : Meanings → List Area → Line → Answer → Moment → Type 0
 FitsThen m areas Mount (Plain (settings.Done units)) new = FitNow m areas new
 FitsThen m areas line answer new = ⊤
 
--- where the map showed no damage it shows none
+-- a map without damage shows none afterwards
 abbrev pub StaysSound : Meanings → List Area → Moment → Moment → Type 0
 StaysSound m areas old new =
     damage_shown m.damage areas old.device ≡ None → damage_shown m.damage areas new.device ≡ None
 
--- with power on neither area is damaged, and both read as the settings
+-- with power on, neither area is damaged, and both read as the settings
 abbrev pub BothNow : Meanings → List Area → Moment → Type 0
 BothNow m areas now =
     IsOn (state_of m areas now)
     → BothRead m.damage m.contents areas now.device (state_of m areas now).settings
 
--- it changes neither bytes nor counts
+-- the line changes neither bytes nor counts
 abbrev pub is_quiet : Line → Answer → Bool
 is_quiet (Set name value) answer = false
 is_quiet (Del name) answer = false
@@ -181,9 +180,9 @@ is_quiet line answer = true
 abbrev pub SameButPlan : Device → Device → Type 0
 SameButPlan old new = new ≡ record old { plan = new.plan }
 
--- A line was carried out by the table. But for the plan and for an area that is replaced, the bench was
--- touched in the areas that the line works on alone: a loss of power lies in one of them, and without a unit
--- no byte changed.
+-- A line was carried out by the table. Except for the plan and for an area that is replaced, the
+-- bench was touched only in the areas that the line works on: a power loss lies in one of them, and
+-- without a unit no byte changed.
 pub record LineDone (m : Meanings) (areas : List Area) (line : Line) (answer : Answer) (old new : Moment) :
     Type 0 where
   pub step :

@@ -1,5 +1,5 @@
--- Units and losses in answers, and the plan of a loss, as those of lines on settings say them. A blank area
--- that was put in the place of another drops the plan.
+-- Units and losses in answers, and the plan of a loss, as for lines on settings. The replacement of
+-- an area drops the plan.
 use Rattle.std.specs.Prelude.{◌≢◌, ℕ, ⊤, Bool, List, [], ◌∷◌, sum_by, count_by}
 use Rattle.flash_sim.specs.Device.{Plan}
 use Rattle.script_lines.specs.declared.answer.Answer.{Answer as settings_answer}
@@ -12,7 +12,7 @@ use Rattle.mirror_session.specs.declared.line.Line.TheVariants.{Cut, Uncut, Blan
 use Rattle.mirror_session.specs.declared.answer.Answer.{Answer}
 use Rattle.mirror_session.specs.declared.answer.Answer.TheVariants.{Plain}
 
--- what `blank` alone answers reports no unit and no loss, as `off` does
+-- an answer that only `blank` gives reports no unit and no loss, as `off` does
 abbrev pub as_plain : Answer → settings_answer
 as_plain (Plain answer) = answer
 as_plain answer = settings.Off
@@ -29,7 +29,7 @@ units_in answers = sum_by units_of answers
 abbrev pub losses_in : List Answer → ℕ
 losses_in answers = count_by is_lost answers
 
--- what a line makes of the plan, before its units do
+-- how a line itself changes the plan
 abbrev pub replan : Line → Answer → Replan
 replan (Cut units) answer = plans units
 replan Uncut answer = drops

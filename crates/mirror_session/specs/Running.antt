@@ -32,8 +32,8 @@ replaced_in (line ∷ lines) (answer ∷ answers) =
     (if replaces line answer then 1 else 0) + replaced_in lines answers
 replaced_in lines answers = 0
 
--- Lines were carried out one after another. As a whole they follow the table, and the counts, the plan and
--- the bytes of the bench are those that the answers say.
+-- Lines were carried out one after another. As a whole they follow the table; the counts, the plan
+-- and the bytes of the bench are as the answers say.
 pub record Ran (m : Meanings) (areas : List Area) (lines : List Line) (answers : List Answer)
     (old new : Moment) : Type 0 where
   pub in_turn : Follows (LineDone m areas) lines answers old new
@@ -50,7 +50,7 @@ pub record Ran (m : Meanings) (areas : List Area) (lines : List Line) (answers :
 
 -- ---- lines that stop
 
--- carrying it out takes memory
+-- carrying the line out takes memory
 abbrev pub takes_memory : Line → Bool
 takes_memory (Get name) = true
 takes_memory Names = true
@@ -58,13 +58,13 @@ takes_memory Mount = true
 takes_memory (Blank label) = true
 takes_memory line = false
 
--- power was turned on, and nothing changed but in the selector's area
+-- power was turned on, and nothing changed outside the selector's area
 abbrev pub BeginsMount : List Area → Device → Device → Type 0
 BeginsMount areas old new =
     (selector : Area) → selector_of areas ≡ Some selector → Touches (selector ∷ []) (turned_on old) new false
 
--- What a line for which memory was wanting leaves of the bench: a mount has begun, and the same area is read,
--- as the same map; no other line changed it.
+-- How a line for which memory ran out leaves the bench: a mount has begun, and the same area is
+-- read, as the same map; no other line changed it.
 abbrev pub BeginsLine : Meanings → List Area → Line → Device → Device → Type 0
 BeginsLine m areas Mount old new =
     Touches areas (turned_on old) new false × (trusted_on areas new ≡ trusted_on areas old)
@@ -73,12 +73,12 @@ BeginsLine m areas Mount old new =
     → MirrorReads m.damage m.contents areas new settings)
 BeginsLine m areas line old new = new ≡ old
 
--- what the mirror reads as does not fit both areas
+-- the settings of the mirror do not fit both areas
 abbrev pub FindsNoFit : Meanings → List Area → Device → Type 0
 FindsNoFit m areas d = ¬ FitsBoth m areas d.banks (on m.contents d (area_at areas (trusted_on areas d)))
 
--- Why a line was not carried out: a mount found the damage that the map shows, or settings that do not fit
--- one of the areas; or memory was wanting for a line that takes some.
+-- Why a line was not carried out: a mount found the damage that the map shows, or settings that do
+-- not fit one of the areas; or memory ran out for a line that takes some.
 abbrev pub LineStops : Meanings → List Area → Line → Device → Device → SessionFault → Type 0
 LineStops m areas line old new (Damaged place damaged) =
     (line ≡ Mount) × (damage_shown m.damage areas old ≡ Some (place, damaged)) × BeginsMount areas old new
@@ -89,12 +89,11 @@ LineStops m areas line old new NoMemory = (takes_memory line ≡ true) × Begins
 
 -- ---- all lines
 
--- lines were carried out, and memory was wanting to keep the answer to the last of them
+-- lines were carried out, and memory ran out for the answer to the last of them
 abbrev pub LacksAnswer : List Line → Device → Device → SessionFault → Type 0
 LacksAnswer prefix old new fault = (1 ≤ length prefix) × (fault ≡ NoMemory) × (new ≡ old)
 
--- Behind the first lines the next one stopped; or memory was wanting for the answer to the line
--- before.
+-- After the first lines the next one stopped; or memory ran out for the answer to the line before.
 abbrev pub StopsAt : Meanings → List Area → List Line → List Line → Device → Device → SessionFault → Type 0
 StopsAt m areas prefix [] old new fault = LacksAnswer prefix old new fault
 StopsAt m areas prefix (line ∷ lines) old new fault =
@@ -115,8 +114,8 @@ ReportsUnfit (Damaged place damaged) = ⊥
 ReportsUnfit (Unfit place) = ⊤
 ReportsUnfit NoMemory = ⊥
 
--- The first lines were carried out, and then a line stopped. That settings do not fit is reported by no mount
--- behind one that was whole, and by none where the settings fitted both areas when the lines began.
+-- The first lines were carried out, and then a line stopped. No mount after a whole one finds
+-- settings that do not fit, and none does if the settings fitted both areas when the lines began.
 pub record RunStops (m : Meanings) (areas : List Area) (lines : List Line) (old : Moment) (new : Device)
     (fault : SessionFault) : Type 0 where
   pub prefix : List Line
@@ -129,8 +128,9 @@ pub record RunStops (m : Meanings) (areas : List Area) (lines : List Line) (old 
   pub early : ReportsUnfit fault → mounted_in prefix answers ≡ false
   pub fitting : ReportsUnfit fault → ¬ FitNow m areas old
 
--- How lines end: all were carried out, with these answers, and a mount has nothing to do where power is on,
--- and there are settings or the selector names the area that is read; or one stopped.
+-- How lines end: all were carried out, with these answers, or one stopped. After the last line
+-- a mount has nothing to do, if power is on and the selector names the area that is read or
+-- there are settings.
 abbrev pub RunEnds : (Area → Geometry → List (List ℕ) → Type 0) → Meanings → List Area → List Line → Moment
     → Device
     → Result (List Answer) SessionFault → Type 0

@@ -1,4 +1,4 @@
--- Between two lines.
+-- What holds between two lines.
 use Rattle.std.specs.Prelude.{◌≡◌, ◌≢◌, ◌⊎◌, ℕ, ⊤, true, false, Option, Some, None, List}
 use Rattle.std.specs.FinMap.{empty}
 use Rattle.std.specs.List.{slice_get}
@@ -23,9 +23,9 @@ module _ {S : Type 0} (mounted_on : S → Area) (stands : S → Geometry → Lis
     pub stores : is_store side.area ≡ true
     pub sound : on m.damage d side.area ≡ None
 
-  -- The mirror is on the two store areas of the map, the trusted one being that which the selector names;
-  -- none of the three is damaged. A mount of the selector has nothing to do. With power on both stores are up
-  -- and hold the same settings.
+  -- The mirror is on the two store areas of the map, and the selector names the trusted one. None
+  -- of the three is damaged. A mount of the selector has nothing to do. With power on, both stores
+  -- are up and hold the same settings.
   pub record IsHeld (areas : List Area) (d : Device) (mirror : Mirror S) : Type 0 where
     pub trusted : IsSide areas d mirror.trusted
     pub other : IsSide areas d mirror.other
@@ -36,16 +36,16 @@ module _ {S : Type 0} (mounted_on : S → Area) (stands : S → Geometry → Lis
     pub up : d.is_on ≡ true
         → IsMirror mounted_on stands m.contents m.room m.prices d mirror.trusted mirror.other
 
-  -- where the last mount was whole and no area was replaced since
+  -- the session is ready, if the last mount was whole and no area was replaced after it
   abbrev pub IsReady : List Area → Device → Option (Mirror S) → Type 0
   IsReady areas d None = ⊤
   IsReady areas d (Some mirror) = IsHeld areas d mirror
 
--- The selector names the area that is read, or there are settings, so that it does.
+-- The selector names the area that is read, or there are settings, which implies it with power on.
 abbrev pub NamesRead : State → Type 0
 NamesRead s = (s.gone ≡ false) ⊎ (s.settings ≢ empty)
 
--- With power on a mount has nothing to do then.
+-- Then, with power on, a mount has nothing to do.
 abbrev pub RestsNow : (Area → Geometry → List (List ℕ) → Type 0) → Meanings → List Area → Moment → Type 0
 RestsNow rests m areas now =
     IsOn (state_of m areas now) → NamesRead (state_of m areas now)

@@ -1,5 +1,6 @@
--- The table: which answers a plain map gives to a line, and what they make of the state. The choices are
--- whether power is lost in a line, which of the two areas a command that was cut has reached, and the units.
+-- The table: which answers a plain map allows to a line, and the state after each. It leaves
+-- open whether power is lost in a line, which of the two areas a command that was cut has
+-- reached, and the units.
 use Rattle.std.specs.Prelude.{◌≡◌, ◌⊎◌, ℕ, ◌<◌, ◌≤◌, ◌==◌, Bool, true, false, List, [], ◌∷◌, map, Some, None, if◌then◌else◌}
 use Rattle.std.specs.FinMap.{entries}
 use Rattle.script_lines.specs.declared.answer.Answer.{Answer as settings_answer}
@@ -18,22 +19,22 @@ use Rattle.mirror_session.specs.State.{State, Rules, IsOn, IsOff, trusted_of}
 
 -- ---- changing settings
 
--- the command where it changes something
+-- the command, if it changes something
 abbrev pub changing : Map → Command → List Command
 changing m command = if is_idle m command then [] else command ∷ []
 
--- The command that a line stands for, where it changes something. To set the empty value is to delete.
+-- The command that a line stands for, if it changes something. To set the empty value is to delete.
 abbrev pub commands_of : Line → Map → List Command
 commands_of (Set name value) m = changing m (command_of name value)
 commands_of (Del name) m = changing m (Delete name)
 commands_of line m = []
 
--- no name is one too many in one of the areas
+-- the name is one too many in neither area
 abbrev pub IsFree : Rules → Map → Command → Type 0
 IsFree r m (Put name value) = r.is_too_many m name ≡ false
 IsFree r m (Delete name) = Unit {0}
 
--- both have room
+-- both areas have room
 abbrev pub HasRoom : Rules → Map → Command → Type 0
 HasRoom r m (Put name value) = r.lacks m name value ≡ None
 HasRoom r m (Delete name) = Unit {0}
@@ -52,8 +53,8 @@ pub record IsDone (r : Rules) (command : Command) (units : ℕ) (old new : State
 abbrev pub HasOrNot : Command → Map → Map → Type 0
 HasOrNot command before after = (after ≡ before) ⊎ (after ≡ applied before command)
 
--- Power was lost in a command that both areas take. The one that is read has it, or has it not; the other one
--- has it only where that one has, or where that one is read since the named one is all FF.
+-- Power was lost in a command that both areas take. The area that is read has it or not. The other
+-- one has it only if that one has, or if that one is read because the named one is all FF.
 pub record IsCut (r : Rules) (command : Command) (units : ℕ) (old new : State) : Type 0 where
   pub free : IsFree r old.settings command
   pub room : HasRoom r old.settings command
@@ -106,13 +107,13 @@ ReportsAll r answer old new = ⊥
 abbrev pub renamed : Rules → State → State
 renamed r s = record s { named = trusted_of r s }
 
--- The settings stay, and both areas then read as them.
+-- The settings stay, and both areas read as them.
 abbrev pub Remounts : Rules → State → State → Type 0
 Remounts r old new =
     new ≡ record (renamed r old) { other = old.settings; gone = new.gone; is_on = true; is_whole = true }
 
--- The settings stay where power is lost, too, and are read in the same area. The selector names the area of
--- before, or that one; what is not read may be anything.
+-- The settings stay even if power is lost, and are read in the same area. The selector names the
+-- area named before, or that one. What is not read may be anything.
 pub record StopsMounting (r : Rules) (old new : State) : Type 0 where
   pub names : (new.named ≡ old.named) ⊎ (new.named ≡ trusted_of r old)
   pub trusted : trusted_of r new ≡ trusted_of r old
@@ -127,15 +128,15 @@ Mounts r answer old new = ⊥
 
 -- ---- power
 
--- a loss is planned, or none any more
+-- a loss is planned, or the plan is dropped
 abbrev pub Arms : settings_answer → State → State → Type 0
 Arms (settings.Done units) old new = (units ≡ 0) × (new ≡ old)
 Arms answer old new = ⊥
 
 -- ---- replacing an area
 
--- A blank area stands in the place of this one. Where that was the trusted one, the mirror reads as the other
--- one did. What is not read then may be anything.
+-- A blank area replaces this one. If that was the trusted one, the mirror reads as the other one
+-- did. What is not read may be anything.
 abbrev pub Replaces : Rules → ℕ → State → State → Type 0
 Replaces r place old new =
     let after = if place == trusted_of r old then old.other else old.settings in
@@ -153,7 +154,7 @@ Blanks r label answer old new = ⊥
 
 -- ---- all lines
 
--- these are carried out with power off too
+-- lines that need power; the others are carried out with power off too
 abbrev pub needs_power : Line → Bool
 needs_power Mount = false
 needs_power (Cut units) = false
@@ -161,7 +162,7 @@ needs_power Uncut = false
 needs_power (Blank label) = false
 needs_power line = true
 
--- what lines on settings answer too
+-- the answers that lines on settings give too
 abbrev pub Reports : Rules → Line → settings_answer → State → State → Type 0
 Reports r (Set name value) answer old new = Changes r (command_of name value) answer old new
 Reports r (Del name) answer old new = Changes r (Delete name) answer old new
@@ -172,7 +173,7 @@ Reports r (Cut units) answer old new = Arms answer old new
 Reports r Uncut answer old new = Arms answer old new
 Reports r (Blank label) answer old new = Blanks r label (Plain answer) old new
 
--- with power off, `off` and no change; else by the line
+-- with power off the answer is `off` and nothing changes; else it is the line's
 abbrev pub Step : Rules → Line → Answer → State → State → Type 0
 Step r line (Plain settings.Off) old new = (needs_power line ≡ true) × IsOff old × (new ≡ old)
 Step r line (Plain answer) old new = (needs_power line ≡ true → IsOn old) × Reports r line answer old new

@@ -6,21 +6,21 @@ use flash_sim::NoMemory;
 use script_lines::Answer as SettingsAnswer;
 use std::alloc::Global;
 
-/// What a line answers.
+/// The answer to a line.
 #[derive(Debug, Drop)]
 pub enum Answer {
-    /// What a line on settings answers too.
+    /// An answer that a line on settings gives too.
     Plain { answer: SettingsAnswer },
-    /// Power is on, and no area is replaced then.
+    /// Power is on; an area is replaced only with power off.
     On,
-    /// No area for settings has this label.
+    /// No store area has this label.
     NoArea,
-    /// The last mount was cut; or an area was replaced, and no mount was whole since.
+    /// The last mount was cut, or an area was replaced after it.
     NotYet,
 }
 
 impl Answer {
-    /// `ok`, with so many units and erases.
+    /// `ok`, with `units` units and erases.
     pub fn done(units: u64) -> Answer
         ensures { result ≡ done units }
     {
@@ -29,7 +29,7 @@ impl Answer {
         }
     }
 
-    /// Power was lost after so many units and erases, and no record that was cut checks by chance.
+    /// Power was lost after `units` units and erases. No record passes its CRC by chance.
     pub fn lost(units: u64) -> Answer
         ensures { result ≡ lost units }
     {
@@ -61,12 +61,12 @@ fn bytes_of(alloc: Global, text: &str) -> Result<Vec<u8>, NoMemory>
     }
 }
 
-/// The bytes of an answer's text: each line with its LF, numbers in decimal, bytes in lower-case
-/// hexadecimal digits. In a `Names` answer the label is one of 1 to 8 bytes of `a` to `z` and `0`
-/// to `9`, and the names rise in the order of their bytes.
+/// The text of an answer: each line with its LF, numbers in decimal, bytes in lower-case
+/// hexadecimal digits. The label of a `Names` answer must have 1 to 8 bytes of `a` to `z` and `0`
+/// to `9`, and its names must be in rising byte order.
 ///
 /// # Errors
-/// Want of memory alone.
+/// `NoMemory`.
 pub fn answer_text(alloc: Global, answer: &Answer) -> Result<Vec<u8>, NoMemory>
     requires { CanReport answer.now }
     ensures { IfOk result (λ text. text.items ≡ text_of answer.now) }

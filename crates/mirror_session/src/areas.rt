@@ -31,7 +31,7 @@ fn is_labelled(map: &FlashMap, label: &[u8], place: usize) -> bool
     }
 }
 
-// The place of the store area with this label.
+// The place of the store area with this label, if there is one.
 pub(crate) fn labelled(map: &FlashMap, label: &[u8]) -> Option<usize>
     ensures { result ≡ labelled map.now label.now }
 {

@@ -1,4 +1,4 @@
-// Putting a blank area in the place of another.
+// The replacement of an area by a blank one.
 ghost use Rattle.std.specs.Prelude.{◌≡◌, [], ◌+◌, ◌<◌, ◌≤◌, length, replicate, IfOk, OnErr, OnOk, slice_index_or, slice_set, vec_len};
 ghost use Rattle.flash_map.specs.Lawful.{IsLawfulFor};
 ghost use Rattle.flash_sim.specs.Contents.{contents};
@@ -9,7 +9,7 @@ use flash_map::Area;
 use flash_sim::{Bank, Bench, Flash, NoMemory};
 use std::alloc::Global;
 
-// Fills so many bytes from one offset with FF.
+// Fills `len` bytes from offset `from` with FF.
 fn erase_range(bytes: &mut Vec<u8>, from: usize, len: usize)
     requires { from + len ≤ vec_len bytes.old }
     ensures { bytes.new.items ≡ overwritten bytes.old.items from (replicate len 0xFF) }
@@ -17,7 +17,7 @@ fn erase_range(bytes: &mut Vec<u8>, from: usize, len: usize)
     bytes[from..from + len].fill(0xFF);
 }
 
-// Fills so many bytes of one of several banks with FF.
+// Fills `len` bytes of one bank, from offset `from`, with FF.
 fn erase_in(banks: &mut Vec<Vec<u8>>, bank: usize, from: usize, len: usize)
     requires bank { bank < vec_len banks.old }
     requires range { from + len ≤ length (slice_index_or (contents banks.old.items) bank []) }
@@ -29,7 +29,7 @@ fn erase_in(banks: &mut Vec<Vec<u8>>, bank: usize, from: usize, len: usize)
     erase_range(items, from, len);
 }
 
-// The same banks.
+// A copy of the banks.
 fn copied(alloc: Global, banks: &[Bank]) -> Result<Vec<Bank>, NoMemory>
     ensures { IfOk result (λ copy. copy.items ≡ banks.now) }
 {
@@ -39,11 +39,11 @@ fn copied(alloc: Global, banks: &[Bank]) -> Result<Vec<Bank>, NoMemory>
     }
 }
 
-// Loads the flash with the bytes that it has, but for those of the area, which are FF then. That
+// Loads the flash with the bytes that it has, except for those of the area, which are FF then. This
 // drops a planned loss.
 //
 // # Errors
-// `NoMemory`, and the flash is as before.
+// `NoMemory`: the flash is as before.
 pub(crate) fn blank_area<B: Bench>(
     alloc: Global,
     bench: &mut B,

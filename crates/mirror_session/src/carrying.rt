@@ -1,4 +1,4 @@
-// A session, and carrying out one line in it.
+// A session, which carries out lines one by one.
 ghost use Rattle.std.specs.Prelude.{◌≡◌, true, false, is_some, IfErr, IfOk, OnErr, OnOk};
 ghost use Rattle.mirror.specs.Trusted.{IsMirrorMap};
 ghost use Rattle.mirror_session.specs.declared.line.Line.TheVariants.{Mount, Blank};
@@ -29,17 +29,17 @@ use std::sync::ledger::Ledger;
 /// A session on a mirror of settings.
 #[derive(Drop)]
 pub struct MirrorSession<K: Priced> {
-    // none once a mount lost power or an area was replaced, and power is off then
+    // `None` after a mount in which power was lost, or once an area was replaced; power is off then
     pub(crate) mirror: Option<Mirror<K>>,
 }
 
 impl<K: Priced> MirrorSession<K> {
-    /// Turns power on, mounts the mirror of a map, and gives the session with the answer to that
-    /// mount.
+    /// Turns power on, and mounts the mirror of a map. It returns the session with the answer
+    /// to that mount.
     ///
     /// # Errors
-    /// `Damaged` with the damage that the map shows: the selector's, or that of the area that is read. `Unfit` where its
-    /// settings do not fit one of the two areas. `NoMemory`.
+    /// `Damaged` with the damage that the map shows: the selector's, or that of the area that is
+    /// read. `Unfit` if the settings do not fit one of the two areas. `NoMemory`.
     pub fn open<B: Bench, L: Ledger>(
         alloc: Global,
         bench: &mut B,
@@ -73,13 +73,14 @@ impl<K: Priced> MirrorSession<K> {
         }
     }
 
-    /// Carries out a line. With power off `set`, `get`, `del` and `names` answer `off`; and power
-    /// is off from a line in which it was lost, or in which an area was replaced, to the next mount
-    /// that answers `ok`.
+    /// Carries out a line. With power off, `set`, `get`, `del` and `names` answer `off`. Power
+    /// is off from a line in which it was lost, or in which an area was replaced, until a
+    /// mount answers `ok`.
     ///
     /// # Errors
-    /// `Damaged` and `Unfit` where the line is a mount, as `open` has them. `NoMemory` where the line takes memory, as `get`,
-    /// `names`, `mount` and `blank` do. After any of them the session has to be opened anew.
+    /// `Damaged` and `Unfit` as in `open`, only for a mount. `NoMemory`, only for a line
+    /// that takes memory: `get`, `names`, `mount` and `blank`. After any error the session
+    /// must be opened again.
     pub fn carry_out<B: Bench, L: Ledger>(
         &mut self,
         alloc: Global,
@@ -122,7 +123,7 @@ impl<K: Priced> MirrorSession<K> {
         }
     }
 
-    // Mounts anew.
+    // Mounts the mirror again.
     fn mount<B: Bench, L: Ledger>(
         &mut self,
         alloc: Global,
@@ -154,8 +155,8 @@ impl<K: Priced> MirrorSession<K> {
         }
     }
 
-    // Puts a blank area in the place of the store area with the label, where power is off and each
-    // area is as a whole mount and the lines behind it left it.
+    // Replaces the store area with this label by a blank one, if power is off, the last mount was
+    // whole, and no area was replaced after it.
     fn replace<B: Bench>(
         &mut self,
         alloc: Global,

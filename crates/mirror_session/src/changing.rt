@@ -83,7 +83,7 @@ pub fn delete_setting<K: Priced, B: Bench, L: Ledger>(
     }
 }
 
-// Sets a setting, or deletes it where the value is empty.
+// Sets a setting; the empty value deletes it.
 pub fn change_setting<K: Priced, B: Bench, L: Ledger>(
     bench: &mut B,
     mirror: &mut Mirror<K>,

@@ -1,5 +1,5 @@
 //! Scripts on a mirror of settings: the lines, their answers, and a session that carries them out
-//! on its two areas, power losses included.
+//! on the two areas, power losses included.
 #![tactic(auto)]
 
 mod answer;

@@ -1,11 +1,11 @@
-// The lines.
+// The lines of a script on a mirror.
 use script_lines::{Bytes, Label};
 use setting_name::Name;
 
 /// A line of a script on a mirror.
 #[derive(Debug, Drop)]
 pub enum Line {
-    /// Stores a value, or deletes where it is empty.
+    /// Stores a value; the empty one deletes the name.
     Set { name: Name, value: Bytes },
     /// Asks for the value of a name.
     Get { name: Name },
@@ -15,12 +15,12 @@ pub enum Line {
     Names,
     /// Restores power and mounts.
     Mount,
-    /// Plans a loss of power after so many further units and erases, fewer than
+    /// Plans a power loss after `units` further units and erases, fewer than
     /// `script_lines::UNITS_END`.
     Cut { units: u64 },
-    /// Drops that plan.
+    /// Drops the plan.
     Uncut,
-    /// Puts a blank area in the place of the one with this label, which has 1 to 8 bytes of `a` to
-    /// `z` and `0` to `9`.
+    /// Replaces the area with this label, of 1 to 8 bytes of `a` to `z` and `0` to `9`,
+    /// by a blank one.
     Blank { label: Label },
 }

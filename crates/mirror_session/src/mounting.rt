@@ -1,4 +1,4 @@
-// Mounting a mirror.
+// The mount of a mirror.
 ghost use Rattle.std.specs.Prelude.{◌≡◌, Bool, is_some, IfErr, IfOk};
 ghost use Rattle.mirror.specs.Trusted.{IsMirrorMap};
 ghost use Rattle.mirror_session.specs.declared.line.Line.TheVariants.{Mount};
@@ -15,7 +15,7 @@ use mirror::{Mirror, MirrorMount, Priced};
 use std::alloc::Global;
 use std::sync::ledger::Ledger;
 
-// A mount's answer, and the mirror that it made: none where power was lost.
+// The answer to a mount, and the mounted mirror; `None` if power was lost.
 #[derive(Drop)]
 pub(crate) struct Mounted<K: Priced> {
     pub(crate) answer: Answer,

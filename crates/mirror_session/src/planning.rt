@@ -1,4 +1,4 @@
-// Plans of losses.
+// Plans of power losses.
 ghost use Rattle.std.specs.Prelude.{◌≡◌, Bool};
 ghost use Rattle.mirror_session.specs.declared.line.Line.TheVariants.{Cut, Uncut};
 ghost use Rattle.mirror_session.specs.Bench.{meanings, moment};
@@ -9,7 +9,7 @@ use flash_map::FlashMap;
 use flash_sim::{Bench, Flash};
 use mirror::Priced;
 
-// Plans a loss of power.
+// Plans a power loss after so many units and erases.
 pub(crate) fn plan_loss<K: Priced, B: Bench>(bench: &mut B, map: &FlashMap, units: u64) -> Answer
     ensures done { let m = meanings K.damage K.contents K.room K.prices in
         let d = B.device bench.old in let e = B.device bench.new in
@@ -20,7 +20,7 @@ pub(crate) fn plan_loss<K: Priced, B: Bench>(bench: &mut B, map: &FlashMap, unit
     Answer::done(0)
 }
 
-// Drops that plan.
+// Drops the plan.
 pub(crate) fn drop_plan<K: Priced, B: Bench>(bench: &mut B, map: &FlashMap) -> Answer
     ensures done { let m = meanings K.damage K.contents K.room K.prices in
         let d = B.device bench.old in let e = B.device bench.new in

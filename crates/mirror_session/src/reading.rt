@@ -1,4 +1,4 @@
-// One line of a script.
+// The reader of one line.
 ghost use Rattle.std.specs.Prelude.{◌≡◌, ℕ};
 ghost use Rattle.text_parts.specs.Parts.{parts};
 ghost use Rattle.script_lines.specs.Forms.{ReadsOne};
@@ -58,10 +58,10 @@ fn label_alone(alloc: Global, rest: Option<&[u8]>) -> Result<Label, LineFault>
     read_label(alloc, one_word(rest)?)
 }
 
-/// The line that a text is, where no value has more bytes than the limit.
+/// Reads a text as a line on a mirror. No value has more than `limit` bytes.
 ///
 /// # Errors
-/// The first cause of `LineWhy` for which it is none. Want of memory.
+/// `Refused` with the first cause of `LineWhy` if it is none; `NoMemory`.
 pub fn read_line(alloc: Global, text: &[u8], limit: usize) -> Result<Line, LineFault>
     ensures { ReadsLine limit (parts 32 text.now) result }
 {

@@ -1,4 +1,4 @@
-// All lines of a script.
+// The run of all lines of a script.
 ghost use Rattle.std.specs.Prelude.{◌≡◌, ◌∷◌, false, All};
 ghost use Rattle.mirror.specs.Trusted.{IsMirrorMap};
 ghost use Rattle.mirror_session.specs.declared.line.Line.TheVariants.{Mount};
@@ -17,13 +17,14 @@ use mirror::Priced;
 use std::alloc::Global;
 use std::sync::ledger::Ledger;
 
-/// Mounts the mirror of a map, carries out lines one after another, and gives the answers to the
-/// mount and to each line.
+/// Mounts the mirror of a map and carries out lines one after another. It returns the answers to
+/// the mount and to each line.
 ///
 /// # Errors
-/// `Damaged` and `Unfit` where the opening mount or another one finds damage, or settings that do not fit one of the areas;
-/// `Unfit` never behind a mount that was whole, nor where the first settings fit both. `NoMemory`. The bench is then what the
-/// first lines have made of it, and that mount.
+/// `Damaged` if a mount, the opening one or a later one, finds damage. `Unfit` if it finds settings
+/// that do not fit one of the areas; this never happens after a whole mount, nor if the first
+/// settings fit both areas. `NoMemory`. The bench is as the first lines left it, except for what
+/// the line that failed had begun.
 pub fn run_lines<K: Priced, B: Bench, L: Ledger>(
     alloc: Global,
     lines: &[Line],

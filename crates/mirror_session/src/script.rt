@@ -1,4 +1,4 @@
-// A whole script.
+// Scripts on a mirror.
 ghost use Rattle.mirror_session.specs.LineLaws.{EachIsRead, OneMeaning};
 ghost use Rattle.mirror_session.specs.Line.{ReadsScript};
 
@@ -19,28 +19,29 @@ impl ScriptLine for Line {
     }
 }
 
-/// The lines of a script on a mirror.
+/// Reads the lines of a script on a mirror.
 ///
-/// Lines end with LF, which the last may lack. An empty line and one that begins with `#` are skipped, and counted. A
-/// line's words are separated by one space. The lines are `set NAME HEX`, `get NAME`, `del NAME`, `names`, `mount`, `cut N`,
-/// `uncut` and `blank LABEL`. HEX is `-` for no bytes, or one byte at least and no more than the limit, in digits of either
-/// case; N is below 2^32, in decimal without a sign or leading zeros; LABEL has 1 to 8 bytes of `a` to `z` and `0` to `9`.
+/// Each line ends with LF; the last may lack it. An empty line and one that begins with `#` are
+/// skipped, but counted. One space separates the words of a line. The lines are `set NAME HEX`,
+/// `get NAME`, `del NAME`, `names`, `mount`, `cut N`, `uncut` and `blank LABEL`. HEX is `-` for no
+/// bytes, or at least one byte and at most `limit`, in digits of either case. N is below 2^32, in
+/// decimal without a sign or leading zeros. LABEL has 1 to 8 bytes of `a` to `z` and `0` to `9`.
 ///
 /// # Errors
-/// `BadLine` where a line is no line of these: the first such line, with its first cause. `NoMemory`.
+/// `BadLine` if a line is no such line: the first one, with its first cause. `NoMemory`.
 pub fn read_script(alloc: Global, bytes: &[u8], limit: usize) -> Result<Vec<Line>, ScriptFault>
     ensures { ReadsScript limit bytes.now result }
 {
     read_lines(alloc, bytes, limit)
 }
 
-/// No two lines say the same. That no text has two readings, or both a reading and a refusal, holds by any table:
-/// `script_lines::one_reading`.
+/// No two lines say the same. By `script_lines::one_reading`, no text has two readings, or both a
+/// reading and a refusal.
 pub fn one_meaning()
     ensures { OneMeaning }
 {}
 
-/// Words spell a line or are refused for some cause.
+/// Words are a line or are refused for some cause.
 pub fn each_is_read()
     ensures { EachIsRead }
 {}

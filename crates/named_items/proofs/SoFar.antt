@@ -15,6 +15,6 @@ abbrev pub ids_left : Option ℕ → ℕ
 ids_left None = 0
 ids_left (Some id) = 2 ^ 32 - id
 
--- no id that was looked at has an orphan
+-- no id that was looked at has an orphan any more
 abbrev pub HasNoneBefore : Numbering → Items → Option ℕ → Type 0
 HasNoneBefore n items next = (id : ℕ) → IsPast next id → (get items id ≡ None) ⊎ IsKept n items id

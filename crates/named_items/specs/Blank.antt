@@ -1,4 +1,4 @@
--- An area all of whose bytes are FF shows no damage and holds no items.
+-- An area whose bytes are all FF shows no damage and holds no items.
 use Rattle.std.specs.Prelude.{◌≡◌, ℕ, ◌≤◌, ◌<◌, List, length, replicate, None}
 use Rattle.std.specs.FinMap.{empty}
 use Rattle.std.proofs.Common.{true, [], refl, ap, ◌∙◌, arith}

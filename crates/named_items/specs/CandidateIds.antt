@@ -1,4 +1,4 @@
--- At which ids names stand.
+-- The ids at which names may stand.
 use Rattle.std.specs.Prelude.{◌≡◌, ℕ, ◌+◌, ◌<◌, ◌≤◌, true, List}
 use Rattle.item_laws.specs.Items.{Items}
 use Rattle.named_items.specs.Numbering.{Numbering}
@@ -6,8 +6,8 @@ use Rattle.named_items.specs.Candidates.{IsCandidate}
 use Rattle.named_items.specs.Pairs.{IsInside}
 use Rattle.named_items.specs.declared.candidates.Ids.{Ids}
 
--- These ids are ids of names, none of a count or a value, and all below a limit. They are few enough to ask a
--- store for bytes.
+-- These ids are for names, not for a count or a value, and all are below `top`. A store can be
+-- asked for bytes in a range of so many.
 pub record AreOfNames (n : Numbering) (top : ℕ) (ids : Ids) : Type 0 where
   pub from : n.first ≤ ids.least
   pub to : ids.most < n.first + n.step

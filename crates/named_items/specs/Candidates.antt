@@ -1,4 +1,4 @@
--- At which places a name may stand.
+-- The places at which a name may stand. A place is the id of a name.
 use Rattle.std.specs.Prelude.{◌≡◌, ℕ, ◌+◌, ◌<◌, ◌≤◌, true, List, Option, Some, None}
 use Rattle.std.specs.FinMap.{get}
 use Rattle.item_laws.specs.Items.{Items}
@@ -11,7 +11,7 @@ pub record IsCandidate (n : Numbering) (items : Items) (name : List ℕ) (place 
   pub inside : IsInside n items place
   pub candidate : n.is_candidate place name ≡ true
 
--- of the places where the name may stand, the least that is free, if there is one
+-- the least free place of those where the name may stand, if there is one
 abbrev pub IsFreeCandidate : Numbering → Items → List ℕ → Option ℕ → Type 0
 IsFreeCandidate n items name None = (place : ℕ) → IsCandidate n items name place
     → ¬ IsFree items place (place + n.step)
@@ -19,7 +19,7 @@ IsFreeCandidate n items name (Some free) =
     IsCandidate n items name free × IsFree items free (free + n.step)
     × ((place : ℕ) → IsCandidate n items name place → place < free → ¬ IsFree items place (place + n.step))
 
--- the places where the name may stand are these, one after the other
+-- the places where the name may stand are `count` in a row, the first at `from`
 pub record CandidatesAre (n : Numbering) (items : Items) (name : List ℕ) (from count : ℕ) : Type 0 where
   pub low : n.first ≤ from
   pub high : from + count ≤ n.first + count_in n items

@@ -1,9 +1,9 @@
--- What an item and settings cost, by a price of the length of bytes.
+-- What items and settings cost, by the price of a length.
 use Rattle.std.specs.Prelude.{ℕ, ◌+◌, List, length, sum_by, Option, Some, None}
 use Rattle.std.specs.FinMap.{entries}
 use Rattle.backend_api.specs.Map.{Map}
 
--- an item that may be missing
+-- an item, which may be missing
 abbrev pub item_cost : (ℕ → ℕ) → Option (List ℕ) → ℕ
 item_cost price None = 0
 item_cost price (Some bytes) = price (length bytes)

@@ -6,29 +6,29 @@ use Rattle.flash_map.specs.declared.faults.WriteFault.TheVariants.{NoSpace, TooL
 use Rattle.item_laws.specs.Costs.{items_cost}
 use Rattle.item_laws.specs.Items.{Items}
 
--- Both are gone, or power was lost: then none is, or the first alone, or both.
+-- Both items are gone; or power was lost, and none is gone, or the first alone, or both.
 abbrev pub DeletesPair : {T E : Type 0} → Items → Items → ℕ → ℕ → Result T E → Type 0
 DeletesPair before after first second (Ok x) = after ≡ remove (remove before first) second
 DeletesPair before after first second (Err lost) =
     (after ≡ before) ⊎ (after ≡ remove before first) ⊎ (after ≡ remove (remove before first) second)
 
--- One of the two writes was refused: its item is longer than a sector has room for, or the items, with the
--- value at most, leave no room for it.
+-- One of the two writes was refused: its item costs more than a sector has, or the items, perhaps
+-- with the value, leave no room for it.
 pub record IsRefused (price : ℕ → ℕ) (cap sectors : ℕ) (before : Items) (name value : List ℕ) : Type 0 where
   pub one : ℕ
   pub is : (one ≡ price (length value)) ⊎ (one ≡ price (length name))
   pub full : (cap < one) ⊎ ((sectors - 1) * (cap - one) < price (length value) + items_cost price before)
 
--- the bytes and their entry cost more than a sector has, for the name or for the value
+-- the name or the value costs more, with its entry, than a sector has
 abbrev pub OneTooLong : (ℕ → ℕ) → ℕ → List ℕ → List ℕ → Type 0
 OneTooLong price cap name value = (cap < price (length value)) ⊎ (cap < price (length name))
 
--- so many bytes are what one of the two writes needs
+-- what one of the two writes needs, in bytes
 abbrev pub IsNeedOfOne : (ℕ → ℕ) → ℕ → List ℕ → List ℕ → Type 0
 IsNeedOfOne price need name value = (need ≡ price (length value)) ⊎ (need ≡ price (length name))
 
--- Both are there; or a write was refused, and none is; or power was lost, and none is, or the value alone, or
--- both.
+-- Both items are there; or a write was refused, and neither is; or power was lost, and neither is,
+-- or the value alone, or both.
 abbrev pub PutsPair : {T : Type 0} → (ℕ → ℕ) → ℕ → ℕ → Items → Items → ℕ → ℕ → List ℕ → List ℕ
     → Result T WriteFault → Type 0
 PutsPair price cap sectors before after first second name value (Ok x) =

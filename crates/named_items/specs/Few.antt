@@ -1,4 +1,4 @@
--- An area holds at most one item for every 8 bytes, since each has an entry of its own.
+-- An area holds at most one item for each 8 bytes, since each item has an entry of its own.
 use Rattle.std.specs.Prelude.{◌≡◌, ℕ, ◌≤◌, ◌<◌, List, length}
 use Rattle.std.specs.FinMap as map
 use Rattle.std.specs.Ordering.{nat_cmp}
@@ -33,7 +33,7 @@ use Rattle.zms_cycle.specs.Sector as zms_sector
 use Rattle.zms_format.specs.Area as zms
 use Rattle.named_items.specs.StoreEnds.{most_items}
 
--- ---- a list of pairs stands for no more items than it has pairs
+-- ---- a list of pairs gives at most one item for each pair
 
 under : (t : Bool) (a b most : ℕ) → a ≤ most → b ≤ most → cond t a b ≤ most
 under true a b most x y = x
@@ -69,7 +69,7 @@ items-le pairs =
     let all = puts-le pairs map.empty in
     omega arith
 
--- ---- a sector has no more entries than slots
+-- ---- a sector has at most one entry for each slot
 
 kept-le : {X : Type 0} (test : X → Bool) (xs : List X) → length (filter test xs) ≤ length xs
 kept-le test [] = omega arith

@@ -1,4 +1,4 @@
--- How long a value of an area may be, beside its sectors.
+-- How long a value may be, against the sectors of its area.
 use Rattle.std.specs.Prelude.{◌≡◌, ℕ, ◌+◌, ◌≤◌}
 use Rattle.std.proofs.Common.{eqb, ◌⊎◌, inl, inr, arith}
 use Rattle.std.proofs.lemmas.Bool.{cases_eq, cond-true, cond-false, eq-eqb, ne_eqb}
@@ -7,7 +7,7 @@ use Rattle.flash_map.specs.declared.area.Area.{Area}
 use Rattle.flash_map.specs.Area.{value_limit, sector_size}
 use Rattle.flash_map.specs.Lawful.{IsLawfulFor}
 
--- one of the two limits, and the longer one in areas of version 2 alone
+-- one of the two limits; only an area of version 2 has the longer one
 limits : (area : Area) → ((area.version ≡ 2) × (value_limit area ≡ 2048)) ⊎ (value_limit area ≡ 256)
 limits area =
     elim (cases_eq area.version 2) [
@@ -21,7 +21,7 @@ limit-small area = elim (limits area) [ inl long ↦ let e = long.1 in omega ari
 pub limit-least : (area : Area) → 256 ≤ value_limit area
 limit-least area = elim (limits area) [ inl long ↦ let e = long.1 in omega arith | inr e ↦ omega arith ]
 
--- a sector has more than the longest value
+-- a sector has at least 256 bytes more than the longest value
 pub value-leaves_room : (d : Device) (area : Area) (length : ℕ) → IsLawfulFor d.banks area
     → length ≤ value_limit area → length + 256 ≤ sector_size d area
 value-leaves_room d area length lawful short =

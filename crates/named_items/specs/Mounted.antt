@@ -1,4 +1,4 @@
--- A mounted store of settings, before a call and behind it.
+-- A mounted store of settings, before and after a call.
 use Rattle.std.specs.Prelude.{◌≡◌, ℕ, Bool, true, false, List, Option, None}
 use Rattle.flash_sim.specs.Device.{Device}
 use Rattle.flash_map.specs.declared.area.Area.{Area}
@@ -10,7 +10,8 @@ use Rattle.item_laws.specs.Items.{Items}
 use Rattle.named_items.specs.Numbering.{Numbering}
 use Rattle.named_items.specs.Pairs.{HasNoOrphans}
 
--- The store is mounted on a lawful area and knows it as it is. No item is an orphan.
+-- The store is mounted on a lawful area, and what it keeps in memory is true of it. No
+-- item is an orphan.
 pub record IsMounted {S : Type 0} (mounted_on : S → Area) (stands : S → Geometry → List (List ℕ) → Type 0)
     (contents : Area → Geometry → List (List ℕ) → Items) (numbering : Area → Numbering) (d : Device)
     (store : S)
@@ -19,7 +20,7 @@ pub record IsMounted {S : Type 0} (mounted_on : S → Area) (stands : S → Geom
   pub up : StandsOn mounted_on stands d store
   pub clean : HasNoOrphans (numbering (mounted_on store)) (on contents d (mounted_on store))
 
--- A call hands such a store back, on this area.
+-- what a mount on this area gives: such a store
 pub record IsMountedOn {S : Type 0} (mounted_on : S → Area) (stands : S → Geometry → List (List ℕ) → Type 0)
     (contents : Area → Geometry → List (List ℕ) → Items) (numbering : Area → Numbering) (d : Device)
     (area : Area) (store : S) : Type 0 where
@@ -27,8 +28,8 @@ pub record IsMountedOn {S : Type 0} (mounted_on : S → Area) (stands : S → Ge
   pub up : StandsOn mounted_on stands d store
   pub clean : HasNoOrphans (numbering area) (on contents d area)
 
--- The store keeps its area, which shows no damage. It knows the area as it is; where power was lost, it is
--- down.
+-- The store keeps its area, which shows no damage. What it keeps in memory stays true; if power was
+-- lost, it is down.
 pub record StaysMounted {S : Type 0} (mounted_on : S → Area) (stands : S → Geometry → List (List ℕ) → Type 0)
     (runs : S → Bool) (damage : Area → Geometry → List (List ℕ) → Option Damaged) (e : Device) (old new : S)
     (lost : Bool) : Type 0 where

@@ -14,8 +14,8 @@ pub record Numbering : Type 0 where
   -- the most bytes of a value
   pub longest : ℕ
 
--- The count, the names and the values have ids of their own, the count below the names and these below the
--- values. An item that is no count allows as many names as none.
+-- The count, the names and the values have ids of their own: the count below the names, and these
+-- below the values. An item that is no count allows as many names as a missing one.
 pub record IsNumbering (n : Numbering) : Type 0 where
   pub below : n.count_id < n.first
   pub few : (count : Option (List ℕ)) → n.count_of count ≤ n.step

@@ -26,7 +26,7 @@ nvs_damage area geometry sectors = damage_of geometry.unit sectors
 abbrev pub nvs_items : Area → Geometry → List (List ℕ) → Items
 nvs_items area geometry sectors = items_of (list_of geometry.unit sectors)
 
--- no loss of power left anything undone
+-- no power loss left anything undone
 abbrev pub nvs_rests : Area → Geometry → List (List ℕ) → Type 0
 nvs_rests area geometry sectors = ring_rests format_of area geometry sectors
 
@@ -36,7 +36,7 @@ nvs_price geometry = cost geometry.unit
 abbrev pub nvs_cap : Geometry → ℕ
 nvs_cap geometry = capacity geometry.unit geometry.sector
 
--- The store is up: the area is not damaged and at rest, and the store knows its open sector.
+-- The store is up: the area is undamaged and at rest, and the store knows its open sector.
 abbrev pub NvsStands : Nvs → Geometry → List (List ℕ) → Type 0
 NvsStands nvs geometry sectors = RingStands NvsRole format_of kept nvs.store geometry sectors
 
@@ -78,7 +78,7 @@ unit-fits unit sector length is short =
       ]
     ]
 
--- what a value as long as the area allows costs fits a sector
+-- a value as long as the area allows fits a sector
 pub nvs-fits : (d : Device) (area : Area) (length : ℕ) → IsLawfulFor d.banks area → area.role ≡ NvsRole
     → length ≤ value_limit area → nvs_price (geometry_of d area) length ≤ nvs_cap (geometry_of d area)
 nvs-fits d area length lawful role short =

@@ -11,7 +11,7 @@ use Rattle.named_items.specs.Pairs.{settings_in, AltersOnly, HasNoOrphans, IsKep
 abbrev pub KeepsEach : Numbering → Items → Items → Type 0
 KeepsEach n before after = (id : ℕ) → IsKept n before id → get after id ≡ get before id
 
--- what is kept is kept still
+-- each item that is kept stays one that is kept
 abbrev pub StaysKept : Numbering → Items → Items → Type 0
 StaysKept n before after = (id : ℕ) → IsKept n before id → IsKept n after id
 
@@ -19,32 +19,34 @@ StaysKept n before after = (id : ℕ) → IsKept n before id → IsKept n after 
 abbrev pub OnlyRemoves : Items → Items → Type 0
 OnlyRemoves before after = (id : ℕ) → (get after id ≡ None) ⊎ (get after id ≡ get before id)
 
--- The removal came as far as this id: no orphan is left below it, and each item above it is as before.
+-- The removal came as far as this id: no orphan is left below it, and each item above
+-- it is as before.
 pub record StopsAt (n : Numbering) (before after : Items) (id : ℕ) : Type 0 where
   pub below : (other : ℕ) → other < id → (get after other ≡ None) ⊎ IsKept n after other
   pub above : (other : ℕ) → id < other → get after other ≡ get before other
 
--- One id was looked at: it has no orphan any more. What all others have stays, as does what is kept.
+-- One id was looked at, and has no orphan any more. All other items stay, and those that are
+-- kept stay kept.
 pub record Removes (n : Numbering) (before after : Items) (id : ℕ) : Type 0 where
   pub done : (get after id ≡ None) ⊎ IsKept n after id
   pub others : (other : ℕ) → ¬ (other ≡ id) → get after other ≡ get before other
   pub kept : (other : ℕ) → ¬ (other ≡ id) → IsKept n before other → IsKept n after other
 
--- at most so many units were spent for each item that is gone
+-- at most `most` units and erases were spent for each item that is gone
 pub record SpendsPerItem (most : ℕ) (old new : Device) (before after : Items) : Type 0 where
   pub units : ℕ
   pub at_most : units + len after * most ≤ len before * most
   pub spent : Spends old new units
 
--- The removal takes orphans alone: the settings stay, and each item that is kept; no item is new or has other
--- bytes.
+-- The removal deletes orphans alone: the settings and each item that is kept stay; no item is new
+-- or has other bytes.
 pub record KeepsSettings (n : Numbering) (before after : Items) : Type 0 where
   pub settings : settings_in n after ≡ settings_in n before
   pub kept : KeepsEach n before after
   pub gone : OnlyRemoves before after
 
--- One id was looked at, and its item deleted if it is an orphan. Where it is kept, or where no item
--- is an orphan, nothing is programmed; power is lost only where the id has an item.
+-- One id was looked at, and its item deleted if it is an orphan. If the item is kept, or if no item
+-- is an orphan, nothing is programmed. Power is lost only if the id has an item.
 pub record LooksAt (n : Numbering) (old new : Device) (before after : Items) (id : ℕ) (lost : Bool) : Type 0
   where
     pub others : AltersOnly before after id
@@ -54,12 +56,12 @@ pub record LooksAt (n : Numbering) (old new : Device) (before after : Items) (id
     pub present : lost ≡ true → ¬ (get before id ≡ None)
     pub removes : lost ≡ false → Removes n before after id
 
--- it spent what one removal may, and nothing where the item stays
+-- it spent at most `most` units and erases, and none if the item stays
 pub record SpendsOnOne (most : ℕ) (old new : Device) (before after : Items) (lost : Bool) : Type 0 where
   pub at_most : SpendsAtMost old new most
   pub per_item : lost ≡ false → SpendsPerItem most old new before after
 
--- no orphan is left, or power was lost and the removal came as far as one id
+-- no orphan is left; or power was lost, and the removal came as far as one id
 abbrev pub RemovalEnds : {T E : Type 0} → Numbering → Items → Items → Result T E → Type 0
 RemovalEnds n before after (Ok x) = HasNoOrphans n after
 RemovalEnds n before after (Err lost) = (id : ℕ) × StopsAt n before after id

@@ -27,7 +27,7 @@ module _ (n : Numbering) where
   abbrev pub pair_at : Items → ℕ → Option (List ℕ × List ℕ)
   pair_at items place = pair_of place (get items place) (get items (place + n.step))
 
-  -- The map that items read as. Of two equal names the one at the lower id counts.
+  -- The map that items read as. Of two settings of one name, the one at the lower id is in effect.
   unfoldable pub settings_in : Items → Map
   settings_in items = from_entries (filter_map (pair_at items) (range_with_len n.first (count_in items)))
 
@@ -36,7 +36,7 @@ abbrev pub HasName : Option (List ℕ × List ℕ) → List ℕ → Type 0
 HasName None name = ⊥
 HasName (Some pair) name = pair.0 ≡ name
 
--- names up to the count may stand there
+-- the place is one that the count allows
 pub record IsInside (n : Numbering) (items : Items) (place : ℕ) : Type 0 where
   pub from : n.first ≤ place
   pub to : place < n.first + count_in n items
@@ -46,13 +46,13 @@ abbrev pub IsLowest : Numbering → Items → List ℕ → ℕ → Type 0
 IsLowest n items name place =
     (other : ℕ) → n.first ≤ other → other < place → ¬ HasName (pair_at n items other) name
 
--- the setting of this name that counts stands there
+-- the setting in effect of this name stands there
 pub record IsAt (n : Numbering) (items : Items) (name : List ℕ) (place : ℕ) : Type 0 where
   pub inside : IsInside n items place
   pub here : HasName (pair_at n items place) name
   pub lowest : IsLowest n items name place
 
--- where the setting of this name stands that counts, if there is one
+-- where the setting in effect of this name stands, if there is one
 abbrev pub IsIdOfName : Numbering → Items → List ℕ → Option ℕ → Type 0
 IsIdOfName n items name None = (other : ℕ) → IsInside n items other → ¬ HasName (pair_at n items other) name
 IsIdOfName n items name (Some place) = IsAt n items name place
@@ -62,7 +62,7 @@ pub record IsCount (n : Numbering) (items : Items) (id : ℕ) : Type 0 where
   pub is : id ≡ n.count_id
   pub counts : n.is_count (get items id) ≡ true
 
--- the item is the name or the value of a setting that counts
+-- the item is the name or the value of a setting in effect
 pub record IsPart (n : Numbering) (items : Items) (id : ℕ) : Type 0 where
   pub name : List ℕ
   pub place : ℕ
@@ -72,11 +72,11 @@ pub record IsPart (n : Numbering) (items : Items) (id : ℕ) : Type 0 where
 abbrev pub IsKept : Numbering → Items → ℕ → Type 0
 IsKept n items id = IsCount n items id ⊎ IsPart n items id
 
--- each item is a count, or a part of a setting that counts
+-- each item is the count, or a part of a setting in effect
 abbrev pub HasNoOrphans : Numbering → Items → Type 0
 HasNoOrphans n items = (id : ℕ) → (get items id ≡ None) ⊎ IsKept n items id
 
--- the items are the same but for this one
+-- all other items are the same
 abbrev pub AltersOnly : Items → Items → ℕ → Type 0
 AltersOnly old new id = (other : ℕ) → ¬ (other ≡ id) → get new other ≡ get old other
 

@@ -1,4 +1,4 @@
--- The numbers of room of settings over a store, and how the calls that set or delete a setting end.
+-- The room of settings over a store, and how the calls that set or delete a setting end.
 use Rattle.std.specs.Prelude.{◌≡◌, ◌⊎◌, ℕ, ◌+◌, ◌<◌, ◌≤◌, Bool, true, false, List, length, None, Result, is_err}
 use Rattle.std.specs.FinMap.{insert, remove}
 use Rattle.flash_sim.specs.Device.{Device}
@@ -17,7 +17,7 @@ use Rattle.named_items.specs.Numbering.{Numbering}
 use Rattle.named_items.specs.PairRoom.{pair_room}
 use Rattle.named_items.specs.Pairs.{settings_in, HasNoOrphans, IsAt, IsInside, IsIdOfName}
 
--- by what a count costs and which name is one too many, and by the store's price and what a sector has
+-- by the cost of a count, the test for a name too many, and the store's price and cap
 abbrev pub room_in : ((ℕ → ℕ) → ℕ) → (Map → List ℕ → Bool) → (Geometry → ℕ → ℕ) → (Geometry → ℕ) → Geometry
     → Room
 room_in counted too_many price cap geometry =
@@ -32,8 +32,8 @@ pub record IsStorable (longest : ℕ) (value : List ℕ) : Type 0 where
   pub some : 0 < length value
   pub short : length value ≤ longest
 
--- A new name may be put at this id: the name has no value and is not one too many, the id is one of its own,
--- below the count, and neither its item nor that of its value is there.
+-- A new name may be put at this id: it has no value and is not one too many, the id is one of its
+-- own that the count allows, and neither the name's item nor the value's is there.
 pub record IsNewAt (n : Numbering) (too_many : Map → List ℕ → Bool) (items : Items) (name : List ℕ) (id : ℕ)
     : Type 0 where
   pub absent : IsIdOfName n items name None
@@ -42,8 +42,8 @@ pub record IsNewAt (n : Numbering) (too_many : Map → List ℕ → Bool) (items
   pub candidate : n.is_candidate id name ≡ true
   pub free : IsFree items id (id + n.step)
 
--- How a set ends. Where power was lost, the settings are the old ones or have the value; else no item is an
--- orphan.
+-- How a set ends. If power was lost, the settings are the old ones or have the value; else no
+-- item is an orphan.
 pub record SetLeaves {T : Type 0} (n : Numbering) (room : Room) (sectors : ℕ) (old new : Device)
     (before after : Items) (name value : List ℕ) (result : Result T SetFault) : Type 0 where
   pub ends : SetEnds room sectors old new (settings_in n before) (settings_in n after) name value result
@@ -58,8 +58,8 @@ SetLeavesOn numbering room contents old new area name value result =
     SetLeaves (numbering area) (room (geometry_of old area)) area.sectors old new (on contents old area)
     (on contents new area) name value result
 
--- How a delete ends. Where power was lost, the settings are the old ones or those without the name; else no
--- item is an orphan.
+-- How a delete ends. If power was lost, the settings are the old ones or those without the name;
+-- else no item is an orphan.
 pub record DeleteLeaves {T : Type 0} (n : Numbering) (old new : Device) (before after : Items) (name : List ℕ)
     (result : Result T Lost) : Type 0 where
   pub ends : DeleteEnds old new (settings_in n before) (settings_in n after) name result
@@ -68,7 +68,7 @@ pub record DeleteLeaves {T : Type 0} (n : Numbering) (old new : Device) (before 
       ⊎ (settings_in n after ≡ remove (settings_in n before) name)
   pub clean : is_err result ≡ false → HasNoOrphans n after
 
--- no item changed but the two of the name's setting
+-- only the two items of the name's setting changed
 abbrev pub AltersOnlySetting : Numbering → Items → Items → List ℕ → Type 0
 AltersOnlySetting n before after name =
     (id : ℕ) → IsAt n before name id → AltersTwo before after id (id + n.step)

@@ -1,5 +1,5 @@
--- How an area holds items for a store over sectors of any format, by its geometry and its sectors alone. A
--- format is that of the area's geometry.
+-- How an area holds items for a store over sectors of any format, by its geometry and its sectors
+-- alone. The geometry gives the format.
 use Rattle.std.specs.Prelude.{◌≡◌, ℕ, ◌+◌, ◌*◌, ◌≤◌, true, false, List, Option, None}
 use Rattle.std.proofs.Common.{subst}
 use Rattle.flash_map.specs.declared.area.Area.{Area}
@@ -23,14 +23,14 @@ ring_damage format_of area geometry sectors = (format_of geometry).damage sector
 abbrev pub ring_items : (Geometry → SectorFormat) → Area → Geometry → List (List ℕ) → Items
 ring_items format_of area geometry sectors = items (format_of geometry) sectors
 
--- no loss of power left anything undone
+-- no power loss left anything undone
 abbrev pub ring_rests : (Geometry → SectorFormat) → Area → Geometry → List (List ℕ) → Type 0
 ring_rests format_of area geometry sectors =
     let reading = (format_of geometry).reading in
     is_closed_at reading sectors (next sectors (open_sector reading sectors)) ≡ false
 
--- The store is up: the area is not damaged and at rest, and the store knows its open sector and where the
--- latest entries stand.
+-- The store is up: the area is undamaged and at rest, and the store knows its open sector and where
+-- the latest entries stand.
 pub record RingStands {T : Type 0} (own : Role) (format_of : Geometry → SectorFormat)
     (kept : Geometry → List ℕ → T)
     (store : Store T)
@@ -60,8 +60,8 @@ ring_describes format_of last geometry sectors =
     let k = format_of geometry in
     Knows k.ids last (all_placed (slots k) sectors)
 
--- What steps in sectors of this size, which has so many units, spend: a round, an entry that a sector has
--- room for, a mount.
+-- The most units and erases of the steps in a sector of this size, which has `units` units: a
+-- round, an entry that fits, a mount.
 pub record IsFrugal (k : SectorFormat) (size units : ℕ) : Type 0 where
   pub round : k.units.round size ≤ 3 * (units + 3)
   pub entry : (len : ℕ) → k.cost len ≤ k.cap size → k.units.entry len ≤ 3 * (units + 3)

@@ -18,7 +18,7 @@ item_units geometry = 3 * geometry.sectors * (geometry.sector / geometry.unit + 
 abbrev pub most_items : Geometry → ℕ
 most_items geometry = geometry.sectors * (geometry.sector / 8)
 
--- the least id behind this one that has a value
+-- the least id above `after` that has an item
 abbrev pub IsNextId : Items → Option ℕ → Option ℕ → Type 0
 IsNextId items after None = (id : ℕ) → IsBehind after id → get items id ≡ None
 IsNextId items after (Some next) =
@@ -27,7 +27,7 @@ IsNextId items after (Some next) =
 
 -- ---- writing
 
--- these bytes are the item's already
+-- the item has these bytes already
 abbrev pub Holds : Items → ℕ → List ℕ → Type 0
 Holds items id bytes = get items id ≡ Some bytes
 
@@ -48,15 +48,15 @@ pub record FindsNoSpace (price : ℕ → ℕ) (cap sectors : ℕ) (before after 
   pub other : ¬ Holds before id bytes
   pub items : after ≡ before
 
--- power was lost: the items are the old ones, or those with the item
+-- power was lost: the items are the old ones, or have the new bytes
 pub record StopsWriting (price : ℕ → ℕ) (cap : ℕ) (before after : Items) (id : ℕ) (bytes : List ℕ) :
     Type 0 where
   pub short : price (length bytes) ≤ cap
   pub other : ¬ Holds before id bytes
   pub items : (after ≡ before) ⊎ (after ≡ insert before id bytes)
 
--- on an area of so many sectors; `TooLong` exactly where the bytes and their entry cost more than a sector
--- has
+-- how a write on an area of so many sectors ends; `TooLong` exactly if the bytes and their entry
+-- cost more than a sector has
 abbrev pub WriteEnds : {T : Type 0} → (ℕ → ℕ) → ℕ → ℕ → Device → Device → Items → Items → ℕ → List ℕ
     → Result T WriteFault → Type 0
 WriteEnds price cap sectors old new before after id bytes (Ok _) =

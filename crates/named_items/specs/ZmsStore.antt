@@ -26,7 +26,7 @@ zms_damage area geometry sectors = damage_of geometry.kind sectors
 abbrev pub zms_items : Area → Geometry → List (List ℕ) → Items
 zms_items area geometry sectors = items_of (list_of geometry.kind sectors)
 
--- no loss of power left anything undone
+-- no power loss left anything undone
 abbrev pub zms_rests : Area → Geometry → List (List ℕ) → Type 0
 zms_rests area geometry sectors = ring_rests format_of area geometry sectors
 
@@ -36,7 +36,7 @@ zms_price geometry = cost
 abbrev pub zms_cap : Geometry → ℕ
 zms_cap geometry = capacity geometry.sector
 
--- The store is up: the area is not damaged and at rest, and the store knows its open sector.
+-- The store is up: the area is undamaged and at rest, and the store knows its open sector.
 abbrev pub ZmsStands : Zms → Geometry → List (List ℕ) → Type 0
 ZmsStands zms geometry sectors = RingStands ZmsRole format_of kept zms.store geometry sectors
 
@@ -53,7 +53,7 @@ value-fits : (sector length : ℕ) → length + 256 ≤ sector → 16 + data_len
 unfolding data_len padded
 value-fits sector length short = grind (arith, nat_tests)
 
--- what a value as long as the area allows costs fits a sector
+-- a value as long as the area allows fits a sector
 pub zms-fits : (d : Device) (area : Area) (length : ℕ) → IsLawfulFor d.banks area
     → area.role ≡ ZmsRole → length ≤ value_limit area
     → zms_price (geometry_of d area) length ≤ zms_cap (geometry_of d area)

@@ -1,8 +1,10 @@
-// Ids from one to another.
+// A range of ids.
 
-/// The ids from the least to the most, both of them too.
+/// The ids from `least` to `most`, both included.
 #[derive(Clone, Copy, Debug, PartialEq, Eq)]
 pub struct Ids {
+    /// The first id of the range.
     pub least: u32,
+    /// The last id of the range.
     pub most: u32,
 }

@@ -1,4 +1,4 @@
-// Looking at two items as a name and its value.
+// Look-ups: two items as a name and its value.
 ghost use Rattle.std.specs.Prelude.{◌≡◌, true, false, Some, option_map};
 ghost use Rattle.std.specs.Bool.{MatchBool};
 ghost use Rattle.std.specs.FinMap as finite;
@@ -16,7 +16,7 @@ use flash_sim::{Flash, Steps};
 use setting_name::Name;
 use std::sync::ledger::Ledger;
 
-/// Whether the item is this name, which is lawful.
+/// Whether the item holds this name. The name is lawful.
 pub fn is_named(found: Option<&[u8]>, name: &Name) -> bool
     ensures yes_it { result ≡ true → option_map (λ bytes. bytes.now) found.entry ≡ Some name.now }
     ensures not_it { result ≡ false → option_map (λ bytes. bytes.now) found.entry ≡ Some name.now
@@ -30,7 +30,7 @@ pub fn is_named(found: Option<&[u8]>, name: &Name) -> bool
     }
 }
 
-/// Whether the item may be a value of at most so many bytes.
+/// Whether the item holds 1 to `longest` bytes, as a value does.
 pub fn is_value(found: Option<&[u8]>, longest: u32) -> bool
     ensures { result ≡ is_value longest (option_map (λ bytes. bytes.now) found.entry) }
 {
@@ -40,8 +40,8 @@ pub fn is_value(found: Option<&[u8]>, longest: u32) -> bool
     }
 }
 
-/// Whether one item is the name and the other a value. It looks at the value only where the name is
-/// there.
+/// Whether the item `first` is the name and the item `second` a value that the area allows. It
+/// reads the value only if the name is there.
 pub fn is_at<S: ItemStore, F: Flash, L: Ledger>(
     store: &S,
     flash: &F,
@@ -74,7 +74,7 @@ pub fn is_at<S: ItemStore, F: Flash, L: Ledger>(
     is_value(store.get_by(flash, index, second, steps), longest)
 }
 
-/// Whether neither of two items is there.
+/// Whether neither of the two ids has an item.
 pub fn is_free<S: ItemStore, F: Flash, L: Ledger>(
     store: &S,
     flash: &F,
@@ -98,8 +98,8 @@ pub fn is_free<S: ItemStore, F: Flash, L: Ledger>(
     store.get_by(flash, index, second, steps).is_none()
 }
 
-/// Where the setting of a name stands, if the name has a value. No item may be an orphan. It is one
-/// walk over the store's entries at most, and makes no index.
+/// The id at which the setting of a name stands; `None` if the name has no value. No item may be an
+/// orphan. It walks over the store's entries at most once, and makes no index.
 pub fn id_of_name<N: IdLayout, S: ItemStore, F: Flash, L: Ledger>(
     store: &S,
     flash: &F,
@@ -118,8 +118,8 @@ pub fn id_of_name<N: IdLayout, S: ItemStore, F: Flash, L: Ledger>(
     store.id_of(flash, ids.least, ids.most, name.bytes(), steps)
 }
 
-/// The value of a name; none where it has no value. No item may be an orphan. Where the name can have
-/// no item by what the store keeps in memory, the entries are not gone over. No index is made.
+/// The value of a name; `None` if it has none. No item may be an orphan. It first asks
+/// `IdLayout::may_have`, and does not search for a name that this rules out. It makes no index.
 pub fn standing_value<'a, N: IdLayout, S: ItemStore, F: Flash, L: Ledger>(
     store: &S,
     flash: &'a F,
@@ -143,10 +143,10 @@ pub fn standing_value<'a, N: IdLayout, S: ItemStore, F: Flash, L: Ledger>(
     store.get(flash, place + N::step(), steps)
 }
 
-/// The value of a name; none where it has no value. Items may be orphans, as before a mount has
-/// removed them: none of them is given as a value. Where the name can have no item by what the store
-/// keeps in memory, the entries are not gone over. Else an index is made, and each id of the name
-/// looked at: where no item is an orphan, `standing_value` is faster and gives the same.
+/// The value of a name; `None` if it has none. Items may be orphans, as before a mount has removed
+/// them; none of these is given as a value. It first asks `IdLayout::may_have`. If that does not
+/// rule the name out, it makes an index and looks at each id of the name. If no item is an orphan,
+/// `standing_value` is faster and gives the same.
 pub fn value_of<'a, N: IdLayout, S: ItemStore, F: Flash, L: Ledger>(
     store: &S,
     flash: &'a F,

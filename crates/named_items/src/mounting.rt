@@ -1,4 +1,4 @@
-// Mounting.
+// The mount of a store of settings.
 ghost use Rattle.std.specs.Prelude.{◌≡◌, ◌∷◌, [], None, IfOk};
 ghost use Rattle.flash_map.specs.Area.{geometry_of};
 ghost use Rattle.flash_map.specs.Faults.{mount_lost};
@@ -22,14 +22,14 @@ use flash_sim::{Flash, Steps};
 use std::alloc::Global;
 use std::sync::ledger::Ledger;
 
-/// Mounts a store, and deletes the items that belong to no setting. The settings stay, and each
-/// item that is kept, also where power is lost; no item is new or has other bytes. Whatever the
-/// result, it spends at most so many units and erases as the area's geometry says (`mount_units`).
-/// The area is all FF afterwards only where it was so before.
+/// Mounts a store, and deletes the items that belong to no setting. The settings and each item that
+/// is kept stay, even if power is lost; no item is new or has other bytes. Whatever the result, it
+/// spends at most as many units and erases as `mount_units` says for the area's geometry. The area
+/// is all FF afterwards only if it was so before.
 ///
 /// # Errors
-/// `Damaged` exactly where the area shows damage, and then nothing was programmed; `PowerLost`; `NoMemory`, and then nothing was
-/// programmed either.
+/// `Damaged` exactly if the area shows damage; nothing was programmed then. `PowerLost`: the
+/// settings are as before. `NoMemory`: nothing was programmed.
 #[tactic(auto, using(flash_map::proofs::Touches::then))]
 pub fn mount_store<N: IdLayout, S: ItemStore, F: Flash, L: Ledger>(
     alloc: Global,

@@ -1,4 +1,4 @@
-// The trait of a numbering.
+// The trait of a layout of ids.
 ghost use Rattle.std.specs.Prelude.{◌≡◌, ◌+◌, ◌^◌, ◌<◌, ◌≤◌, ℕ, Bool, List, Option, None, true, false};
 ghost use Rattle.std.specs.FinMap as finite;
 ghost use Rattle.flash_map.specs.declared.area.Area.{Area as area_type};
@@ -19,21 +19,21 @@ use flash_sim::{Flash, Steps};
 use setting_name::Name;
 use std::sync::ledger::Ledger;
 
-/// At which ids a backend has the names and the values of its settings.
+/// At which ids a backend stores the names and the values of its settings.
 pub trait IdLayout {
-    /// How they are numbered in an area.
+    /// The numbering of an area.
     ghost numbering: { area_type → Numbering };
 
-    /// A store has just the ids below this one.
+    /// The ids of the store are those below this one.
     ghost top: { ℕ };
 
-    /// What a count costs, by the price of bytes.
+    /// What a count costs in bytes, by the price of a length.
     ghost counted: { (ℕ → ℕ) → ℕ };
 
-    /// The name would be one too many.
+    /// Whether this name would be one too many beside these settings.
     ghost too_many: { Map → List ℕ → Bool };
 
-    /// From the id of a name to that of its value.
+    /// How far the id of a value is above that of its name.
     fn step() -> u32
         ensures { (area : area_type) → (numbering area).step ≡ result };
 
@@ -49,8 +49,8 @@ pub trait IdLayout {
         ensures candidates { (area : area_type) → HasAllCandidates (numbering area) result }
         ensures only { (area : area_type) → HasOnlyPlaces (numbering area) result };
 
-    /// Whether a name may have a value: where it answers `false`, the name has none. It makes no
-    /// index.
+    /// Whether a name may have a value: if the answer is `false`, the name has none. It
+    /// makes no index.
     fn may_have<S: ItemStore, F: Flash, L: Ledger>(
         store: &S,
         flash: &F,
@@ -64,8 +64,8 @@ pub trait IdLayout {
             result ≡ false
             → IsIdOfName (numbering area) (on S.contents (F.device flash.now) area) name.now None };
 
-    /// Where the setting of a name stands, if the name has a value, also where items are orphans. It
-    /// looks at each id of the name up to there.
+    /// The id at which the setting of a name stands; `None` if the name has no value. Items may be
+    /// orphans. It looks at the ids of the name in rising order, up to that one.
     fn place_of<S: ItemStore, F: Flash, L: Ledger>(
         store: &S,
         flash: &F,
@@ -81,7 +81,7 @@ pub trait IdLayout {
         ensures { let area = S.mounted_on store.now in
             IsIdOfName (numbering area) (on S.contents (F.device flash.now) area) name.now result };
 
-    /// Whether an item is a count, or a part of a setting that counts.
+    /// Whether an id has the count, or a part of a setting in effect.
     fn is_kept<S: ItemStore, F: Flash, L: Ledger>(
         store: &S,
         flash: &F,
@@ -101,7 +101,7 @@ pub trait IdLayout {
             result ≡ false → IsKept (numbering area) (on S.contents (F.device flash.now) area) id
             → ⊥ };
 
-    /// What all settings cost by the numbers of room, in bytes.
+    /// What all settings cost, in bytes, by the area's `Room`. No item may be an orphan.
     fn settings_cost<S: ItemStore, F: Flash, L: Ledger>(
         store: &S,
         flash: &F,
@@ -117,8 +117,8 @@ pub trait IdLayout {
             ≡ (room_in counted too_many S.price S.cap (geometry_of d area)).cost
             (settings_in (numbering area) (on S.contents d area)) };
 
-    // The count, the names and the values have ids of their own, and all of them are ids of the
-    // store.
+    // The count, the names and the values have ids of their own, and all of them are
+    // ids of the store.
     ghost is_numbering: { (area : area_type) → IsNumbering (numbering area) };
 
     ghost within: { (area : area_type) (count : Option (List ℕ)) → (numbering area).first + (numbering area).count_of count + (numbering area).step ≤ top };

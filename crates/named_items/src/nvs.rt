@@ -14,7 +14,7 @@ use nvs_store::cost;
 use std::alloc::Global;
 use std::sync::ledger::Ledger;
 
-// The id as one of 16 bits. No id with a value is behind 0xFFFF, nor behind any greater one.
+// The id in 16 bits: 0xFFFF for each greater one. No item has an id above 0xFFFF.
 fn narrowed(id: Option<u32>) -> Option<u16>
     ensures { result ≡ option_map (min 0xFFFF) id }
 {

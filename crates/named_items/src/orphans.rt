@@ -18,13 +18,14 @@ use crate::store::ItemStore;
 use flash_sim::{Flash, PowerLost, Steps};
 use std::sync::ledger::Ledger;
 
-/// Deletes an item, unless it is a count or a part of a setting that counts: then nothing is
-/// programmed. The index then knows the items that are left. No other item changes, whatever the
-/// result. It spends at most the units and erases of one removal, and none where the item stays.
-/// The area is all FF afterwards only where it was so before.
+/// Deletes an item, unless it is the count or a part of a setting in effect: then nothing is
+/// programmed. The index then has the items that are left. No other item changes, whatever the
+/// result. It spends at most the units and erases of one removal (`removal_units`), and none if the
+/// item stays. The area is all FF afterwards only if it was so before.
 ///
 /// # Errors
-/// `PowerLost`, only where the id has an item: it is as before, or gone. The settings are as before, and each item that is kept.
+/// `PowerLost`, only if the id has an item: that item is as before, or gone. The settings and each
+/// item that is kept are as before.
 pub fn remove_if_orphan<N: IdLayout, S: ItemStore, F: Flash, L: Ledger>(
     store: &mut S,
     flash: &mut F,
@@ -67,13 +68,15 @@ pub fn remove_if_orphan<N: IdLayout, S: ItemStore, F: Flash, L: Ledger>(
     Ok(())
 }
 
-/// Deletes every item that is no count and belongs to no setting that counts, in rising order of
-/// ids. All others stay, and none is new. It spends at most the units and erases of one removal for
-/// each item that there is. The area is all FF afterwards only where it was so before.
+/// Deletes every orphan, in rising order of ids: each item that is neither the count nor a part of
+/// a setting in effect. All others stay, and none is new. It spends at most the units and erases of
+/// one removal (`removal_units`) for each item that there is. The area is all FF afterwards only if
+/// it was so before.
 ///
 /// # Errors
-/// `PowerLost`: the settings are as before, and each item that is kept. There is an id below which no orphan is left, and above
-/// which every item is as before; its own item is as before, or gone.
+/// `PowerLost`: the settings and each item that is kept are as before. There is an id below
+/// which no orphan is left, and above which every item is as before; the item at that id is as
+/// before, or gone.
 #[tactic(auto, using(flash_map::proofs::Touches::then))]
 pub fn remove_orphans<N: IdLayout, S: ItemStore, F: Flash, L: Ledger>(
     store: &mut S,

@@ -1,4 +1,4 @@
-// Giving names values.
+// Sets: names get values.
 ghost use Rattle.std.specs.Prelude.{◌≡◌, ◌+◌, ◌*◌, ◌≤◌, ◌∷◌, [], None, length};
 ghost use Rattle.setting_name.specs.Name.{IsName};
 ghost use Rattle.flash_map.specs.Area.{geometry_of, value_limit};
@@ -26,13 +26,14 @@ use flash_sim::{Flash, Steps};
 use setting_name::Name;
 use std::sync::ledger::Ledger;
 
-/// How a numbering puts a new name.
+/// How a layout of ids puts a new name.
 pub trait NewNames: IdLayout {
-    /// Gives a name its first value.
+    /// Gives a name that has no value its first one.
     ///
     /// # Errors
-    /// `TooManyNames` exactly where the name would be one too many, and then nothing was programmed. `NoSpace`: the settings
-    /// are as before. `PowerLost`: they are as before, or with the value.
+    /// `TooManyNames` exactly if the name would be one too many; nothing was programmed then.
+    /// `NoSpace`: the settings are as before. `PowerLost`: they are as before, or have the value,
+    /// and the store is down.
     fn put_name<S: ItemStore, F: Flash, L: Ledger>(
         store: &mut S,
         flash: &mut F,
@@ -61,7 +62,7 @@ pub trait NewNames: IdLayout {
             (command_units (geometry_of d (S.mounted_on store.old))) };
 }
 
-/// The answer to a put that finds no room.
+/// The error of a put that finds no room: what it needs and what all settings cost, in bytes.
 pub fn refused<N: IdLayout, S: ItemStore, F: Flash, L: Ledger>(
     store: &S,
     flash: &F,
@@ -81,10 +82,11 @@ pub fn refused<N: IdLayout, S: ItemStore, F: Flash, L: Ledger>(
     }
 }
 
-/// Changes the value of the setting whose name is this item. All other items stay.
+/// Changes the value of the setting whose name stands at the id `first`. All other items stay.
 ///
 /// # Errors
-/// `NoSpace`: the settings are as before. `PowerLost`: they are as before, or with the value.
+/// `NoSpace`: the settings are as before. `PowerLost`: they are as before, or have the value, and
+/// the store is down.
 pub fn change_value<N: IdLayout, S: ItemStore, F: Flash, L: Ledger>(
     store: &mut S,
     flash: &mut F,
@@ -125,7 +127,7 @@ pub fn change_value<N: IdLayout, S: ItemStore, F: Flash, L: Ledger>(
     }
 }
 
-/// What a new name and its value need together, in bytes.
+/// What a new name and its value cost together, in bytes, each with its entry.
 pub fn price_of_pair<S: ItemStore, F: Flash>(store: &S, flash: &F, name: &Name, value: &[u8]) -> u64
     requires lawful { IsLawfulFor (F.device flash.now).banks (S.mounted_on store.now) }
     requires stands { StandsOn S.mounted_on S.stands (F.device flash.now) store.now }
@@ -138,10 +140,11 @@ pub fn price_of_pair<S: ItemStore, F: Flash>(store: &S, flash: &F, name: &Name, 
     store.price_of(flash, value.len() as u32) + store.price_of(flash, text.len() as u32)
 }
 
-/// Puts a new name and its value: the name at this id, which is free. All other items stay.
+/// Puts a new name and its value, the name at the id `first`, which is free. All other items stay.
 ///
 /// # Errors
-/// `NoSpace`: the settings are as before. `PowerLost`: they are as before, or with the value.
+/// `NoSpace`: the settings are as before. `PowerLost`: they are as before, or have the value, and
+/// the store is down.
 pub fn put_new<N: IdLayout, S: ItemStore, F: Flash, L: Ledger>(
     store: &mut S,
     flash: &mut F,
@@ -185,8 +188,9 @@ pub fn put_new<N: IdLayout, S: ItemStore, F: Flash, L: Ledger>(
 /// programs nothing.
 ///
 /// # Errors
-/// `TooManyNames` exactly where the name would be one too many, and then nothing was programmed. `NoSpace`: the settings are
-/// as before. `PowerLost`: they are as before, or with the value.
+/// `TooManyNames` exactly if the name would be one too many; nothing was programmed then.
+/// `NoSpace`: the settings are as before. `PowerLost`: they are as before, or have the value, and
+/// the store is down.
 pub fn set_value<N: NewNames, S: ItemStore, F: Flash, L: Ledger>(
     store: &mut S,
     flash: &mut F,

@@ -27,7 +27,7 @@ use std::sync::ledger::Ledger;
 
 /// A store of items on one area. An area without damage holds one map of ids to bytes.
 pub trait ItemStore: Drop {
-    /// Where the items stand among the store's entries.
+    /// An index: where the items stand among the store's entries.
     type Index: Drop;
 
     /// The store serves such an area, with this geometry.
@@ -36,16 +36,16 @@ pub trait ItemStore: Drop {
     /// The damage that the sectors of an area with this geometry show.
     ghost damage: { area_type → Geometry → List (List ℕ) → Option damaged_type };
 
-    /// The items that they hold, where they show none.
+    /// The items that such sectors hold if they show no damage.
     ghost contents: { area_type → Geometry → List (List ℕ) → Items };
 
     /// A mount has nothing to do on these sectors.
     ghost rests: { area_type → Geometry → List (List ℕ) → Type 0 };
 
-    /// What bytes of this length and their entry cost.
+    /// What an item of this length costs, in bytes: its data and its entry.
     ghost price: { Geometry → ℕ → ℕ };
 
-    /// What a sector has for such bytes.
+    /// How many bytes a sector has for data and entries.
     ghost cap: { Geometry → ℕ };
 
     /// An item may have this id.
@@ -54,21 +54,22 @@ pub trait ItemStore: Drop {
     /// The area that the store was mounted on.
     ghost mounted_on: { Self → area_type };
 
-    /// The store is up, and knows the area's sectors, of this geometry, as they are.
+    /// The store is up, and what it keeps in memory is true of these sectors of its area.
     ghost stands: { Self → Geometry → List (List ℕ) → Type 0 };
 
-    /// Whether no call of the store answered that power was lost.
+    /// Whether the store is up. A call that answers `PowerLost` takes it down.
     ghost runs: { Self → Bool };
 
-    /// The index says where the items of an area stand in its sectors, which have this geometry.
+    /// The index says where the items of the area stand in these sectors.
     ghost describes: { Self.Index → area_type → Geometry → List (List ℕ) → Type 0 };
 
-    /// Mounts a store on an area. The items stay, also where power is lost. It spends no more units
-    /// and erases than a write may. The area is all FF afterwards only where it was so before.
+    /// Mounts a store on an area. The items stay, even if power is lost. It spends at most the
+    /// units and erases of one write (`item_units`). The area is all FF afterwards only if it
+    /// was so before.
     ///
     /// # Errors
-    /// `Damaged` exactly where the area shows damage, and then nothing was programmed; `PowerLost`; `NoMemory`, and then
-    /// nothing was programmed either.
+    /// `Damaged` exactly if the area shows damage; nothing was programmed then. `PowerLost`: the
+    /// items are as before. `NoMemory`: nothing was programmed.
     fn mount<F: Flash, L: Ledger>(
         alloc: Global,
         flash: &mut F,
@@ -95,7 +96,7 @@ pub trait ItemStore: Drop {
         ensures stands { IfOk result
             (λ store. StandsOn mounted_on stands (F.device flash.new) store) };
 
-    /// The bytes of an item: none where the id has no item.
+    /// The bytes of an item; `None` if the id has no item.
     fn get<'a, F: Flash, L: Ledger>(
         &self,
         flash: &'a F,
@@ -108,19 +109,19 @@ pub trait ItemStore: Drop {
         ensures { option_map (λ bytes. bytes.now) result
             ≡ finite.get (on contents (F.device flash.now) (mounted_on self.now)) id };
 
-    /// Whether an item may be there: where it answers `false`, the id has none. It takes no view of
-    /// the flash.
+    /// Whether the id may have an item: if the answer is `false`, it has none. It does not
+    /// look at the flash.
     fn may_hold(&self, id: u32) -> bool
         requires known { is_id id }
         ensures { (d : Device) → IsLawful d.banks d.bytes
             → IsLawfulFor d.banks (mounted_on self.now) → StandsOn mounted_on stands d self.now
             → result ≡ false → finite.get (on contents d (mounted_on self.now)) id ≡ None };
 
-    /// An index for `fill_index` to fill.
+    /// A new index, for `fill_index` to fill.
     fn new_index() -> Self::Index;
 
-    /// Makes an index of where the items stand. It says so as long as the area stays as it is.
-    /// What it knew before is gone.
+    /// Fills the index with where the items stand, and drops what it held before. The index is good
+    /// as long as the area stays as it is.
     fn fill_index<F: Flash, L: Ledger>(
         &self,
         flash: &F,
@@ -131,7 +132,7 @@ pub trait ItemStore: Drop {
         requires stands { StandsOn mounted_on stands (F.device flash.now) self.now }
         ensures { HoldsOn (describes index.new) (F.device flash.now) (mounted_on self.now) };
 
-    /// The bytes of an item, as `get` gives them, by what the index says.
+    /// The bytes of an item, as `get` gives them, found by the index.
     fn get_by<'a, F: Flash, L: Ledger>(
         &self,
         flash: &'a F,
@@ -147,8 +148,9 @@ pub trait ItemStore: Drop {
         ensures { option_map (λ bytes. bytes.now) result
             ≡ finite.get (on contents (F.device flash.now) (mounted_on self.now)) id };
 
-    /// The id of an item that has these bytes, of the ids from `least` to `most`, no more than
-    /// 0x1_0020. It is one walk over the store's entries at most, and makes no index.
+    /// The id of an item that has these bytes, from `least` to `most`; `None` if there is none.
+    /// The range has at most 0x1_0020 ids. It walks over the store's entries at most once, and
+    /// makes no index.
     fn id_of<F: Flash, L: Ledger>(
         &self,
         flash: &F,
@@ -165,9 +167,9 @@ pub trait ItemStore: Drop {
         ensures { IsIdOf least most (on contents (F.device flash.now) (mounted_on self.now))
             bytes.now result };
 
-    /// The least bytes of an item that are greater than `after`, or the least of all, of the ids
-    /// from `least` to `most`, no more than 0x1_0020. It is one walk over the store's entries, and
-    /// makes no index.
+    /// The least bytes of an item that are greater than `after`, or the least of all if `after` is
+    /// `None`; `None` if there are none. Only the ids from `least` to `most` count, at most
+    /// 0x1_0020 of them. It walks over the store's entries once, and makes no index.
     fn next_of<'a, F: Flash, L: Ledger>(
         &self,
         flash: &'a F,
@@ -185,12 +187,13 @@ pub trait ItemStore: Drop {
             (option_map (λ other. other.now) after.entry)
             (option_map (λ bytes. bytes.now) result) };
 
-    /// Sets an item. Bytes that the item has already are not programmed again.
+    /// Sets an item. If it has these bytes already, nothing is programmed. It spends at most
+    /// `item_units` units and erases.
     ///
     /// # Errors
-    /// `TooLong` exactly where the bytes and their entry cost more than a sector has for them; then nothing was programmed.
-    /// `NoSpace` only where the items cost too much; they are as before. `PowerLost`: the items are as before, or with this
-    /// one, and the store is down.
+    /// `TooLong` exactly if the bytes and their entry cost more than a sector has for them; nothing
+    /// was programmed then. `NoSpace` only if the items cost too much; they are as before.
+    /// `PowerLost`: the items are as before, or with this one, and the store is down.
     fn write<F: Flash, L: Ledger>(
         &mut self,
         flash: &mut F,
@@ -217,9 +220,9 @@ pub trait ItemStore: Drop {
             → StandsOn mounted_on stands (F.device flash.new) self.new }
         ensures down { write_lost result ≡ true → runs self.new ≡ false };
 
-    /// Deletes an item. Where the id has none, nothing is programmed. It always finds room, and
-    /// spends at most the units and erases that one collection and one entry may (`removal_units`).
-    /// The area is all FF afterwards only where it was so before.
+    /// Deletes an item. If the id has none, nothing is programmed. It always finds room, and spends
+    /// at most the units and erases of one garbage collection and one entry (`removal_units`). The
+    /// area is all FF afterwards only if it was so before.
     ///
     /// # Errors
     /// `PowerLost`: the items are as before, or without this one, and the store is down.
@@ -251,7 +254,8 @@ pub trait ItemStore: Drop {
             → StandsOn mounted_on stands (F.device flash.new) self.new }
         ensures down { is_err result ≡ true → runs self.new ≡ false };
 
-    /// The least id behind this one that has a value, or the least of all.
+    /// The least id above `after` that has an item, or the least of all if `after` is `None`;
+    /// `None` if there is none.
     fn next_id<F: Flash, L: Ledger>(
         &self,
         flash: &F,
@@ -264,8 +268,7 @@ pub trait ItemStore: Drop {
             result }
         ensures known { IfSome result is_id };
 
-    /// The least id behind this one that has a value, or the least of all, as `next_id` gives it,
-    /// by what the index says.
+    /// The least id above `after` that has an item, as `next_id` gives it, found by the index.
     fn next_by<F: Flash, L: Ledger>(
         &self,
         flash: &F,
@@ -281,14 +284,14 @@ pub trait ItemStore: Drop {
             result }
         ensures known { IfSome result is_id };
 
-    /// What all items cost, in bytes: the data of each, padded, and its entry.
+    /// What all items cost, in bytes: the padded data of each, and its entry.
     fn live_cost<F: Flash, L: Ledger>(&self, flash: &F, steps: &mut Steps<L>) -> u64
         requires lawful { IsLawfulFor (F.device flash.now).banks (mounted_on self.now) }
         requires stands { StandsOn mounted_on stands (F.device flash.now) self.now }
         ensures { let d = F.device flash.now in let area = mounted_on self.now in
             result ≡ items_cost (price (geometry_of d area)) (on contents d area) };
 
-    /// What bytes of this length and their entry cost, in bytes.
+    /// What an item of this length costs, in bytes: its data and its entry. It is below 2^32.
     fn price_of<F: Flash>(&self, flash: &F, length: u32) -> u64
         requires lawful { IsLawfulFor (F.device flash.now).banks (mounted_on self.now) }
         requires stands { StandsOn mounted_on stands (F.device flash.now) self.now }
@@ -301,7 +304,7 @@ pub trait ItemStore: Drop {
     fn area(&self) -> &Area
         ensures { result.now ≡ mounted_on self.now };
 
-    /// Whether no call answered that power was lost.
+    /// Whether the store is up. A call that answers `PowerLost` takes it down.
     fn is_up(&self) -> bool
         ensures { result ≡ runs self.now };
 
@@ -315,15 +318,15 @@ pub trait ItemStore: Drop {
 
     ghost stands_rests: { (store : Self) (geometry : Geometry) (sectors : List (List ℕ)) → stands store geometry sectors → rests (mounted_on store) geometry sectors };
 
-    // What a value as long as the area allows costs fits a sector.
+    // A value as long as the area allows fits a sector.
     ghost fits: { (d : Device) (area : area_type) (length : ℕ) → IsLawfulFor d.banks area → serves area (geometry_of d area) → length ≤ value_limit area
         → price (geometry_of d area) length ≤ cap (geometry_of d area) };
 
-    // An area holds no more items than it has room for entries.
+    // An area holds at most as many items as it has room for entries.
     ghost few: { (d : Device) (area : area_type) → IsLawful d.banks d.bytes → IsLawfulFor d.banks area → serves area (geometry_of d area)
         → finite.len (on contents d area) ≤ most_items (geometry_of d area) };
 
-    // Sectors all of whose bytes are FF show no damage, and hold no items.
+    // Sectors whose bytes are all FF show no damage, and hold no items.
     ghost blank_reads: { (area : area_type) (geometry : Geometry) (sectors size : ℕ) → 2 ≤ sectors → 16 ≤ size → damage area geometry (replicate sectors (replicate size 0xFF)) ≡ None };
 
     ghost blank_empty: { (area : area_type) (geometry : Geometry) (sectors size : ℕ) → 2 ≤ sectors → 16 ≤ size → contents area geometry (replicate sectors (replicate size 0xFF)) ≡ finite.empty };

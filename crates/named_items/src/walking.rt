@@ -14,7 +14,7 @@ use flash_sim::{Flash, Steps};
 use setting_name::Name;
 use std::sync::ledger::Ledger;
 
-/// The lawful name that this item is.
+/// The lawful name that this item holds; `None` if it holds no such name.
 pub fn name_in<S: ItemStore, F: Flash, L: Ledger>(
     store: &S,
     flash: &F,
@@ -39,8 +39,9 @@ pub fn name_in<S: ItemStore, F: Flash, L: Ledger>(
     }
 }
 
-/// The least name of a setting that is greater than this one, or the least of all. No item may be an
-/// orphan. It is one walk over the store's entries, and makes no index.
+/// The least name of a setting that is greater than `after`, or the least of all if `after` is
+/// `None`; `None` if there is none. No item may be an orphan. It walks over the store's entries
+/// once, and makes no index.
 pub fn next_name<N: IdLayout, S: ItemStore, F: Flash, L: Ledger>(
     store: &S,
     flash: &F,

@@ -22,10 +22,10 @@ use flash_sim::{Flash, PowerLost, Steps};
 use setting_name::Name;
 use std::sync::ledger::Ledger;
 
-/// Deletes an item, the name, and then another one, its value.
+/// Deletes a name, the item `first`, and then its value, the item `second`.
 ///
 /// # Errors
-/// `PowerLost`: neither is deleted, or the first alone, or both.
+/// `PowerLost`: neither is deleted, or the name alone, or both. The store is down.
 #[tactic(auto, using(flash_map::proofs::Touches::then))]
 pub fn delete_pair<S: ItemStore, F: Flash, L: Ledger>(
     store: &mut S,
@@ -56,10 +56,10 @@ pub fn delete_pair<S: ItemStore, F: Flash, L: Ledger>(
     store.delete(flash, second, steps)
 }
 
-/// Takes a name's value away: it deletes the name, and then the value. All other items stay.
+/// Deletes a setting: first the item of its name, then that of its value. All other items stay.
 ///
 /// # Errors
-/// `PowerLost`: the settings are as before, or without the name.
+/// `PowerLost`: the settings are as before, or without the name, and the store is down.
 pub fn delete_name<N: IdLayout, S: ItemStore, F: Flash, L: Ledger>(
     store: &mut S,
     flash: &mut F,
@@ -89,13 +89,13 @@ pub fn delete_name<N: IdLayout, S: ItemStore, F: Flash, L: Ledger>(
     }
 }
 
-/// Writes the value of a new name, and then the name. Where the name is refused, the value is
+/// Writes the value of a new name, and then the name. If the name is refused, the value is
 /// deleted again.
 ///
 /// # Errors
-/// `TooLong`: one of the two and its entry cost more than a sector has for them. `NoSpace`: the items cost too much for one
-/// of the writes, whose need it gives. After both the items are as before. `PowerLost`: neither is written, or
-/// the value alone, or both.
+/// `TooLong`: one of the two costs more, with its entry, than a sector has for it. `NoSpace`: the
+/// items cost too much for one of the writes, whose need it gives. After either the items are as
+/// before. `PowerLost`: neither is written, or the value alone, or both, and the store is down.
 #[tactic(auto, using(flash_map::proofs::Touches::then))]
 pub fn put_pair<S: ItemStore, F: Flash, L: Ledger>(
     store: &mut S,

@@ -31,7 +31,7 @@ use Rattle.nvs_store.proofs.Sound.{adds-used, close-sound}
 use Rattle.nvs_format.specs.Formats.{entry_of, found_bytes, ReadsAs, format_in}
 use Rattle.nvs_format.proofs.FormatLemmas.{slot_is}
 
--- the entries of a sector, as a store of items reports them
+-- the entries of a sector, as `item_store` sees them
 entries_are : (unit : ℕ) (b : List ℕ) → format_entries (format_in unit) b ≡ map entry_of (entries unit b)
 entries_are unit b =
     own.entries_read (λ n. counting_entry unit (slot_at unit b n)) entry_of (found_bytes b) (slot_is unit b) (range_with_len 1 ((format_in unit).count b))

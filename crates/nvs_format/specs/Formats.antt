@@ -12,11 +12,11 @@ use Rattle.nvs_store.specs.Geometry.{slot_size, cost, capacity}
 use Rattle.nvs_store.specs.Sector.{slot_at, used_slots, counting_entry, low, data_end}
 use Rattle.nvs_store.specs.Scans.{reading, damage_of}
 
--- an entry without what is its store's own
+-- an entry as `item_store` sees it
 abbrev pub entry_of : SlotEntry → Entry
 entry_of f = record { slot = f.slot; id = f.entry.id; len = f.entry.len }
 
--- the same of one at its place
+-- the same of an entry at its place
 abbrev pub placed_of : Found → Placed
 placed_of p = record { sector = p.sector; slot = p.slot; id = p.entry.id; len = p.entry.len }
 
@@ -32,10 +32,11 @@ pub record ReadsAs (unit : ℕ) (sectors : List (List ℕ)) (p : Placed) (own : 
 abbrev pub found_bytes : List ℕ → SlotEntry → List ℕ
 found_bytes b f = slice_range b f.entry.offset (f.entry.offset + f.entry.len)
 
--- a step that ends whole spends just so many, and one that is cut no more
+-- a step that completes spends exactly so many units, and one that is cut no more
 abbrev pub just : ℕ → Range
 just units = record { least = units; most = units; lost = units }
 
+-- what the steps spend: each exactly the units of its bytes, and an erase one
 abbrev pub units_of : ℕ → Units
 units_of unit = record {
   begin = λ b. just 0;
@@ -52,7 +53,7 @@ units_of unit = record {
   entry = λ len. cost unit len / unit;
 }
 
--- in units of so many bytes
+-- the format for units of so many bytes
 abbrev pub format_in : ℕ → SectorFormat
 format_in unit = record {
   reading = reading unit;
@@ -73,6 +74,6 @@ format_in unit = record {
   units = units_of unit;
 }
 
--- in an area of this geometry
+-- the format in an area of this geometry
 abbrev pub format_of : Geometry → SectorFormat
 format_of geometry = format_in geometry.unit

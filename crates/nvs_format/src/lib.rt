@@ -1,3 +1,3 @@
-//! How NVS sectors read, as `item_store` asks of a sector format: entries, damage, and what each
-//! step costs.
+//! The sector format of NVS for `item_store`: how entries read, what damage is, and what each step
+//! spends.
 #![tactic(auto)]

@@ -1,4 +1,4 @@
--- How the calls of a store of NVS end: as those of one store over any sectors do, at those of NVS.
+-- How the calls of an NVS store end: as those of `item_store` do, over the sectors of NVS.
 use Rattle.std.specs.Prelude.{◌≡◌, ◌⊎◌, ℕ, ◌/◌, List, Result}
 use Rattle.flash_sim.specs.Device.{Device}
 use Rattle.flash_sim.specs.declared.flash.PowerLost.{PowerLost}
@@ -16,30 +16,32 @@ use Rattle.nvs_format.specs.Formats.{format_of}
 use Rattle.nvs_gc.specs.declared.nvs.Nvs.{Nvs}
 use Rattle.nvs_gc.specs.Standing.{format_on, kept}
 
--- The area is damaged, and then nothing changed; or it is not, and its items stay, whether power is lost or
--- not. What is spent is what there is to redo: at rest nothing is done.
+-- If the area is damaged, or memory runs out, nothing changed. Otherwise the items stay, whether
+-- power is lost or not. A mount spends what there is to redo: at rest nothing.
 abbrev pub MountEnds : Device → Device → Area → Result Nvs MountFault → Type 0
 MountEnds old new area result =
     stands.MountEnds NvsRole format_of kept old new area (store_in (λ (nvs : Nvs). nvs.store) result)
 
--- Closing and collecting, with this sector open: it was blank, and nothing changed; or it was not, and a
--- whole round was made, with the room that it leaves and just the units that it spends; or power was lost in
--- that, and the list is as before or as the round leaves it. A sector of NVS is clean (`is_clean_at`) where
--- it is blank.
+-- Closing and collecting, with this sector open. If it was blank, nothing changed. Otherwise a
+-- whole round was made: the room that it leaves, and exactly the units that it spends. If power was
+-- lost in the round, the list is as before or as the round leaves it. A sector of NVS is clean
+-- (`is_clean_at`) if it is blank.
 abbrev pub RoundEnds : {T : Type 0} → Device → Device → Area → ℕ → Result T PowerLost → Type 0
 RoundEnds old new area place result = closing.RoundEnds (format_on old area) old new area place result
 
+-- how a write ends
 abbrev pub WriteEnds : {T : Type 0} → Device → Device → Area → ℕ → List ℕ → Result T WriteFault → Type 0
 WriteEnds old new area id bytes result = writing.WriteEnds (format_on old area) old new area id bytes result
 
+-- how a delete ends
 abbrev pub DeleteEnds : {T : Type 0} → Device → Device → Area → ℕ → Result T PowerLost → Type 0
 DeleteEnds old new area id result = writing.DeleteEnds (format_on old area) old new area id result
 
--- some sector of the area, which was so on the device before, is not blank now
+-- some sector of the area, as it reads on the device before, is not blank now
 abbrev pub IsWritten : Device → Device → Area → Type 0
 IsWritten old new area = written.IsWritten (format_on old area) (sectors_of new area)
 
--- an area in which something is written stays so
+-- a written area stays written
 abbrev pub KeepsWritten : Device → Device → Area → Type 0
 KeepsWritten old new area = IsWritten old old area → IsWritten old new area
 

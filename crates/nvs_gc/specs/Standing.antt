@@ -1,5 +1,5 @@
--- When a store of NVS stands on the bytes of its area: the definitions of the one store over any sectors, at
--- those of NVS.
+-- When an NVS store stands on the bytes of its area: the definitions of `item_store`, over the
+-- sectors of NVS.
 use Rattle.std.specs.Prelude.{ℕ, List}
 use Rattle.flash_sim.specs.Device.{Device}
 use Rattle.flash_sim.specs.declared.flash.Bank.{Bank}
@@ -9,10 +9,13 @@ use Rattle.flash_map.specs.declared.area.Role.TheVariants.{Nvs as NvsRole}
 use Rattle.flash_map.specs.Area.{geometry_of, unit_of, sectors_of}
 use Rattle.item_laws.specs.Items.{Items}
 use Rattle.item_laws.specs.PairRounds.{live_cost}
+use Rattle.nvs_store.specs.declared.scan.Found.{Found}
 use Rattle.nvs_store.specs.Geometry.{cost}
 use Rattle.nvs_store.specs.Sector.{low, data_end, has_gc_done}
 use Rattle.nvs_format.specs.Formats.{format_of}
 use Rattle.nvs_gc.specs.declared.sectors.NvsOpen.{NvsOpen}
+use Rattle.nvs_gc.specs.Places.{IsPlaced}
+use Rattle.item_store.specs.declared.entry.Placed.{Placed}
 use Rattle.item_store.specs.SectorFormat.{SectorFormat}
 use Rattle.item_store.specs.Listed as listed
 use Rattle.item_store.specs.Standing as ring
@@ -47,6 +50,14 @@ items_on d area = listed.items_on format_of d area
 -- what all items cost, in bytes: the bytes of each, padded, and its entry
 abbrev pub live_cost_on : Device → Area → ℕ
 live_cost_on d area = live_cost (cost (unit_of d area)) (list_on d area)
+
+-- the entries of the list, with their places
+abbrev pub entries_on : Device → Area → List Placed
+entries_on d area = listed.entries_on format_of d area
+
+-- an entry of a sector that counts, as its slot has it
+abbrev pub IsPlacedOn : Device → Nvs → Found → Type 0
+IsPlacedOn d nvs p = IsPlaced (unit_of d nvs.store.area) (sectors_of d nvs.store.area) nvs.store.current p
 
 abbrev pub IsUndamaged : Device → Area → Type 0
 IsUndamaged d area = ring.IsUndamagedAt (format_on d area) d area

@@ -1,4 +1,4 @@
-// The store of items over the sectors of NVS.
+// The NVS store.
 ghost use Rattle.std.specs.Prelude.{◌≡◌, ℕ, ◌+◌, ◌^◌, ◌<◌, ◌≤◌, ◌∷◌, [], None, true, false, length, is_err, is_some, IfSome, OnOk, OnErr, option_map};
 ghost use Rattle.std.specs.FinMap as map;
 ghost use Rattle.flash_sim.specs.Bank.{IsLawful};
@@ -9,22 +9,22 @@ ghost use Rattle.flash_map.specs.Touches.{Touches};
 ghost use Rattle.flash_map.specs.Area.{sectors_of};
 ghost use Rattle.item_laws.specs.Bytes.{IsIdOf, IsNextOf};
 ghost use Rattle.item_laws.specs.NextIds.{IsNextId};
-ghost use Rattle.nvs_format.specs.Formats.{format_of};
+ghost use Rattle.nvs_format.specs.Formats.{format_of, placed_of};
 ghost use Rattle.item_store.specs.Cached.{latest_on};
 ghost use Rattle.item_store.specs.Latest.{IsKnown, KnowsOn};
-ghost use Rattle.item_store.specs.Listed.{entries_on, IsPlacedOn};
 ghost use Rattle.item_store.specs.Older.{IsNextOlder, newest_before};
 ghost use Rattle.nvs_gc.specs.Ends.{MountEnds, RoundEnds, WriteEnds, DeleteEnds, KeepsWritten, SameOrWritten, sector_units};
-ghost use Rattle.nvs_gc.specs.Standing.{IsNvsArea, StandsOn, format_on, KeepsItems, IsUndamaged, items_on, live_cost_on};
+ghost use Rattle.nvs_gc.specs.Standing.{IsNvsArea, StandsOn, format_on, KeepsItems, IsPlacedOn, IsUndamaged, entries_on, items_on, live_cost_on};
 
-use crate::sectors::NvsOpen;
+use crate::sectors::{NvsOpen, read_again};
 use flash_map::{Area, MountFault, WriteFault};
 use flash_sim::{Flash, PowerLost, Steps};
-use item_store::{LastSlots, Placed, Store};
+use item_store::{LastSlots, Store};
+use nvs_store::Found;
 use std::alloc::Global;
 use std::sync::ledger::Ledger;
 
-/// A store over the sectors of one area of NVS.
+/// An NVS store on one area.
 #[derive(Debug, Drop)]
 pub struct Nvs {
     pub(crate) store: Store<NvsOpen>,
@@ -52,14 +52,14 @@ fn narrowed(id: Option<u32>) -> Option<u16>
 }
 
 impl Nvs {
-    /// Reads the area and carries out what a loss of power left undone: the erase of a collected
-    /// sector, or a whole collection. The items stay, and the newest versions of each, also where
-    /// power is lost. Whatever the result, it spends no more units and erases than a sector has
-    /// units. At rest nothing changes; an area in which anything changed is not all FF then, also
-    /// where power is lost.
+    /// Reads the area and completes what a power loss left undone: the erase of a collected sector,
+    /// or a whole garbage collection. The items stay, and so do the newest versions of each, even
+    /// if power is lost again. It never spends more units and erases than a sector has units. An
+    /// area at rest stays as it is. If anything changed, the area is not all FF afterwards, even if
+    /// power was lost.
     ///
     /// # Errors
-    /// `Damaged`, and then nothing was programmed; `PowerLost`; `NoMemory`, and then nothing was programmed.
+    /// `Damaged` and `NoMemory`: nothing changed. `PowerLost`, only if the area was not at rest.
     pub fn mount<F: Flash, L: Ledger>(
         alloc: Global,
         flash: &mut F,
@@ -81,7 +81,7 @@ impl Nvs {
         }
     }
 
-    /// The one store over any sectors that it is.
+    /// The store of `item_store` that does the work.
     pub fn store(&self) -> &Store<NvsOpen>
         ensures { result.now ≡ self.now.store }
     {
@@ -95,19 +95,20 @@ impl Nvs {
         self.store.area()
     }
 
-    /// Whether no call answered that power was lost.
+    /// Whether the store is up: no call has returned `PowerLost`.
     pub fn is_up(&self) -> bool
         ensures { result ≡ self.now.store.up }
     {
         self.store.is_up()
     }
 
-    /// Closes the open sector and collects the oldest one, where that is not blank. The items stay,
-    /// also where power is lost. What does not fit then is kept out by the copied items alone, and
-    /// a delete fits. Where the open sector is blank, nothing is programmed.
+    /// Closes the open sector and collects the oldest one, if that is not blank. If the open sector
+    /// is blank, nothing changes. The items stay, even if power is lost. After a round, a value
+    /// fits the open sector exactly if it fits beside the items copied there, and a delete fits.
     ///
     /// # Errors
-    /// `PowerLost`. The store is then down.
+    /// `PowerLost`, only if the open sector is not blank: the list is as before or as after the
+    /// round, and the store is down.
     pub fn close_and_collect<F: Flash, L: Ledger>(
         &mut self,
         flash: &mut F,
@@ -132,9 +133,9 @@ impl Nvs {
         self.store.close_and_collect(flash, steps)
     }
 
-    /// The bytes of an item: none where the id has no entry, or its last one is a delete. Where no
-    /// entry of the list has an id of the same slot of the cache it takes no view of the flash, and
-    /// at most two where the last such entry has this id.
+    /// The bytes of an item; `None` if the id has no entry or its last entry is a delete. If no
+    /// entry of the list shares the id's cache slot, this takes no step. If the latest entry that
+    /// shares it has this id, it takes at most two.
     pub fn get<'a, F: Flash, L: Ledger>(
         &self,
         flash: &'a F,
@@ -153,8 +154,8 @@ impl Nvs {
         self.store.get(flash, id as u32, steps)
     }
 
-    /// Whether an item may be there: `true` exactly where an entry of the list has an id of the
-    /// same slot of the cache. Else the id has none. It looks at the cache alone.
+    /// Whether the id may have an item: `true` exactly if an entry of the list shares the id's
+    /// cache slot. If `false`, the id has no item. It reads only the cache.
     pub fn may_hold(&self, id: u16) -> bool
         ensures exactly { (d : Device) → StandsOn d self.now
             → result ≡ is_some (latest_on format_of d self.now.store.area id) }
@@ -164,9 +165,9 @@ impl Nvs {
         self.store.may_hold(id as u32)
     }
 
-    /// Makes a table of the last entries of ids, by one walk over the list: of 800 ids at most, the
-    /// least that have bytes. It knows each id where no more than 800 ids ever had bytes in the
-    /// list. It does so as long as the area stays as it is.
+    /// Makes a table of the last entries of ids: of 800 ids at most, the least that have bytes. It
+    /// knows each id if at most 800 ids ever had bytes in the list. It is valid as long as the area
+    /// stays as it is. This takes one walk over the list.
     pub fn fill_last_slots<F: Flash, L: Ledger>(
         &self,
         flash: &F,
@@ -179,8 +180,8 @@ impl Nvs {
         self.store.fill_last_slots(flash, last, steps)
     }
 
-    /// The bytes of an item, as `get` gives them, by a table of last entries. Where the table knows
-    /// of the id, it is one step at most; else it is what `get` does.
+    /// The bytes of an item, as `get` gives them. If the table knows the id, this takes at most one
+    /// step; otherwise it does what `get` does.
     pub fn get_by<'a, F: Flash, L: Ledger>(
         &self,
         flash: &'a F,
@@ -197,7 +198,8 @@ impl Nvs {
         self.store.get_by(flash, last, id as u32, steps)
     }
 
-    /// The least id behind this one that has a value, or the least of all.
+    /// The least id greater than `after` that has a value, or the least of all if `after` is not
+    /// given; `None` if there is none.
     pub fn next_id<F: Flash, L: Ledger>(
         &self,
         flash: &F,
@@ -211,9 +213,9 @@ impl Nvs {
         narrowed(self.store.next_id(flash, widened(after), steps))
     }
 
-    /// The least id behind this one that has a value, or the least of all, as `next_id` gives it,
-    /// by a table of last entries. Where the table has one, or knows all ids, nothing is looked
-    /// at; else the list is searched.
+    /// The least id greater than `after` that has a value, or the least of all, as `next_id` gives
+    /// it. If the table knows that id, or knows each id, this takes no step; otherwise it searches
+    /// the list.
     pub fn next_by<F: Flash, L: Ledger>(
         &self,
         flash: &F,
@@ -231,30 +233,34 @@ impl Nvs {
         narrowed(self.store.next_by(flash, last, widened(after), steps))
     }
 
-    /// The next older entry of the list: the one before the entry in this sector and slot, or the
-    /// newest one where no place is given. Deletes are among them. `None` comes exactly
-    /// at the oldest entry of the list.
+    /// The next older entry of the list, deletes included: the one before the entry in this sector
+    /// and slot, or the newest one if no place is given. From a place without an entry it is the
+    /// newest entry before that place, in the round to the open sector. `None` exactly if there is
+    /// no older entry.
     pub fn walk<F: Flash, L: Ledger>(
         &self,
         flash: &F,
         after: Option<(u32, u32)>,
         steps: &mut Steps<L>,
-    ) -> Option<Placed>
+    ) -> Option<Found>
         requires stands { StandsOn (F.device flash.now) self.now }
         requires inside { IfSome after (λ place. place.0 < self.now.store.area.sectors) }
-        ensures older { let d = F.device flash.now in
-            IsNextOlder (entries_on format_of d self.now.store.area) after result }
+
+        ensures older { let next = option_map placed_of result in
+            IsNextOlder (entries_on (F.device flash.now) self.now.store.area) after next }
         ensures before { let d = F.device flash.now in let area = self.now.store.area in
-            IfSome after
-            (λ place. result ≡ newest_before (format_on d area) (sectors_of d area) place) }
-        ensures placed { let d = F.device flash.now in let store = self.now.store in
-            IfSome result (IsPlacedOn format_of d store.area store.current) }
+            IfSome after (λ place. option_map placed_of result
+            ≡ newest_before (format_on d area) (sectors_of d area) place) }
+        ensures placed { IfSome result (IsPlacedOn (F.device flash.now) self.now) }
     {
-        self.store.walk(flash, after, steps)
+        match self.store.walk(flash, after, steps) {
+            Some(placed) => Some(read_again(flash, self.store.area(), &placed, steps)),
+            None => None,
+        }
     }
 
-    /// The id of an item that has these bytes, of the ids from `least` to `most`; any of them where
-    /// several have. It is one walk over the list at most, from its newest entry back.
+    /// An id from `least` to `most` whose item has these bytes; any of them if several have, `None`
+    /// if none has. This takes one walk over the list at most, from its newest entry back.
     pub fn id_of<F: Flash, L: Ledger>(
         &self,
         flash: &F,
@@ -273,8 +279,9 @@ impl Nvs {
         )
     }
 
-    /// The least bytes of an item that are greater than `after`, or the least of all, of the ids from `least` to
-    /// `most`. It is one walk over the list.
+    /// The least bytes of an item with an id from `least` to `most`: of those greater than `after`,
+    /// or of all if `after` is not given; `None` if there are none. This takes one walk over the
+    /// list.
     pub fn next_of<'a, F: Flash, L: Ledger>(
         &self,
         flash: &'a F,
@@ -299,13 +306,13 @@ impl Nvs {
         self.store.live_cost(flash, steps)
     }
 
-    /// Sets an item. Bytes that the item has already are not programmed again.
+    /// Sets an item. If the item has these bytes already, nothing is programmed.
     ///
     /// # Errors
-    /// `TooLong` exactly where the bytes and their entry cost more than a sector has for them; then nothing
-    /// was programmed. `NoSpace` where no round of collections makes room: then each sector but the blank
-    /// one holds live items alone, and so many that this one does not fit beside them; the items are as
-    /// before. `PowerLost`: the items are as before, or with this one, and the store is down.
+    /// `TooLong` exactly if the bytes and their entry cost more than a sector has for them: nothing
+    /// was programmed. `NoSpace` if no garbage collection makes room: every sector but the blank
+    /// one then holds live items only, with no room for this one beside them. The items stay.
+    /// `PowerLost`: the items are as before or with this one set, and the store is down.
     pub fn write<F: Flash, L: Ledger>(
         &mut self,
         flash: &mut F,
@@ -331,11 +338,11 @@ impl Nvs {
         self.store.write(flash, id as u32, bytes, steps)
     }
 
-    /// Deletes an item. Where the id has none, as the reserved id FFFF never has, nothing is
-    /// programmed. It always finds room.
+    /// Deletes an item. If the id has none, nothing is programmed; the reserved id FFFF never has
+    /// one. A delete always finds room.
     ///
     /// # Errors
-    /// `PowerLost`: the items are as before, or without this one, and the store is down.
+    /// `PowerLost`: the items are as before or without this one, and the store is down.
     pub fn delete<F: Flash, L: Ledger>(
         &mut self,
         flash: &mut F,

@@ -27,7 +27,7 @@ use std::sync::ledger::Ledger;
 // More than a sector has.
 const ALL_SLOTS: u32 = 0x8000;
 
-/// What is kept of an open sector.
+/// What an NVS store keeps of its open sector.
 #[derive(Clone, Copy, Debug, PartialEq, Eq)]
 pub struct NvsOpen {
     low: u32,
@@ -35,7 +35,7 @@ pub struct NvsOpen {
     gc_done: bool,
 }
 
-// The entry at its place, without what is its store's own.
+// The entry at its place, as `item_store` sees it.
 fn placed(own: Found) -> Placed
     ensures value { result ≡ placed_of own }
     ensures small { result.id < 2 ^ 16 }
@@ -49,8 +49,8 @@ fn placed(own: Found) -> Placed
     }
 }
 
-// The entry that stands in this place, as its store reads it.
-fn read_again<F: Flash, L: Ledger>(
+// The entry at this place, as NVS reads it.
+pub(crate) fn read_again<F: Flash, L: Ledger>(
     flash: &F,
     area: &Area,
     at: &Placed,
@@ -95,7 +95,7 @@ fn last_of(bytes: &[u8], unit: u32, place: u32, id: u32) -> Option<Placed>
     }
 }
 
-// The bytes of the entry in a slot, none where there is no entry.
+// The bytes of the entry in a slot; none if there is no entry.
 fn bytes_in(bytes: &[u8], unit: u32, slot: u32) -> &[u8]
     requires unit { IsUnit unit }
     requires short { length bytes.now ≤ 2 ^ 15 }
@@ -111,8 +111,7 @@ fn bytes_in(bytes: &[u8], unit: u32, slot: u32) -> &[u8]
     }
 }
 
-// The id that the bytes from this place on have where an entry there has its own. Their CRC is not
-// looked at.
+// The id field of a slot that starts at this place. The CRC is not checked.
 fn id_at(bytes: &[u8], start: usize) -> u32
     requires { start + 8 ≤ length bytes.now }
     ensures value { result ≡ (fields_of (slice_range bytes.now start (start + 8))).id }
@@ -133,8 +132,8 @@ fn named_id(bytes: &[u8], unit: u32, slot: u32) -> u32
     id_at(bytes, bytes.len() - ((slot + 1) * size) as usize)
 }
 
-// How many of the first so many slots of a sector with these bytes have to be looked at for the ids
-// from `least` to `most`. The ids that slots name are read, from the last slot up.
+// How many of the first so many slots of a sector with these bytes have to be read for the ids from
+// `least` to `most`. It reads the id fields, from the last slot up.
 fn reach_in(bytes: &[u8], unit: u32, slots: u32, least: u32, most: u32) -> u32
     requires unit { IsUnit unit }
     requires short { length bytes.now ≤ 2 ^ 15 }

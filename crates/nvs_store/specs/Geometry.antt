@@ -10,6 +10,7 @@ slot_size unit = padded unit 8
 abbrev pub cost : ℕ → ℕ → ℕ
 cost unit len = slot_size unit + padded unit len
 
--- what a sector has for data and entries: all but the slots for close, gc-done, one delete and the fence
+-- what a sector has for data and entries: all but the slots for close, gc-done, one delete and the
+-- fence
 abbrev pub capacity : ℕ → ℕ → ℕ
 capacity unit sector = sector - 4 * slot_size unit

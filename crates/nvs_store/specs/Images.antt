@@ -30,7 +30,8 @@ with_close unit sector upper = overwritten sector (length sector - slot_size uni
 
 -- ---- what a whole step leaves
 
--- The entry of the next pair: its data stands at the data end. The entry of a delete names that place too.
+-- The entry of the next pair: its data stands at the data end. The entry of a delete names that
+-- place too.
 abbrev pub next_entry : ℕ → List ℕ → ℕ → List ℕ → Entry
 next_entry unit sector id bytes =
     record { id = id; offset = data_end unit sector; len = length bytes; part = 0xFF }

@@ -16,6 +16,7 @@ named (Dirty current) = Some current
 named (Unfenced current) = Some current
 named (Full current) = Some current
 
+-- whether the sector at a place matches
 abbrev pub is_match : Lookup → ℕ → List (List ℕ) → ℕ → Bool
 is_match NotClosed unit sectors place = not (is_closed_at (reading unit) sectors place)
 is_match Opening unit sectors place = follows_closed (reading unit) sectors place

@@ -43,7 +43,7 @@ items_on d area = items_of (list_on d area)
 abbrev pub placed_on : Device → Area → List Found
 placed_on d area = all_placed (unit_of d area) (sectors_of d area)
 
--- the last entry of an id, a delete too
+-- the last entry of an id; it may be a delete
 abbrev pub last_placed_on : Device → Area → ℕ → Option Found
 last_placed_on d area id = last_placed (unit_of d area) (sectors_of d area) id
 
@@ -64,7 +64,7 @@ is_blank_on d area place = is_erased (sector_bytes d area place)
 abbrev pub counts_on : Device → Area → ℕ → ℕ → Bool
 counts_on d area current place = counts_at (reading (unit_of d area)) (sectors_of d area) current place
 
--- the entries of a sector, where it counts with this one open
+-- the entries of a sector, if it counts with this one open
 abbrev pub counted_on : Device → Area → ℕ → ℕ → List Found
 counted_on d area current place = counted_in (unit_of d area) (sectors_of d area) current place
 
@@ -100,37 +100,42 @@ slot_units d area = slot_size (unit_of d area) / unit_of d area
 abbrev pub KeepsListOn : Device → Device → Area → Type 0
 KeepsListOn old new area = list_of (unit_of old area) (sectors_of new area) ≡ list_on old area
 
--- the list has this pair more, as its newest
+-- the list has one more pair, this one, as its newest
 abbrev pub AppendsOn : Device → Device → Area → ℕ → List ℕ → Type 0
 AppendsOn old new area id bytes =
     list_of (unit_of old area) (sectors_of new area) ≡ list_on old area ++ (id, bytes) ∷ []
 
--- a sector that was sound is so
+-- a sound sector stays sound
 abbrev pub StaysSoundOn : Device → Device → Area → ℕ → Type 0
 StaysSoundOn old new area place =
     is_sound (unit_of old area) (sector_bytes old area place) ≡ true
     → is_sound (unit_of old area) (sector_bytes new area place) ≡ true
 
--- an area that was not damaged is not
+-- an undamaged area stays undamaged
 abbrev pub StaysUndamaged : Device → Device → Area → Type 0
 StaysUndamaged old new area = IsUndamaged old area → damage_of (unit_of old area) (sectors_of new area) ≡ None
 
+-- one sector has one more pair, and no other sector changed
 abbrev pub AddsPairOn : Device → Device → Area → ℕ → ℕ → List ℕ → Type 0
 AddsPairOn old new area place id bytes =
     AddsPairAt (unit_of old area) (sectors_of old area) (sectors_of new area) place id bytes
 
+-- the programming of that pair was cut
 abbrev pub StopsAddingOn : Device → Device → Area → ℕ → ℕ → List ℕ → Type 0
 StopsAddingOn old new area place id bytes =
     StopsAddingAt (unit_of old area) (sectors_of old area) (sectors_of new area) place id bytes
 
+-- gc-done stands in one sector, and no other sector changed
 abbrev pub MarksDoneOn : Device → Device → Area → ℕ → Type 0
 MarksDoneOn old new area place =
     MarksDoneAt (unit_of old area) (sectors_of old area) (sectors_of new area) place
 
+-- the programming of gc-done was cut
 abbrev pub StopsMarkingOn : Device → Device → Area → ℕ → Type 0
 StopsMarkingOn old new area place =
     StopsMarkingAt (unit_of old area) (sectors_of old area) (sectors_of new area) place
 
+-- one sector is closed, and no other sector changed
 abbrev pub ClosesOn : Device → Device → Area → ℕ → Type 0
 ClosesOn old new area place = ClosesAt (unit_of old area) (sectors_of old area) (sectors_of new area) place
 

@@ -1,4 +1,4 @@
--- What a scan says of an area, its list, and what is wrong with it.
+-- What a scan says of an area, its list, and its damage.
 use Rattle.std.specs.Prelude.{◌≡◌, ℕ, ◌+◌, ◌-◌, ◌*◌, ◌<◌, ◌≤◌, Bool, true, List, ◌∷◌, ◌++◌, length, fold, slice_range, Option, Some, None, ◌==◌, nat_le, if◌then◌else◌}
 use Rattle.std.specs.List.{last_or}
 use Rattle.flash_map.specs.declared.faults.Damaged.{Damaged}
@@ -61,7 +61,8 @@ sector_scan unit place sector = record {
   redo = Nothing;
 }
 
--- What a mount has to do with this sector open. The next sector is closed only while a collection lasts.
+-- What a mount has to do with this sector open. The next sector is closed only during a garbage
+-- collection.
 abbrev pub redo_of : ℕ → List (List ℕ) → ℕ → Redo
 redo_of unit sectors place =
     if is_closed_at (reading unit) sectors (next sectors place) then
@@ -83,11 +84,12 @@ scan_of unit sectors = scan_at unit sectors (open_sector (reading unit) sectors)
 
 -- ---- room
 
+-- the free bytes of the scanned sector, between its data and its slots
 abbrev pub free : Scan → ℕ
 free scan = scan.low - scan.data_end
 
--- Whether data of this length fits. A length of 0 is a delete. Slots stay for the close entry, gc-done, a
--- delete and the fence.
+-- Whether data of this length fits. A length of 0 is a delete. Slots stay for the close entry,
+-- gc-done, a delete and the fence.
 abbrev pub fits : ℕ → Scan → ℕ → Bool
 fits unit scan len =
     if len == 0 then nat_le (2 * slot_size unit) (free scan) else nat_le
@@ -102,7 +104,7 @@ damage_of unit sectors = first_damage (reading unit) sectors
 abbrev pub list_of : ℕ → List (List ℕ) → List (ℕ × List ℕ)
 list_of unit sectors = live.list_of (nvs unit) sectors
 
--- the entries of a sector with their places, where it counts with this one open
+-- the entries of a sector with their places, if it counts with this one open
 abbrev pub counted_in : ℕ → List (List ℕ) → ℕ → ℕ → List Found
 counted_in unit sectors current place = live.counted_in (nvs unit) sectors current place
 
@@ -118,19 +120,19 @@ placed_up_to unit sectors current place n = walk.placed_up_to (nvs unit) sectors
 abbrev pub all_placed : ℕ → List (List ℕ) → List Found
 all_placed unit sectors = live.all_placed (nvs unit) sectors
 
--- the last entry that is looked for
+-- the last wanted entry
 abbrev pub last_wanted : Option ℕ → List Found → Option Found
 last_wanted wanted placed = fold (λ last p. if is_wanted wanted p.entry then Some p else last) None placed
 
 abbrev pub last_of : ℕ → List Found → Option Found
 last_of id placed = last_wanted (Some id) placed
 
--- the last entry of an id, a delete too
+-- the last entry of an id; it may be a delete
 abbrev pub last_placed : ℕ → List (List ℕ) → ℕ → Option Found
 last_placed unit sectors id = live.last_placed (nvs unit) sectors id
 
--- The next older entry of a list: the one before the entry at this place, or the newest where no place is
--- named.
+-- The next older entry of a list: the one before the entry at this place, or the newest if no place
+-- is named.
 abbrev pub IsNextOlder : List Found → Option (ℕ × ℕ) → Option Found → Type 0
 IsNextOlder all None next = next ≡ last_or None all
 IsNextOlder all (Some place) next =
@@ -150,12 +152,12 @@ placed_bytes sectors p =
 
 -- ---- what a step leaves
 
--- one sector has one pair more, and no other sector changed
+-- one sector has one more pair, and no other sector changed
 pub record AddsPairAt (unit : ℕ) (old new : List (List ℕ)) (place id : ℕ) (bytes : List ℕ) : Type 0 where
   pub only : ChangesOnly old new place
   pub adds : AddsPair unit (sector_at old place) (sector_at new place) id bytes
 
--- programming of that pair stopped before its end
+-- the programming of that pair was cut
 pub record StopsAddingAt (unit : ℕ) (old new : List (List ℕ)) (place id : ℕ) (bytes : List ℕ) : Type 0 where
   pub only : ChangesOnly old new place
   pub stops : StopsAdding unit (sector_at old place) (sector_at new place) id bytes

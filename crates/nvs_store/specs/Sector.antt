@@ -1,5 +1,5 @@
--- How one sector reads. Data grows upward from the sector's start, and slots of entries grow downward from
--- its end.
+-- How one sector reads. Data grows upward from the sector's start, and slots of entries grow
+-- downward from its end.
 use Rattle.std.specs.Prelude.{◌≡◌, ◌⊎◌, ℕ, ◌+◌, ◌-◌, ◌%◌, ◌≤◌, max, Bool, true, false, not, ◌&&◌, ◌||◌, List, [], ◌∷◌, ◌++◌, length, take, map, fold, sum_by, slice_range, Option, Some, None, ◌==◌, nat_le, nat_lt, if◌then◌else◌}
 use Rattle.std.specs.List.{filter_map, list_any}
 use Rattle.std.specs.Option.{option_and_then, option_map_or}
@@ -30,10 +30,11 @@ used_slots unit sector = shared.used_slots is_used 1 (slot_size unit) sector
 
 -- ---- entries
 
--- The entry is no special one, and its data is aligned and ends under its own slot.
+-- The entry is not a special one, and its data is aligned and ends under its own slot.
 abbrev pub counts : ℕ → ℕ → Entry → Bool
 counts unit start e = not (e.id == 0xFFFF) && (e.offset % unit == 0) && nat_le (e.offset + e.len) start
 
+-- the entry in a slot, if its CRC matches and it counts
 unfoldable pub counting_entry : ℕ → Slot → Option SlotEntry
 counting_entry unit slot =
     option_and_then
@@ -48,12 +49,14 @@ entries unit sector = filter_map (counting_entry unit) (used_slots unit sector)
 abbrev pub special_entry : ℕ → Entry
 special_entry place = record { id = 0xFFFF; offset = place; len = 0; part = 0xFF }
 
+-- the slot holds gc-done: a special entry of length 0
 unfoldable pub is_gc_done : Slot → Bool
 is_gc_done slot = option_map_or (λ e. (e.id == 0xFFFF) && (e.len == 0)) (decoded slot.bytes) false
 
 abbrev pub has_gc_done : ℕ → List ℕ → Bool
 has_gc_done unit sector = list_any is_gc_done (used_slots unit sector)
 
+-- slot 0 is not all FF
 abbrev pub is_closed : ℕ → List ℕ → Bool
 is_closed unit sector = is_used (slot_at unit sector 0)
 
@@ -63,11 +66,12 @@ is_closed unit sector = is_used (slot_at unit sector 0)
 abbrev pub low : ℕ → List ℕ → ℕ
 low unit sector = shared.low is_used 1 (slot_size unit) sector
 
+-- where an entry's data ends, padded to the unit
 abbrev pub entry_end : ℕ → SlotEntry → ℕ
 entry_end unit f = f.entry.offset + padded unit f.entry.len
 
--- where the next data goes: above the written units, the data of the entries that count, and the sum of their
--- lengths
+-- where the next data goes: above the written units, the data of the entries that count, and the
+-- sum of their lengths
 unfoldable pub data_end : ℕ → List ℕ → ℕ
 data_end unit sector =
     max (written_end unit (low unit sector - slot_size unit) sector)
@@ -83,12 +87,12 @@ pair_of sector f = (f.entry.id, slice_range sector f.entry.offset (f.entry.offse
 abbrev pub pairs : ℕ → List ℕ → List (ℕ × List ℕ)
 pairs unit sector = map (pair_of sector) (entries unit sector)
 
--- whether an entry is looked for: that of this id, or any
+-- whether an entry is wanted: one of this id, or any
 abbrev pub is_wanted : Option ℕ → Entry → Bool
 is_wanted (Some id) e = e.id == id
 is_wanted None e = true
 
--- the last entry that is looked for, a delete too
+-- the last wanted entry; it may be a delete
 abbrev pub last_found : Option ℕ → List SlotEntry → Option SlotEntry
 last_found wanted found = fold (λ last f. if is_wanted wanted f.entry then Some f else last) None found
 
@@ -106,11 +110,12 @@ pairs_cost unit pairs = sum_by (λ pair. if length pair.1 == 0 then 0 else cost 
 abbrev pub entry_cost : ℕ → SlotEntry → ℕ
 entry_cost unit f = if f.entry.len == 0 then 0 else cost unit f.entry.len
 
+-- there is an erased slot under the used ones
 abbrev pub has_fence : ℕ → List ℕ → Bool
 has_fence unit sector = nat_lt (length (used_slots unit sector)) (length (slots unit sector))
 
--- An entry that counts ends above the fence's start, or the entries with data cost more than a sector has for
--- them.
+-- An entry that counts ends above the fence's start, or the entries with data cost more than a
+-- sector has for them.
 abbrev pub is_overfull : ℕ → List ℕ → Bool
 is_overfull unit sector =
     list_any (λ f. nat_lt (low unit sector - slot_size unit) (f.entry.offset + f.entry.len))
@@ -130,12 +135,12 @@ pub record KeepsList (unit : ℕ) (old new : List ℕ) : Type 0 where
   pub closed : is_closed unit new ≡ is_closed unit old
   pub long : length new ≡ length old
   pub same_entries : entries unit new ≡ entries unit old
-  -- at most one slot more is used up
+  -- at most one more slot is used up
   pub lower : low unit old ≤ low unit new + slot_size unit
-  -- and what was not blank does not become so
+  -- a sector that was not blank stays so
   pub used : is_erased old ≡ false → is_erased new ≡ false
 
--- the sector's part of the list has one pair more
+-- the sector's part of the list has one more pair
 pub record AddsPair (unit : ℕ) (old new : List ℕ) (id : ℕ) (bytes : List ℕ) : Type 0 where
   pub list : pairs unit new ≡ pairs unit old ++ (id, bytes) ∷ []
   pub gc_done : has_gc_done unit new ≡ has_gc_done unit old
@@ -151,7 +156,7 @@ pub record AddsPair (unit : ℕ) (old new : List ℕ) (id : ℕ) (bytes : List �
   pub lower : low unit new + slot_size unit ≡ low unit old
   pub grown : data_end unit new ≡ data_end unit old + padded unit (length bytes)
 
--- Programming of a pair stopped before its end: the list is as it was or has the pair, and no more room is
+-- The programming of a pair was cut: the list is as it was or has the pair, and no more room is
 -- used up than the pair takes.
 pub record StopsAdding (unit : ℕ) (old new : List ℕ) (id : ℕ) (bytes : List ℕ) : Type 0 where
   pub list : KeepsList unit old new ⊎ AddsPair unit old new id bytes

@@ -17,12 +17,12 @@ use flash_map::{Area, Source, copy_padded, geometry, padded, program_padded};
 use flash_sim::{Flash, PowerLost, Steps};
 use std::sync::ledger::Ledger;
 
-/// Appends a pair to the list: the data is programmed, padded to the unit with FF and in calls of
-/// at most `PIECE` bytes, and then its entry, in the next slot. No bytes are a delete.
+/// Appends a pair to the list: it programs the data, padded with FF to the unit, in calls of at
+/// most `PIECE` bytes, and then its entry in the next slot. No bytes are a delete.
 ///
 /// # Errors
-/// `PowerLost`: the list is as before, or with the pair. No more room is used up than the pair takes, and the scan may
-/// not be that of the area: it is to be mounted again.
+/// `PowerLost`: the list is as before or has the pair too, and no more room is used up than the
+/// pair takes. The scan may no longer be that of the area: mount the area again.
 #[tactic(auto, using(flash_map::proofs::Touches::then))]
 pub fn append<F: Flash>(
     flash: &mut F,
@@ -65,13 +65,13 @@ pub fn append<F: Flash>(
     Ok(())
 }
 
-/// Appends the pair of an entry of another sector to the open sector's part of the list: the data
-/// is copied, padded to the unit with FF and in calls of at most `PIECE` bytes, and then its entry
-/// is programmed, in the next slot.
+/// Copies an entry of another sector to the open one, whose part of the list gains that pair. It
+/// copies the data, padded with FF to the unit, in calls of at most `PIECE` bytes, and then
+/// programs its entry in the next slot.
 ///
 /// # Errors
-/// `PowerLost`: the open sector's part is as before, or with the pair. No other sector changed. The scan may not be that
-/// of the area: it is to be mounted again.
+/// `PowerLost`: the open sector's part of the list is as before or has the pair too. No other
+/// sector changed. The scan may no longer be that of the area: mount the area again.
 #[tactic(auto, using(flash_map::proofs::Touches::then))]
 pub fn copy_entry<F: Flash, L: Ledger>(
     flash: &mut F,
@@ -125,12 +125,12 @@ fn special(place: u32) -> Entry
     }
 }
 
-/// Programs gc-done in the next slot; it names the data end. From it on the open sector counts, and
-/// the next one, where that is closed, does not.
+/// Programs gc-done, which names the data end, in the next slot. From then on the open sector
+/// counts, and the next one, if it is closed, is ignored.
 ///
 /// # Errors
-/// `PowerLost`: the open sector's part of the list is as before, and so is whether gc-done stands. A slot may be used
-/// up. The area is to be mounted again.
+/// `PowerLost`: the open sector's part of the list and its marks are as before. A slot may be used
+/// up. Mount the area again.
 pub fn put_done<F: Flash>(flash: &mut F, area: &Area, scan: &mut Scan) -> Result<(), PowerLost>
     requires scanned { IsScanned (F.device flash.old) area.now scan.old }
     requires free { 2 * slot_size (unit_of (F.device flash.old) area.now) ≤ free scan.old }
@@ -166,11 +166,11 @@ pub fn put_done<F: Flash>(flash: &mut F, area: &Area, scan: &mut Scan) -> Result
     Ok(())
 }
 
-/// Programs the close entry in slot 0; it names the start of the lowest used slot. The sector is
-/// closed from its first unit on.
+/// Programs the close entry, which names the start of the lowest used slot, in slot 0. Its first
+/// unit closes the sector.
 ///
 /// # Errors
-/// `PowerLost`: no byte of the area changed, or the sector is closed. The area is to be mounted again.
+/// `PowerLost`: no byte of the area changed, or the sector is closed. Mount the area again.
 pub fn put_close<F: Flash>(flash: &mut F, area: &Area, scan: &Scan) -> Result<(), PowerLost>
     requires scanned { IsScanned (F.device flash.old) area.now scan.now }
     requires not_closed { is_closed_on (F.device flash.old) area.now scan.now.current ≡ false }

@@ -5,14 +5,16 @@ ghost use Rattle.nvs_store.specs.Entries.{encoded, decoded};
 
 use crc8_entry::{START, checks, crc8};
 
-/// What stands in a slot. Its data, of `len` bytes, starts at `offset` bytes from the sector's
-/// start. No bytes are a delete.
+/// What stands in a slot: an item's id, and where its data lies in the sector.
 #[derive(Clone, Copy, Debug, PartialEq, Eq)]
 pub struct Entry {
+    /// The id of the item.
     pub id: u16,
+    /// Where the data starts, in bytes from the start of the sector.
     pub offset: u16,
+    /// Bytes of the data; 0 is a delete.
     pub len: u16,
-    /// Written FF and not looked at.
+    /// Written FF, and ignored by every reader.
     pub part: u8,
 }
 
@@ -50,7 +52,7 @@ pub fn encode_entry(entry: &Entry) -> [u8; 8]
     ]
 }
 
-/// The entry in the first eight bytes. `None` comes exactly where their CRC does not match.
+/// The entry in the first eight bytes; `None` exactly if their CRC does not match.
 #[tactic(auto, unfolding(crate::specs::Entries::decoded))]
 pub fn decode_entry(bytes: &[u8]) -> Option<Entry>
     requires { 8 ≤ length bytes.now }

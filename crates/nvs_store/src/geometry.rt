@@ -18,7 +18,7 @@ pub fn slot_size(unit: u32) -> u32
     unit.max(8)
 }
 
-/// What data of `len` bytes and its entry take up, in bytes.
+/// What data of `len` bytes and its entry take up of a sector, in bytes.
 #[tactic(auto, unfolding(flash_map::specs::Units::padded))]
 pub fn cost(unit: u32, len: u32) -> u64
     requires { IsUnit unit }
@@ -29,7 +29,8 @@ pub fn cost(unit: u32, len: u32) -> u64
     u64::from(slot_size(unit)) + (u64::from(len) + (wide - 1)) / wide * wide
 }
 
-/// What a sector of this many bytes has for data and entries.
+/// What a sector of this many bytes has for data and entries, in bytes: all but the slots for
+/// close, gc-done, one delete and the fence.
 pub fn capacity(unit: u32, sector: u32) -> u32
     requires { IsUnit unit }
     ensures { result ≡ capacity unit sector }

@@ -1,5 +1,5 @@
-//! One NVS sector, with the scan of its area: entries are appended, copied, marked done, closed and
-//! looked up here.
+//! One NVS sector, and the scan of its area: calls that append and copy entries, end a garbage
+//! collection, close the sector and look entries up. The store itself is `nvs_gc`.
 #![tactic(auto)]
 
 mod calls;

@@ -19,7 +19,7 @@ use std::sync::ledger::Ledger;
 // More than a sector has.
 const ALL_SLOTS: u32 = 32768;
 
-/// The last entry that is looked for in the first so many slots of a sector, where that counts.
+/// The last wanted entry in the first so many slots of a sector, if that counts.
 fn find_at<F: Flash, L: Ledger>(
     flash: &F,
     area: &Area,
@@ -51,8 +51,8 @@ fn find_at<F: Flash, L: Ledger>(
     }
 }
 
-/// The last entry that is looked for in the sectors from `first` to the one before `end`, of those
-/// that count.
+/// The last wanted entry in the sectors from `first` to the one before `end`, as far as these
+/// count.
 fn find_among<F: Flash, L: Ledger>(
     flash: &F,
     area: &Area,
@@ -84,7 +84,7 @@ fn find_among<F: Flash, L: Ledger>(
     None
 }
 
-/// The last entry of the id in the list, a delete too.
+/// The last entry of the id in the list. It may be a delete.
 pub fn find<F: Flash, L: Ledger>(
     flash: &F,
     area: &Area,
@@ -177,7 +177,7 @@ fn newest_up_to<F: Flash, L: Ledger>(
 }
 
 /// The next older entry of the list: the one before the entry in this sector and slot, or the
-/// newest one where no place is given. `None` comes exactly at the oldest entry of the list.
+/// newest one if no place is given. `None` exactly if there is no older entry.
 pub fn walk<F: Flash, L: Ledger>(
     flash: &F,
     area: &Area,

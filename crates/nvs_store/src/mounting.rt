@@ -1,4 +1,4 @@
-// Which sector is open, and what is wrong with an area.
+// Which sector is open, and how an area is damaged.
 ghost use Rattle.std.specs.Prelude.{◌≡◌, ◌<◌, IfOk, IfErr, OnOk};
 ghost use Rattle.flash_map.specs.declared.area.Role.TheVariants.{Nvs};
 ghost use Rattle.flash_map.specs.Area.{unit_of, sectors_of};
@@ -15,8 +15,8 @@ use flash_map::{Area, Damaged, Why, geometry, sector_view};
 use flash_sim::{Flash, Steps};
 use std::sync::ledger::Ledger;
 
-/// The open sector: the first that is not closed after a closed one; where none is, the first that
-/// is not blank, or sector 0.
+/// The open sector: the first that is not closed after a closed one; if there is none, the first
+/// that is not blank, or sector 0.
 fn open_sector<F: Flash, L: Ledger>(flash: &F, area: &Area, steps: &mut Steps<L>) -> u32
     requires lawful { IsLawfulFor (F.device flash.now).banks area.now }
     requires role { area.now.role ≡ Nvs }
@@ -40,7 +40,7 @@ fn second_opening<F: Flash, L: Ledger>(flash: &F, area: &Area, steps: &mut Steps
     first(flash, area, Lookup::Opening, opening + 1, steps)
 }
 
-/// The first sector of the first kind of damage, with this sector open.
+/// The first kind of damage, at the first sector that shows it, with this sector open.
 fn damage<F: Flash, L: Ledger>(
     flash: &F,
     area: &Area,
@@ -102,10 +102,11 @@ fn redo<F: Flash, L: Ledger>(flash: &F, area: &Area, current: u32, steps: &mut S
     }
 }
 
-/// Scans the area, or says what is wrong with it. It programs nothing.
+/// Scans the area, or says how it is damaged. It programs nothing.
 ///
 /// # Errors
-/// `Damaged`, exactly where the area's bytes are damaged: the first sector of the first kind of damage.
+/// `Damaged` exactly if the area is damaged: the first kind of damage, at the first sector that
+/// shows it.
 pub fn mount_scan<F: Flash, L: Ledger>(
     flash: &F,
     area: &Area,

@@ -13,18 +13,20 @@ use flash_map::{Area, geometry, is_erased, sector_view};
 use flash_sim::{Flash, Steps};
 use std::sync::ledger::Ledger;
 
-/// What is looked for from sector to sector. Where a sector is named, it is the open one.
+/// What a mount looks for from sector to sector. The number is that of the open sector.
 #[derive(Clone, Copy, Debug, PartialEq, Eq)]
 pub enum Lookup {
+    /// A sector that is not closed.
     NotClosed,
-    /// Not closed, after a closed one.
+    /// A sector that is not closed, after a closed one.
     Opening,
+    /// A sector that is not blank.
     NotBlank,
-    /// Neither closed nor open nor blank.
+    /// A sector that holds bytes, is not closed and is not the open one.
     Dirty(u32),
-    /// It counts and has no erased slot.
+    /// A sector that counts, is not blank and has no erased slot.
     Unfenced(u32),
-    /// It counts and holds more than it may.
+    /// A sector that counts, is not blank and holds more than it may.
     Full(u32),
 }
 
@@ -101,7 +103,7 @@ pub fn counts<F: Flash, L: Ledger>(
     }
 }
 
-/// Whether a sector is what is looked for.
+/// Whether a sector matches.
 fn is_match<F: Flash, L: Ledger>(
     flash: &F,
     area: &Area,
@@ -140,7 +142,7 @@ fn is_match<F: Flash, L: Ledger>(
     }
 }
 
-/// The first sector from this one on that is what is looked for.
+/// The first sector from this one on that matches.
 pub fn first<F: Flash, L: Ledger>(
     flash: &F,
     area: &Area,

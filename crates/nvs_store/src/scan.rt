@@ -11,7 +11,9 @@ use flash_map::Area;
 /// sector's end.
 #[derive(Clone, Copy, Debug, PartialEq, Eq)]
 pub struct SlotEntry {
+    /// The number of the slot.
     pub slot: u32,
+    /// What the slot holds.
     pub entry: Entry,
 }
 
@@ -31,18 +33,22 @@ impl SlotEntry {
 /// An entry that counts, and where it stands in the area.
 #[derive(Clone, Copy, Debug, PartialEq, Eq)]
 pub struct Found {
+    /// The sector, counted from 0 in the area.
     pub sector: u32,
+    /// The number of the slot.
     pub slot: u32,
+    /// What the slot holds.
     pub entry: Entry,
 }
 
 /// What a mount has to do before the area is at rest.
 #[derive(Clone, Copy, Debug, PartialEq, Eq)]
 pub enum Redo {
+    /// No garbage collection was cut.
     Nothing,
-    /// The next sector is the victim of a collection that is done but for its erase.
+    /// A garbage collection is done but for its last step: to erase the next sector, the victim.
     EraseNext,
-    /// The open sector is that of a collection that was cut.
+    /// A garbage collection was cut before gc-done: it starts again into the open sector.
     CollectAgain,
 }
 
@@ -63,15 +69,18 @@ impl Redo {
 pub struct Scan {
     /// The open sector.
     pub current: u32,
-    /// The start of its lowest used slot.
+    /// Where its lowest used slot starts.
     pub low: u32,
     /// Where its next data goes.
     pub data_end: u32,
+    /// Whether gc-done stands in it.
     pub gc_done: bool,
+    /// What a mount has to do.
     pub redo: Redo,
 }
 
-/// Whether a sector is ignored: while a collection is not done, one sector does.
+/// Whether a sector is ignored. During a garbage collection one sector is: the open one before
+/// gc-done, and the victim after it.
 pub fn is_ignored(area: &Area, scan: &Scan, place: u32) -> bool
     requires { scan.now.current < area.now.sectors }
     ensures { (unit : ℕ) (sectors : List (List ℕ)) → length sectors ≡ area.now.sectors

@@ -68,6 +68,7 @@ fn ends_above(found: &Option<SlotEntry>, place: u32) -> bool
     }
 }
 
+/// Whether there is an erased slot under the used ones.
 pub fn has_fence(bytes: &[u8], unit: u32) -> bool
     requires unit { IsUnit unit }
     requires short { length bytes.now ≤ 2 ^ 15 }
@@ -76,6 +77,8 @@ pub fn has_fence(bytes: &[u8], unit: u32) -> bool
     used_count(bytes, unit) + 1 < bytes.len() as u32 / slot_size(unit)
 }
 
+/// Whether the sector holds more than it may: the data of an entry ends above the start of the
+/// fence, or the entries with data cost more than a sector has for them.
 pub fn is_overfull(bytes: &[u8], unit: u32) -> bool
     requires unit { IsUnit unit }
     requires long { 16 ≤ length bytes.now }
@@ -104,8 +107,8 @@ pub fn is_closed(bytes: &[u8], unit: u32) -> bool
     !is_erased(slot_of(bytes, unit, 0))
 }
 
-/// Whether a slot's bytes have the id that is looked for where an entry has its own; where none is
-/// given, each has. Their CRC is not looked at.
+/// Whether the id field of a slot is the wanted one; with none given, each is. The CRC is not
+/// checked.
 fn names(wanted: Option<u16>, slot: &[u8]) -> bool
     requires { 8 ≤ length slot.now }
     ensures { result ≡ is_wanted wanted (entry_of slot.now) }
@@ -116,8 +119,8 @@ fn names(wanted: Option<u16>, slot: &[u8]) -> bool
     }
 }
 
-/// The entry in a slot, if it counts and is looked for. Most slots are of other ids, so the id is
-/// read before the CRC.
+/// The entry in a slot, if it counts and is wanted. Most slots have other ids, so the id is read
+/// before the CRC.
 fn wanted_entry(bytes: &[u8], unit: u32, index: u32, wanted: Option<u16>) -> Option<SlotEntry>
     requires unit { IsUnit unit }
     requires short { length bytes.now ≤ 2 ^ 15 }
@@ -131,8 +134,8 @@ fn wanted_entry(bytes: &[u8], unit: u32, index: u32, wanted: Option<u16>) -> Opt
     }
 }
 
-/// The last entry that is looked for in the first so many slots, a delete too. The sector has this
-/// number.
+/// The last entry of the wanted id in the first so many slots, or the last one of all if no id is
+/// given. It may be a delete. `place` is the number of the sector.
 pub fn find_in(
     bytes: &[u8],
     unit: u32,

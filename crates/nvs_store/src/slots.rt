@@ -11,7 +11,7 @@ use crate::geometry::slot_size;
 use crate::scan::SlotEntry;
 use flash_map::{is_erased, padded};
 
-/// Where a slot starts in a sector of this length.
+/// Where a slot starts in a sector of this length, in bytes.
 pub fn slot_start(len: usize, unit: u32, index: u32) -> u32
     requires unit { IsUnit unit }
     requires short { len ≤ 2 ^ 15 }
@@ -62,8 +62,7 @@ fn entry_in(bytes: &[u8], unit: u32, index: u32) -> Option<Entry>
     decode_entry(slot_of(bytes, unit, index))
 }
 
-/// Whether an offset is at the start of a unit. A division by a number that is known here takes no
-/// time.
+/// Whether an offset is at the start of a unit. A division by a constant is fast.
 fn is_aligned(offset: u32, unit: u32) -> bool
     requires { IsUnit unit }
     ensures { result ≡ (offset % unit == 0) }
@@ -115,7 +114,7 @@ pub fn is_gc_done(bytes: &[u8], unit: u32, index: u32) -> bool
     }
 }
 
-/// The end of the data that an entry names, if there is one.
+/// Where the data of an entry ends, padded to the unit; 0 if there is no entry.
 pub fn end_of(found: &Option<SlotEntry>, unit: u32) -> u32
     requires { IsUnit unit }
     ensures value { result ≡ option_map_or (entry_end unit) found.now 0 }
@@ -127,7 +126,7 @@ pub fn end_of(found: &Option<SlotEntry>, unit: u32) -> u32
     }
 }
 
-/// The padded length of the data that an entry names, if there is one.
+/// The length of an entry's data, padded to the unit; 0 if there is no entry.
 pub fn len_of(found: &Option<SlotEntry>, unit: u32) -> u32
     requires { IsUnit unit }
     ensures value { result ≡ option_map_or (λ f. padded unit f.entry.len) found.now 0 }

@@ -4,7 +4,7 @@ use Rattle.std.specs.List.{last_or}
 use Rattle.record_settings.specs.Live.{value_for}
 use Rattle.record_settings.specs.Settings.{setting_of}
 
--- the values that the records of the name give it, in order; no bytes where one takes it away
+-- the values that the records of the name give it, in order; no bytes are a delete
 abbrev pub values_for : ℕ → List ℕ → List (List ℕ) → List (List ℕ)
 values_for limit name bodies = filter_map (λ body. value_for name (setting_of limit body)) bodies
 

@@ -18,6 +18,7 @@ cap unit size = size - padded unit 8 - reserve unit
 abbrev pub pair_cost : ℕ → List ℕ × List ℕ → ℕ
 pair_cost unit pair = record_cost unit (length pair.0 + 1 + length pair.1)
 
+-- the numbers of room for a unit and a sector of so many bytes
 abbrev pub room : ℕ → ℕ → Room
 room unit size = record {
   cap = cap unit size;
@@ -31,6 +32,6 @@ abbrev pub cost_by : ℕ → ℕ → Option (List ℕ × List ℕ) → ℕ
 cost_by unit len None = 0
 cost_by unit len (Some (name, value)) = if length value == 0 then 0 else record_cost unit len
 
--- what a record with this body costs, where it puts a value
+-- what a record with this body costs, if it puts a value
 abbrev pub put_cost : ℕ → ℕ → List ℕ → ℕ
 put_cost limit unit body = cost_by unit (length body) (setting_of limit body)

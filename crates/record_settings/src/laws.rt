@@ -1,4 +1,4 @@
-// What a collection and a torn record make of settings.
+// What garbage collection and a torn record make of settings.
 ghost use Rattle.std.specs.Prelude.{◌≡◌, ◌≤◌, ◌++◌, ℕ, List, length};
 ghost use Rattle.flash_sim.specs.declared.flash.TheConstants.{PROGRAM_LIMIT};
 ghost use Rattle.flash_map.specs.Units.{IsUnit};
@@ -10,19 +10,18 @@ ghost use Rattle.record_settings.specs.Torn.{torn_body, IsTornOf};
 /// The most bytes of a name.
 pub const NAME_LIMIT: u32 = 64;
 
-/// A collection leaves the settings: the records of the other sectors and the copies of the live
-/// records of the victim, the oldest sector, say what the records of the victim and those of the
-/// others say. The function does nothing; its contract is the law.
+/// Garbage collection keeps the settings: the records of the other sectors, followed by the live
+/// records of the victim, the oldest sector, say the same as those of the victim followed by those
+/// of the others. The function does nothing; its contract is the law.
 pub fn collect_records()
     ensures { (limit : ℕ) (victim others : List (List ℕ))
         → settings_of limit (others ++ live_bodies limit victim others)
         ≡ settings_of limit (victim ++ others) }
 {}
 
-/// A body of which only the first bytes were put, with FF behind them, says nothing, or gives the
-/// same name a value of the same length (`torn`); and so does a record, in units of this many
-/// bytes, that was cut and checks by chance (`spelled`). The function does nothing; its contract is
-/// the law.
+/// A torn body, its first bytes with FF behind them, says nothing, or gives the same name a value
+/// of the same length (`torn`). The same holds of a torn record that checks by chance (`spelled`).
+/// The function does nothing; its contract is the law.
 pub fn tear_record()
     ensures torn { (limit : ℕ) (body : List ℕ) (put : ℕ)
         → IsTornOf (setting_of limit body) (setting_of limit (torn_body body put)) }

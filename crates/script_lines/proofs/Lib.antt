@@ -1,6 +1,7 @@
 pub mod FieldLemmas
 pub mod FormLemmas
 mod TableFacts
+mod FirstWords
 mod ScriptLemmas
 pub mod ScriptLaws
 pub mod TextLemmas

@@ -1,9 +1,9 @@
 -- The object of all names.
-use Rattle.std.proofs.Common.{◌≡◌, ℕ, ◌+◌, ◌<◌, ◌≤◌, Bool, true, false, ◌||◌, IsTrue, List, [], ◌∷◌, ◌++◌, length, take, drop, get_or, IfOk, Result, Ok, Err, String, Global, BTreeMap, Less, Greater, Ordering, string_bytes, codes, add-one, refl, sym, ◌∙◌, ap, inl, inr, ◌⊎◌, arith, rules}
-use Rattle.std.specs.Ordering.{nat_cmp, match_ordering, ordering_reverse}
+use Rattle.std.proofs.Common.{◌≡◌, ℕ, ◌+◌, ◌<◌, ◌≤◌, true, false, List, [], ◌∷◌, ◌++◌, length, take, drop, get_or, IfOk, Result, Ok, Err, String, Global, Less, Greater, string_bytes, codes, add-one, refl, sym, ◌∙◌, ap, inl, inr, ◌⊎◌, arith, rules}
+use Rattle.std.specs.Ordering.{nat_cmp, ordering_reverse}
 use Rattle.std.specs.Cmp.Lexicographic.{slice_cmp}
-use Rattle.std.specs.Str.{IsAscii, IsUtf8}
-use Rattle.std.specs.List.{All}
+use Rattle.std.specs.Str.{IsUtf8}
+use Rattle.std.specs.List.{All, list_all}
 use Rattle.std.proofs.lemmas.Bool.{cases_lt}
 use Rattle.std.proofs.lemmas.Bool.Decides.{nat_tests}
 use Rattle.std.proofs.lemmas.Cmp.{nat_list_cmp_total}
@@ -15,10 +15,9 @@ use Rattle.hex.specs.Hex.{encode_lower}
 use Rattle.setting_name.specs.Name.{IsName}
 use Rattle.setting_name.proofs.KeyLemmas.{name_bytes}
 use Rattle.serde_json.specs.Data.{Data, Members, string, object, no_members, member, put}
-use Rattle.serde_json.specs.Written.{compact_text, has_float, members_have_float}
-use Rattle.serde_json.specs.View.{view, members_view}
+use Rattle.serde_json.specs.Written.{compact_text, members_have_float}
+use Rattle.serde_json.specs.View.{view}
 use Rattle.serde_json.specs.declared.value.Value as value
-use Rattle.serde_json.proofs.Views.{view-Object}
 use Rattle.script_lines.specs.declared.lists.Pair.{Pair}
 use Rattle.image_file.specs.Lawful.{is_label_byte, IsLabel}
 use Rattle.script_lines.specs.Answer.{names_members, names_object, Rise}
@@ -35,12 +34,16 @@ name_is_text text name = IsUtf8-from_ascii text (λ i. name_byte text i (name_by
 label_byte : (b : ℕ) → is_label_byte b ≡ true → b < 128
 label_byte b is = grind (arith, nat_tests)
 
-label_at : (text : List ℕ) (i : ℕ) → IsLabel text → (i < length text) ⊎ (length text ≤ i) → get_or text i 0 < 128
-label_at text i label (inl within) = label_byte (get_or text i 0) (AllPass-from_list_all is_label_byte text label.each i 0 within)
-label_at text i label (inr past) = let e = get_or_past text i 0 past in omega arith
+plain_at : (text : List ℕ) (i : ℕ) → list_all is_label_byte text ≡ true → (i < length text) ⊎ (length text ≤ i) → get_or text i 0 < 128
+plain_at text i each (inl within) = label_byte (get_or text i 0) (AllPass-from_list_all is_label_byte text each i 0 within)
+plain_at text i each (inr past) = let e = get_or_past text i 0 past in omega arith
+
+-- letters and digits are text
+pub plain_text : (text : List ℕ) → list_all is_label_byte text ≡ true → IsUtf8 text
+plain_text text each = IsUtf8-from_ascii text (λ i. plain_at text i each (cases_lt i (length text)))
 
 pub label_is_text : (text : List ℕ) → IsLabel text → IsUtf8 text
-label_is_text text label = IsUtf8-from_ascii text (λ i. label_at text i label (cases_lt i (length text)))
+label_is_text text label = plain_text text label.each
 
 -- Names that rise are put in their order.
 

@@ -23,7 +23,7 @@ command_word Cut = codes "cut"
 command_word Uncut = codes "uncut"
 command_word Migrate = codes "migrate"
 
--- the command of a first word; none where no line has it
+-- the command of a first word; `None` if no line has that word
 abbrev pub FindsCommand : List ℕ → Option Command → Type 0
 FindsCommand word None = list_any (has_word word) settings_forms ≡ false
 FindsCommand word (Some command) = word ≡ command_word command

@@ -16,7 +16,7 @@ use Rattle.script_lines.specs.declared.why.LineFault.{LineFault}
 use Rattle.script_lines.specs.declared.why.LineFault.TheVariants.{Refused, NoMemory}
 use Rattle.script_lines.specs.declared.why.LineWhy.TheVariants.{Unknown, Words, Name, Kind, Hex, Long, Number}
 
--- what a word behind the first one is to be
+-- what a word after the first one must be
 pub data Field : Type 0 where
   a_name : Field
   -- the label of an area
@@ -25,12 +25,12 @@ pub data Field : Type 0 where
   a_kind : Field
   -- bytes in hexadecimal digits, one at least
   some_bytes : Field
-  -- those, or `-` for none
+  -- such bytes, or `-` for none
   any_bytes : Field
   -- a number below an end
   below : ℕ → Field
 
--- the first word of a line, and what stands behind it
+-- the form of a line: its first word, and what the others must be
 pub record Form : Type 0 where
   pub word : List ℕ
   pub fields : List Field
@@ -38,7 +38,7 @@ pub record Form : Type 0 where
 abbrev pub form : List ℕ → List Field → Form
 form word fields = record { word = word; fields = fields }
 
--- what a word behind the first one says
+-- what a word after the first one says
 pub data Said : Type 0 where
   name : List ℕ → Said
   label : List ℕ → Said
@@ -63,7 +63,7 @@ kind_word Level = codes "level"
 abbrev pub IsHex : List ℕ → List ℕ → Type 0
 IsHex word value = (decode_of word ≡ Ok value) × (0 < length value)
 
--- those, and no more than the limit
+-- such bytes, at most `limit` of them
 abbrev pub SaysBytes : ℕ → List ℕ → List ℕ → Type 0
 SaysBytes limit word value = IsHex word value × (length value ≤ limit)
 
@@ -99,7 +99,7 @@ SaysAll limit fields words said = ⊥
 abbrev pub has_word : List ℕ → Form → Bool
 has_word word form = bytes_eq word form.word
 
--- the form of a first word with so many words behind it
+-- the form of a first word with `count` words after it
 abbrev pub form_at : List Form → List ℕ → ℕ → Option Form
 form_at table word count = find (λ form. has_word word form && (length form.fields == count)) table
 
@@ -161,7 +161,7 @@ pub record IsFirstFault (limit : ℕ) (fields : List Field) (words : List (List 
   pub here : SomeFault limit fields words why
   pub none_before : (earlier : LineWhy) → rank earlier < rank why → SomeFault limit fields words earlier → ⊥
 
--- the words behind a first word that the table has are refused
+-- the words after a first word of the table are refused
 pub record IsRefusedBehind (table : List Form) (limit : ℕ) (word : List ℕ) (operands : List (List ℕ))
     (why : LineWhy)
     : Type 0 where
@@ -169,8 +169,8 @@ pub record IsRefusedBehind (table : List Form) (limit : ℕ) (word : List ℕ) (
   pub found : form_at table word (length operands) ≡ Some form
   pub first : IsFirstFault limit form.fields operands why
 
--- The words are refused by the table for this cause: no form has the first word, no form of it has so many
--- words, or one of the words behind it is refused.
+-- The table refuses the words for this cause: no form has the first word, no form of it has so many
+-- words, or one of the words after it is refused.
 abbrev pub Refuses : List Form → ℕ → List (List ℕ) → LineWhy → Type 0
 Refuses table limit [] why = ⊥
 Refuses table limit (word ∷ operands) Unknown = list_any (has_word word) table ≡ false
@@ -178,7 +178,7 @@ Refuses table limit (word ∷ operands) Words =
     (list_any (has_word word) table ≡ true) × (form_at table word (length operands) ≡ None)
 Refuses table limit (word ∷ operands) why = IsRefusedBehind table limit word operands why
 
--- The words behind a first word are refused as these fields.
+-- The words after a first word are refused as these fields.
 abbrev pub RefusesFields : ℕ → List Field → List (List ℕ) → LineWhy → Type 0
 RefusesFields limit fields operands Unknown = ⊥
 RefusesFields limit fields operands Words = length operands ≢ length fields
@@ -198,7 +198,8 @@ abbrev pub SomeTakesMemory : List Field → Type 0
 SomeTakesMemory [] = ⊥
 SomeTakesMemory (field ∷ fields) = TakesMemory field ⊎ SomeTakesMemory fields
 
--- What reading a word, or the words behind the first one, answers. Memory is wanting only where it is taken.
+-- How the reading of a word, or of the words after the first one, ends. `NoMemory` comes only if
+-- memory is needed.
 
 abbrev pub ReadsField : {T : Type 0} → ℕ → Field → (T → Said) → List ℕ → Result T LineFault → Type 0
 ReadsField limit field say word (Ok x) = SaysField limit field word (say x)
@@ -246,7 +247,7 @@ ReadsNameOrNothing limit operands (Err (Refused Words)) = 1 < length operands
 ReadsNameOrNothing limit operands (Err (Refused why)) = RefusesFields limit (a_name ∷ []) operands why
 ReadsNameOrNothing limit operands (Err NoMemory) = ⊥
 
--- What reading a line answers, for lines that say rows of a table.
+-- How the reading of a line ends, for lines that say rows of a table.
 abbrev pub ReadsRow : {L : Type 0} → List Form → (L → Row) → ℕ → List (List ℕ) → Result L LineFault → Type 0
 ReadsRow table row limit words (Ok line) = Spells table limit words (row line)
 ReadsRow table row limit words (Err (Refused why)) = Refuses table limit words why

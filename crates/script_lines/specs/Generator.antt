@@ -8,7 +8,7 @@ use Rattle.script_lines.specs.declared.line.Line.TheVariants.{Set, Get, Del}
 abbrev pub next_state : ℕ → ℕ
 next_state s = (s * 1664525 + 1013904223) % 2 ^ 32
 
--- the state of the generator after so many steps
+-- the state of the generator after `steps` steps
 abbrev pub state_after : ℕ → ℕ → ℕ
 state_after seed zero = seed
 state_after seed (suc steps) = next_state (state_after seed steps)
@@ -27,7 +27,7 @@ line_by i s =
     else if s / 2 ^ 24 % 8 == 1 then Get (name_of s)
     else Set (name_of s) (bytes_of i (1 + s / 2 ^ 16 % 32))
 
--- the first lines of the generator that starts at a seed, counted from 1
+-- the first `count` lines of the generator that starts at `seed`, counted from 1
 abbrev pub first_lines : ℕ → ℕ → List Line
 first_lines seed count = map (λ i. line_by i (state_after seed i)) (range_with_len 1 count)
 

@@ -7,25 +7,25 @@ use Rattle.script_lines.specs.Forms.Field.{a_name, a_label, a_kind, some_bytes, 
 use Rattle.script_lines.specs.Line.{row_of}
 use Rattle.script_lines.specs.Script.{IsScript, IsBadLine}
 
--- words are one line at most, and then they are not refused
+-- words are at most one line, and are then not refused
 abbrev pub OneLine : Type 0
 OneLine = (table : List Form) (limit : ℕ) (words : List (List ℕ)) (one : Row) → Spells table limit words one
     → ((other : Row) → Spells table limit words other → other ≡ one)
     × ((why : LineWhy) → Refuses table limit words why → ⊥)
 
--- words are refused for one cause at most
+-- words are refused for at most one cause
 abbrev pub OneCause : Type 0
 OneCause = (table : List Form) (limit : ℕ) (words : List (List ℕ)) (one other : LineWhy)
     → Refuses table limit words one → Refuses table limit words other → one ≡ other
 
--- a text is one list of lines at most, and then none of its lines is refused
+-- a text is at most one list of lines, and then none of its lines is refused
 abbrev pub OneScript : Type 0
 OneScript =
     (table : List Form) (limit : ℕ) (bytes : List ℕ) (rows : List Row) → IsScript table limit bytes rows
     → ((other : List Row) → IsScript table limit bytes other → other ≡ rows)
     × ((n : ℕ) (why : LineWhy) → IsBadLine table limit bytes n why → ⊥)
 
--- a text has one first refused line at most, and that one cause
+-- a text has at most one first refused line, with one cause
 abbrev pub OneRefusal : Type 0
 OneRefusal = (table : List Form) (limit : ℕ) (bytes : List ℕ) (n m : ℕ) (why other : LineWhy)
     → IsBadLine table limit bytes n why → IsBadLine table limit bytes m other → (n ≡ m) × (why ≡ other)

@@ -1,7 +1,6 @@
 pub mod Forms
 pub mod Line
 pub mod Script
-pub mod Command
 pub mod Laws
 pub mod Answer
 pub mod Plan

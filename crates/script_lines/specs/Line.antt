@@ -53,6 +53,6 @@ row_of (Cut units) = row (codes "cut") (number units ∷ [])
 row_of Uncut = row (codes "uncut") []
 row_of Migrate = row (codes "migrate") []
 
--- What reading a line answers.
+-- How the reading of a line ends.
 abbrev pub ReadsLine : ℕ → List (List ℕ) → Result Line LineFault → Type 0
 ReadsLine limit words read = ReadsRow settings_forms row_of limit words read

@@ -1,4 +1,4 @@
--- Units and losses in answers, and the plan of a loss: by two functions of an answer and one of a line.
+-- Units and losses in answers, and the plan of a loss.
 use Rattle.std.specs.Prelude.{◌≡◌, ◌≢◌, ℕ, ⊤, Bool, true, false, List, [], ◌∷◌, ◌++◌, All, sum_by, count_by, if◌then◌else◌, MatchBool, length}
 use Rattle.flash_sim.specs.Device.{Plan, Never, After, Lasts, LostAfter, lowered, dropped, replanned}
 use Rattle.script_lines.specs.declared.line.Line.{Line}
@@ -24,7 +24,7 @@ units_in answers = sum_by units_of answers
 abbrev pub losses_in : List Answer → ℕ
 losses_in answers = count_by is_lost answers
 
--- what a line makes of the plan, before its answer does
+-- how a line itself changes the plan
 pub data Replan : Type 0 where
   keeps : Replan
   drops : Replan
@@ -35,7 +35,7 @@ replan (Cut units) = plans units
 replan Uncut = drops
 replan _ = keeps
 
--- the plan lasts through the answer's units, or is used up by them just where power is lost
+-- the plan lasts through the answer's units; or they use it up, exactly if power is lost
 abbrev pub Allows : Plan → Answer → Type 0
 Allows plan answer =
     MatchBool (is_lost answer) (LostAfter plan (units_of answer)) (Lasts plan (units_of answer))
@@ -67,13 +67,13 @@ plan_through plan lines answers = plan
 abbrev pub PlansNoLoss : Line → Type 0
 PlansNoLoss line = (units : ℕ) → replan line ≢ plans units
 
--- what holds of lines and of those behind them holds of all
+-- what holds of some lines and of the next ones holds of all
 abbrev pub PlannedInParts : Type 0
 PlannedInParts = (plan : Plan) (prefix back : List Line) (first second : List Answer)
     → Planned plan prefix first → Planned (plan_through plan prefix first) back second
     → Planned plan (prefix ++ back) (first ++ second)
 
--- with no plan, power is lost only where a line plans it
+-- with no plan at first, power is lost only if a line plans it
 abbrev pub NoLossUnplanned : Type 0
 NoLossUnplanned = (lines : List Line) (answers : List Answer)
     → All PlansNoLoss lines → Planned Never lines answers → losses_in answers ≡ 0

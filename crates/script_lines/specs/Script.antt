@@ -14,7 +14,7 @@ abbrev pub is_skipped : List ℕ → Bool
 is_skipped [] = true
 is_skipped (c ∷ cs) = c == 35
 
--- those that are not skipped
+-- the texts that are not skipped
 abbrev pub spoken : List (List ℕ) → List (List ℕ)
 spoken texts = filter (λ text. not (is_skipped text)) texts
 
@@ -48,7 +48,7 @@ FirstRefused table limit (text ∷ texts) n why =
 abbrev pub IsBadLine : List Form → ℕ → List ℕ → ℕ → LineWhy → Type 0
 IsBadLine table limit text n why = FirstRefused table limit (parts 10 text) n why
 
--- the rows are those so far, and that of this text where it is not skipped
+-- the rows so far, and that of this text unless it is skipped
 abbrev pub Takes : List Form → ℕ → List ℕ → List Row → List Row → Type 0
 Takes table limit text old new =
     ((is_skipped text ≡ true) × (new ≡ old))
@@ -56,7 +56,7 @@ Takes table limit text old new =
     ((is_skipped text ≡ false) × (row : Row) × Spells table limit (parts 32 text) row
     × (new ≡ old ++ row ∷ []))
 
--- What reading a script answers, for lines that say rows of a table.
+-- How the reading of a script ends, for lines that say rows of a table.
 abbrev pub ReadsLines : {L : Type 0} → List Form → (L → Row) → ℕ → List ℕ → Result (Vec L) ScriptFault
     → Type 0
 ReadsLines table row limit text (Ok lines) = IsScript table limit text (map row lines.items)

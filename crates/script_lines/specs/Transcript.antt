@@ -30,7 +30,7 @@ pub record IsReportedGive (give : Give) : Type 0 where
   pub rest : IsWord give.rest
   pub value : IsBytes give.value
 
--- numbers are of 64 bits, values are bytes, and names are names
+-- numbers have 64 bits, values are bytes, and names are lawful
 abbrev pub IsReported : Answer → Type 0
 IsReported (Done units) = units < 2 ^ 64
 IsReported (Value value) = IsBytes value
@@ -56,14 +56,15 @@ shown_rest rest = if bytes_eq rest (codes "-") then [] else rest
 abbrev pub shown_give : Give → Give
 shown_give give = record give { rest = shown_rest give.rest }
 
--- what an answer shows: all but the bytes that were needed and used, and whether an empty rest was `-`
+-- what an answer shows: all but the bytes that were needed and used, and whether an
+-- empty rest was `-`
 abbrev pub shown : Answer → Answer
 shown (NoSpace units need live) = NoSpace units 0 0
 shown (Saved pairs units (ends.NoSpace need live)) = Saved pairs units (ends.NoSpace 0 0)
 shown (Loaded gives taken rejected passed) = Loaded (map shown_give gives) taken rejected passed
 shown answer = answer
 
--- A transcript has one reading, but for what answers do not show.
+-- A transcript has one reading, except for what answers do not show.
 abbrev pub OneTranscript : Type 0
 OneTranscript = (some others : List Answer) → All IsReported some → All IsReported others
     → transcript some ≡ transcript others → map shown some ≡ map shown others

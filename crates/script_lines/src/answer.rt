@@ -16,18 +16,19 @@ use std::alloc::{AllocError, Global};
 /// How a `save` ended.
 #[derive(Clone, Copy, Debug, PartialEq, Eq)]
 pub enum SaveEnd {
-    /// All was stored.
+    /// All pairs were stored.
     Whole,
-    /// There was no room for a pair: the bytes that it needs, and those of all settings.
+    /// There was no room for a pair. `need` is what it needs, `live` what all settings cost,
+    /// both in bytes.
     NoSpace { need: u64, live: u64 },
-    /// There were too many names.
+    /// A name was one too many.
     TooMany,
 }
 
-/// What a line answers.
+/// The answer to a line.
 #[derive(Debug, Drop)]
 pub enum Answer {
-    /// Done, with so many units and erases.
+    /// The line was carried out. `units` counts units and erases.
     Done {
         units: u64,
     },
@@ -37,47 +38,48 @@ pub enum Answer {
     },
     /// There is no value.
     Absent,
-    /// Power was lost after so many units and erases, and whether a record that was cut checks by
-    /// chance.
+    /// Power was lost after `units` units and erases. `chance`: a record that was cut passes its
+    /// CRC by chance.
     Lost {
         units: u64,
         chance: bool,
     },
     /// Power is off.
     Off,
-    /// There is no room for the setting, after so many units and erases: the bytes that it needs,
-    /// and those of all settings.
+    /// There is no room for the setting. `units` counts the units and erases that were spent;
+    /// `need` is what the setting needs, `live` what all settings cost, both in bytes.
     NoSpace {
         units: u64,
         need: u64,
         live: u64,
     },
-    /// There are too many names.
+    /// The name is one too many. `units` counts the units and erases that were spent.
     TooMany {
         units: u64,
     },
-    /// The subtree has a handler.
+    /// The subtree has a handler already.
     Exists,
     /// No handler of the kind is left.
     NoKind,
-    /// There is no area to move to.
+    /// There is no other store area.
     NoTarget,
     /// The handler does not accept the value.
     Rejected,
     /// No handler is registered for the name.
     NoHandler,
-    /// What a load gave, how many were taken and rejected, and how many had no handler.
+    /// What a load gave to handlers. `taken` and `rejected` count these values; `passed` counts
+    /// those without a handler.
     Loaded {
         gives: Gives,
         taken: u32,
         rejected: u32,
         passed: u32,
     },
-    /// The stored settings.
+    /// The stored settings, in byte order of the names.
     Direct {
         pairs: Pairs,
     },
-    /// So many pairs were stored, with so many units and erases.
+    /// `pairs` pairs were stored, with `units` units and erases.
     Saved {
         pairs: u32,
         units: u64,
@@ -305,12 +307,12 @@ fn written(alloc: Global, answer: &Answer) -> Result<Vec<u8>, AllocError>
     Ok(text.into_bytes())
 }
 
-/// The bytes of an answer's text: each line with its LF, numbers in decimal, bytes in lower-case
-/// hexadecimal digits. In a `Names` answer the label is one of 1 to 8 bytes of `a` to `z` and `0`
-/// to `9`, and the names rise in the order of their bytes.
+/// The text of an answer: each line with its LF, numbers in decimal, bytes in lower-case
+/// hexadecimal digits. The label of a `Names` answer must have 1 to 8 bytes of `a` to `z` and `0`
+/// to `9`, and its names must be in rising byte order.
 ///
 /// # Errors
-/// Want of memory alone.
+/// `NoMemory`.
 pub fn answer_text(alloc: Global, answer: &Answer) -> Result<Vec<u8>, NoMemory>
     requires { CanReport answer.now }
     ensures { IfOk result (λ text. text.items ≡ text_of answer.now) }
@@ -321,9 +323,9 @@ pub fn answer_text(alloc: Global, answer: &Answer) -> Result<Vec<u8>, NoMemory>
     }
 }
 
-/// A transcript, which is the texts of answers in a row, is one list of lines for each answer; and
-/// it is one list of answers, but for what they do not show: the bytes that were needed and used,
-/// and whether an empty rest was `-`.
+/// A transcript, the texts of answers in a row, splits into lines for each answer in one way only.
+/// It also reads as one list of answers, except for what they do not show: the bytes that were
+/// needed and used, and whether an empty rest was `-`.
 pub fn one_transcript()
     ensures lines { OneListOfLines }
     ensures answers { OneTranscript }

@@ -1,11 +1,11 @@
-// Bytes that contracts see as a list.
+// Byte strings that contracts see as lists.
 ghost use Rattle.std.specs.Prelude.{◌≡◌, List, ℕ, [], ◌∷◌, ◌++◌, OnOk, OnErr};
 
 use flash_sim::NoMemory;
 use std::alloc::Global;
 use std::marker::Model;
 
-/// A list of bytes.
+/// A byte string.
 #[derive(Debug, Drop)]
 pub struct Bytes {
     items: Vec<u8>,
@@ -18,7 +18,7 @@ impl Model for Bytes {
 }
 
 impl Bytes {
-    /// No bytes. Takes no memory.
+    /// An empty byte string. It takes no memory.
     pub fn new(alloc: Global) -> Bytes
         ensures { result ≡ [] }
     {
@@ -27,14 +27,14 @@ impl Bytes {
         }
     }
 
-    /// The bytes of a vector. Takes no memory.
+    /// The bytes of a vector. It takes no memory.
     pub fn from_vec(items: Vec<u8>) -> Bytes
         ensures { result ≡ items.items }
     {
         Bytes { items }
     }
 
-    /// The vector of the bytes. Takes no memory.
+    /// The vector of the bytes. It takes no memory.
     pub fn into_vec(self) -> Vec<u8>
         ensures { result.items ≡ self }
     {
@@ -44,7 +44,7 @@ impl Bytes {
     /// Appends a byte.
     ///
     /// # Errors
-    /// `NoMemory`, and the bytes are as before.
+    /// `NoMemory`: the bytes are as before.
     pub fn push(&mut self, item: u8) -> Result<(), NoMemory>
         ensures ok { OnOk result (self.new ≡ self.old ++ item ∷ []) }
         ensures err { OnErr result (self.new ≡ self.old) }

@@ -1,4 +1,4 @@
-// The words behind the first one.
+// The words after the first one.
 ghost use Rattle.std.specs.Prelude.{◌≡◌, ◌↔◌, IsTrue, ℕ};
 ghost use Rattle.std.specs.List.{list_all};
 ghost use Rattle.image_file.specs.Lawful.{IsLabel, is_label_byte};
@@ -15,10 +15,10 @@ use setting_name::Name;
 use std::alloc::Global;
 use text_parts::{cut_at, one_part, read_number};
 
-/// The name that a word is.
+/// Reads a word as a name.
 ///
 /// # Errors
-/// `Name` where it is none.
+/// `Name` if it is none.
 pub fn read_name(word: &[u8]) -> Result<Name, LineFault>
     ensures { (limit : ℕ) → ReadsField limit a_name name word.now result }
 {
@@ -46,10 +46,10 @@ fn is_label(word: &[u8]) -> bool
     (1..=8).contains(&word.len()) && all_label_bytes(word)
 }
 
-/// The label of an area that a word is: 1 to 8 bytes of `a` to `z` and `0` to `9`.
+/// Reads a word as the label of an area: 1 to 8 bytes of `a` to `z` and `0` to `9`.
 ///
 /// # Errors
-/// `Name` where it is none. Want of memory.
+/// `Name` if it is none; `NoMemory`.
 pub fn read_label(alloc: Global, word: &[u8]) -> Result<Label, LineFault>
     ensures { (limit : ℕ) → ReadsField limit a_label label word.now result }
 {
@@ -62,10 +62,10 @@ pub fn read_label(alloc: Global, word: &[u8]) -> Result<Label, LineFault>
     }
 }
 
-/// The kind of handler that a word is: `table`, `counter` or `level`.
+/// Reads a word as a kind of handler: `table`, `counter` or `level`.
 ///
 /// # Errors
-/// `Kind` where it is none of them.
+/// `Kind` if it is none of them.
 pub fn read_kind(word: &[u8]) -> Result<HandlerKind, LineFault>
     ensures { (limit : ℕ) → ReadsField limit a_kind kind word.now result }
 {
@@ -80,11 +80,11 @@ pub fn read_kind(word: &[u8]) -> Result<HandlerKind, LineFault>
     }
 }
 
-/// The bytes that a word is in hexadecimal digits of either case: one at least, and no more than
-/// the limit.
+/// Reads a word as bytes in hexadecimal digits of either case: at least one byte, and
+/// at most `limit`.
 ///
 /// # Errors
-/// `Hex` where it is no such digits, `Long` where there are more bytes. Want of memory.
+/// `Hex` if the word is no such digits; `Long` if it has more bytes; `NoMemory`.
 pub fn read_bytes(alloc: Global, word: &[u8], limit: usize) -> Result<Bytes, LineFault>
     ensures { ReadsField limit some_bytes bytes word.now result }
 {
@@ -103,7 +103,7 @@ pub fn read_bytes(alloc: Global, word: &[u8], limit: usize) -> Result<Bytes, Lin
     }
 }
 
-/// The bytes that a word is, as `read_bytes` reads them, or none where it is `-`.
+/// Reads a word as `read_bytes` does, or `-` as no bytes.
 ///
 /// # Errors
 /// Those of `read_bytes`.
@@ -117,10 +117,10 @@ pub fn read_bytes_or_dash(alloc: Global, word: &[u8], limit: usize) -> Result<By
     }
 }
 
-/// The number below the end that a word is, in decimal without a sign or leading zeros.
+/// Reads a word as a number below `end`, in decimal without a sign or leading zeros.
 ///
 /// # Errors
-/// `Number` where it is none. Want of memory.
+/// `Number` if it is none; `NoMemory`.
 pub fn read_number_below(alloc: Global, word: &[u8], end: u64) -> Result<u64, LineFault>
     ensures { (limit : ℕ) → ReadsField limit (below end) number word.now result }
 {
@@ -134,7 +134,7 @@ pub fn read_number_below(alloc: Global, word: &[u8], end: u64) -> Result<u64, Li
 /// Checks that no word is left of a line.
 ///
 /// # Errors
-/// `Words` where one is.
+/// `Words` if one is left.
 pub fn nothing(rest: Option<&[u8]>) -> Result<(), LineFault>
     ensures { (limit : ℕ) → ReadsNone limit rest.entry result }
 {
@@ -147,7 +147,7 @@ pub fn nothing(rest: Option<&[u8]>) -> Result<(), LineFault>
 /// The one word that is left of a line.
 ///
 /// # Errors
-/// `Words` where it is not one.
+/// `Words` if not exactly one word is left.
 pub fn one_word(rest: Option<&[u8]>) -> Result<&[u8], LineFault>
     ensures { IsOneWord (words_of rest.entry) result }
 {
@@ -160,7 +160,7 @@ pub fn one_word(rest: Option<&[u8]>) -> Result<&[u8], LineFault>
 /// The two words that are left of a line.
 ///
 /// # Errors
-/// `Words` where they are not two.
+/// `Words` if not exactly two words are left.
 pub fn two_words(rest: Option<&[u8]>) -> Result<(&[u8], &[u8]), LineFault>
     ensures { AreTwoWords (words_of rest.entry) result }
 {
@@ -177,7 +177,7 @@ pub fn two_words(rest: Option<&[u8]>) -> Result<(&[u8], &[u8]), LineFault>
 /// The one name that is left of a line.
 ///
 /// # Errors
-/// The first cause for which it is not.
+/// The first cause, in the order of `LineWhy`, for which it is not.
 pub fn name_alone(rest: Option<&[u8]>) -> Result<Name, LineFault>
     ensures { (limit : ℕ) → ReadsOne limit a_name name rest.entry result }
 {
@@ -187,7 +187,7 @@ pub fn name_alone(rest: Option<&[u8]>) -> Result<Name, LineFault>
 /// The name and the kind that are left of a line.
 ///
 /// # Errors
-/// The first cause for which they are not.
+/// The first cause, in the order of `LineWhy`, for which they are not.
 pub fn name_and_kind(rest: Option<&[u8]>) -> Result<(Name, HandlerKind), LineFault>
     ensures { (limit : ℕ) → ReadsTwo limit a_name a_kind name kind rest.entry result }
 {
@@ -197,10 +197,10 @@ pub fn name_and_kind(rest: Option<&[u8]>) -> Result<(Name, HandlerKind), LineFau
     Ok((subtree, kind))
 }
 
-/// The name and the bytes that are left of a line.
+/// The name and the bytes that are left of a line, at most `limit` bytes.
 ///
 /// # Errors
-/// The first cause for which they are not. Want of memory.
+/// The first cause, in the order of `LineWhy`, for which they are not. `NoMemory`.
 pub fn name_and_bytes(
     alloc: Global,
     rest: Option<&[u8]>,
@@ -214,10 +214,10 @@ pub fn name_and_bytes(
     Ok((name, value))
 }
 
-/// The name and the bytes, or `-` for none, that are left of a line.
+/// The name and the bytes, or `-` for none, that are left of a line, at most `limit` bytes.
 ///
 /// # Errors
-/// The first cause for which they are not. Want of memory.
+/// The first cause, in the order of `LineWhy`, for which they are not. `NoMemory`.
 pub fn name_and_bytes_or_dash(
     alloc: Global,
     rest: Option<&[u8]>,
@@ -231,20 +231,20 @@ pub fn name_and_bytes_or_dash(
     Ok((name, value))
 }
 
-/// The one number below the end that is left of a line.
+/// The one number below `end` that is left of a line.
 ///
 /// # Errors
-/// The first cause for which it is not. Want of memory.
+/// The first cause, in the order of `LineWhy`, for which it is not. `NoMemory`.
 pub fn number_alone(alloc: Global, rest: Option<&[u8]>, end: u64) -> Result<u64, LineFault>
     ensures { (limit : ℕ) → ReadsOne limit (below end) number rest.entry result }
 {
     read_number_below(alloc, one_word(rest)?, end)
 }
 
-/// The one name that is left of a line, or none where no word is.
+/// The one name that is left of a line; `None` if no word is left.
 ///
 /// # Errors
-/// The first cause for which they are neither.
+/// The first cause, in the order of `LineWhy`, for which it is neither.
 pub fn name_or_nothing(rest: Option<&[u8]>) -> Result<Option<Name>, LineFault>
     ensures { (limit : ℕ) → ReadsNameOrNothing limit (words_of rest.entry) result }
 {

@@ -63,11 +63,11 @@ fn lines_by(alloc: Global, n: u32) -> Result<Vec<Line>, AllocError>
     Ok(lines)
 }
 
-/// The generated script of so many lines: each sets, asks for or deletes one of 40 names, by a
-/// generator that starts at that number.
+/// The generated script of `n` lines. Each line sets, gets or deletes one of 40 names. The
+/// generator starts at `n`.
 ///
 /// # Errors
-/// Want of memory alone.
+/// `NoMemory`.
 pub fn gen_script(alloc: Global, n: u32) -> Result<Vec<Line>, NoMemory>
     ensures { IfOk result (λ lines. lines.items ≡ generated n) }
 {

@@ -1,4 +1,4 @@
-// Scripts of lines by a table of forms, whatever the lines are.
+// Scripts of lines by a table of forms, for any type of lines.
 ghost use Rattle.std.specs.Prelude.{◌≡◌};
 ghost use Rattle.script_lines.specs.Script.{is_skipped, TakesText, ReadsLines};
 
@@ -7,10 +7,11 @@ use std::alloc::Global;
 use text_parts::cut_at;
 use thiserror::Error;
 
-/// What keeps a script from being read.
+/// Why a script was not read.
 #[derive(Clone, Copy, Debug, PartialEq, Eq, Error)]
 pub enum ScriptFault {
-    /// The number of the refused line, from 1, skipped lines counted too, and its first cause.
+    /// The number of the first refused line, from 1, with skipped lines counted too, and
+    /// its first cause.
     #[error("line {line} is refused")]
     BadLine { line: u64, why: LineWhy },
     /// There was not enough memory.
@@ -18,20 +19,22 @@ pub enum ScriptFault {
     NoMemory,
 }
 
-/// Lines of a grammar: each says a row of its table.
+/// The lines of a grammar. Each line says a row of the grammar's table.
 pub trait ScriptLine: Sized + Drop {
     ghost use Rattle.std.specs.Prelude.{List};
     ghost use Rattle.text_parts.specs.Parts.{parts};
     ghost use Rattle.script_lines.specs.Forms.{Form, Row, ReadsRow};
 
+    /// The table of forms.
     ghost forms: { List Form };
 
+    /// What a line says: its first word, and what the others say.
     ghost says: { Self → Row };
 
-    /// The line that a text is, where no value has more bytes than the limit.
+    /// Reads a text as a line. No value has more than `limit` bytes.
     ///
     /// # Errors
-    /// The first cause of `LineWhy` for which it is none. Want of memory.
+    /// `Refused` with the first cause of `LineWhy` if it is none; `NoMemory`.
     fn read(alloc: Global, text: &[u8], limit: usize) -> Result<Self, LineFault>
         ensures { ReadsRow forms says limit (parts 32 text.now) result };
 }
@@ -68,14 +71,15 @@ fn take_text<L: ScriptLine>(
     }
 }
 
-/// The lines of a script.
+/// Reads the lines of a script.
 ///
-/// Lines end with LF, which the last may lack. An empty line and one that begins with `#` are
-/// skipped, and counted. A line's words are separated by one space. No value has more bytes than
-/// the limit.
+/// Each line ends with LF; the last may lack it. An empty line and one that begins with `#` are
+/// skipped, but counted. One space separates the words of a line. No value has more than
+/// `limit` bytes.
 ///
 /// # Errors
-/// `BadLine` where a line is no line of the table: the first such line, with its first cause. `NoMemory`.
+/// `BadLine` if a line is no line of the table: the first such line, with its first
+/// cause. `NoMemory`.
 pub fn read_lines<L: ScriptLine>(
     alloc: Global,
     bytes: &[u8],

@@ -1,15 +1,15 @@
-// The lines.
+// The lines of a script on settings.
 use crate::bytes::Bytes;
 use handlers::HandlerKind;
 use setting_name::Name;
 
-/// The units and erases of a `cut` end here.
+/// The units and erases of a `cut` are fewer than this.
 pub const UNITS_END: u64 = 4_294_967_296;
 
 /// A line of a script on settings.
 #[derive(Debug, Drop)]
 pub enum Line {
-    /// Stores a value, or deletes where it is empty.
+    /// Stores a value; the empty one deletes the name.
     Set { name: Name, value: Bytes },
     /// Asks for the value of a name.
     Get { name: Name },
@@ -33,9 +33,9 @@ pub enum Line {
     Names,
     /// Restores power and mounts.
     Mount,
-    /// Plans a loss of power after so many further units and erases, fewer than `UNITS_END`.
+    /// Plans a power loss after `units` further units and erases, fewer than `UNITS_END`.
     Cut { units: u64 },
-    /// Drops that plan.
+    /// Drops the plan.
     Uncut,
     /// Moves the settings to another area.
     Migrate,

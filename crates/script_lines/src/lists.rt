@@ -1,4 +1,4 @@
-// Lists that contracts see as lists.
+// Vectors that contracts see as lists.
 ghost use Rattle.std.specs.Prelude.{◌≡◌, List, ℕ, [], ◌∷◌, ◌++◌, OnOk, OnErr};
 
 use crate::bytes::Bytes;
@@ -22,7 +22,7 @@ impl Model for Label {
 }
 
 impl Label {
-    /// No bytes. Takes no memory.
+    /// An empty label. It takes no memory.
     pub fn new(alloc: Global) -> Label
         ensures { result ≡ [] }
     {
@@ -31,7 +31,7 @@ impl Label {
         }
     }
 
-    /// The bytes of a vector. Takes no memory.
+    /// A label of the bytes of a vector. It takes no memory.
     pub fn from_vec(items: Vec<u8>) -> Label
         ensures { result ≡ items.items }
     {
@@ -41,7 +41,7 @@ impl Label {
     /// Appends a byte.
     ///
     /// # Errors
-    /// `NoMemory`, and the label is as before.
+    /// `NoMemory`: the label is as before.
     pub fn push(&mut self, item: u8) -> Result<(), NoMemory>
         ensures ok { OnOk result (self.new ≡ self.old ++ item ∷ []) }
         ensures err { OnErr result (self.new ≡ self.old) }
@@ -67,7 +67,7 @@ pub struct Pair {
     pub value: Bytes,
 }
 
-/// Names with their values.
+/// A list of names with their values.
 #[derive(Debug, Drop)]
 pub struct Pairs {
     items: Vec<Pair>,
@@ -83,7 +83,7 @@ impl Model for Pairs {
 }
 
 impl Pairs {
-    /// No pairs. Takes no memory.
+    /// An empty list. It takes no memory.
     pub fn new(alloc: Global) -> Pairs
         ensures { result ≡ [] }
     {
@@ -95,7 +95,7 @@ impl Pairs {
     /// Appends a pair.
     ///
     /// # Errors
-    /// `NoMemory`, and the list is as before.
+    /// `NoMemory`: the list is as before.
     pub fn push(&mut self, item: Pair) -> Result<(), NoMemory>
         ensures ok { OnOk result (self.new ≡ self.old ++ item ∷ []) }
         ensures err { OnErr result (self.new ≡ self.old) }
@@ -114,8 +114,8 @@ impl Pairs {
     }
 }
 
-/// A setting that a load gave to the handler of a subtree: what is left of the name, the value, and
-/// whether it was taken.
+/// A setting that a load gave to the handler of a subtree: the rest of its name, its value, and
+/// whether the handler took it.
 #[derive(Debug, Drop)]
 pub struct Give {
     pub subtree: Name,
@@ -124,7 +124,7 @@ pub struct Give {
     pub taken: bool,
 }
 
-/// What a load gave.
+/// What a load gave, in order.
 #[derive(Debug, Drop)]
 pub struct Gives {
     items: Vec<Give>,
@@ -140,7 +140,7 @@ impl Model for Gives {
 }
 
 impl Gives {
-    /// Nothing. Takes no memory.
+    /// An empty list. It takes no memory.
     pub fn new(alloc: Global) -> Gives
         ensures { result ≡ [] }
     {
@@ -149,10 +149,10 @@ impl Gives {
         }
     }
 
-    /// Appends what was given.
+    /// Appends one setting that was given.
     ///
     /// # Errors
-    /// `NoMemory`, and the list is as before.
+    /// `NoMemory`: the list is as before.
     pub fn push(&mut self, item: Give) -> Result<(), NoMemory>
         ensures ok { OnOk result (self.new ≡ self.old ++ item ∷ []) }
         ensures err { OnErr result (self.new ≡ self.old) }
@@ -163,7 +163,7 @@ impl Gives {
         }
     }
 
-    /// What was given, in order.
+    /// The settings that were given, in order.
     pub fn as_slice(&self) -> &[Give]
         ensures { result.now ≡ self.now }
     {

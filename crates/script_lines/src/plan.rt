@@ -4,7 +4,7 @@ ghost use Rattle.script_lines.specs.Plan.{units_of, is_lost, PlannedInParts, NoL
 
 use crate::answer::Answer;
 
-/// The units and erases in an answer; none where it has none.
+/// The units and erases that an answer reports; 0 if it reports none.
 pub fn units_of(answer: &Answer) -> u64
     ensures { result ≡ units_of answer.now }
 {
@@ -18,7 +18,7 @@ pub fn units_of(answer: &Answer) -> u64
     }
 }
 
-/// Whether the answer reports a loss of power.
+/// Whether the answer reports a power loss.
 pub fn is_lost(answer: &Answer) -> bool
     ensures { result ≡ is_lost answer.now }
 {
@@ -28,8 +28,8 @@ pub fn is_lost(answer: &Answer) -> bool
     }
 }
 
-/// Plans go through lines part by part. With no plan at first, power is lost only where a line
-/// plans it.
+/// The plan after some lines is the plan before the next ones. With no plan at first, power is lost
+/// only if a line plans it.
 pub fn plans_of_lines()
     ensures parts { PlannedInParts }
     ensures unplanned { NoLossUnplanned }

@@ -1,4 +1,4 @@
-// A script on settings.
+// Scripts on settings.
 ghost use Rattle.script_lines.specs.Laws.{OneLine, OneCause, OneScript, OneRefusal, OneMeaning, TableFits, EachIsRead};
 ghost use Rattle.script_lines.specs.Line.{settings_forms};
 ghost use Rattle.script_lines.specs.Script.{ReadsScript};
@@ -21,11 +21,12 @@ impl ScriptLine for Line {
     }
 }
 
-/// The lines of a script on settings, read as `read_lines` reads.
+/// Reads the lines of a script on settings, as `read_lines` does.
 ///
-/// They are `set NAME HEX`, where HEX may be `-` for no bytes, `get NAME`, `del NAME`, `register NAME KIND`, `load`, `direct`
-/// and `save` alone or with a NAME, `rset NAME HEX`, `rget NAME`, `cut N` with N below `UNITS_END`, and `commit`, `names`,
-/// `mount`, `uncut` and `migrate`.
+/// The lines are `set NAME HEX`, where HEX may be `-` for no bytes; `get NAME`; `del NAME`;
+/// `register NAME KIND`; `load`, `direct` and `save`, each alone or with a NAME; `rset NAME
+/// HEX`; `rget NAME`; `cut N` with N below `UNITS_END`; and `commit`, `names`, `mount`, `uncut`
+/// and `migrate`.
 ///
 /// # Errors
 /// Those of `read_lines`.
@@ -35,9 +36,9 @@ pub fn read_script(alloc: Global, bytes: &[u8], limit: u32) -> Result<Vec<Line>,
     read_lines(alloc, bytes, limit as usize)
 }
 
-/// By any table, words are one line at most, and then they are not refused; they are refused for
-/// one cause at most. A text is one script at most, and then none of its lines is refused; it has
-/// one first refused line at most, with one cause. No two lines on settings say the same.
+/// For any table: words are at most one line, and are then not refused. They are refused for at
+/// most one cause. A text is at most one script, and then none of its lines is refused. It has at
+/// most one first refused line, with one cause. No two lines on settings say the same.
 pub fn one_reading()
     ensures line { OneLine }
     ensures cause { OneCause }
@@ -46,8 +47,8 @@ pub fn one_reading()
     ensures meaning { OneMeaning }
 {}
 
-/// Words are a line or are refused for some cause, by any table whose numbers have at most 64 bits,
-/// as that of the lines on settings is.
+/// For any table whose numbers have at most 64 bits, words are a line or are refused for some
+/// cause. The table of the lines on settings is such a table.
 pub fn each_is_read()
     ensures read { EachIsRead }
     ensures settings { TableFits settings_forms }

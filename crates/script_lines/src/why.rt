@@ -5,22 +5,22 @@
 pub enum LineWhy {
     /// No line has its first word.
     Unknown,
-    /// No line with this first word has so many words.
+    /// No line with this first word has this number of words.
     Words,
-    /// A name or a label is none.
+    /// A name or a label is not lawful.
     Name,
     /// There is no such kind of handler.
     Kind,
-    /// Bytes are not an even number of hexadecimal digits, two at least, nor the `-` of a line that
-    /// may have none.
+    /// Bytes are not an even number of hexadecimal digits, at least two, nor the `-` of a line that
+    /// may have no bytes.
     Hex,
     /// A value has more bytes than the limit.
     Long,
-    /// A number is not decimal without a sign or leading zeros, or too large.
+    /// A number is not in decimal without a sign or leading zeros, or is too large.
     Number,
 }
 
-/// What keeps a line from being read.
+/// Why a line was not read.
 #[derive(Clone, Copy, Debug, PartialEq, Eq)]
 pub enum LineFault {
     /// It is refused.

@@ -1,4 +1,4 @@
--- Puts of all settings of a map, one by one in the order of names, as a migration says of them.
+-- Puts of all settings of a map, one by one in the order of names, in the words of a migration.
 use Rattle.std.proofs.Common.{◌≡◌, ◌⊎◌, ℕ, zero, suc, ◌+◌, ◌<◌, true, false, T, is_lt, List, [], ◌∷◌, ◌++◌, length, take, drop, Some, None, refl, sym, ap, subst, ◌∙◌, inl, inr, arith}
 use Rattle.std.specs.List.{slice_get}
 use Rattle.std.specs.FinMap as maps

@@ -18,7 +18,7 @@ beside s registry pool = record s { registry = registry; pool = pool }
 abbrev pub as_given : Give → deliveries.Give
 as_given give = record { subtree = give.subtree; rest = give.rest; value = give.value; taken = give.taken }
 
--- the place of the first one of the kind
+-- the place of the first handler of the kind, if there is one
 abbrev pub FirstAt : HandlerKind → List HandlerKind → Option ℕ → Type 0
 FirstAt kind kinds (Some i) =
     (i < length kinds) × (list_any (same_kind kind) (take i kinds) ≡ false)
@@ -26,8 +26,8 @@ FirstAt kind kinds (Some i) =
 FirstAt kind kinds None = list_any (same_kind kind) kinds ≡ false
 
 module _ {B : Type 0} where
-  -- The first handler of the kind was taken out of the others, which stay in their order. All that were new
-  -- still are.
+  -- The first handler of the kind was taken out of the others, which stay in their order. Those
+  -- that were new still are.
   pub record TakesFirst (state : B → HandlerState) (kind : HandlerKind) (before after : List B) (taken : B) :
       Type 0 where
     pub others : without_first kind (kinds state before) ≡ Some (kinds state after)

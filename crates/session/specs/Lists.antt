@@ -10,6 +10,6 @@ use Rattle.session_table.specs.Step.{as_pair}
 abbrev pub as_setting : Pair → List ℕ × List ℕ
 as_setting pair = (pair.name, pair.value)
 
--- those of the settings that match a subtree, in the byte order of the names
+-- the settings that match a subtree, in the byte order of the names
 abbrev pub pairs_under : Option (List ℕ) → Map → List Pair
 pairs_under subtree settings = map as_pair (settings_under subtree (entries settings))

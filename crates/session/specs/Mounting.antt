@@ -1,4 +1,4 @@
--- How mounting a map goes, with power on.
+-- How the mount of a map ends, with power on.
 use Rattle.std.specs.Prelude.{◌≡◌, ◌⊎◌, ℕ, Bool, true, false, List, Option, Some, None, Result, Ok, Err}
 use Rattle.flash_sim.specs.Device.{Device}
 use Rattle.flash_map.specs.declared.area.Area.{Area}
@@ -30,15 +30,15 @@ map_lost (Err NoMemory) = false
 
 -- ---- the selector
 
--- what the mount of the selector at this place is for the map
+-- the result of the selector's mount, as a mount of the map answers it
 abbrev pub selected_as : ℕ → Result Selector MountFault → Result (Option Selector) MapFault
 selected_as place (Ok selector) = Ok (Some selector)
 selected_as place (Err (HasDamage damaged)) = Err (MapDamaged place damaged)
 selected_as place (Err MountLost) = Err PowerLost
 selected_as place (Err MountNoMemory) = Err NoMemory
 
--- how mounting the selector ends, where the map has one: it shows the damage, and then nothing changed; or it
--- shows none
+-- how the mount of the selector ends, if the map has one: it shows this damage, and nothing
+-- changed; or it shows none
 abbrev pub SelectorEnds : List Area → Device → Device → Result (Option Selector) MapFault → Type 0
 SelectorEnds areas old new (Ok selector) =
     (selector_damage_on areas old ≡ None) × HasSelector areas new selector
@@ -49,7 +49,7 @@ SelectorEnds areas old new (Err NoMemory) = ⊥
 
 -- ---- the map
 
--- what the mount of settings on the area at this place is for the map
+-- the result of the mount of settings on the area at this place, as a mount of the map answers it
 abbrev pub mounted_as : {K : Type 0} → Option Selector → ℕ → Result (Settings K) MountFault
     → Result (Session K) MapFault
 mounted_as selector place (Ok settings) =
@@ -64,8 +64,9 @@ ReadsSame contents areas old new =
     (active_on areas new ≡ active_on areas old)
     × (on contents new (active_area areas old) ≡ on contents old (active_area areas old))
 
--- How mounting a map ends: the session is ready, and the map shows no damage; or it shows the damage; or
--- power was lost, where the active area shows damage in the selector's; or memory was wanting.
+-- How the mount of a map ends: the session is ready, and the map shows no damage; or it shows this
+-- damage; or power was lost, which happened in the selector's area if the active area shows damage;
+-- or memory ran out.
 abbrev pub MapEnds : {K : Type 0} → (K → Area) → (K → Geometry → List (List ℕ) → Type 0) → (K → Bool)
     → (Area → Geometry → List (List ℕ) → Option Damaged)
     → (Area → Geometry → List (List ℕ) → Map) → List Area → Device → Device → Result (Session K) MapFault
@@ -85,11 +86,11 @@ MapEnds mounted_on stands runs damage contents areas old new (Err NoMemory) = Be
 
 -- ---- the line
 
--- no settings, as after a loss in a mount
+-- no settings, as after a power loss in a mount
 abbrev pub down : {K : Type 0} → Session K
 down = record { selector = None; settings = None; active = 0 }
 
--- what the mount of the map, which took so many units, is for the line
+-- the result of the mount of the map, which took so many units, as the line answers it
 abbrev pub answered : {K : Type 0} → ℕ → Result (Session K) MapFault
     → Result (Session K × Answer) SessionFault
 answered units (Ok session) = Ok (session, Done units)

@@ -5,7 +5,7 @@ use Rattle.migrator.specs.declared.migrating.MigrateFault.TheVariants.{NoTarget 
 use Rattle.script_lines.specs.declared.answer.Answer.{Answer}
 use Rattle.script_lines.specs.declared.answer.Answer.TheVariants.{Lost, NoSpace, NoTarget, TooMany}
 
--- by what was spent; none for want of memory
+-- by the units that were spent; `None` if memory ran out
 abbrev pub answer_to : MigrateFault → ℕ → Option Answer
 answer_to HasNoTarget units = Some NoTarget
 answer_to (HasNoSpace need live) units = Some (NoSpace units need live)

@@ -1,4 +1,4 @@
--- A session on the settings of a map of areas, of which one is active.
+-- A session on the settings of a map of areas, one of which is active.
 use Rattle.std.specs.Prelude.{◌≡◌, ◌⊎◌, All, ℕ, ◌+◌, ◌≤◌, ⊤, Bool, true, false, not, List, [], ◌∷◌, ◌++◌, length, map, find, Option, Some, None, Result, Ok, Err, unwrap_or, option_map}
 use Rattle.std.specs.List.{range_with_len, slice_get}
 use Rattle.std.specs.Option.{ForSome, option_or, option_map_or}
@@ -46,7 +46,7 @@ abbrev pub meanings : (Area → Geometry → List (List ℕ) → Map) → (Area 
 meanings contents room chance tears =
     record { contents = contents; room = room; chance = chance; tears = tears }
 
--- a bench, with the handlers that are registered and the kinds of those that are left
+-- a bench, with its registered handlers and the kinds of those that are left
 abbrev pub moment : Device → List Registered → List HandlerKind → Moment
 moment d registry pool = record { device = d; registry = registry; pool = pool }
 
@@ -59,7 +59,7 @@ module _ {B : Type 0} where
   abbrev pub IsFresh : (B → HandlerState) → B → Type 0
   IsFresh state b = state b ≡ fresh (state b).kind
 
-  -- The handlers that are registered hold settings that the areas take; those that are left hold nothing.
+  -- The registered handlers hold settings that the areas take; those that are left hold nothing.
   pub record HandlersFit (state : B → HandlerState) (limit : ℕ) (handlers : List Registered) (left : List B) :
       Type 0 where
     pub registry : AreLawful limit handlers
@@ -70,12 +70,12 @@ module _ {B : Type 0} where
 abbrev pub active_area : List Area → Device → Area
 active_area areas d = area_at areas (active_on areas d)
 
--- how many bytes a value may have; all areas of a map allow the same
+-- how many bytes a value may have; it is the same in all areas of a map
 abbrev pub limit_of : List Area → ℕ
 limit_of areas = value_limit (area_at areas (first_store areas))
 
--- The map is one that an image may have: its areas are lawful, each that stores settings is served, there is
--- one, and it is the only one where there is no selector.
+-- The map is one that an image may have: its areas are lawful, each store area is served, there is
+-- at least one, and without a selector there is only one.
 pub record IsServedMap (serves : Area → Geometry → Type 0) (areas : List Area) (d : Device) : Type 0 where
   pub lawful : IsLawfulMap d.banks areas
   pub served : (place : ℕ) (area : Area) → slice_get areas place ≡ Some area → is_store area ≡ true
@@ -83,7 +83,7 @@ pub record IsServedMap (serves : Area → Geometry → Type 0) (areas : List Are
   pub some : is_store_at areas (first_store areas) ≡ true
   pub one : selector_of areas ≡ None → target areas (first_store areas) ≡ None
 
--- a line's value is one that the areas take
+-- the areas take the line's value
 abbrev pub IsServed : ℕ → Line → Type 0
 IsServed limit (Set name value) = length value ≤ limit
 IsServed limit (RunSet name value) = (1 ≤ length value) × (length value ≤ limit)
@@ -91,7 +91,7 @@ IsServed limit line = ⊤
 
 -- ---- damage
 
--- the place of the selector's area, the first that stores no settings; none where there is none
+-- the place of the selector's area, the first that stores no settings; `None` if there is none
 abbrev pub selector_found : List Area → Option ℕ
 selector_found areas = find (λ place. not (is_store_at areas place)) (range_with_len 0 (length areas))
 
@@ -102,25 +102,27 @@ selector_place areas = unwrap_or (selector_found areas) 0
 abbrev pub selector_damage : List Area → Device → Option (ℕ × Damaged)
 selector_damage areas d = option_map (λ damaged. (selector_place areas, damaged)) (selector_damage_on areas d)
 
--- and that of the active area
+-- the damage that the active area shows, with its place
 abbrev pub active_damage : (Area → Geometry → List (List ℕ) → Option Damaged) → List Area → Device
     → Option (ℕ × Damaged)
 active_damage damage areas d =
     option_map (λ damaged. (active_on areas d, damaged)) (on damage d (active_area areas d))
 
--- the damage that a mount of the map finds: the selector's, and where it shows none that of the active area
+-- the damage that a mount of the map finds: the selector's; if it shows none, that of
+-- the active area
 abbrev pub damage_in : (Area → Geometry → List (List ℕ) → Option Damaged) → List Area → Device
     → Option (ℕ × Damaged)
 damage_in damage areas d = option_or (selector_damage areas d) (active_damage damage areas d)
 
--- the selector's area, where there is one
+-- the selector's area, if there is one
 abbrev pub selectors : List Area → List Area
 selectors areas = option_map_or (λ area. area ∷ []) (selector_of areas) []
 
 abbrev pub turned_on : Device → Device
 turned_on d = record d { is_on = true }
 
--- A mount found no damage; or it found none in the selector, and power was lost in the selector's area.
+-- A mount found no damage; or it found none in the selector, and power was lost in the
+-- selector's area.
 abbrev pub FindsNone : (Area → Geometry → List (List ℕ) → Option Damaged) → List Area → Answer → Device
     → Device → Type 0
 FindsNone damage areas answer old new =
@@ -129,17 +131,18 @@ FindsNone damage areas answer old new =
     ((active_damage damage areas old ≡ None)
     ⊎ ((is_lost answer ≡ true) × Touches (selectors areas) (turned_on old) new true))
 
--- a mount has nothing to do, neither in the selector's area nor in the active one
+-- a mount has nothing to do in the selector's area and in the active one
 pub record IsAtRest (rests : Area → Geometry → List (List ℕ) → Type 0) (areas : List Area) (d : Device) :
     Type 0 where
   pub selector : (area : Area) → selector_of areas ≡ Some area → erases_on d area ≡ 0
   pub active : HoldsOn rests d (active_area areas d)
 
--- the erases that are due in the selector's area, where there is one
+-- the erases that are due in the selector's area; 0 if there is none
 abbrev pub selector_erases : List Area → Device → ℕ
 selector_erases areas d = option_map_or (λ area. erases_on d area) (selector_of areas) 0
 
--- the most units and erases of a mount: the selector's erases, and the most of a mount of the active area
+-- the most units and erases of a mount: the selector's erases, and the most of a mount of
+-- the active area
 abbrev pub mount_bound : List Area → Device → ℕ
 mount_bound areas d = selector_erases areas d + mount_units (geometry_of d (active_area areas d))
 
@@ -171,30 +174,30 @@ areas_worked_on m areas line answer d =
     (places_worked_on (rules_of m areas d.banks 0) (places_of is_selector areas) line answer
     (active_on areas d ∷ []))
 
--- A line that leaves the plan of losses to its units touched the bench only in the areas that it works on: a
--- loss of power lies in one of them, and without a unit no byte changed.
+-- A line that is not itself about the plan touched the bench only in the areas that it works on: a
+-- power loss lies in one of them, and without a unit no byte changed.
 abbrev pub TouchesWorked : Meanings → List Area → Line → Answer → Device → Device → Type 0
 TouchesWorked m areas line answer old new =
     replan line ≡ keeps
     → Touches (areas_worked_on m areas line answer old) (powered_for line old) new (is_lost answer)
 
--- a save and a migration, also one that was cut, kept within its bound
+-- a save and a migration spent at most their bound, even if they were cut
 abbrev pub KeepsWithin : Meanings → List Area → Line → Answer → Moment → Type 0
 KeepsWithin m areas (Save subtree) answer old = units_of answer ≤ save_bound m areas subtree old
 KeepsWithin m areas Migrate answer old = units_of answer ≤ move_bound m areas old.device
 KeepsWithin m areas line answer old = ⊤
 
--- A line was carried out by the table, and touched the bench only where it works; a save and a migration kept
--- within its bound.
+-- A line was carried out by the table, and touched the bench only where it works. A save and a
+-- migration kept within their bounds.
 pub record DoneWithin (m : Meanings) (areas : List Area) (line : Line) (answer : Answer) (old new : Moment) :
     Type 0 where
   pub done : LineDone m areas line answer old new
   pub touches : TouchesWorked m areas line answer old.device new.device
   pub most : KeepsWithin m areas line answer old
 
--- A line was carried out by the table, and touched the bench only where it works; a mount, also one that was
--- cut, found no damage and kept within its bound, as a save and a migration did; and where the map shows no
--- damage it shows none afterwards.
+-- A line was carried out by the table, and touched the bench only where it works. A mount, even one
+-- that was cut, found no damage and kept within its bound, as did a save and a migration. A map
+-- without damage shows none afterwards.
 pub record LineCarried (m : Meanings) (damage : Area → Geometry → List (List ℕ) → Option Damaged)
     (areas : List Area) (line : Line) (answer : Answer) (old new : Moment) : Type 0 where
   pub done : LineDone m areas line answer old new
@@ -204,7 +207,7 @@ pub record LineCarried (m : Meanings) (damage : Area → Geometry → List (List
   pub few : line ≡ Mount → units_of answer ≤ mount_bound areas old.device
   pub undamaged : damage_in damage areas old.device ≡ None → damage_in damage areas new.device ≡ None
 
--- the handlers, which may be any, stayed
+-- the handlers stayed, whatever they are
 abbrev pub DoneBeside : Meanings → List Area → Line → Answer → Device → Device → Type 0
 DoneBeside m areas line answer old new =
     (registry : List Registered) (pool : List HandlerKind)
@@ -216,7 +219,7 @@ CarriedBeside m damage areas line answer old new =
     (registry : List Registered) (pool : List HandlerKind)
     → LineCarried m damage areas line answer (moment old registry pool) (moment new registry pool)
 
--- it needs power, and changes no area but the active one
+-- the line needs power, and changes no area but the active one
 abbrev pub is_local : Line → Bool
 is_local Mount = false
 is_local (Cut units) = false
@@ -224,7 +227,7 @@ is_local Uncut = false
 is_local Migrate = false
 is_local line = true
 
--- it is about handlers
+-- the line is about handlers
 abbrev pub is_handled : Line → Bool
 is_handled (Register subtree kind) = true
 is_handled (Load subtree) = true
@@ -234,8 +237,8 @@ is_handled (RunSet name value) = true
 is_handled (RunGet name) = true
 is_handled line = false
 
--- Power was turned on, and the selector, which shows no damage, was mounted: what a choice that was cut left
--- to do was done.
+-- Power was turned on, and the selector, which shows no damage, was mounted. The mount finished
+-- what a choice that was cut had left to do.
 pub record OpensSelector (areas : List Area) (old new : Device) : Type 0 where
   pub selector : Area
   pub is : selector_of areas ≡ Some selector
@@ -244,7 +247,7 @@ pub record OpensSelector (areas : List Area) (old new : Device) : Type 0 where
   pub units : Spends (turned_on old) new (erases_on old selector)
   pub active : active_on areas new ≡ active_on areas old
 
--- power was turned on, and the selector, where the map has one, may have been mounted
+-- power was turned on, and the selector, if the map has one, may have been mounted
 abbrev pub BeginsMount : List Area → Device → Device → Type 0
 BeginsMount areas old new = (new ≡ turned_on old) ⊎ OpensSelector areas old new
 
@@ -255,7 +258,7 @@ pub record BeginsMove (areas : List Area) (old new : Device) : Type 0 where
   pub touches : Touches (worked_on areas selector (active_on areas old)) old new false
   pub active : active_on areas new ≡ active_on areas old
 
--- carrying it out takes memory
+-- carrying the line out takes memory
 abbrev pub takes_memory : Line → Bool
 takes_memory (Set name value) = false
 takes_memory (Del name) = false
@@ -265,15 +268,15 @@ takes_memory (Cut units) = false
 takes_memory Uncut = false
 takes_memory line = true
 
--- What a line for which memory was wanting leaves of the bench: a mount and a migration have begun, and no
+-- How a line for which memory ran out leaves the bench: a mount and a migration may have begun; no
 -- other line changed it.
 abbrev pub BeginsLine : List Area → Line → Device → Device → Type 0
 BeginsLine areas Mount old new = BeginsMount areas old new
 BeginsLine areas Migrate old new = BeginsMove areas old new
 BeginsLine areas line old new = new ≡ old
 
--- Why a line was not carried out: a mount found the damage that the map shows; or memory was wanting for a
--- line that takes some, with power on where the line needs it.
+-- Why a line was not carried out: a mount found the damage that the map shows; or memory ran out
+-- for a line that takes some, with power on if the line needs it.
 abbrev pub LineStops : (Area → Geometry → List (List ℕ) → Option Damaged)
     → List Area → Line → Device → Device → SessionFault → Type 0
 LineStops damage areas line old new (IsDamaged place damaged) =
@@ -283,12 +286,13 @@ LineStops damage areas line old new NoMemory =
 
 -- ---- between two lines
 
--- the selector is open, where the map has one
+-- the selector is open, if the map has one
 pub record HasSelector (areas : List Area) (d : Device) (selector : Option Selector) : Type 0 where
   pub selected : selector_of areas ≡ option_map (λ s. s.ring.area) selector
   pub opened : ForSome selector (λ s. IsOpen d s.ring)
 
--- Settings stand on the active area, which is at this place, and the selector is open, where the map has one.
+-- Settings stand on the active area, which is at this place, and the selector is open, if
+-- the map has one.
 pub record StandsOnMap {K : Type 0} (mounted_on : K → Area) (stands : K → Geometry → List (List ℕ) → Type 0)
     (runs : K → Bool)
     (areas : List Area) (d : Device) (selector : Option Selector) (active : ℕ) (settings : Settings K) :
@@ -299,7 +303,7 @@ pub record StandsOnMap {K : Type 0} (mounted_on : K → Area) (stands : K → Ge
   pub standing : StandsOn mounted_on stands d settings.backend
   pub selects : HasSelector areas d selector
 
--- where power is on
+-- the session is ready while power is on
 abbrev pub IsReady : {K : Type 0} → (K → Area) → (K → Geometry → List (List ℕ) → Type 0) → (K → Bool)
     → List Area → Device → Option Selector → ℕ → Option (Settings K) → Type 0
 IsReady mounted_on stands runs areas d selector active None = d.is_on ≡ false
@@ -326,26 +330,25 @@ pub record StaysOnArea {K : Type 0} (mounted_on : K → Area)
   pub up : d.is_on ≡ true → runs backend ≡ true
   pub standing : d.is_on ≡ true → StandsOn mounted_on stands d backend
 
--- Memory was wanting for a line that takes some, and nothing changed.
+-- Memory ran out for a line that takes some, and nothing changed.
 pub record StopsUnchanged (line : Line) (old new : Device) : Type 0 where
   pub takes : takes_memory line ≡ true
   pub same : new ≡ old
 
 -- ---- all lines
 
--- Lines were carried out one after another, and as a whole they follow the table, and the counts, the plan
--- and the bytes of the bench are those that the answers say.
+-- Lines were carried out one after another. As a whole they follow the table; the counts, the plan
+-- and the bytes of the bench are as the answers say.
 pub record Ran (m : Meanings) (damage : Area → Geometry → List (List ℕ) → Option Damaged) (areas : List Area)
     (lines : List Line) (answers : List Answer) (old new : Moment) : Type 0 where
   pub in_turn : Follows (LineCarried m damage areas) lines answers old new
   pub whole : Runs m areas lines answers old new
 
--- lines were carried out, and memory was wanting to keep the answer to the last of them
+-- lines were carried out, and memory ran out for the answer to the last of them
 abbrev pub LacksAnswer : List Line → Device → Device → SessionFault → Type 0
 LacksAnswer prefix old new fault = (1 ≤ length prefix) × (fault ≡ NoMemory) × (new ≡ old)
 
--- Behind the first lines the next one stopped; or memory was wanting for the answer to the line
--- before.
+-- After the first lines the next one stopped; or memory ran out for the answer to the line before.
 abbrev pub StopsAt : (Area → Geometry → List (List ℕ) → Option Damaged)
     → List Area → List Line → List Line → Device → Device → SessionFault → Type 0
 StopsAt damage areas prefix [] old new fault = LacksAnswer prefix old new fault
@@ -364,7 +367,8 @@ pub record RunStops (m : Meanings) (damage : Area → Geometry → List (List �
   pub runs : Ran m damage areas prefix answers old mid
   pub stops : StopsAt damage areas prefix rest mid.device new fault
 
--- How lines end: all were carried out, with these answers, on this bench and these handlers; or one stopped.
+-- How lines end: all were carried out, with these answers, on this bench and these handlers;
+-- or one stopped.
 abbrev pub RunEnds : Meanings → (Area → Geometry → List (List ℕ) → Option Damaged) → List Area → List Line
     → Moment → Device → List Registered → Result (List Answer) SessionFault → Type 0
 RunEnds m damage areas lines old new registry (Ok answers) =

@@ -25,7 +25,7 @@ fn is_store_at(map: &FlashMap, place: usize) -> bool
     }
 }
 
-// The first store area of so many from this place on.
+// The first store area from place `from` up to `end`.
 fn store_from(map: &FlashMap, from: usize, end: usize) -> Option<usize>
     requires { from ≤ end }
     ensures { result ≡ store_from map.now from (end - from) }
@@ -33,14 +33,14 @@ fn store_from(map: &FlashMap, from: usize, end: usize) -> Option<usize>
     (from..end).find(|place| is_store_at(map, *place))
 }
 
-// The place of the first area that stores settings; 0 where there is none.
+// The place of the first store area; 0 if there is none.
 pub(crate) fn first_store(map: &FlashMap) -> usize
     ensures { result ≡ first_store map.now }
 {
     store_from(map, 0, map.len()).unwrap_or(0)
 }
 
-// The place of the selector's area, where there is one.
+// The place of the selector's area, if there is one.
 pub(crate) fn selector_place(map: &FlashMap) -> Option<usize>
     ensures { result ≡ selector_found map.now }
 {

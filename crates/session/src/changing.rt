@@ -15,8 +15,7 @@ use setting_name::Name;
 use settings_core::{DeleteFault, SaveFault, Settings};
 use std::sync::ledger::Ledger;
 
-// Whether the units that were put before the last loss spell, by chance, another record in the
-// area.
+// Whether the units before the last loss spell, by chance, another record in the area.
 pub fn spells_another<K: Backend, B: Bench, L: Ledger>(
     bench: &B,
     area: &Area,
@@ -33,7 +32,7 @@ pub fn spells_another<K: Backend, B: Bench, L: Ledger>(
     }
 }
 
-// Sets a setting, or deletes it where the value is empty.
+// Sets a setting; the empty value deletes it.
 pub fn set_setting<K: Backend, B: Bench, L: Ledger>(
     bench: &mut B,
     settings: &mut Settings<K>,

@@ -29,7 +29,7 @@ use settings_core::{
 use std::alloc::Global;
 use std::sync::ledger::Ledger;
 
-// What a load gave so far.
+// What a load has given so far.
 #[derive(Drop)]
 struct Given {
     gives: Gives,
@@ -123,7 +123,7 @@ fn take_first(pool: &mut Vec<Box<dyn Handler>>, kind: HandlerKind) -> Option<Box
     }
 }
 
-// Registers the first handler of the kind that is left. For want of memory it may be lost.
+// Registers the first handler of the kind that is left. If memory runs out, it may be lost.
 fn register_handler(
     subtree: &Name,
     kind: HandlerKind,
@@ -155,7 +155,7 @@ fn register_handler(
 
 // ---- loads and commits
 
-// Gives the stored settings of a subtree, or all, to their handlers, and commits.
+// Gives the stored settings of a subtree, or all of them, to their handlers, and commits these.
 fn load_settings<K: Backend, B: Bench, L: Ledger>(
     alloc: Global,
     bench: &B,
@@ -254,7 +254,7 @@ fn ask_handler(alloc: Global, name: &Name, registry: &Registry) -> Result<Answer
 
 // ---- saves
 
-// Stores what the handlers of a subtree hold, or all handlers.
+// Stores what the handlers of a subtree, or all handlers, hold.
 fn save_settings<K: Backend, B: Bench, L: Ledger>(
     bench: &mut B,
     map: &FlashMap,

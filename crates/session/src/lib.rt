@@ -1,6 +1,6 @@
-//! A session on settings: it carries out the lines of a script on an image's areas, and answers
-//! each. The selector says which area is active, and a migration moves the settings to the next
-//! one.
+//! A session on settings: it carries out the lines of a script on the areas of an image, and
+//! answers each. The selector says which area is active, and a migration moves the settings
+//! to the next one.
 #![tactic(auto)]
 
 mod answers;

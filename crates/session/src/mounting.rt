@@ -1,4 +1,4 @@
-// Mounting a map: its selector, and settings on the active area.
+// The mount of a map: its selector, and then settings on the active area.
 ghost use Rattle.std.specs.Prelude.{◌≡◌, ℕ, ◌++◌, ◌∷◌, [], true, None, Some, OnOk};
 ghost use Rattle.flash_map.specs.declared.area.Area.{Area as area_type};
 ghost use Rattle.flash_map.specs.Spending.{Spends, SpendsAtMost};
@@ -32,7 +32,7 @@ pub(crate) enum MapFault {
     NoMemory,
 }
 
-// The selector at this place, or why it was not mounted.
+// The selector at this place, if it was mounted; else why not.
 fn selected_as(
     place: usize,
     mounted: Result<Selector, MountFault>,
@@ -50,7 +50,7 @@ fn selected_as(
     }
 }
 
-// Mounts the selector, where the map has one.
+// Mounts the selector, if the map has one.
 fn mount_selector<F: Flash, L: Ledger>(
     flash: &mut F,
     map: &FlashMap,
@@ -97,7 +97,7 @@ fn active_place<F: Flash, L: Ledger>(
     }
 }
 
-// The session, where settings were mounted, or why they were not.
+// The session, if settings were mounted; else why not.
 fn mounted_as<K: Backend>(
     selector: Option<Selector>,
     place: usize,
@@ -151,7 +151,7 @@ pub(crate) fn mount_map<K: Backend, F: Flash, L: Ledger>(
     mounted_as(selector, place, mounted)
 }
 
-// The session with the answer to the mount that took so many units, or why it stopped.
+// The session with the answer to its mount, which took so many units; or why it stopped.
 pub(crate) fn answered<K: Backend>(
     units: u64,
     mounted: Result<Session<K>, MapFault>,

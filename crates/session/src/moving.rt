@@ -1,4 +1,4 @@
-// Moving all settings to the next area.
+// The move of all settings to the next area.
 ghost use Rattle.std.specs.Prelude.{◌≡◌, true, None, Some, IfOk, OnErr, OnOk};
 ghost use Rattle.script_lines.specs.declared.line.Line.TheVariants.{Migrate};
 ghost use Rattle.session.specs.Moving.{answer_to};
@@ -13,7 +13,7 @@ use settings_core::Settings;
 use std::alloc::Global;
 use std::sync::ledger::Ledger;
 
-// Moves all settings to the next area, where the map has a selector.
+// Moves all settings to the next area. The map has a selector.
 pub fn move_settings<K: Backend, B: Bench, L: Ledger>(
     alloc: Global,
     bench: &mut B,
@@ -64,8 +64,8 @@ pub fn move_settings<K: Backend, B: Bench, L: Ledger>(
     }
 }
 
-// The answer where the settings were not moved, by the units that were spent; none for want of
-// memory.
+// The answer if the settings were not moved, with the units that were spent; `None` if
+// memory ran out.
 fn answer_to(fault: MigrateFault, units: u64) -> Option<Answer>
     ensures { result ≡ answer_to fault units }
 {

@@ -1,4 +1,4 @@
-// Plans of losses.
+// Plans of power losses.
 ghost use Rattle.std.specs.Prelude.{◌≡◌};
 ghost use Rattle.script_lines.specs.declared.line.Line.TheVariants.{Cut, Uncut};
 ghost use Rattle.session.specs.OnMap.{DoneBeside, meanings};
@@ -8,7 +8,7 @@ use flash_map::FlashMap;
 use flash_sim::{Bench, Flash};
 use script_lines::Answer;
 
-// Plans a loss of power.
+// Plans a power loss after so many units and erases.
 pub(crate) fn plan_loss<K: Backend, B: Bench>(bench: &mut B, map: &FlashMap, units: u64) -> Answer
     ensures done { let d = B.device bench.old in
         DoneBeside (meanings K.contents K.room K.chance K.tears) map.now (Cut units) result d
@@ -20,7 +20,7 @@ pub(crate) fn plan_loss<K: Backend, B: Bench>(bench: &mut B, map: &FlashMap, uni
     Answer::Done { units: 0 }
 }
 
-// Drops that plan.
+// Drops the plan.
 pub(crate) fn drop_plan<K: Backend, B: Bench>(bench: &mut B, map: &FlashMap) -> Answer
     ensures done { let d = B.device bench.old in
         DoneBeside (meanings K.contents K.room K.chance K.tears) map.now Uncut result d

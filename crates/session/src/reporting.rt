@@ -16,7 +16,7 @@ use settings_core::{Each, Settings};
 use std::alloc::Global;
 use std::sync::ledger::Ledger;
 
-// The pairs that were reported so far.
+// The pairs that have been reported so far.
 #[derive(Drop)]
 struct Reported {
     pairs: Pairs,
@@ -37,7 +37,7 @@ impl Each for Reported {
     }
 }
 
-// The same bytes.
+// A copy of bytes.
 pub fn copied(alloc: Global, bytes: &[u8]) -> Result<Bytes, NoMemory>
     ensures { IfOk result (λ copy. copy ≡ bytes.now) }
 {

@@ -1,4 +1,4 @@
-// All lines of a script.
+// The run of all lines of a script.
 ghost use Rattle.std.specs.Prelude.{◌≡◌, ◌∷◌, true, All, None, IfErr, OnOk};
 ghost use Rattle.handlers.specs.Registry.{registered};
 ghost use Rattle.script_lines.specs.declared.line.Line.TheVariants.{Mount};
@@ -17,14 +17,15 @@ use script_lines::Line;
 use std::alloc::Global;
 use std::sync::ledger::Ledger;
 
-/// Mounts a map, carries out lines one after another, and gives the answers to the mount and to
-/// each line. The handlers of the pool hold nothing; those that lines register go from it into the
-/// registry. With power on after the lines a mount of the map would have nothing to do. A map
-/// without damage has none afterwards, whatever the result.
+/// Mounts a map and carries out lines one after another. It returns the answers to the mount and to
+/// each line. The handlers of the pool hold nothing; those that lines register move from it into
+/// the registry. If power is on after the last line, another mount of the map would have nothing to
+/// do. A map without damage has none afterwards, whatever the result.
 ///
 /// # Errors
-/// `Damaged` with the damage that a mount found, which a map without damage does not show. `NoMemory`. The bench is then what the
-/// first lines have made of it, but that the next one, a mount or a migration, may have begun.
+/// `Damaged` with the damage that a mount found; a map without damage does not give it. `NoMemory`.
+/// The bench is then as the first lines left it, except that the next one, a mount or a migration,
+/// may have begun.
 pub fn run_lines<K: Backend, B: Bench, L: Ledger>(
     alloc: Global,
     lines: &[Line],

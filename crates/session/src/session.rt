@@ -1,4 +1,4 @@
-// A session, and carrying out one line in it.
+// A session, which carries out lines one by one.
 ghost use Rattle.std.specs.Prelude.{◌≡◌, true, false, None, Some, IfOk, IfErr, OnErr, OnOk};
 ghost use Rattle.flash_map.specs.On.{on};
 ghost use Rattle.handlers.specs.Registry.{registered};
@@ -26,19 +26,19 @@ use settings_core::Settings;
 use std::alloc::Global;
 use std::sync::ledger::Ledger;
 
-/// A session on the settings of a map, of which one area is active.
+/// A session on the settings of a map of areas. One of the areas is active.
 #[derive(Drop)]
 pub struct Session<K: Backend> {
-    // where the map has one
+    // if the map has one
     pub(crate) selector: Option<Selector>,
-    // on the active area; none once a mount lost power
+    // on the active area; `None` after a mount in which power was lost
     pub(crate) settings: Option<Settings<K>>,
     // its place in the map
     pub(crate) active: usize,
 }
 
 impl<K: Backend> Session<K> {
-    // No settings, as after a loss in a mount.
+    // A session without settings, as after a power loss in a mount.
     pub(crate) fn down() -> Session<K>
         ensures { result ≡ down }
     {
@@ -49,15 +49,15 @@ impl<K: Backend> Session<K> {
         }
     }
 
-    /// Turns power on, mounts the selector, where the map has one, and settings on the active area,
-    /// and gives the session with the answer to that mount. It spends nothing where the map is at
-    /// rest, and else at most the erases that are due in the selector and the most units of a mount
-    /// of the active area (`mount_bound`). A map without damage has none afterwards, whatever the
-    /// result.
+    /// Turns power on, and mounts the selector, if the map has one, and settings on the active
+    /// area. It returns the session with the answer to that mount. It spends nothing if the map is
+    /// at rest. Else it spends at most the erases that are due in the selector and the most units
+    /// of a mount of the active area (`mount_bound`). A map without damage has none afterwards,
+    /// whatever the result.
     ///
     /// # Errors
-    /// `Damaged` with the damage that the map shows. `NoMemory`. The bench is then as before, but that power is on, and that the
-    /// selector may have been mounted.
+    /// `Damaged` with the damage that the map shows; `NoMemory`. The bench is then as before,
+    /// except that power is on and the selector may have been mounted.
     pub fn open<B: Bench, L: Ledger>(
         alloc: Global,
         bench: &mut B,
@@ -86,16 +86,17 @@ impl<K: Backend> Session<K> {
         answered(units, mounted)
     }
 
-    /// Carries out a line. With power off every line but `mount`, `cut` and `uncut` answers `off`.
-    /// A mount of a map at rest spends nothing, and no mount, save or migration spends more than
-    /// its bound (`mount_bound`, `save_bound`, `move_bound`). A map without damage has none
-    /// afterwards, whatever the result.
+    /// Carries out a line. With power off, every line but `mount`, `cut` and `uncut` answers `off`.
+    /// A mount of a map at rest spends nothing. No mount, save or migration spends more than its
+    /// bound (`mount_bound`, `save_bound`, `move_bound`). A map without damage has none afterwards,
+    /// whatever the result.
     ///
     /// # Errors
-    /// `Damaged` where the line is a mount, with the damage that the map shows. `NoMemory` where a line that takes memory was begun,
-    /// which `set`, `del`, `save`, `commit`, `cut`, `uncut` and a line that answers `off` are not: the bench is then as before, but
-    /// that a mount has turned power on and may have mounted the selector, and that a migration may have changed the target and the
-    /// selector, which names the same area. After either the session has to be opened anew.
+    /// `Damaged`, only for a mount, with the damage that the map shows. `NoMemory`, only for a line
+    /// that takes memory: `set`, `del`, `save`, `commit`, `cut`, `uncut` and lines that answer
+    /// `off` take none. The bench is then as before, with two exceptions. A mount has turned power
+    /// on, and may have mounted the selector. A migration may have changed the target and the
+    /// selector, which names the same area. After either error the session must be opened again.
     pub fn carry_out<B: Bench, L: Ledger>(
         &mut self,
         alloc: Global,
@@ -186,7 +187,7 @@ impl<K: Backend> Session<K> {
         }
     }
 
-    // Mounts the map anew.
+    // Mounts the map again.
     fn mount<B: Bench, L: Ledger>(
         &mut self,
         alloc: Global,
@@ -312,14 +313,14 @@ impl<K: Backend> Session<K> {
     }
 }
 
-// Whether a line is carried out with power on alone.
+// Whether a line is carried out only with power on.
 fn needs_power(line: &Line) -> bool
     ensures { result ≡ needs_power line.now }
 {
     !matches!(line, Line::Mount | Line::Cut { .. } | Line::Uncut)
 }
 
-// Whether it needs power, and changes no area but the active one.
+// Whether a line needs power, and changes no area but the active one.
 fn is_local(line: &Line) -> bool
     ensures { result ≡ is_local line.now }
 {

@@ -1,4 +1,5 @@
--- Which image a job on items begins with and which lines it carries out, or why there are none.
+-- The image that a job on items begins with and the lines that it carries out, or why
+-- there are none.
 use Rattle.std.specs.Prelude.{◌≡◌, ◌⊎◌, ℕ, Bool, true, false, List, [], ◌∷◌, map}
 use Rattle.zs_host.specs.Outside.{Outside}
 use Rattle.flash_map.specs.declared.area.Area.{Area}
@@ -24,14 +25,14 @@ has_items Zms = true
 has_items Fcb = false
 has_items Sel = false
 
--- which ids they have
+-- the ids that they have
 abbrev pub ids_of : Role → Ids
 ids_of Nvs = Short
 ids_of Zms = Long
 ids_of Fcb = Long
 ids_of Sel = Long
 
--- the area is the only one, and for NVS or ZMS
+-- the area is the only one, and of NVS or ZMS
 pub record IsItemArea (areas : List Area) (area : Area) : Type 0 where
   pub only : areas ≡ area ∷ []
   pub role : has_items area.role ≡ true
@@ -39,11 +40,11 @@ pub record IsItemArea (areas : List Area) (area : Area) : Type 0 where
 abbrev pub HasNoItemArea : List Area → Type 0
 HasNoItemArea areas = (area : Area) → IsItemArea areas area → ⊥
 
--- the image is not exactly one area, for NVS or ZMS
+-- the image does not consist of exactly one area, of NVS or ZMS
 abbrev pub FindsNoItems : Plain → Refusal → Type 0
 FindsNoItems image refusal = (refusal ≡ NoItems) × HasNoItemArea image.areas
 
--- there is an image, and it has no items
+-- there is an image, but it has no items
 pub record LacksItems (host : Outside) (name : List ℕ) (refusal : Refusal) : Type 0 where
   pub image : Plain
   pub has : HasImage host name image
@@ -51,7 +52,7 @@ pub record LacksItems (host : Outside) (name : List ℕ) (refusal : Refusal) : T
 
 -- ---- a script
 
--- SCRIPT is a script of these lines, with such ids, no value in which is longer than the limit
+-- SCRIPT is a script of these lines, with such ids; no value is longer than the limit
 pub record HasLines (ids : Ids) (limit : ℕ) (host : Outside) (name : List ℕ) (lines : List Line) :
     Type 0 where
   pub text : List ℕ

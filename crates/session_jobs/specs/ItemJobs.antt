@@ -1,4 +1,4 @@
--- What a job on items makes of files, print and flash.
+-- How a job on items changes files, print and flash.
 use Rattle.std.specs.Prelude.{◌≡◌, ◌⊎◌, ℕ, true, Option, Some, None, Result, Ok, Err, List, [], ◌∷◌}
 use Rattle.std.specs.List.{flat_map}
 use Rattle.zs_host.specs.Outside.{Outside, failed}
@@ -42,7 +42,7 @@ texts answers = flat_map text_of answers
 
 -- ---- how an image reads
 
--- how the sectors of an area of this role hold entries; one without items is read as one for NVS
+-- the format of the sectors of an area of this role; a role without items is read as NVS
 abbrev pub role_format : Role → Geometry → SectorFormat
 role_format Nvs = nvs.format_of
 role_format Zms = zms.format_of
@@ -54,7 +54,8 @@ pub record ServesItems (d : Device) (area : Area) : Type 0 where
   pub is_area : IsStoreArea area.role d.banks area
   pub has : has_items area.role ≡ true
 
--- what its area says of items, from the oldest pair to the newest: an id with its bytes, none for a delete
+-- the pairs of its area, from the oldest to the newest: an id with its bytes, or with
+-- none for a delete
 abbrev pub list_in : Plain → Area → List (ℕ × List ℕ)
 list_in image area = list_on (role_format area.role) (flash_of image) area
 
@@ -68,13 +69,13 @@ damage_in image area = damage_on (role_format area.role) (flash_of image) area
 
 -- ---- what is carried out
 
--- IMAGE is the file of this image, which has one area alone, for NVS or ZMS.
+-- IMAGE is the file of this image, which has one area only, of NVS or ZMS.
 pub record OpensItems (name : List ℕ) (host : Outside) (image : Plain) (area : Area) : Type 0 where
   pub has : HasImage host name image
   pub area_is : HasAreas image (area ∷ [])
   pub role : has_items area.role ≡ true
 
--- That image, and the lines of SCRIPT.
+-- that image, and the lines of SCRIPT
 pub record SetsItems (name script : List ℕ) (host : Outside) (image : Plain) (area : Area) (lines : List Line)
     : Type 0 where
   pub opens : OpensItems name host image area
@@ -82,14 +83,14 @@ pub record SetsItems (name script : List ℕ) (host : Outside) (image : Plain) (
 
 -- ---- done
 
--- The text gives the answers that a plain map of items gives to the opening mount and to the lines, wherever
--- power was lost: the items that the image reads as. OUT is the file of the image with the bytes that are
--- left, and it reads as the last list, and so as the last items, also where power is off. After each line
--- what is kept of each id is the newest of its whole history, at least one version where it has a value. From
--- a blank area all of that history is kept, and `gone` reports that there never was such a version,
--- as long as the sets and deletes of the lines so far, each whatever it answered, cost no more than
--- a sector has. The units in the answers are those that the flash has spent, and its losses are the
--- answers that report one. The flash was loaded once.
+-- The text gives the answers that a plain map of items gives to the opening mount and to the lines,
+-- wherever power was lost. That map begins as the items that the image reads as. OUT is the file of
+-- the image with the bytes that are left. It reads as the last list, and so as the last items, even
+-- if power is off. After each line the newest versions of each id are kept, at least one if the id
+-- has a value. From a blank area on, the whole history is kept as long as the sets and deletes of
+-- the lines so far, whatever they answered, cost at most what a sector has; until then `gone`
+-- reports that there never was such a version. The units in the answers are those that the flash
+-- spent, and its losses are the answers that report one. The flash was loaded once.
 pub record ItemJobDoes (name script out : List ℕ) (host : Outside) (old new : Device) (text : List ℕ)
     (file : Option File) : Type 0 where
   pub image : Plain
@@ -105,7 +106,7 @@ pub record ItemJobDoes (name script out : List ℕ) (host : Outside) (old new : 
       → KeepsWhole (role_format area.role) area (Mount ∷ lines) answers (begun image old) new
   pub reads : list_in image area ≡ (state_of (role_format area.role) area (begun image old)).list
   pub leaves : list_in (left image new) area ≡ (state_of (role_format area.role) area new).list
-  -- no damage was found, and none is left; with power on in the end the next mount has nothing to do
+  -- no damage was found, and none is left; with power on at the end, a mount has nothing to do
   pub sound : damage_in image area ≡ None
   pub undamaged : damage_in (left image new) area ≡ None
   pub rests : new.is_on ≡ true → RestsOn (role_format area.role) new area
@@ -116,15 +117,15 @@ pub record ItemJobDoes (name script out : List ℕ) (host : Outside) (old new : 
 
 -- ---- refused
 
--- there is an image with items, and no lines
+-- there is an image with items, but no lines
 pub record LacksItemLines (name script : List ℕ) (host : Outside) (refusal : Refusal) : Type 0 where
   pub image : Plain
   pub area : Area
   pub opens : OpensItems name host image area
   pub lacks : LacksLines (ids_of area.role) (value_limit area) host script refusal
 
--- The opening mount found the damage that the image shows. Nothing was done to the flash but that it was
--- loaded.
+-- The opening mount found the damage that the image shows. The flash was loaded, and nothing else
+-- was done to it.
 pub record FindsItemDamage (name script : List ℕ) (host : Outside) (old new : Device) (refusal : Refusal) :
     Type 0 where
   pub image : Plain
@@ -136,8 +137,8 @@ pub record FindsItemDamage (name script : List ℕ) (host : Outside) (old new : 
   pub shows : damage_in image area ≡ Some damage
   pub loaded : new ≡ begun image old
 
--- In the order in which they are looked at: the image; its items; the lines; and then damage, once the flash
--- is loaded. But for damage the flash is as before.
+-- The causes, in the order in which they are checked: the image, its items, the lines, and damage
+-- once the flash is loaded. Except for damage, the flash is as before.
 abbrev pub RefusesItems : List ℕ → List ℕ → Outside → Device → Device → Refusal → Type 0
 RefusesItems name script host old new refusal =
     (LacksImage host name refusal × (new ≡ old))
@@ -147,8 +148,8 @@ RefusesItems name script host old new refusal =
 
 -- ---- stopped, since the host failed or memory ran out
 
--- The image was put on the flash, and the lines were carried out up to one that wanted memory, or
--- all of them.
+-- The image was put on the flash, and the lines were carried out up to one for which memory ran
+-- out, or all of them.
 pub record HasBegunItems (name script : List ℕ) (host : Outside) (old new : Device) : Type 0 where
   pub image : Plain
   pub area : Area
@@ -175,7 +176,7 @@ ItemJobEnds name script out host host' old new (Err HostFailed) = (new ≡ old) 
 ItemJobEnds name script out host host' old new (Err NoMemory) =
     StopsItems name script host old new × (host' ≡ host)
 
--- what a job ends with where lines stop: the damage of the area is named by its label
+-- how a job ends if its lines stop; the label names the damaged area
 abbrev pub IsStop : Area → SessionFault → Stop → Type 0
 IsStop area (IsDamaged damage) stop = stop ≡ Refused (BadArea area.label damage)
 IsStop area WantsMemory stop = stop ≡ NoMemory

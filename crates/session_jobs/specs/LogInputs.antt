@@ -1,4 +1,5 @@
--- Which image a job on a log begins with and which lines it carries out, or why there are none.
+-- The image that a job on a log begins with and the lines that it carries out, or why
+-- there are none.
 use Rattle.std.specs.Prelude.{◌≡◌, ◌⊎◌, ℕ, List, [], ◌∷◌, map}
 use Rattle.zs_host.specs.Outside.{Outside}
 use Rattle.flash_map.specs.declared.area.Area.{Area}
@@ -14,7 +15,7 @@ use Rattle.image_jobs.specs.Reading.{HasImage, HasShortFile, LacksText, most_scr
 
 -- ---- an image
 
--- the area is the only one, and for FCB
+-- the area is the only one, and of FCB
 pub record IsLogArea (areas : List Area) (area : Area) : Type 0 where
   pub only : areas ≡ area ∷ []
   pub role : area.role ≡ Fcb
@@ -22,11 +23,11 @@ pub record IsLogArea (areas : List Area) (area : Area) : Type 0 where
 abbrev pub HasNoLogArea : List Area → Type 0
 HasNoLogArea areas = (area : Area) → IsLogArea areas area → ⊥
 
--- the image is not exactly one area, for FCB
+-- the image does not consist of exactly one area, of FCB
 abbrev pub FindsNoLog : Plain → Refusal → Type 0
 FindsNoLog image refusal = (refusal ≡ NoLog) × HasNoLogArea image.areas
 
--- there is an image, and it has no log
+-- there is an image, but it has no log
 pub record LacksLog (host : Outside) (name : List ℕ) (refusal : Refusal) : Type 0 where
   pub image : Plain
   pub has : HasImage host name image
@@ -34,7 +35,7 @@ pub record LacksLog (host : Outside) (name : List ℕ) (refusal : Refusal) : Typ
 
 -- ---- a script
 
--- SCRIPT is a script of these lines, no body in which is longer than the limit
+-- SCRIPT is a script of these lines; no body is longer than the limit
 pub record HasLines (limit : ℕ) (host : Outside) (name : List ℕ) (lines : List Line) : Type 0 where
   pub text : List ℕ
   pub has : HasShortFile host name most_script text

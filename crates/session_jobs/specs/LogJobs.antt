@@ -1,4 +1,4 @@
--- What a job on a log makes of files, print and flash.
+-- How a job on a log changes files, print and flash.
 use Rattle.std.specs.Prelude.{◌≡◌, ◌⊎◌, ℕ, true, Option, Some, None, Result, Ok, Err, List, [], ◌∷◌}
 use Rattle.std.specs.List.{flat_map}
 use Rattle.zs_host.specs.Outside.{Outside, failed}
@@ -45,13 +45,13 @@ damage_in image area = ring_damage (flash_of image) area
 
 -- ---- what is carried out
 
--- IMAGE is the file of this image, which has one area alone, for FCB.
+-- IMAGE is the file of this image, which has one area only, of FCB.
 pub record OpensLog (name : List ℕ) (host : Outside) (image : Plain) (area : Area) : Type 0 where
   pub has : HasImage host name image
   pub area_is : HasAreas image (area ∷ [])
   pub role : area.role ≡ Fcb
 
--- That image, and the lines of SCRIPT.
+-- that image, and the lines of SCRIPT
 pub record SetsLog (name script : List ℕ) (host : Outside) (image : Plain) (area : Area) (lines : List Line) :
     Type 0 where
   pub opens : OpensLog name host image area
@@ -59,11 +59,12 @@ pub record SetsLog (name script : List ℕ) (host : Outside) (image : Plain) (ar
 
 -- ---- done
 
--- The text gives the answers that a plain list of records gives to the opening mount and to the lines,
--- wherever power was lost: the log that the image reads as. OUT is the file of the image with the bytes that
--- are left, and it reads as the last log, also where power is off. After each line the log is all records so
--- far but the first ones, which were dropped. The units in the answers are those that the flash has spent,
--- and its losses are the answers that report one. The flash was loaded once.
+-- The text gives the answers that a plain list of records gives to the opening mount and to the
+-- lines, wherever power was lost. That list begins as the log that the image reads as. OUT is the
+-- file of the image with the bytes that are left. It reads as the last log, even if power is off.
+-- After each line the log is all records so far except the first ones, which were dropped. The
+-- units in the answers are those that the flash spent, and its losses are the answers that report
+-- one. The flash was loaded once.
 pub record LogJobDoes (name script out : List ℕ) (host : Outside) (old new : Device) (text : List ℕ)
     (file : Option File) : Type 0 where
   pub image : Plain
@@ -77,7 +78,7 @@ pub record LogJobDoes (name script out : List ℕ) (host : Outside) (old new : D
       (state_of area (begun image old)) (state_of area new)
   pub reads : log_in image area ≡ (state_of area (begun image old)).log
   pub leaves : log_in (left image new) area ≡ (state_of area new).log
-  -- no damage was found, and none is left; with power on in the end the next mount has nothing to do
+  -- no damage was found, and none is left; with power on at the end, a mount has nothing to do
   pub sound : damage_in image area ≡ None
   pub undamaged : damage_in (left image new) area ≡ None
   pub rests : new.is_on ≡ true → erases_on new area ≡ 0
@@ -88,15 +89,15 @@ pub record LogJobDoes (name script out : List ℕ) (host : Outside) (old new : D
 
 -- ---- refused
 
--- there is an image with a log, and no lines
+-- there is an image with a log, but no lines
 pub record LacksLogLines (name script : List ℕ) (host : Outside) (refusal : Refusal) : Type 0 where
   pub image : Plain
   pub area : Area
   pub opens : OpensLog name host image area
   pub lacks : LacksLines (value_limit area) host script refusal
 
--- The opening mount found the damage that the image shows. Nothing was done to the flash but that it was
--- loaded.
+-- The opening mount found the damage that the image shows. The flash was loaded, and nothing else
+-- was done to it.
 pub record FindsLogDamage (name script : List ℕ) (host : Outside) (old new : Device) (refusal : Refusal) :
     Type 0 where
   pub image : Plain
@@ -108,8 +109,8 @@ pub record FindsLogDamage (name script : List ℕ) (host : Outside) (old new : D
   pub shows : damage_in image area ≡ Some damage
   pub loaded : new ≡ begun image old
 
--- In the order in which they are looked at: the image; its log; the lines; and then damage, once the flash is
--- loaded. But for damage the flash is as before.
+-- The causes, in the order in which they are checked: the image, its log, the lines, and damage
+-- once the flash is loaded. Except for damage, the flash is as before.
 abbrev pub RefusesLog : List ℕ → List ℕ → Outside → Device → Device → Refusal → Type 0
 RefusesLog name script host old new refusal =
     (LacksImage host name refusal × (new ≡ old))
@@ -119,8 +120,8 @@ RefusesLog name script host old new refusal =
 
 -- ---- stopped, since the host failed or memory ran out
 
--- The image was put on the flash, and the lines were carried out up to one that wanted memory, or
--- all of them.
+-- The image was put on the flash, and the lines were carried out up to one for which memory ran
+-- out, or all of them.
 pub record HasBegunLog (name script : List ℕ) (host : Outside) (old new : Device) : Type 0 where
   pub image : Plain
   pub area : Area
@@ -146,7 +147,7 @@ LogJobEnds name script out host host' old new (Err HostFailed) = (new ≡ old) �
 LogJobEnds name script out host host' old new (Err NoMemory) =
     StopsLog name script host old new × (host' ≡ host)
 
--- what a job ends with where lines stop: the damage of the area is named by its label
+-- how a job ends if its lines stop; the label names the damaged area
 abbrev pub IsStop : Area → SessionFault → Stop → Type 0
 IsStop area (IsDamaged damage) stop = stop ≡ Refused (BadArea area.label damage)
 IsStop area WantsMemory stop = stop ≡ NoMemory

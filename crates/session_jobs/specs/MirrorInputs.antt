@@ -1,4 +1,5 @@
--- Which image a job on a mirror begins with and which lines it carries out, or why there are none.
+-- The image that a job on a mirror begins with and the lines that it carries out, or why
+-- there are none.
 use Rattle.std.specs.Prelude.{◌≡◌, ◌⊎◌, ℕ, Bool, true, false, List, length, map, count_by}
 use Rattle.zs_host.specs.Outside.{Outside}
 use Rattle.flash_map.specs.declared.area.Area.{Area}
@@ -16,7 +17,7 @@ use Rattle.image_jobs.specs.Reading.{HasImage, HasShortFile, LacksText, most_scr
 
 -- ---- an image
 
--- areas of this role may hold the settings of a mirror
+-- areas of this role can hold the settings of a mirror
 abbrev pub may_mirror : Role → Bool
 may_mirror Nvs = true
 may_mirror Zms = true
@@ -26,17 +27,17 @@ may_mirror Sel = false
 abbrev pub is_stored : Area → Bool
 is_stored area = may_mirror area.role
 
--- Two of the areas are for NVS or ZMS, one is a selector, and there is no other.
+-- There are three areas: two of NVS or ZMS, and a selector.
 pub record AreMirrored (areas : List Area) : Type 0 where
   pub stores : count_by is_stored areas ≡ 2
   pub selector : count_by is_selector areas ≡ 1
   pub all : length areas ≡ 3
 
--- the areas are no mirror
+-- the areas of the image are no mirror
 abbrev pub FindsNoMirror : Plain → Refusal → Type 0
 FindsNoMirror image refusal = (refusal ≡ NoMirror) × (¬ AreMirrored image.areas)
 
--- there is an image, and it has no mirror
+-- there is an image, but it has no mirror
 pub record LacksMirror (host : Outside) (name : List ℕ) (refusal : Refusal) : Type 0 where
   pub image : Plain
   pub has : HasImage host name image
@@ -44,7 +45,7 @@ pub record LacksMirror (host : Outside) (name : List ℕ) (refusal : Refusal) : 
 
 -- ---- a script
 
--- SCRIPT is a script of these lines, no value in which is longer than the limit
+-- SCRIPT is a script of these lines; no value is longer than the limit
 pub record HasLines (limit : ℕ) (host : Outside) (name : List ℕ) (lines : List Line) : Type 0 where
   pub text : List ℕ
   pub has : HasShortFile host name most_script text

@@ -1,4 +1,4 @@
--- What a job on a mirror makes of files, print and flash.
+-- How a job on a mirror changes files, print and flash.
 use Rattle.std.specs.Prelude.{◌≡◌, ◌⊎◌, ⊤, ℕ, ◌+◌, Bool, false, Option, Some, None, Result, Ok, Err, List, ◌∷◌}
 use Rattle.std.specs.List.{flat_map}
 use Rattle.arrayvec.specs.ArrayString.{ArrayString}
@@ -47,8 +47,8 @@ any_meanings = meanings any_damage any_contents any_room mirror_prices
 
 -- ---- how an image reads
 
--- The place of the area that is read: the one that the selector names, or the other one where that is all FF
--- and the other is not.
+-- The place of the area that is read: the one that the selector names, or the other one if that one
+-- is all FF and the other is not.
 abbrev pub trusted_in : List Area → Plain → ℕ
 trusted_in areas image = trusted_on areas (flash_of image)
 
@@ -56,12 +56,13 @@ trusted_in areas image = trusted_on areas (flash_of image)
 abbrev pub settings_in : List Area → Plain → Map
 settings_in areas image = on any_contents (flash_of image) (area_at areas (trusted_in areas image))
 
--- and those in the other one
+-- the settings in the other area
 abbrev pub other_settings_in : List Area → Plain → Map
 other_settings_in areas image =
     on any_contents (flash_of image) (area_at areas (beside_in areas (trusted_in areas image)))
 
--- the damage that a mount finds, with its area's place: the selector's, or else that of the area that is read
+-- the damage that a mount finds, with the place of its area: the selector's, or else that of the
+-- area that is read
 abbrev pub damage_in : List Area → Plain → Option (ℕ × Damaged)
 damage_in areas image = damage_shown any_damage areas (flash_of image)
 
@@ -73,29 +74,30 @@ pub record OpensMirror (name : List ℕ) (host : Outside) (image : Plain) (areas
   pub are : HasAreas image areas
   pub mirrored : AreMirrored areas
 
--- That image, and the lines of SCRIPT.
+-- that image, and the lines of SCRIPT
 pub record SetsMirror (name script : List ℕ) (host : Outside) (image : Plain) (areas : List Area)
     (lines : List Line) : Type 0 where
   pub opens : OpensMirror name host image areas
   pub gives : HasLines (limit_of areas) host script lines
 
--- the flash just loaded with the image, and not mounted
+-- the flash just loaded with the image, not mounted yet
 abbrev pub opening : Plain → Device → Moment
 opening image old = moment (begun image old) false
 
--- the flash in the end, and whether the last mount was whole and no area was replaced since
+-- the flash at the end, and whether the last mount was whole and no area was replaced after it
 abbrev pub closing : Device → Bool → Moment
 closing new whole = moment new whole
 
 -- ---- done
 
--- The text gives the answers that a plain map gives to the opening mount and to the lines, wherever power was
--- lost and an area was replaced: the map that the image reads as. Each loss leaves the map after commands of
--- the lines in their order, all of the acknowledged ones among them. With power on in the end both areas read
--- as the last map. OUT is the file of the image with the bytes that are left, and it reads as the last map,
--- also where power is off; an image that shows no damage is left so. The units in the answers are those that
--- the flash has spent, and its losses are the answers that report one. The flash was loaded once, and once
--- more for each area that was replaced.
+-- The text gives the answers that a plain map gives to the opening mount and to the lines, wherever
+-- power was lost and an area was replaced. That map begins as the map that the image reads as. Each
+-- loss leaves the map that commands of the lines make, in their order, with every acknowledged one
+-- among them. With power on at the end, both areas read as the last map. OUT is the file of the
+-- image with the bytes that are left. It reads as the last map, even if power is off. An image that
+-- shows no damage is left so. The units in the answers are those that the flash spent, and its
+-- losses are the answers that report one. The flash was loaded once, and once more for each area
+-- that was replaced.
 pub record MirrorJobDoes (name script out : List ℕ) (host : Outside) (old new : Device) (text : List ℕ)
     (file : Option File) : Type 0 where
   pub image : Plain
@@ -116,15 +118,16 @@ pub record MirrorJobDoes (name script out : List ℕ) (host : Outside) (old new 
   pub leaves : settings_in areas (left image new) ≡ (state_of any_meanings areas (closing new whole)).settings
   pub leaves_other : other_settings_in areas (left image new)
       ≡ (state_of any_meanings areas (closing new whole)).other
-  -- where the image shows no damage, in its selector and in the area that is read, OUT shows none, and
-  -- mirror-reads as the last map
+  -- if the image shows no damage, in its selector and in the area that is read, OUT shows none, and
+  -- reads as the last map
   pub undamaged : damage_in areas image ≡ None → damage_in areas (left image new) ≡ None
   pub mirror_reads :
       damage_in areas image ≡ None
       → MirrorReads any_damage any_contents areas (flash_of (left image new))
       (state_of any_meanings areas (closing new whole)).settings
-  -- With power on in the end neither area of OUT is damaged, and both read as the last map. A mount of OUT
-  -- has nothing to do where that map has settings, or the selector names the area that is read.
+  -- With power on at the end, neither area of OUT is damaged, and both read as the last
+  -- map. A mount of OUT has nothing to do if that map has settings or the selector names
+  -- the area that is read.
   pub both_read :
       IsOn (state_of any_meanings areas (closing new whole))
       → BothRead any_damage any_contents areas (flash_of (left image new))
@@ -140,7 +143,7 @@ pub record MirrorJobDoes (name script out : List ℕ) (host : Outside) (old new 
 
 -- ---- refused
 
--- there is an image with a mirror, and no lines
+-- there is an image with a mirror, but no lines
 pub record LacksMirrorLines (name script : List ℕ) (host : Outside) (refusal : Refusal) : Type 0 where
   pub image : Plain
   pub areas : List Area
@@ -151,7 +154,7 @@ pub record LacksMirrorLines (name script : List ℕ) (host : Outside) (refusal :
 abbrev pub IsLabelled : List Area → ℕ → ArrayString → Type 0
 IsLabelled areas place label = label.bytes ≡ (area_at areas place).label.bytes
 
--- what a job ends with where lines stop: the area at a place is named by its label
+-- how a job ends if its lines stop; the label names the area
 abbrev pub IsStop : List Area → SessionFault → Stop → Type 0
 IsStop areas (IsDamaged place damage) stop =
     (label : ArrayString) × IsLabelled areas place label × (stop ≡ Refused (BadArea label damage))
@@ -164,12 +167,12 @@ ReportsDamage (IsDamaged place damage) = ⊤
 ReportsDamage (IsUnfit place) = ⊥
 ReportsDamage WantsMemory = ⊥
 
--- what the image reads as fits both of its areas
+-- the settings of the image fit both of its store areas
 abbrev pub FitsImage : List Area → Plain → Type 0
 FitsImage areas image = FitsBoth any_meanings areas image.banks (settings_in areas image)
 
--- A mount found damage, or settings that do not fit one of the two areas. An image that shows no damage is
--- not refused for it, and one whose settings fit both areas is not refused since they do not.
+-- A mount found damage, or settings that do not fit one of the two areas. An image without damage
+-- is not refused for damage, and one whose settings fit both areas is not refused as unfit.
 pub record StopsAtMount (name script : List ℕ) (host : Outside) (old new : Device) (refusal : Refusal) :
     Type 0 where
   pub image : Plain
@@ -182,8 +185,8 @@ pub record StopsAtMount (name script : List ℕ) (host : Outside) (old new : Dev
   pub shows : damage_in areas image ≡ None → ¬ ReportsDamage fault
   pub fits : FitsImage areas image → ¬ ReportsUnfit fault
 
--- In the order in which they are looked at: the image; its mirror; the lines; and then what a mount finds,
--- once the flash is loaded. But for what a mount finds the flash is as before.
+-- The causes, in the order in which they are checked: the image, its mirror, the lines, and what a
+-- mount finds once the flash is loaded. Except for what a mount finds, the flash is as before.
 abbrev pub RefusesMirror : List ℕ → List ℕ → Outside → Device → Device → Refusal → Type 0
 RefusesMirror name script host old new refusal =
     (LacksImage host name refusal × (new ≡ old))
@@ -193,8 +196,8 @@ RefusesMirror name script host old new refusal =
 
 -- ---- stopped, since the host failed or memory ran out
 
--- The image was put on the flash, and the lines were carried out up to one that wanted memory, or
--- all of them.
+-- The image was put on the flash, and the lines were carried out up to one for which memory ran
+-- out, or all of them.
 pub record HasBegunMirror (name script : List ℕ) (host : Outside) (old new : Device) : Type 0 where
   pub image : Plain
   pub areas : List Area

@@ -1,4 +1,4 @@
-// The image of items, and the lines of a script.
+// The readers of an image of items and of a script on it.
 ghost use Rattle.std.specs.Prelude.{◌≡◌, ◌⊎◌, All, IfOk, MatchOption};
 ghost use Rattle.image_file.specs.Format.{plain};
 ghost use Rattle.image_file.specs.Lawful.{IsImage};
@@ -45,7 +45,7 @@ pub(crate) fn ids_of(role: Role) -> Ids
     }
 }
 
-// The area of items: the only one, where it is for NVS or ZMS.
+// The area of items: the only one of the image, if it is of NVS or ZMS.
 fn item_area(areas: &FlashMap) -> Option<Area>
     ensures { MatchOption result (HasNoItemArea areas.now) (IsItemArea areas.now) }
 {
@@ -60,7 +60,7 @@ fn item_area(areas: &FlashMap) -> Option<Area>
     }
 }
 
-// Refuses an image that is not exactly one area, for NVS or ZMS.
+// Refuses an image that does not consist of exactly one area, of NVS or ZMS.
 fn with_items<'a>(image: Image) -> Result<ItemImage, Stop<'a>>
     ensures { MakesOr (λ opened. (opened.image ≡ image) × IsItemArea image.map opened.area)
         (FindsNoItems (plain image)) result }
@@ -72,7 +72,7 @@ fn with_items<'a>(image: Image) -> Result<ItemImage, Stop<'a>>
     Ok(ItemImage { image, area })
 }
 
-// The image of a file, with the area of its items. Nothing is printed or written.
+// Reads the image in a file, with the area of its items. Nothing is printed or written.
 pub(crate) fn open_items<'a, H: Host>(
     alloc: Global,
     name: &'a str,
@@ -92,8 +92,8 @@ pub(crate) fn open_items<'a, H: Host>(
     }
 }
 
-// The lines of a script, with these ids, no value in which has more bytes than the limit. Nothing
-// is printed or written.
+// Reads the lines of a script with these ids. No value has more than `limit` bytes. Nothing is
+// printed or written.
 pub(crate) fn read_item_lines<'a, H: Host>(
     alloc: Global,
     name: &'a str,

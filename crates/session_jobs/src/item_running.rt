@@ -1,4 +1,4 @@
-// Carrying out lines on the items of an image.
+// The run of a job on items.
 ghost use Rattle.std.specs.Prelude.{◌≡◌, ℕ, ◌<◌, ◌∷◌, true, All, List, None, OnOk};
 ghost use Rattle.zs_host.specs.Outside.{Outside};
 ghost use Rattle.flash_map.specs.Area.{value_limit};
@@ -42,7 +42,7 @@ fn stop_of<'a>(area: &Area, fault: SessionFault) -> Stop<'a>
     }
 }
 
-// Carries out the lines on sectors of one format, and counts steps for it.
+// Carries out the lines on sectors of one format, and counts the steps.
 fn run<T: SlotSectors, B: Bench, L: Ledger>(
     alloc: Global,
     area: &Area,
@@ -67,7 +67,7 @@ fn run<T: SlotSectors, B: Bench, L: Ledger>(
     run_lines::<T, B, L>(alloc, lines, bench, area, &mut steps)
 }
 
-// Carries out the lines on sectors of the format of the area's role.
+// Carries out the lines on sectors of the format that the area's role has.
 fn run_by_role<B: Bench>(
     alloc: Global,
     area: &Area,
@@ -129,15 +129,15 @@ fn run_on_image<'a, B: Bench>(
     Ok(Outcome { text, file })
 }
 
-/// Carries out the script in the file `script` on the numbered items of the image in the file `image`:
-/// reads both, loads the bench, carries out the opening mount and the lines, and gives the texts of
-/// all answers, and the file of the image that is left, to be written into `out`. Nothing is
-/// printed or written, and files stay.
+/// Carries out the script in the file `script` on the numbered items of the image in the file
+/// `image`. It reads both, loads the bench, and carries out the opening mount and the lines. It
+/// returns the texts of all answers, and the file of the image that is left, to be written into
+/// `out`. It prints and writes nothing itself.
 ///
 /// # Errors
-/// Refused where there is no image, then where it is not exactly one area, for NVS or ZMS, then where
-/// there are no lines, then where the opening mount finds damage. The host failed: nothing was carried out.
-/// There was not enough memory: nothing was carried out, or the lines were carried out up to some one of them.
+/// `Refused`, in this order: there is no image; it does not consist of exactly one area, of NVS or
+/// ZMS; there are no lines; the opening mount finds damage. `HostFailed`: nothing was carried out.
+/// `NoMemory`: nothing was carried out, or some or all of the lines were.
 #[inline(never)]
 pub fn run_item_job<'a, H: Host, B: Bench>(
     alloc: Global,

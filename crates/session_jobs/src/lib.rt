@@ -1,6 +1,6 @@
-//! The jobs of `image_tool` on numbered items, on an application log and on a mirror of settings:
-//! take an image, carry out the lines of a script on it, power losses included, and keep the
-//! answers and the image that is left.
+//! The jobs of `image_tool` on numbered items, on an application log and on a mirror of settings. A
+//! job takes an image, carries out the lines of a script on it, power losses included, and keeps
+//! the answers and the image that is left.
 #![tactic(auto)]
 
 mod item_opening;

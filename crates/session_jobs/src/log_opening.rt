@@ -1,4 +1,4 @@
-// The image of a log, and the lines of a script.
+// The readers of an image of a log and of a script on it.
 ghost use Rattle.std.specs.Prelude.{◌≡◌, ◌⊎◌, All, IfOk, MatchOption};
 ghost use Rattle.image_file.specs.Format.{plain};
 ghost use Rattle.image_file.specs.Lawful.{IsImage};
@@ -20,7 +20,7 @@ pub(crate) struct LogImage {
     pub(crate) area: Area,
 }
 
-// The area of a log: the only one, where it is for FCB.
+// The area of a log: the only one of the image, if it is of FCB.
 fn log_area(areas: &FlashMap) -> Option<Area>
     ensures { MatchOption result (HasNoLogArea areas.now) (IsLogArea areas.now) }
 {
@@ -35,7 +35,7 @@ fn log_area(areas: &FlashMap) -> Option<Area>
     }
 }
 
-// Refuses an image that is not exactly one area, for FCB.
+// Refuses an image that does not consist of exactly one area, of FCB.
 fn with_log<'a>(image: Image) -> Result<LogImage, Stop<'a>>
     ensures { MakesOr (λ opened. (opened.image ≡ image) × IsLogArea image.map opened.area)
         (FindsNoLog (plain image)) result }
@@ -46,7 +46,7 @@ fn with_log<'a>(image: Image) -> Result<LogImage, Stop<'a>>
     }
 }
 
-// The image of a file, with the area of its log. Nothing is printed or written.
+// Reads the image in a file, with the area of its log. Nothing is printed or written.
 pub(crate) fn open_log<'a, H: Host>(
     alloc: Global,
     name: &'a str,
@@ -66,8 +66,7 @@ pub(crate) fn open_log<'a, H: Host>(
     }
 }
 
-// The lines of a script, no body in which has more bytes than the limit. Nothing is printed or
-// written.
+// Reads the lines of a script. No body has more than `limit` bytes. Nothing is printed or written.
 pub(crate) fn read_log_lines<'a, H: Host>(
     alloc: Global,
     name: &'a str,

@@ -1,4 +1,4 @@
-// Carrying out lines on the log of an image.
+// The run of a job on a log.
 ghost use Rattle.std.specs.Prelude.{◌≡◌, ℕ, ◌<◌, ◌∷◌, true, All, List, None, OnOk};
 ghost use Rattle.zs_host.specs.Outside.{Outside};
 ghost use Rattle.flash_map.specs.Area.{value_limit};
@@ -37,7 +37,7 @@ fn stop_of<'a>(area: &Area, fault: SessionFault) -> Stop<'a>
     }
 }
 
-// Carries out the lines, and counts steps for it.
+// Carries out the lines, and counts the steps.
 fn run<B: Bench, L: Ledger>(
     alloc: Global,
     area: &Area,
@@ -97,15 +97,15 @@ fn run_on_image<'a, B: Bench>(
     Ok(Outcome { text, file })
 }
 
-/// Carries out the script in the file `script` on the log of the image in the file `image`: reads both,
-/// loads the bench, carries out the opening mount and the lines, and gives the texts of all
-/// answers, and the file of the image that is left, to be written into `out`. Nothing is printed or
-/// written, and files stay.
+/// Carries out the script in the file `script` on the log of the image in the file `image`. It
+/// reads both, loads the bench, and carries out the opening mount and the lines. It returns the
+/// texts of all answers, and the file of the image that is left, to be written into `out`. It
+/// prints and writes nothing itself.
 ///
 /// # Errors
-/// Refused where there is no image, then where it is not exactly one area, for FCB, then where there are no lines, then where
-/// the opening mount finds damage. The host failed: nothing was carried out. There was not enough memory: nothing was carried out, or the
-/// lines were carried out up to some one of them.
+/// `Refused`, in this order: there is no image; it does not consist of exactly one area, of FCB;
+/// there are no lines; the opening mount finds damage. `HostFailed`: nothing was carried out.
+/// `NoMemory`: nothing was carried out, or some or all of the lines were.
 #[inline(never)]
 pub fn run_log_job<'a, H: Host, B: Bench>(
     alloc: Global,

@@ -1,4 +1,4 @@
-// The image of a mirror, and the lines of a script.
+// The readers of an image of a mirror and of a script on it.
 ghost use Rattle.std.specs.Prelude.{◌≡◌, ◌<◌, ◌⊎◌, ◌↔◌, IsTrue, All, IfOk, count_by, length};
 ghost use Rattle.image_file.specs.Format.{plain};
 ghost use Rattle.image_file.specs.Lawful.{IsImage, area_at, is_selector};
@@ -13,7 +13,7 @@ use mirror_session::{Line, ScriptFault, read_script};
 use std::alloc::Global;
 use zs_host::Host;
 
-// Whether an area of this role may hold the settings of a mirror.
+// Whether an area of this role can hold the settings of a mirror.
 fn may_mirror(role: Role) -> bool
     ensures { result ≡ may_mirror role }
 {
@@ -25,7 +25,7 @@ fn may_mirror(role: Role) -> bool
     }
 }
 
-// Whether the area at this place may hold the settings of a mirror.
+// Whether the area at this place can hold the settings of a mirror.
 fn is_stored_at(areas: &FlashMap, i: usize) -> bool
     requires { i < length areas.now }
     ensures { result ≡ is_stored (area_at areas.now i) }
@@ -47,7 +47,7 @@ fn is_selector_at(areas: &FlashMap, i: usize) -> bool
     }
 }
 
-// How many areas may hold the settings of a mirror.
+// How many areas can hold the settings of a mirror.
 fn count_stored(areas: &FlashMap) -> usize
     ensures { result ≡ count_by is_stored areas.now }
 {
@@ -73,7 +73,7 @@ fn count_selectors(areas: &FlashMap) -> usize
     count
 }
 
-// Whether two areas are for NVS or ZMS, one is a selector, and there is no other.
+// Whether the map has exactly three areas: two of NVS or ZMS, and a selector.
 fn are_mirrored(areas: &FlashMap) -> bool
     ensures { IsTrue result ↔ AreMirrored areas.now }
 {
@@ -91,7 +91,7 @@ fn with_mirror<'a>(image: Image) -> Result<Image, Stop<'a>>
     Ok(image)
 }
 
-// The image of a file, which has a mirror. Nothing is printed or written.
+// Reads the image in a file, which must have a mirror. Nothing is printed or written.
 pub(crate) fn open_mirror<'a, H: Host>(
     alloc: Global,
     name: &'a str,
@@ -109,8 +109,7 @@ pub(crate) fn open_mirror<'a, H: Host>(
     }
 }
 
-// The lines of a script, no value in which has more bytes than the limit. Nothing is printed or
-// written.
+// Reads the lines of a script. No value has more than `limit` bytes. Nothing is printed or written.
 pub(crate) fn read_mirror_lines<'a, H: Host>(
     alloc: Global,
     name: &'a str,

@@ -1,4 +1,4 @@
-// Carrying out lines on the mirror of an image.
+// The run of a job on a mirror.
 ghost use Rattle.std.specs.Prelude.{◌≡◌, ℕ, ◌<◌, ◌∷◌, false, All, List};
 ghost use Rattle.zs_host.specs.Outside.{Outside};
 ghost use Rattle.any_backend.specs.ByRole.{any_rests, any_serves};
@@ -44,7 +44,7 @@ fn stop_of<'a>(areas: &FlashMap, fault: SessionFault) -> Stop<'a>
     }
 }
 
-// Carries out the lines, and counts steps for it.
+// Carries out the lines, and counts the steps.
 fn run<B: Bench, L: Ledger>(
     alloc: Global,
     areas: &FlashMap,
@@ -99,15 +99,16 @@ fn run_on_image<'a, B: Bench>(
     Ok(Outcome { text, file })
 }
 
-/// Carries out the script in the file `script` on the two store areas of the image in the file `image`,
-/// which hold one map of settings between them: reads both files, loads the bench, carries out the
-/// opening mount and the lines, and gives the texts of all answers, and the file of the image that
-/// is left, to be written into `out`. Nothing is printed or written, and files stay.
+/// Carries out the script in the file `script` on the mirror of the image in the file `image`: its
+/// two store areas, which hold one map of settings. It reads both files, loads the bench, and
+/// carries out the opening mount and the lines. It returns the texts of all answers, and the file
+/// of the image that is left, to be written into `out`. It prints and writes nothing itself.
 ///
 /// # Errors
-/// Refused where there is no image, then where it is not exactly two store areas, each for NVS or ZMS, and their selector, then where
-/// there are no lines, then where a mount finds damage, or settings that do not fit one of the two areas. The host failed: nothing
-/// was carried out. There was not enough memory: nothing was carried out, or the lines were carried out up to some one of them.
+/// `Refused`, in this order: there is no image; it does not consist of exactly two store areas,
+/// each of NVS or ZMS, and their selector; there are no lines; a mount finds damage, or settings
+/// that do not fit one of the two areas. `HostFailed`: nothing was carried out. `NoMemory`: nothing
+/// was carried out, or some or all of the lines were.
 #[inline(never)]
 pub fn run_mirror_job<'a, H: Host, B: Bench>(
     alloc: Global,

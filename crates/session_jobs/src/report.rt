@@ -11,7 +11,7 @@ use std::alloc::Global;
 
 // An answer to a line.
 pub(crate) trait Answered {
-    // What holds of an answer that has a text.
+    // What an answer must be to have a text.
     ghost can_report: { Self → Type 0 };
 
     ghost text_of: { Self → List ℕ };

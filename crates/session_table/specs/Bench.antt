@@ -1,4 +1,4 @@
--- What lines make of a bench and of the handlers beside it.
+-- How lines change a bench and its handlers.
 use Rattle.std.specs.Prelude.{◌≡◌, ℕ, ◌+◌, ◌≤◌, ⊤, Bool, true, false, List, [], ◌∷◌, ◌++◌, length, map, filter, filter_map, slice_index_or, Some, if◌then◌else◌, All}
 use Rattle.std.specs.List.{range_with_len}
 use Rattle.flash_sim.specs.Bank.{bank_at}
@@ -66,7 +66,7 @@ geometry_in banks area =
       kind = (bank_at banks area.bank).kind;
     }
 
--- the numbers of these areas, where the count of units is so much in the end
+-- the rules of these areas, for a run whose last count of units is `last`
 abbrev pub rules_of : Meanings → List Area → List Bank → ℕ → Rules
 rules_of m areas banks last = record {
   target = target areas;
@@ -79,7 +79,7 @@ rules_of m areas banks last = record {
 
 -- ---- states
 
--- a bench, the handlers that are registered and the kinds of those that are left
+-- a bench, its registered handlers, and the kinds of those that are left
 pub record Moment : Type 0 where
   pub device : Device
   pub registry : List Registered
@@ -96,7 +96,7 @@ state_of m areas now = record {
 
 -- ---- which areas change
 
--- the places of the areas that a line works on, where one of these may be active
+-- the places of the areas that a line works on, if one of `actives` is active
 abbrev pub worked_on : Rules → List ℕ → Line → Answer → List ℕ → List ℕ
 worked_on r selector line Off actives = []
 worked_on r selector (Set name value) answer actives = actives
@@ -107,7 +107,7 @@ worked_on r selector Migrate NoTarget actives = []
 worked_on r selector Migrate answer actives = selector ++ filter_map r.target actives
 worked_on r selector line answer actives = []
 
--- those of the areas that may be active then
+-- the places of the areas that may be active after it
 abbrev pub actives_after : Rules → Line → Answer → List ℕ → List ℕ
 actives_after r Migrate (Done units) actives = filter_map r.target actives
 actives_after r Migrate (Lost units chance) actives = actives ++ filter_map r.target actives
@@ -120,7 +120,7 @@ all_worked_on r selector (line ∷ lines) (answer ∷ answers) actives =
     worked_on r selector line answer actives
     ++ all_worked_on r selector lines answers (actives_after r line answer actives)
 
--- the banks, the count of loads, and each byte outside these areas
+-- the banks, the count of loads, and each byte outside these areas stay
 pub record Keeps (areas : List Area) (old new : Device) : Type 0 where
   pub banks : new.banks ≡ old.banks
   pub loads : new.loads ≡ old.loads
@@ -128,11 +128,11 @@ pub record Keeps (areas : List Area) (old new : Device) : Type 0 where
 
 -- ---- one line
 
--- on a flash that is known to have no loss planned none comes, and none is planned afterwards
+-- if no loss is planned, none comes, and none is planned afterwards
 abbrev pub StaysUnplanned : Device → Device → Type 0
 StaysUnplanned old new = old.plan ≡ Never → (new.plan ≡ Never) × (new.losses ≡ old.losses)
 
--- counts and plan
+-- the counts and the plan after a line
 pub record Accounts (line : Line) (answer : Answer) (old new : Device) : Type 0 where
   pub spent : old.spent + units_of answer ≡ new.spent
   pub losses : new.losses ≡ counted old.losses (if is_lost answer then 1 else 0)
@@ -140,13 +140,13 @@ pub record Accounts (line : Line) (answer : Answer) (old new : Device) : Type 0 
   pub plan : IsCounted new.spent → new.plan ≡ plan_after old.plan line answer
   pub unplanned : PlansNoLoss line → StaysUnplanned old new
 
--- the bench shows whether the units that were put before the loss spell another record
+-- the bench shows whether the units before the loss spell another record
 pub record ShowsChance (m : Meanings) (area : Area) (chance : Bool) (d : Device) : Type 0 where
   pub loss : Loss
   pub last : d.last_loss ≡ Some loss
   pub is : chance ≡ on m.chance d area loss
 
--- at a command's loss alone
+-- only an answer to a command says so
 abbrev pub ReportsChance : Meanings → List Area → Line → Answer → Device → Type 0
 ReportsChance m areas Mount answer d = ⊤
 ReportsChance m areas Migrate answer d = ⊤
@@ -167,7 +167,7 @@ pub record LineDone (m : Meanings) (areas : List Area) (line : Line) (answer : A
 
 -- ---- a run
 
--- at the loss of the last line
+-- only a loss in the last line says so
 abbrev pub ReportsLastChance : Meanings → List Area → List Line → List Answer → Device → Type 0
 ReportsLastChance m areas [] answers d = ⊤
 ReportsLastChance m areas (line ∷ lines) [] d = ⊤

@@ -10,7 +10,7 @@ use Rattle.settings_core.specs.Carrying.{command_of, due, is_too_many, AreFree, 
 use Rattle.settings_core.specs.Saving.{exported}
 use Rattle.session_table.specs.State.{State}
 
--- those that change something; to set the empty value is to delete
+-- the commands that change something; to set the empty value is to delete
 abbrev pub commands_of : Line → State → List Command
 commands_of (Set name value) s = due s.settings (command_of name value ∷ [])
 commands_of (Delete name) s = due s.settings (Del name ∷ [])
@@ -21,21 +21,21 @@ commands_of line s = []
 abbrev pub all_puts : Map → List Command
 all_puts settings = puts_of (entries settings)
 
--- there is a first one, and it puts no name too many
+-- there is a first command, and it puts no name too many
 abbrev pub StartsFree : Room → Map → List Command → Type 0
 StartsFree room settings [] = ⊥
 StartsFree room settings (command ∷ commands) = is_too_many room settings command ≡ false
 
--- The first so many commands were carried out, and the next one would have put a name too many, as none
--- before it.
+-- The first `count` commands were carried out. The next one would have put a name too many; none
+-- before it did.
 pub record StopsForNames (room : Room) (commands : List Command) (count : ℕ) (before now : Map) : Type 0 where
   pub split : SplitsAt commands count
   pub settings : now ≡ all_applied before split.done
   pub free : AreFree room before split.done
   pub many : is_too_many room now split.at ≡ true
 
--- Power was lost once there was something to carry out: the first ones were carried out, and none of them put
--- a name too many.
+-- Power was lost in commands: the first ones were carried out, and none of them put a
+-- name too many.
 pub record StopsForPower (room : Room) (commands : List Command) (before now : Map) : Type 0 where
   pub starts : StartsFree room before commands
   pub prefix : List Command

@@ -1,8 +1,8 @@
--- One line after another, each with its answer. What lines, answers and states are is left open.
+-- One line after another, each with its answer, for any types of lines, answers and states.
 use Rattle.std.specs.Prelude.{◌≡◌, List, [], ◌∷◌}
 
 module _ {Line Answer State : Type 0} where
-  -- `step` says what a line with its answer makes of a state
+  -- `step` relates the states before and after a line by its answer
   abbrev pub Follows : (Line → Answer → State → State → Type 0) → List Line → List Answer → State → State
       → Type 0
   Follows step [] [] old new = new ≡ old

@@ -12,32 +12,31 @@ use Rattle.session_table.specs.State.{State}
 use Rattle.session_table.specs.Step.{Step}
 use Rattle.session_table.specs.Torn.{IsAfterDeeds}
 
--- Where no power is lost and nothing is refused for want of room, answers and state are a function of lines
--- and state, but for units.
+-- If no power is lost and nothing is refused for want of room, the lines and the state before
+-- determine the answers, except for their units, and the state after.
 abbrev pub LeavesUnitsOpen : Rules → Type 0
 LeavesUnitsOpen r =
     (lines : List Line) (answers : List Answer) (old new : State) → Follows (Step r) lines answers old new
     → All (λ answer. is_plain answer ≡ true) answers
     → (map without_units answers ≡ plain_answers r lines old) × (new ≡ plain_state r lines old)
 
--- Wherever power is lost, the settings are those after a prefix of each line's commands that holds every
--- acknowledged one, where no units spelt another record.
+-- Wherever power is lost, the settings are those after a prefix of each line's commands that has
+-- every acknowledged one, unless units spelt another record.
 abbrev pub HoldsAcknowledged : Rules → Type 0
 HoldsAcknowledged r =
     (lines : List Line) (answers : List Answer) (old new : State) → Follows (Step r) lines answers old new
     → All (λ answer. is_torn answer ≡ false) answers
     → IsAfterPrefix r lines answers old new
 
--- Wherever power is lost, the settings are those after what became of the commands: all of a line that was
--- done were carried out; of a save that was refused, the first ones, as many as it reports; of a
--- line in which power was lost, the first so many, and the one behind them may have been torn by
--- chance.
+-- Wherever power is lost, the settings follow from what became of the commands: all of a line that
+-- was done were carried out; of a save that was refused, as many as it reports; of a line in which
+-- power was lost, the first so many, and the next one may have been torn by chance.
 abbrev pub ReportsDeeds : Rules → Type 0
 ReportsDeeds r =
     (lines : List Line) (answers : List Answer) (old new : State) → Follows (Step r) lines answers old new
     → IsAfterDeeds r lines answers old new
 
--- power is off from a line in which it was lost to the next mount that answers `ok`
+-- power is off from a line in which it was lost until a mount answers `ok`
 abbrev pub LosesPower : Rules → Type 0
 LosesPower r =
     (lines : List Line) (answers : List Answer) (old new : State) → Follows (Step r) lines answers old new
@@ -50,8 +49,8 @@ RunsInRow r =
     → Follows (Step r) lines answers old mid → Follows (Step r) more others mid new
     → Follows (Step r) (lines ++ more) (answers ++ others) old new
 
--- a run of a bench, line by line, follows the table, its counts and its plan are those that its answers say,
--- and no byte changed outside the areas that its lines work on
+-- a run of a bench, line by line, follows the table; its counts and its plan are as its answers
+-- report, and no byte changes outside the areas that its lines work on
 abbrev pub LinesMakeRuns : Meanings → List Area → Type 0
 LinesMakeRuns m areas =
     (lines : List Line) (answers : List Answer) (old new : Moment)

@@ -1,5 +1,5 @@
--- Answers where nothing is left open but the units: no power is lost, and nothing is refused for want of
--- room.
+-- The answers if no power is lost and nothing is refused for want of room. Then only the units
+-- are left open.
 use Rattle.std.specs.Prelude.{◌≡◌, ℕ, ◌+◌, ◌-◌, ◌==◌, Bool, true, false, not, ◌&&◌, List, [], ◌∷◌, ◌++◌, length, take, map, fold, count_by, Option, Some, None, if◌then◌else◌}
 use Rattle.std.specs.FinMap.{get, entries, empty}
 use Rattle.script_lines.specs.declared.line.Line.{Line}
@@ -28,7 +28,7 @@ without_units (TooMany units) = TooMany 0
 without_units (Saved pairs units end) = Saved pairs 0 end
 without_units answer = answer
 
--- for want of room
+-- refused for want of room
 abbrev pub is_refused : Answer → Bool
 is_refused (NoSpace units need live) = true
 is_refused (Saved pairs units (NoRoom need live)) = true
@@ -39,7 +39,7 @@ abbrev pub is_plain : Answer → Bool
 is_plain (Lost units chance) = false
 is_plain answer = not (is_refused answer)
 
--- what comes of a line
+-- the answer to a line, and the state after it
 pub record Outcome : Type 0 where
   pub answer : Answer
   pub state : State
@@ -58,7 +58,7 @@ free_count room settings (command ∷ commands) =
 abbrev pub all_free : Room → Map → List Command → Bool
 all_free room settings commands = free_count room settings commands == length commands
 
--- the state after these
+-- the state after these commands
 abbrev pub carried_out : Rules → List Command → State → State
 carried_out r commands s =
     record s {
@@ -159,7 +159,7 @@ abbrev pub plain : Rules → Line → State → Outcome
 plain r line s =
     if needs_power line && not s.is_on then record { answer = Off; state = s } else plain_on r line s
 
--- of a whole run
+-- the answers of a whole run
 abbrev pub plain_answers : Rules → List Line → State → List Answer
 plain_answers r [] s = []
 plain_answers r (line ∷ lines) s = (plain r line s).answer ∷ plain_answers r lines (plain r line s).state

@@ -1,5 +1,5 @@
--- Which commands of a run stand: those of the lines that were done, as many as a refused save
--- reports, and the first so many of each line in which power was lost.
+-- Which commands of a run stand: all of each line that was done, as many as a refused save reports,
+-- and the first so many of each line in which power was lost.
 use Rattle.std.specs.Prelude.{◌≡◌, Bool, true, false, List, [], ◌++◌, length, if◌then◌else◌}
 use Rattle.script_lines.specs.declared.line.Line.{Line}
 use Rattle.script_lines.specs.declared.line.Line.TheVariants.{Mount}
@@ -19,13 +19,13 @@ abbrev pub is_torn : Answer → Bool
 is_torn (Lost units chance) = chance
 is_torn answer = false
 
--- the first ones of these
+-- the first ones of these commands
 pub record IsPrefix (prefix commands : List Command) : Type 0 where
   pub rest : List Command
   pub are : commands ≡ prefix ++ rest
 
--- Of a line's commands these stand: all, where it answered `ok`; as many as it reports, where a save was
--- refused; the first so many, where power was lost; else none.
+-- Of a line's commands these stand: all if it answered `ok`; as many as it reports if a save was
+-- refused; the first so many if power was lost; else none.
 abbrev pub Stand : Answer → List Command → List Command → Type 0
 Stand (Done units) commands done = done ≡ commands
 Stand (Saved pairs units Whole) commands done = done ≡ commands
@@ -43,7 +43,8 @@ LogStep r line answer old new =
     Step r line answer old.state new.state
     × ((done : List Command) × Stand answer (commands_of line old.state) done × (new.log ≡ old.log ++ done))
 
--- The settings are those of the start after the commands that stand, line by line.
+-- The log has the commands that stand, line by line. Applied to the first settings, they give
+-- the last ones.
 pub record IsAfterPrefix (r : Rules) (lines : List Line) (answers : List Answer) (old new : State) :
     Type 0 where
   pub log : List Command
@@ -53,7 +54,7 @@ pub record IsAfterPrefix (r : Rules) (lines : List Line) (answers : List Answer)
 
 -- ---- power
 
--- after this line power is on
+-- the line restores power
 abbrev pub restores : Line → Bool
 restores Mount = true
 restores line = false

@@ -1,4 +1,4 @@
--- What lines and their answers are about.
+-- The state that lines change and their answers report.
 use Rattle.std.specs.Prelude.{◌≡◌, ℕ, Bool, true, false, List}
 use Rattle.handlers.specs.declared.handler.HandlerKind.{HandlerKind}
 use Rattle.handlers.specs.Registry.{Registered}

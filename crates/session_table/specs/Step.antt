@@ -1,7 +1,7 @@
--- The table: which answers a plain map gives to a line, and what they make of the state. The choices are
--- whether power is lost in a line, how far its commands went then and whether their units spelt another
--- record, whether a refusal that the numbers of room allow comes, which area is active after a migration that
--- was cut, and the units.
+-- The table: which answers a plain map allows to a line, and the state after each. It leaves open
+-- whether power is lost in a line, how many of its commands were carried out then and whether units
+-- spelt another record; whether a refusal comes that the room allows; which area is active after a
+-- migration that was cut; and the units.
 use Rattle.std.specs.Prelude.{◌+◌, ◌≡◌, ◌⊎◌, ℕ, ◌<◌, ◌≤◌, Bool, true, false, not, List, [], ◌∷◌, ◌++◌, length, map, count_by, Option, Some, None, option_map, if◌then◌else◌}
 use Rattle.std.specs.List.{list_any}
 use Rattle.std.specs.Str.{bytes_eq}
@@ -31,15 +31,15 @@ use Rattle.session_table.specs.State.{State, IsOn, IsOff}
 
 -- ---- changing settings
 
--- all commands are carried out, and units are spent where there are any
+-- all commands are carried out; units are spent exactly if there is one
 pub record CommandsDone (r : Rules) (commands : List Command) (units : ℕ) (old new : State) : Type 0 where
   pub free : AreFree (r.room old.active) old.settings commands
   pub none : commands ≡ [] → units ≡ 0
   pub some : ¬ (commands ≡ []) → IsCounted r.last → 0 < units
   pub state : new ≡ record old { settings = all_applied old.settings commands }
 
--- Power is off, and the first so many of the commands are carried out; by chance what the units of the next
--- one spell, too.
+-- Power is off, and the first so many of the commands were carried out; by chance also what the
+-- units of the next one spell.
 abbrev pub CommandsLost : Rules → List Command → Bool → State → State → Type 0
 CommandsLost r commands false old new =
     StopsForPower (r.room old.active) commands old.settings new.settings
@@ -62,7 +62,7 @@ Changes r commands (Lost units chance) old new =
     (units ≤ command_units (r.geometry old.active)) × CommandsLost r commands chance old new
 Changes r commands answer old new = ⊥
 
--- a count stands still at 2^32 - 1
+-- a count stays at 2^32 - 1
 abbrev pub reported : ℕ → ℕ
 reported count = more_pairs 0 count
 
@@ -92,7 +92,7 @@ Gets name answer old new = ⊥
 abbrev pub as_pair : List ℕ × List ℕ → Pair
 as_pair setting = record { name = setting.0; value = setting.1 }
 
--- those of a subtree
+-- the settings of a subtree
 abbrev pub Reports : Option (List ℕ) → Answer → State → State → Type 0
 Reports subtree (Applied pairs) old new =
     (pairs ≡ map as_pair (settings_under subtree (entries old.settings))) × (new ≡ old)
@@ -114,7 +114,7 @@ same_kind Counter Counter = true
 same_kind Level Level = true
 same_kind kind other = false
 
--- the others, once the first one of the kind was taken, where there is one
+-- the kinds that are left once the first one like this was taken; `None` if there is none
 abbrev pub without_first : HandlerKind → List HandlerKind → Option (List HandlerKind)
 without_first kind [] = None
 without_first kind (first ∷ rest) =
@@ -144,7 +144,8 @@ give handlers d =
     let given = deliveries.give handlers d in
     record { subtree = given.subtree; rest = given.rest; value = given.value; taken = given.taken }
 
--- each name of the subtree goes to its best handler, or is passed; then come the commits
+-- each setting of the subtree goes to its best handler, or is passed; then the
+-- handlers are committed
 abbrev pub Loads : Option (List ℕ) → Answer → State → State → Type 0
 Loads subtree (Loaded gives taken rejected passed) old new =
     (gives ≡ map (give old.registry) (deliveries_of subtree old))
@@ -172,7 +173,7 @@ Offers name value (Done units) old new =
     × (new ≡ record old { registry = deliver old.registry d })
 Offers name value answer old new = ⊥
 
--- what the best handler of a name holds for it, where there is one
+-- what the best handler of a name holds for it, if there is one
 abbrev pub held_for : List Registered → List ℕ → Option (Option (List ℕ))
 held_for handlers name =
     option_map (λ d. get (state_at handlers d.place).held d.rest) (delivery (subtrees handlers) (name, []))
@@ -185,18 +186,18 @@ Asks name answer old new = ⊥
 
 -- ---- power and areas
 
--- the settings stay, also where power is lost
+-- the settings stay, even if power is lost
 abbrev pub Mounts : Answer → State → State → Type 0
 Mounts (Done units) old new = new ≡ record old { is_on = true }
 Mounts (Lost units false) old new = new ≡ record old { is_on = false }
 Mounts answer old new = ⊥
 
--- a loss is planned, or none any more
+-- a loss is planned, or the plan is dropped
 abbrev pub Arms : Answer → State → State → Type 0
 Arms (Done units) old new = (units ≡ 0) × (new ≡ old)
 Arms answer old new = ⊥
 
--- All settings are put into the empty target, one by one, which then is the active area.
+-- All settings are put, one by one, into the empty target, which then becomes the active area.
 abbrev pub MovesTo : Rules → ℕ → Answer → State → State → Type 0
 MovesTo r to (Done units) old new =
     AreFree (r.room to) empty (all_puts old.settings) × (new ≡ record old { active = to })
@@ -218,7 +219,7 @@ Migrates r answer old new = (to : ℕ) × (r.target old.active ≡ Some to) × M
 
 -- ---- all lines
 
--- these are carried out with power off too
+-- lines that need power; the others are carried out with power off too
 abbrev pub needs_power : Line → Bool
 needs_power Mount = false
 needs_power (Cut units) = false
@@ -242,7 +243,7 @@ Answers r (Cut units) answer old new = Arms answer old new
 Answers r Uncut answer old new = Arms answer old new
 Answers r Migrate answer old new = Migrates r answer old new
 
--- with power off, `off` and no change; else by the line
+-- with power off the answer is `off` and nothing changes; else it is the line's
 abbrev pub Step : Rules → Line → Answer → State → State → Type 0
 Step r line Off old new = (needs_power line ≡ true) × IsOff old × (new ≡ old)
 Step r line answer old new = (needs_power line ≡ true → IsOn old) × Answers r line answer old new

@@ -1,4 +1,5 @@
--- What becomes of the commands of a run, also of those whose units spelt another record when power was lost.
+-- What becomes of the commands of a run, including those whose units spelt another record when
+-- power was lost.
 use Rattle.std.specs.Prelude.{◌≡◌, ℕ, true, List, [], ◌∷◌, ◌++◌, map}
 use Rattle.script_lines.specs.declared.line.Line.{Line}
 use Rattle.script_lines.specs.declared.answer.Answer.{Answer}
@@ -12,7 +13,8 @@ use Rattle.session_table.specs.Rules.{Rules}
 use Rattle.session_table.specs.State.{State}
 use Rattle.session_table.specs.Step.{Step}
 
--- A command was carried out; or so many units of it, in the area at this place, spelt another record.
+-- a command was carried out; or so many units of it, in the area at this place, spelt
+-- another record
 pub data Deed : Type 0 where
   did : Command → Deed
   tore : ℕ → Command → ℕ → Deed
@@ -21,12 +23,12 @@ abbrev pub Does : Rules → Deed → Map → Map → Type 0
 Does r (did command) old new = new ≡ applied old command
 Does r (tore place command units) old new = r.tears place command units old new
 
--- one after another
+-- the deeds one after another
 abbrev pub DoAll : Rules → List Deed → Map → Map → Type 0
 DoAll r [] old new = new ≡ old
 DoAll r (deed ∷ deeds) old new = (mid : Map) × Does r deed old mid × DoAll r deeds mid new
 
--- the first so many of the commands were carried out, and the next one was torn
+-- the first so many commands were carried out, and the next one was torn
 pub record TornAt (place : ℕ) (commands : List Command) (deeds : List Deed) : Type 0 where
   pub prefix : List Command
   pub at : Command
@@ -35,8 +37,8 @@ pub record TornAt (place : ℕ) (commands : List Command) (deeds : List Deed) : 
   pub are : commands ≡ prefix ++ at ∷ rest
   pub deeds_are : deeds ≡ map did prefix ++ tore place at units ∷ []
 
--- what became of a line's commands: those that stand were carried out, and by chance the one behind them was
--- torn
+-- what became of a line's commands: those that stand were carried out, and the next one may have
+-- been torn by chance
 abbrev pub BecomeOf : ℕ → Answer → List Command → List Deed → Type 0
 BecomeOf place (Lost units true) commands deeds = TornAt place commands deeds
 BecomeOf place answer commands deeds =
@@ -53,7 +55,7 @@ DeedStep r line answer old new =
     × ((deeds : List Deed) × BecomeOf old.state.active answer (commands_of line old.state) deeds
     × (new.deeds ≡ old.deeds ++ deeds))
 
--- The settings are those of the start after what became of the commands, line by line.
+-- The deeds, line by line, lead from the first settings to the last ones.
 pub record IsAfterDeeds (r : Rules) (lines : List Line) (answers : List Answer) (old new : State) :
     Type 0 where
   pub deeds : List Deed

@@ -9,8 +9,8 @@ ghost use Rattle.session_table.specs.Laws.{LeavesUnitsOpen, HoldsAcknowledged, R
 
 use backend_api::Backend;
 
-/// Where no power is lost and nothing is refused for want of room, the answers and the state after
-/// them are a function of the lines and the state before, but for units.
+/// If no power is lost and nothing is refused for want of room, the lines and the state before
+/// determine the answers, except for their units, and the state after.
 pub fn units_are_open<K: Backend>()
     ensures { (areas : List Area) (banks : List Bank) (last : ℕ)
         → LeavesUnitsOpen
@@ -19,9 +19,9 @@ pub fn units_are_open<K: Backend>()
         banks last) }
 {}
 
-/// Wherever power is lost, the settings are those after commands of the lines in their order: all
-/// of each line that was done, as many as a refused save reports, and the first so many of each
-/// line in which power was lost; but where units spelt another record by chance.
+/// Wherever power is lost, the settings are those that commands of the lines make, in their order:
+/// all of each line that was done, as many as a refused save reports, and the first so many of each
+/// line in which power was lost. The one exception: units that spell another record by chance.
 pub fn acknowledged_commands_stand<K: Backend>()
     ensures { (areas : List Area) (banks : List Bank) (last : ℕ)
         → HoldsAcknowledged
@@ -30,9 +30,9 @@ pub fn acknowledged_commands_stand<K: Backend>()
         banks last) }
 {}
 
-/// Wherever power is lost, the settings are those after what became of the commands of the lines,
-/// in their order: all of each line that was done, as many as a refused save reports, and the first
-/// so many of each line in which power was lost; by chance the one behind these was torn.
+/// Wherever power is lost, the settings follow from what became of the commands, in their order:
+/// all of each line that was done, as many as a refused save reports, and the first so many of each
+/// line in which power was lost. The next one of such a line may be torn by chance.
 pub fn torn_commands_report<K: Backend>()
     ensures { (areas : List Area) (banks : List Bank) (last : ℕ)
         → ReportsDeeds
@@ -41,7 +41,7 @@ pub fn torn_commands_report<K: Backend>()
         banks last) }
 {}
 
-/// Power is off from a line in which it was lost to the next mount that answers `ok`.
+/// Power is off from a line in which it was lost until a mount answers `ok`.
 pub fn power_follows_losses<K: Backend>()
     ensures { (areas : List Area) (banks : List Bank) (last : ℕ)
         → LosesPower
@@ -50,7 +50,7 @@ pub fn power_follows_losses<K: Backend>()
         banks last) }
 {}
 
-/// Two runs in a row are one run of the lines of both.
+/// Two runs in a row are one run of all their lines.
 pub fn two_runs<K: Backend>()
     ensures { (areas : List Area) (banks : List Bank) (last : ℕ)
         → RunsInRow
@@ -60,7 +60,7 @@ pub fn two_runs<K: Backend>()
 {}
 
 /// Lines that are carried out one by one make a run: it follows the table, the counts and the plan
-/// are those that the answers say, and no byte changed outside the areas that the lines work on.
+/// are as the answers report, and no byte changes outside the areas that the lines work on.
 pub fn line_by_line<K: Backend>()
     ensures { (areas : List Area)
         → LinesMakeRuns

@@ -7,8 +7,8 @@ use Rattle.any_backend.specs.ByRole.{any_serves}
 use Rattle.session_tests.specs.Beds.{bed_banks}
 use Rattle.session.specs.OnMap.{IsServedMap, limit_of}
 
--- On the banks of the tests a session serves these areas, and their values have the limit of the first
--- version.
+-- On the banks of the tests a session serves these areas, and their values have the limit of the
+-- first version.
 pub record IsTestMap (areas : List Area) : Type 0 where
   pub served : (d : Device) → d.banks ≡ bed_banks → IsServedMap any_serves areas d
   pub limit : limit_of areas ≡ VALUE_LIMIT

@@ -132,7 +132,7 @@ fn zms_transcript<B: Bench, L: Ledger>(
 
 // ---- the rows
 
-// What a script on NVS says of one id; losses in a set and in a delete.
+// What a script on NVS reports of one id; losses in a set and in a delete.
 const ON_NVS: [(&str, &str); 3] = [
     (
         "set 1 01\nset 1 02\ndel 1\nolder 1 0\nolder 1 1\nolder 1 2\nolder 1 3\nspace\n",
@@ -153,7 +153,7 @@ const ON_ZMS: (&str, &str) = (
     "ok 0\nok 2\nspace 16 0 416\nok 0\nok 1\nok 2\nvalue 01\nok 1\ndeleted\nvalue 01\nspace 32 48 400\nvalue 0102030405060708090a\nok 0\nlost 1\nok 0\nnone\nspace 32 48 400\n",
 );
 
-// A value of so many times two digits, behind these words, and LF.
+// These words, then a value of so many times two digits, and LF.
 fn add_value(text: &mut String, words: &str, digits: &str, count: u32) -> Result<(), Fail> {
     text.push_str(words)?;
     for _ in 0..count {
@@ -183,7 +183,7 @@ fn collects<B: Bench, L: Ledger, R: Abort>(
     Ok(())
 }
 
-// A value for which another one leaves no room, until that is deleted.
+// A value for which another one leaves no room until that one is deleted.
 fn finds_no_room<B: Bench, L: Ledger, R: Abort>(
     rt: &R,
     alloc: Global,

@@ -40,7 +40,7 @@ fn each_form(rt: HostRuntime) -> Result<(), Fail> {
     Ok(())
 }
 
-// A text, and the number of its first refused line, with the cause; values have 2 bytes at most.
+// A text, and the number of its first refused line, with the cause; values have at most 2 bytes.
 const REFUSED: [(&[u8], Ids, u64, LineWhy); 33] = [
     (b"del 65535", Ids::Short, 1, LineWhy::Number),
     (b"get 65534\nget 65535", Ids::Short, 2, LineWhy::Number),

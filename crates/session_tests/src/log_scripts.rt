@@ -67,7 +67,7 @@ fn add_hundreds(text: &mut String, word: &str, all: &[&str]) -> Result<(), Fail>
 
 const NINE: [&str; 9] = ["11", "22", "33", "44", "55", "66", "77", "88", "99"];
 
-// Nine records of 100 bytes each are put, the last one behind these lines; then come others.
+// Nine records of 100 bytes each are put, the last one after these lines; then come others.
 fn nine_puts(alloc: Global, before: &str, behind: &str) -> Result<String, Fail> {
     let mut script = String::new(alloc);
     add_hundreds(&mut script, "put ", &NINE[..8])?;
@@ -127,8 +127,8 @@ fn transcript<B: Bench, L: Ledger>(
 
 // ---- the rows
 
-// What stands before the ninth record, and behind it; the answers to these and to it; the records
-// that are reported, and how many.
+// The lines before the ninth record, and after it; the answers to these and to it; the records that
+// are reported, and how many.
 const PUTS: [(&str, &str, &str, (usize, usize), &str); 4] = [
     ("", "all\n", "ok 30 4\n", (4, 9), "log 5\n"),
     (

@@ -153,7 +153,7 @@ fn has<B: Bench, L: Ledger>(
     Ok(backend.get(bench, &name, steps) == Some(&[1]))
 }
 
-// Moves the setting, which spends so many units: the area at this index is then active, and has it.
+// Moves the setting, which spends so many units. The area at this index is then active, and has it.
 fn moves<B: Bench, L: Ledger, R: Abort>(
     rt: &R,
     alloc: Global,

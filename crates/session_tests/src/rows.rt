@@ -97,7 +97,8 @@ fn reported_in_turn<K: Backend, B: Bench, L: Ledger>(
     Ok(text)
 }
 
-// On blank banks the lines of a script have these answers, carried out one after the other.
+// On blank banks the lines of a script have these answers, when they are carried out one
+// after the other.
 fn answers_in_turn<B: Bench, L: Ledger, R: Abort>(
     rt: &R,
     alloc: Global,

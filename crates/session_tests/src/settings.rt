@@ -86,7 +86,7 @@ fn each_form(rt: HostRuntime) -> Result<(), Fail> {
     Ok(())
 }
 
-// A text, and why and where it is refused, where values have three bytes at most.
+// A text, and why and where it is refused; values have at most three bytes.
 const REFUSED: [(&[u8], LineWhy, u64); 52] = [
     (b"rset a -", Hex, 1),
     (b"get", Words, 1),

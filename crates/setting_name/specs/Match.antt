@@ -4,8 +4,8 @@ use Rattle.std.specs.List.{starts_with, join_with_byte}
 use Rattle.std.specs.Str.{bytes_eq}
 use Rattle.setting_name.specs.Name.{parts_of, is_slash}
 
--- The parts of the key are the first parts of the name, and the others with a slash between each two are the
--- rest. Where there are no others the rest is empty.
+-- The parts of the key are the first parts of the name, and the others with a slash between each
+-- two are the rest. If there are no others, the rest is empty.
 pub record Matches (name key rest : List ℕ) : Type 0 where
   pub others : List (List ℕ)
   pub parts : parts_of name ≡ parts_of key ++ others
@@ -18,11 +18,11 @@ matched_rest name key =
     then Some (join_with_byte 0x2F (drop (length (parts_of key)) (parts_of name)))
     else None
 
--- the subtree itself where the rest is empty
+-- the subtree, a slash and the rest; the subtree itself if the rest is empty
 unfoldable pub joined_text : List ℕ → List ℕ → List ℕ
 joined_text subtree rest = if length rest == 0 then subtree else subtree ++ 0x2F ∷ rest
 
--- what is left of a name's bytes behind those of a key, where the key's last part ends there
+-- what is left of a name's bytes behind those of a key, if the key's last part ends there
 abbrev pub rest_behind : List ℕ → Option (List ℕ)
 rest_behind [] = Some []
 rest_behind (byte ∷ rest) = if is_slash byte then Some rest else None

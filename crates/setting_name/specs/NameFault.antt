@@ -4,6 +4,7 @@ use Rattle.setting_name.specs.declared.name.NameFault.{NameFault}
 use Rattle.setting_name.specs.declared.name.NameFault.TheVariants.{Empty, TooLong, BadByte, EmptyPart, TooDeep}
 use Rattle.setting_name.specs.Name.{IsName, HasNameBytes, HasWholeParts, is_name_byte, is_slash, parts_of}
 
+-- the place of the first byte that no name has
 abbrev pub first_bad_byte : List ℕ → Option ℕ
 first_bad_byte text = position (λ byte. not (is_name_byte byte)) text
 
@@ -23,7 +24,7 @@ IsFirstLack text place = IsTrue (lacks_part text place) × ((k : ℕ) → k < pl
 abbrev pub HasLength : List ℕ → Type 0
 HasLength text = (1 ≤ length text) × (length text ≤ 64)
 
--- Each cause counts where none of those above it holds.
+-- Each cause counts only if none above it holds.
 abbrev pub IsFault : List ℕ → NameFault → Type 0
 IsFault text Empty = length text ≡ 0
 IsFault text TooLong = 64 < length text

@@ -4,8 +4,8 @@ ghost use Rattle.std.specs.Prelude.{◌≡◌, ◌≢◌, ◌↔◌, ◌<◌, �
 ghost use Rattle.setting_name.specs.Name.{IsName, HasWholeParts, parts_of};
 ghost use Rattle.setting_name.specs.Match.{Matches, matched_rest, joined_text};
 
-/// A rest is there exactly where the parts of the key are the first parts of the name, and it is
-/// the other parts.
+/// A name matches a key exactly if the parts of the key are the first parts of the name. The rest
+/// is the other parts.
 pub fn matches_by_parts()
     ensures rest { (name key rest : List ℕ)
         → (matched_rest name key ≡ Some rest) ↔ Matches name key rest }
@@ -24,9 +24,9 @@ pub fn join_of_match()
         → name ≡ joined_text key rest }
 {}
 
-/// Of two keys that one name matches, the one with more parts is the longer one, and with equally
-/// many they are the same key. So the longest key is the one with the most parts, and there is at
-/// most one.
+/// Of two keys that one name matches, the one with more parts is the longer one, and two with
+/// equally many parts are the same key. So the longest key is the one with the most parts, and
+/// there is at most one.
 pub fn keys_of_one_name()
     ensures longer { (name key other rest left : List ℕ) → matched_rest name key ≡ Some rest
         → matched_rest name other ≡ Some left → length (parts_of key) < length (parts_of other)
@@ -36,7 +36,7 @@ pub fn keys_of_one_name()
         → key ≡ other }
 {}
 
-/// No byte of a name is a space, a `=`, or what erased flash reads as.
+/// No byte of a name is a space, a `=`, or FF, as erased flash reads.
 pub fn bytes_of_a_name()
     ensures { (text : List ℕ) → IsName text
         → All (λ byte. (0x21 ≤ byte) × (byte ≤ 0x7E) × (byte ≢ 0x3D)) text }

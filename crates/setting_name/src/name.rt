@@ -26,15 +26,15 @@ const SLASH: u8 = b'/';
 /// Why a text is no name. The causes are tried in this order.
 #[derive(Clone, Copy, Debug, PartialEq, Eq)]
 pub enum NameFault {
-    /// There is no byte.
+    /// The text has no byte.
     Empty,
-    /// There are more than 64 bytes.
+    /// The text has more than 64 bytes.
     TooLong,
-    /// The place of the first byte that is a `=` or outside 0x21 to 0x7E.
+    /// The place of the first byte, counted from 0, that is a `=` or outside 0x21 to 0x7E.
     BadByte(u32),
     /// The first place where a part should begin and does not.
     EmptyPart(u32),
-    /// There are more than 8 parts.
+    /// The text has more than 8 parts.
     TooDeep,
 }
 
@@ -76,7 +76,7 @@ impl Name {
         Name::from_text(text)
     }
 
-    /// The subtree itself where the rest is empty, else the subtree, a slash and the rest.
+    /// The subtree, a slash and the rest; the subtree itself if the rest is empty.
     ///
     /// # Errors
     /// Those of `read` for this text.
@@ -91,7 +91,8 @@ impl Name {
         Name::from_text(with_slash(subtree.bytes(), rest)?)
     }
 
-    /// What is left of the name behind the parts of the key, where these are its first parts.
+    /// The rest of the name behind the parts of the key, if these are its first parts; `None` if
+    /// they are not.
     pub fn matches<'a>(name: &'a Name, key: &Name) -> Option<&'a [u8]>
         ensures rest { option_copied result ≡ matched_rest name.now key.now }
         ensures join { IfSome result (λ rest. name.now ≡ joined_text key.now rest.now) }
@@ -108,7 +109,7 @@ impl Name {
         self.text.as_slice()
     }
 
-    /// The same name once more.
+    /// A copy of the name.
     pub fn copy(&self) -> Name
         ensures value { result ≡ self.now }
         ensures name { IsName self.now }
@@ -138,7 +139,7 @@ impl Name {
     }
 }
 
-// Puts the bytes behind the text, where they fit.
+// Puts the bytes behind the text, if they fit.
 fn append(text: &mut ArrayVec<u8, MAX_LEN>, bytes: &[u8]) -> Result<(), NameFault>
     ensures fits { IsOk result ↔ (length text.old.items + length bytes.now ≤ 64) }
     ensures ok { OnOk result (text.new.items ≡ text.old.items ++ bytes.now) }
@@ -148,7 +149,7 @@ fn append(text: &mut ArrayVec<u8, MAX_LEN>, bytes: &[u8]) -> Result<(), NameFaul
         .map_err(|_| NameFault::TooLong)
 }
 
-// The subtree, a slash and the rest, where they fit.
+// The subtree, a slash and the rest, if they fit.
 fn with_slash(subtree: &[u8], rest: &[u8]) -> Result<ArrayVec<u8, MAX_LEN>, NameFault>
     ensures { MatchResult result (λ text. text.items ≡ subtree.now ++ 0x2F ∷ rest.now)
         (IsFault (subtree.now ++ 0x2F ∷ rest.now)) }
@@ -190,7 +191,7 @@ fn first_lack(text: &[u8]) -> Option<usize>
     if due { Some(text.len()) } else { None }
 }
 
-// What is left of a text that begins with the prefix.
+// What is left of a text behind the prefix, if it begins with that.
 fn left_behind<'a>(text: &'a [u8], prefix: &[u8]) -> Option<&'a [u8]>
     ensures { MatchOption result ((left : List ℕ) → text.now ≢ prefix.now ++ left)
         (λ left. text.now ≡ prefix.now ++ left.now) }
@@ -198,7 +199,7 @@ fn left_behind<'a>(text: &'a [u8], prefix: &[u8]) -> Option<&'a [u8]>
     text.strip_prefix(prefix)
 }
 
-// What stands behind a slash that comes first; nothing behind no byte at all.
+// What follows a leading slash; of no bytes, nothing.
 fn behind_slash(left: &[u8]) -> Option<&[u8]>
     ensures { option_copied result ≡ rest_behind left.now }
 {

@@ -1,4 +1,4 @@
--- Which commands a call stands for, and how carrying them out ends.
+-- The commands that a call stands for, and how carrying them out ends.
 use Rattle.std.specs.Prelude.{◌≡◌, ℕ, ◌*◌, ⊤, Bool, true, false, List, [], ◌∷◌, ◌++◌, length, is_none, Result, Ok, Err, if◌then◌else◌}
 use Rattle.std.specs.Option.{option_map_or}
 use Rattle.std.specs.Str.{bytes_eq}
@@ -21,23 +21,24 @@ use Rattle.settings_core.specs.declared.writing.SaveFault.TheVariants.{Off, NoSp
 use Rattle.settings_core.specs.declared.writing.DeleteFault.{DeleteFault}
 use Rattle.settings_core.specs.declared.writing.DeleteFault.TheVariants.{Off as DeleteOff, PowerLost as DeleteLost}
 
--- a name is given a value; the empty one takes its value away
+-- the command of a name and a value; the empty value is a delete
 abbrev pub command_of : List ℕ → List ℕ → Command
 command_of name [] = Del name
 command_of name (b ∷ bytes) = Put name (b ∷ bytes)
 
--- the settings are such already
+-- the command changes nothing: the settings are such already
 abbrev pub is_idle : Map → Command → Bool
 is_idle settings (Put name value) = option_map_or (bytes_eq value) (get settings name) false
 is_idle settings (Del name) = is_none (get settings name)
 
--- those of the commands that change the settings which the ones before them leave
+-- the commands that are due: those that change the settings that the ones before them leave
 unfoldable pub due : Map → List Command → List Command
 due settings [] = []
 due settings (c ∷ commands) =
     if is_idle settings c then due settings commands else c ∷ due (applied settings c) commands
 
--- The most units and erases of carrying them out, whole or cut: those of one command for each of them.
+-- The most units and erases of carrying commands out, whole or cut: one command's for
+-- each that is due.
 abbrev pub due_units : Geometry → Map → List Command → ℕ
 due_units geometry settings commands = length (due settings commands) * command_units geometry
 
@@ -46,20 +47,20 @@ abbrev pub is_too_many : Room → Map → Command → Bool
 is_too_many room settings (Put name value) = room.too_many settings name
 is_too_many room settings (Del name) = false
 
--- none of the names, each put into the settings that the commands before it leave, is one too many
+-- no name, put into the settings that the commands before it leave, is one too many
 unfoldable pub AreFree : Room → Map → List Command → Type 0
 AreFree room settings [] = ⊤
 AreFree room settings (c ∷ commands) =
     (is_too_many room settings c ≡ false) × AreFree room (applied settings c) commands
 
--- there is no room for it, and these are its need and what all settings cost
+-- there is no room for the command; these are its need and what all settings cost, in bytes
 abbrev pub LacksRoom : Room → ℕ → Map → Command → ℕ → ℕ → Type 0
 LacksRoom room sectors settings (Put name value) need live =
     HasNoRoom room sectors settings name value × (need ≡ room.need settings name value)
     × (live ≡ room.cost settings)
 LacksRoom room sectors settings (Del name) need live = ⊥
 
--- the commands, at one of them: so many before it, and those behind it
+-- the commands, split at one of them: `count` before it, and those after it
 pub record SplitsAt (commands : List Command) (count : ℕ) : Type 0 where
   pub done : List Command
   pub at : Command
@@ -67,7 +68,7 @@ pub record SplitsAt (commands : List Command) (count : ℕ) : Type 0 where
   pub is : commands ≡ done ++ at ∷ left
   pub count_is : count ≡ length done
 
--- all of the commands were carried out, and units were spent exactly where there is one
+-- all of the commands were carried out; units were spent exactly if there is one
 pub record Carries (room : Room) (old new : Device) (before after : Map) (commands : List Command) :
     Type 0 where
   pub settings : after ≡ all_applied before commands
@@ -82,7 +83,7 @@ pub record MeetsTooMany (room : Room) (old new : Device) (before after : Map) (c
   pub carried : Carries room old new before after split.done
   pub too_many : is_too_many room after split.at ≡ true
 
--- there is no room for one of them, and the settings are those after all before it
+-- there is no room for one of them; the settings are those that all before it make
 pub record MeetsNoRoom (room : Room) (sectors : ℕ) (before after : Map) (commands : List Command)
     (count need live : ℕ) : Type 0 where
   pub split : SplitsAt commands count
@@ -90,7 +91,7 @@ pub record MeetsNoRoom (room : Room) (sectors : ℕ) (before after : Map) (comma
   pub free : AreFree room before (split.done ++ split.at ∷ [])
   pub lacks : LacksRoom room sectors after split.at need live
 
--- power was lost in one of them, when all before it were carried out
+-- power was lost in one of them; all before it were carried out
 pub record MeetsLoss (room : Room) (chance : Loss → Bool) (tears : Command → ℕ → Map → Map → Type 0)
     (old new : Device) (before after : Map) (commands : List Command) (count : ℕ) : Type 0 where
   pub split : SplitsAt commands count
@@ -98,7 +99,7 @@ pub record MeetsLoss (room : Room) (chance : Loss → Bool) (tears : Command →
   pub stops : old.is_on ≡ true
       → StopsAt chance (tears split.at) split.at new (all_applied before split.done) after
 
--- how carrying out commands ends after so many of them, by whether the backend is up
+-- how carrying out commands ends after `count` of them, by whether the backend is up
 abbrev pub CarryEnds : {T : Type 0} → Bool → Room → ℕ → (Loss → Bool) → (Command → ℕ → Map → Map → Type 0)
     → Device → Device → Map → Map → List Command → ℕ → Result T SaveFault → Type 0
 CarryEnds up room sectors chance tears old new before after commands count (Ok x) =
@@ -112,7 +113,7 @@ CarryEnds up room sectors chance tears old new before after commands count (Err 
 CarryEnds up room sectors chance tears old new before after commands count (Err PowerLost) =
     (up ≡ true) × MeetsLoss room chance tears old new before after commands count
 
--- the same on an area, of those of the commands that are due, by what the backend says of the area
+-- the same on an area, for the commands that are due, by what the backend says of the area
 abbrev pub CarryEndsOn : {T : Type 0} → (Area → Geometry → Room) → (Area → Geometry → List (List ℕ) → Map)
     → (Area → Geometry → List (List ℕ) → Loss → Bool) → (Area → Geometry → Command → ℕ → Map → Map → Type 0)
     → Bool → Area → Device → Device → List Command → ℕ → Result T SaveFault → Type 0
@@ -146,7 +147,7 @@ abbrev pub lost_as_save : {T : Type 0} → Result T Lost → Result T SaveFault
 lost_as_save (Ok x) = Ok x
 lost_as_save (Err lost) = Err PowerLost
 
--- how many commands a put carried out that answers whether it stored another value
+-- how many commands a put carried out, by its answer
 abbrev pub put_count : Result Bool SaveFault → ℕ
 put_count (Ok true) = 1
 put_count (Ok false) = 0

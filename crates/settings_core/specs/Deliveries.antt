@@ -18,7 +18,7 @@ pub record Delivery : Type 0 where
   pub rest : List ℕ
   pub value : List ℕ
 
--- to the best handler for the name, where there is one
+-- the delivery of a setting to the best handler for its name, if there is one
 abbrev pub delivery : List (List ℕ) → List ℕ × List ℕ → Option Delivery
 delivery to setting =
     option_map
@@ -38,7 +38,7 @@ settings_under subtree settings = filter (λ setting. is_under subtree setting.0
 abbrev pub delivered : List (List ℕ) → Option (List ℕ) → List (List ℕ × List ℕ) → List Delivery
 delivered to subtree settings = filter_map (delivery to) (settings_under subtree settings)
 
--- the handler's state once it was offered a value
+-- the handler's state after it was offered a value
 abbrev pub offered : HandlerState → List ℕ → List ℕ → HandlerState
 offered h rest value = if accepts h.kind value then given h rest value else h
 
@@ -48,7 +48,7 @@ deliver handlers d = with_state handlers d.place (offered (state_at handlers d.p
 abbrev pub deliver_all : List Registered → List Delivery → List Registered
 deliver_all handlers deliveries = fold deliver handlers deliveries
 
--- a delivery as it is reported
+-- the report of a delivery
 pub record Give : Type 0 where
   pub subtree : List ℕ
   pub rest : List ℕ
@@ -74,7 +74,7 @@ abbrev pub DeliverEnds : List Registered → List Registered → Delivery → Re
 DeliverEnds before after d (Ok taken) = (taken ≡ is_taken before d) × (after ≡ deliver before d)
 DeliverEnds before after d (Err lack) = (is_taken before d ≡ true) × (after ≡ before)
 
--- the setting went to its best handler, and that was reported
+-- the setting went to its best handler, and the delivery was reported
 pub record Delivers (before after : List Registered) (old new : Option (List Give))
     (setting : List ℕ × List ℕ) (taken : Bool) : Type 0 where
   pub d : Delivery

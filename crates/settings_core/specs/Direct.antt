@@ -6,7 +6,7 @@ use Rattle.settings_core.specs.declared.loading.LoadFault.TheVariants.{Off, NoMe
 use Rattle.settings_core.specs.Deliveries.{settings_under}
 use Rattle.settings_core.specs.Reported.{reported_more}
 
--- memory was wanting after the first so many settings, and those of them that match were reported
+-- memory ran out after the first `count` settings; those of them that match were given
 pub record ReportsSome (old new : Option (List (List ℕ × List ℕ))) (subtree : Option (List ℕ))
     (settings : List (List ℕ × List ℕ)) : Type 0 where
   pub count : ℕ

@@ -23,8 +23,8 @@ use Rattle.settings_core.specs.declared.runtime.RuntimeFault.{RuntimeFault}
 use Rattle.setting_name.specs.Match.{joined_text}
 use Rattle.setting_name.specs.Name.{IsName}
 
--- The commands that are due make what all of them would make. Each changes something, and what comes behind
--- is due where those before are done.
+-- The commands that are due lead to the same settings as all of them. Each changes something. What
+-- follows is due in the settings that those before it leave.
 pub record DueCommands (settings : Map) (commands : List Command) : Type 0 where
   pub same : all_applied settings (due settings commands) ≡ all_applied settings commands
   pub changes : (done : List Command) (at : Command) (left : List Command)
@@ -33,8 +33,8 @@ pub record DueCommands (settings : Map) (commands : List Command) : Type 0 where
       → due settings (commands ++ others)
       ≡ due settings commands ++ due (all_applied settings commands) others
 
--- One command is due, or none where the settings are such already; and it is the only one at which a call can
--- stop.
+-- One command is due, or none if the settings are such already; a call can stop at no
+-- other command.
 pub record OneCommand (settings : Map) (c : Command) : Type 0 where
   pub none : is_idle settings c ≡ true → due settings (c ∷ []) ≡ []
   pub one : is_idle settings c ≡ false → due settings (c ∷ []) ≡ c ∷ []
@@ -44,7 +44,7 @@ pub record OneCommand (settings : Map) (c : Command) : Type 0 where
 abbrev pub deliveries_at : ℕ → List Delivery → List Delivery
 deliveries_at i deliveries = filter (λ d. d.place == i) deliveries
 
--- a handler's state once it was offered these, in their order
+-- a handler's state after it was offered these, in their order
 abbrev pub offered_all : HandlerState → List Delivery → HandlerState
 offered_all h deliveries = fold (λ s d. offered s d.rest d.value) h deliveries
 
@@ -62,8 +62,8 @@ IsDelivered handlers deliveries i =
     → state_at (deliver_all handlers deliveries) i
     ≡ holds_all (state_at handlers i) (deliveries_at i deliveries)
 
--- the settings have this value for a rest of the handler's subtree, for whose name it is the best, and it
--- accepts the value
+-- the settings have this value for a rest of the handler's subtree, for whose name it is the best,
+-- and it accepts the value
 pub record IsFor (handlers : List Registered) (settings : Map) (place : ℕ) (rest value : List ℕ) :
     Type 0 where
   pub stored : IsStored settings (joined_text (get_or handlers place nobody).subtree rest) value
@@ -71,8 +71,8 @@ pub record IsFor (handlers : List Registered) (settings : Map) (place : ℕ) (re
       ≡ Some place
   pub accepted : accepts (state_at handlers place).kind value ≡ true
 
--- a handler that held nothing holds, after a load of all settings, just the stored values of the names whose
--- best handler it is, as far as it accepts them
+-- after a load of all settings, a handler that was empty holds exactly the stored values of the
+-- names whose best handler it is, as far as it accepts them
 abbrev pub HoldsStored : ℕ → List Registered → Map → ℕ → Type 0
 HoldsStored limit handlers settings place =
     IsSettings limit settings → place < length handlers → (state_at handlers place).held ≡ empty
@@ -81,11 +81,11 @@ HoldsStored limit handlers settings place =
     (state_at (deliver_all handlers (delivered (subtrees handlers) None (entries settings))) place).held
     rest ≡ Some value ↔ IsFor handlers settings place rest value
 
--- no loss that the device reports spells another record by chance
+-- the units before the last loss of the device spell no other record by chance
 abbrev pub HasNoChance : (Loss → Bool) → Device → Type 0
 HasNoChance chance d = (loss : Loss) → d.last_loss ≡ Some loss → chance loss ≡ false
 
--- a call that was cut then leaves the settings after the first of its commands
+-- then a call that was cut leaves the settings as the first so many of its commands make them
 abbrev pub LeavesPart : Room → (Loss → Bool) → (Command → ℕ → Map → Map → Type 0) → Device → Device → Map
     → Map → List Command → ℕ → Type 0
 LeavesPart room chance tears old new before after commands count =
@@ -94,8 +94,8 @@ LeavesPart room chance tears old new before after commands count =
 
 -- ---- lawful registries
 
--- What a handler that is new, a value of a lawful name, a load of settings, and commits make of a lawful
--- registry is lawful.
+-- A lawful registry stays lawful when a new handler is registered, when a handler takes a value of
+-- a lawful name, when settings are loaded, and when handlers are committed.
 pub record StaysLawful (limit : ℕ) (handlers : List Registered) : Type 0 where
   pub registers : (subtree : List ℕ) (kind : HandlerKind)
       → AreLawful limit (handlers ++ record { subtree = subtree; state = fresh kind } ∷ [])
@@ -107,7 +107,7 @@ pub record StaysLawful (limit : ℕ) (handlers : List Registered) : Type 0 where
       → AreLawful limit
       (deliver_all handlers (delivered (subtrees handlers) subtree (take count (entries settings))))
   pub commits : (subtree : Option (List ℕ)) → AreLawful limit (commit_all subtree handlers)
-  -- so however a load ends, and a set at run time
+  -- so it stays lawful however a load or a set at run time ends
   pub load_ends : (up : Bool) (after : List Registered) (old new : Option (List Give))
       (subtree : Option (List ℕ)) (settings : Map) (result : Result Loaded LoadFault)
       → IsSettings limit settings → LoadEnds up handlers after old new subtree (entries settings) result

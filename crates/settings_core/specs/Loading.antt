@@ -22,8 +22,8 @@ pub record Gives (before after : List Registered) (old new : Option (List Give))
   pub passed : loaded.passed + length (delivered (subtrees before) subtree settings)
       ≡ length (settings_under subtree settings)
 
--- Memory was wanting after the first so many settings: these were given and reported. The next one
--- may have been given, and was not reported.
+-- Memory ran out after the first `count` settings. These were given and reported. The next one may
+-- have been given, and was not reported.
 pub record GivesSome (before after : List Registered) (old new : Option (List Give))
     (subtree : Option (List ℕ)) (settings : List (List ℕ × List ℕ)) : Type 0 where
   pub count : ℕ
@@ -46,7 +46,7 @@ LoadEnds up before after old new subtree settings (Err NoMemory) =
 
 -- ---- one setting
 
--- counted by what became of it
+-- the counts after one setting more, by what became of it
 abbrev pub counted : Loaded → Offered → Loaded
 counted loaded Taken = record loaded { taken = loaded.taken + 1 }
 counted loaded Rejected = record loaded { rejected = loaded.rejected + 1 }
@@ -60,7 +60,7 @@ LoadOneEnds before after old new setting was loaded (Ok x) =
 LoadOneEnds before after old new setting was loaded (Err lack) =
     OfferEnds before after old new setting (Err lack)
 
--- and of any
+-- how the load of any setting ends
 pub data LoadNameEnds (before after : List Registered) (old new : Option (List Give))
     (subtree : Option (List ℕ)) (setting : List ℕ × List ℕ) (was loaded : Loaded)
     (result : Result (Unit {0}) Lack) : Type 0 where

@@ -1,4 +1,4 @@
--- How setting and getting a value at run time ends.
+-- How a set and a read at run time end.
 use Rattle.std.specs.Prelude.{◌≡◌, ℕ, true, false, List, [], get_or, Option, Some, None, option_map, Result, Ok, Err}
 use Rattle.std.specs.Option.{unwrap_or}
 use Rattle.std.specs.Borrow.{Bor}
@@ -18,13 +18,13 @@ pub record Takes (before after : List Registered) (setting : List ℕ × List �
   pub takes : is_taken before d ≡ true
   pub after_is : after ≡ deliver before d
 
--- it accepts it
+-- the best handler accepts the value
 pub record Accepts (before : List Registered) (setting : List ℕ × List ℕ) : Type 0 where
   pub d : Delivery
   pub is : delivery (subtrees before) setting ≡ Some d
   pub accepts : is_taken before d ≡ true
 
--- it does not accept it
+-- the best handler does not accept the value
 pub record Rejects (before : List Registered) (setting : List ℕ × List ℕ) : Type 0 where
   pub d : Delivery
   pub is : delivery (subtrees before) setting ≡ Some d

@@ -21,11 +21,11 @@ use Rattle.settings_core.specs.declared.writing.SaveFault.{SaveFault}
 use Rattle.settings_core.specs.Carrying.{CarryEndsOn, due_units, save_lost}
 use Rattle.settings_core.specs.Committing.{is_under}
 
--- a handler's pairs, each under its subtree joined with its rest, in byte order of the rests
+-- a handler's pairs, each by its full name, in byte order of the rests
 abbrev pub pairs_of : List ℕ → Held → List (List ℕ × List ℕ)
 pairs_of subtree held = map (λ pair. (joined_text subtree pair.0, pair.1)) (entries held)
 
--- those of each handler whose own subtree matches, in the order of registration
+-- the pairs of each handler whose own subtree matches, in the order of registration
 abbrev pub exported_of : Option (List ℕ) → Registered → List (List ℕ × List ℕ)
 exported_of subtree h = if is_under subtree h.subtree then pairs_of h.subtree h.state.held else []
 
@@ -40,14 +40,14 @@ AreSettings limit pairs = All (λ pair. IsName pair.0 × IsValue limit pair.1) p
 abbrev pub AreLawful : ℕ → List Registered → Type 0
 AreLawful limit handlers = All (λ h. AreSettings limit (pairs_of h.subtree h.state.held)) handlers
 
--- a count of pairs that has gone on by so many; it stops at 2^32 - 1
+-- a count of pairs with `more` added; it stays at 2^32 - 1
 abbrev pub more_pairs : ℕ → ℕ → ℕ
 more_pairs n more = n + min more (2 ^ 32 - 1 - n)
 
 -- ---- a part of a save
 
--- Commands were carried out on an area, by a backend that was up and of which this is known. So many pairs
--- were counted before, and so many now.
+-- Commands were carried out on an area by a backend that was up. The count of pairs was `was`
+-- before, and is `now` after.
 pub record CarriesOn {S T : Type 0} (mounted_on : S → Area) (stands : S → Geometry → List (List ℕ) → Type 0)
     (runs : S → Bool) (damage : Area → Geometry → List (List ℕ) → Option Damaged)
     (room : Area → Geometry → Room) (contents : Area → Geometry → List (List ℕ) → Map)

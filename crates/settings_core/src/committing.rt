@@ -6,8 +6,8 @@ ghost use Rattle.settings_core.specs.Committing.{is_under, commit_all};
 use crate::placed::PlacedHandlers;
 use setting_name::Name;
 
-/// Commits, in the order of registration, each handler whose own subtree matches the given one; all
-/// without one.
+/// Commits, in the order of registration, each handler whose own subtree matches the given one.
+/// With no subtree given, it commits all.
 pub fn commit<H: PlacedHandlers>(registry: &mut H, subtree: Option<&Name>)
     ensures { H.placed registry.new
         ≡ commit_all (option_map (λ name. name.now) subtree.entry) (H.placed registry.old) }
@@ -38,7 +38,7 @@ pub(crate) fn is_place_under<H: PlacedHandlers>(
     }
 }
 
-// Whether a name or a subtree matches the given one; each does where none is given.
+// Whether a name or a subtree matches the given one. If none is given, each matches.
 pub(crate) fn is_under(name: &Name, subtree: Option<&Name>) -> bool
     ensures { result ≡ is_under (option_map (λ name. name.now) subtree.entry) name.now }
 {

@@ -16,12 +16,12 @@ use setting_name::Name;
 use std::alloc::Global;
 use std::sync::ledger::Ledger;
 
-/// Is given each setting of a load without handlers.
+/// Receives each setting of a load without handlers.
 pub trait Each {
-    /// What it was given, in order, where it says so.
+    /// The settings that it received, in order; `None` if the implementor does not say.
     ghost had: { Self → Option (List (List ℕ × List ℕ)) };
 
-    /// A name has a value.
+    /// Receives a name and its value.
     fn have(&mut self, alloc: Global, name: &Name, value: ValueView<'_>) -> Result<(), NoMemory>
         ensures ok { OnOk result
             (had self.new ≡ reported_more (had self.old) ((name.now, value.entry.bytes.now) ∷ [])) }
@@ -29,11 +29,12 @@ pub trait Each {
 }
 
 impl<K: Backend> Settings<K> {
-    /// Gives each name that matches the subtree with its value, in byte order of the names, and how
-    /// many they are.
+    /// Gives `each` every setting whose name matches the subtree, in byte order of the names, and
+    /// answers how many there are. With no subtree given, every name matches.
     ///
     /// # Errors
-    /// `Off` exactly where an earlier call answered that power was lost; `NoMemory`.
+    /// `Off` exactly if an earlier call answered that power was lost. `NoMemory`: `each` has
+    /// received the settings up to some name.
     pub fn load_direct<F: Flash, L: Ledger, E: Each>(
         &self,
         alloc: Global,
@@ -75,7 +76,7 @@ impl<K: Backend> Settings<K> {
     }
 }
 
-// Gives one name, if it matches, and counts it.
+// Gives one setting, if its name matches, and counts it.
 fn report_name<K: Backend, F: Flash, L: Ledger, E: Each>(
     alloc: Global,
     backend: &K,

@@ -14,36 +14,36 @@ ghost use Rattle.settings_core.specs.Saving.{AreLawful};
 
 use backend_api::Backend;
 
-/// The commands that are due make what all of them would make, and each of them changes something.
+/// The commands that are due lead to the same settings as all of them, and each changes something.
 pub fn due_commands()
     ensures commands { (settings : Map) (commands : List Command) → DueCommands settings commands }
     ensures one { (settings : Map) (c : Command) → OneCommand settings c }
 {}
 
-/// A call that was cut leaves the settings after the first of its commands, but where what was put
-/// spells another record by chance.
+/// A call that was cut leaves the settings as the first so many of its commands make them, unless
+/// the units before the loss spell another record by chance.
 pub fn cut_commands<K: Backend>()
     ensures { (area : area_type) (geometry : Geometry) (room : Room) (chance : Loss → Bool)
         (old new : Device) (before after : Map) (commands : List Command) (count : ℕ)
         → LeavesPart room chance (K.tears area geometry) old new before after commands count }
 {}
 
-/// After a load each handler holds its earlier values, overlaid in order with those of its
-/// deliveries that it accepts.
+/// After a load, each handler holds its earlier values, overlaid in order with the deliveries
+/// that it accepts.
 pub fn each_delivery()
     ensures { (handlers : List Registered) (deliveries : List Delivery) (i : ℕ)
         → IsDelivered handlers deliveries i }
 {}
 
-/// A handler that held nothing holds, after a load of all settings, just the stored values of the
+/// After a load of all settings, a handler that was empty holds exactly the stored values of the
 /// names whose best handler it is, as far as it accepts them.
 pub fn stored_values()
     ensures { (limit : ℕ) (handlers : List Registered) (settings : Map) (place : ℕ)
         → HoldsStored limit handlers settings place }
 {}
 
-/// The handlers of a registry hold lawful settings as long as they were new when they were
-/// registered, and hold what loads and sets at run time gave them.
+/// The handlers of a registry hold lawful settings, as long as each was new when it was registered
+/// and took values only from loads and sets at run time.
 pub fn lawful_registry()
     ensures { (limit : ℕ) (handlers : List Registered) → AreLawful limit handlers
         → StaysLawful limit handlers }

@@ -1,5 +1,5 @@
-//! The settings runtime: load, save, delete and commit settings of one store, with the handlers of
-//! the application.
+//! The settings runtime: it loads, saves, deletes and commits the settings of one store, with the
+//! handlers of the application.
 #![tactic(auto)]
 
 mod committing;

@@ -17,28 +17,34 @@ use setting_name::Name;
 use std::alloc::Global;
 use std::sync::ledger::Ledger;
 
-/// How many stored values were taken, rejected, and passed for want of a handler.
+/// The counts of a load, in stored values whose names match the subtree.
 #[derive(Clone, Copy, Debug, PartialEq, Eq)]
 pub struct Loaded {
+    /// How many values their handlers accepted.
     pub taken: u32,
+    /// How many values their handlers did not accept.
     pub rejected: u32,
+    /// How many names no handler's subtree matches.
     pub passed: u32,
 }
 
-/// Why a load did not end.
+/// Why a load failed.
 #[derive(Clone, Copy, Debug, PartialEq, Eq)]
 pub enum LoadFault {
     /// An earlier call answered that power was lost.
     Off,
+    /// There was not enough memory.
     NoMemory,
 }
 
 impl<K: Backend> Settings<K> {
     /// Gives each stored value whose name matches the subtree to the best handler for it, in byte
-    /// order of the names, and commits.
+    /// order of the names. Then it commits the handlers under the subtree. With no subtree given,
+    /// every name and handler matches.
     ///
     /// # Errors
-    /// `Off` exactly where the backend is down; `NoMemory`.
+    /// `Off` exactly if the backend is down; nothing changes then. `NoMemory`: the handlers have
+    /// taken the values up to some name, and none was committed.
     pub fn load<F: Flash, L: Ledger, R: Report>(
         &self,
         alloc: Global,

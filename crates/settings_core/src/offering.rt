@@ -1,4 +1,4 @@
-// Giving one stored value to its handler.
+// The delivery of one stored value to its handler.
 ghost use Rattle.std.specs.Prelude.{◌≡◌, ◌<◌, List, [], length, get_or};
 ghost use Rattle.std.specs.Option.{unwrap_or};
 ghost use Rattle.setting_name.specs.Match.{matched_rest};
@@ -17,7 +17,7 @@ use std::alloc::Global;
 pub(crate) enum Offered {
     Taken,
     Rejected,
-    // There is no handler for its name.
+    // No handler's subtree matches its name.
     Passed,
 }
 
@@ -61,7 +61,7 @@ pub(crate) fn rest_of<'a>(name: &'a Name, subtree: &Name) -> &'a [u8]
     Name::matches(name, subtree).unwrap_or(&[])
 }
 
-// Whether the handler took the value.
+// Gives a value to the handler at a place. The answer is whether it took it.
 pub(crate) fn deliver_at<H: PlacedHandlers>(
     alloc: Global,
     registry: &mut H,

@@ -7,8 +7,8 @@ use handlers::{Handler, Registry, SetRefusal, ValueView};
 use setting_name::Name;
 use std::alloc::Global;
 
-/// Handlers with their subtrees, each at a place, as a registry has them. What is generic over it
-/// makes no boxes of its own.
+/// Handlers with their subtrees, each at a place, as a registry has them. Code that is generic over
+/// it moves no boxes.
 pub trait PlacedHandlers {
     /// The handlers, by their places.
     ghost placed: { Self → List Registered };
@@ -17,16 +17,17 @@ pub trait PlacedHandlers {
     fn len(&self) -> usize
         ensures { result ≡ length (placed self.now) };
 
-    /// The place of the handler whose subtree matches the name with the most parts.
+    /// The place of the handler whose subtree matches the name with the most parts; `None`
+    /// if none matches.
     fn best(&self, name: &Name) -> Option<usize>
         ensures { result ≡ best (subtrees (placed self.now)) name.now };
 
-    /// The subtree of the handler at a place.
+    /// The subtree of the handler at a place; `None` if the place is past the last one.
     fn subtree(&self, i: usize) -> Option<&Name>
         ensures { option_map (λ name. name.now) result
             ≡ option_map (λ h. h.subtree) (slice_get (placed self.now) i) };
 
-    /// Gives the handler at a place a value.
+    /// Gives the handler at a place a value for a rest.
     ///
     /// # Errors
     /// Those of `Handler::set`; nothing changes then.
@@ -47,8 +48,8 @@ pub trait PlacedHandlers {
         ensures { placed self.new ≡ commit_at (placed self.old) i };
 }
 
-// Each method that changes handlers repeats its `requires`: callers of generic functions in other
-// crates are then not said to hide boxes.
+// Each method that changes handlers repeats its `requires`. Without them the checker says that
+// callers in other crates hide boxes.
 impl PlacedHandlers for Registry {
     ghost placed = { λ registry. registered (λ b. (Handler-box b).state b.value) registry };
 

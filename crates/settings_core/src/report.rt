@@ -1,4 +1,4 @@
-// What is said of a load.
+// Reports of a load.
 ghost use Rattle.std.specs.Prelude.{◌≡◌, List, [], ◌∷◌, Option, OnOk, OnErr};
 ghost use Rattle.settings_core.specs.Deliveries.{Give};
 ghost use Rattle.settings_core.specs.Reported.{reported_more};
@@ -8,12 +8,13 @@ use handlers::ValueView;
 use setting_name::Name;
 use std::alloc::Global;
 
-/// Is given each value that a load gives to a handler.
+/// Receives a report of each value that a load gives to a handler.
 pub trait Report {
-    /// What it was given, in order, where it says so.
+    /// The reports that it received, in order; `None` if the implementor does not say.
     ghost gives: { Self → Option (List Give) };
 
-    /// A value was given to the handler of the subtree.
+    /// Reports that a value was given to the handler of the subtree, and whether the
+    /// handler took it.
     fn given(
         &mut self,
         alloc: Global,

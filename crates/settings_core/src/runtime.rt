@@ -1,4 +1,4 @@
-// Setting and getting values of handlers at run time.
+// Sets and reads of handlers' values at run time.
 ghost use Rattle.std.specs.Prelude.{◌≡◌};
 ghost use Rattle.handlers.specs.Registry.{registered};
 ghost use Rattle.settings_core.specs.Runtime.{RuntimeSetEnds, RuntimeGetEnds};
@@ -17,6 +17,7 @@ pub enum RuntimeFault {
     NoHandler,
     /// The handler does not accept the value.
     Rejected,
+    /// There was not enough memory.
     NoMemory,
 }
 
@@ -24,11 +25,11 @@ pub enum RuntimeFault {
 #[derive(Clone, Copy, Debug, PartialEq, Eq)]
 pub struct NoHandler;
 
-/// Gives a value to the best handler for the name. Nothing is stored or committed.
+/// Gives a value to the best handler for the name. It stores and commits nothing.
 ///
 /// # Errors
-/// `NoHandler` exactly where no subtree matches the name; `Rejected` exactly where the handler does not accept the value;
-/// `NoMemory` only where it does. Nothing changes then.
+/// `NoHandler` exactly if no subtree matches the name; `Rejected` exactly if the best handler does
+/// not accept the value; `NoMemory` only if it does. Nothing changes then.
 pub fn runtime_set<H: PlacedHandlers>(
     alloc: Global,
     registry: &mut H,
@@ -50,10 +51,10 @@ pub fn runtime_set<H: PlacedHandlers>(
     }
 }
 
-/// What the best handler for the name holds for it.
+/// The value that the best handler for the name holds for it; `None` if it holds none.
 ///
 /// # Errors
-/// `NoHandler` exactly where no subtree matches the name.
+/// `NoHandler` exactly if no subtree matches the name.
 pub fn runtime_get<'a>(registry: &'a Registry, name: &Name) -> Result<Option<&'a [u8]>, NoHandler>
     ensures { RuntimeGetEnds (registered state registry.now) name.now result }
 {

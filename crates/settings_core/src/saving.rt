@@ -25,19 +25,20 @@ use handlers::{Handler, Registry};
 use setting_name::Name;
 use std::sync::ledger::Ledger;
 
-/// What a save stored, and how it ended.
+/// How many pairs a save stored, and how it ended.
 #[derive(Clone, Copy, Debug, PartialEq, Eq)]
 pub struct Saved {
-    /// How many pairs were stored that were not stored already. It stands still at 2^32 - 1.
+    /// How many pairs were stored whose value was not stored already. The count stays at 2^32 - 1.
     pub pairs: u32,
+    /// How it ended: at the last pair, or at the first that was refused.
     pub end: Result<(), SaveFault>,
 }
 
 impl<K: Backend> Settings<K> {
-    /// Stores the pairs of each handler whose own subtree matches the given one, all without one,
-    /// in the order of registration and then in byte order of the rests. It ends at the first
-    /// refusal. Whatever the result, it spends at most the units and erases of one set for each
-    /// pair that differs (`due_units`).
+    /// Stores the pairs of each handler whose own subtree matches the given one, in the order of
+    /// registration and then in byte order of the rests. With no subtree given, it stores those of
+    /// all. It ends at the first error; the pairs before that one are stored. Whatever the result,
+    /// it spends at most the units and erases of one set for each pair that differs (`due_units`).
     pub fn save<F: Flash, L: Ledger>(
         &mut self,
         flash: &mut F,

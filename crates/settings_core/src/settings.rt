@@ -1,4 +1,4 @@
-// Settings of one backend: mounting them, and reading one.
+// The settings of one backend: the mount, and reads.
 ghost use Rattle.std.specs.Prelude.{◌≡◌, ◌∷◌, [], not, true, None, IfOk};
 ghost use Rattle.flash_map.specs.Area.{geometry_of};
 ghost use Rattle.flash_map.specs.Faults.{mount_lost};
@@ -21,15 +21,15 @@ use std::sync::ledger::Ledger;
 #[derive(Clone, Copy, Debug, PartialEq, Eq)]
 pub struct Off;
 
-/// Settings of one backend.
+/// The settings of one backend.
 #[derive(Drop)]
 pub struct Settings<K: Backend> {
     pub(crate) backend: K,
 }
 
 impl<K: Backend> Settings<K> {
-    /// Mounts a backend on an area. The map stays, also where power is lost. Units and erases are
-    /// those of `Backend::mount`.
+    /// Mounts a backend on an area. The map stays, even if power is lost. It spends at most the
+    /// units and erases of `Backend::mount`.
     ///
     /// # Errors
     /// Those of `Backend::mount`.
@@ -65,7 +65,7 @@ impl<K: Backend> Settings<K> {
         }
     }
 
-    /// Settings of a backend that is mounted already.
+    /// The settings of a backend that is mounted and up.
     pub fn of(backend: K) -> Settings<K>
         requires up { K.runs backend ≡ true }
         ensures { result.backend ≡ backend }
@@ -73,10 +73,10 @@ impl<K: Backend> Settings<K> {
         Settings { backend }
     }
 
-    /// The value of a name, lent by the flash.
+    /// The value of a name, borrowed from the flash; `None` if it has none.
     ///
     /// # Errors
-    /// `Off` exactly where an earlier call answered that power was lost.
+    /// `Off` exactly if an earlier call answered that power was lost.
     pub fn get<'a, F: Flash, L: Ledger>(
         &self,
         flash: &'a F,

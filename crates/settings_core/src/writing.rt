@@ -1,4 +1,4 @@
-// Storing and deleting one setting.
+// Sets and deletes of one setting.
 ghost use Rattle.std.specs.Prelude.{◌≡◌, ℕ, ◌<◌, ◌≤◌, ◌∷◌, [], true, false, None, length, is_err};
 ghost use Rattle.flash_map.specs.Area.{geometry_of, value_limit};
 ghost use Rattle.flash_map.specs.Lawful.{IsLawfulFor};
@@ -20,8 +20,8 @@ use std::sync::ledger::Ledger;
 pub enum SaveFault {
     /// An earlier call answered that power was lost.
     Off,
-    /// There is no room by the backend's numbers: the bytes that the put needs, and those that all
-    /// settings cost.
+    /// There is no room by the backend's `Room`. `need` is what the put needs, `live` what all
+    /// settings cost, both in bytes.
     NoSpace { need: u64, live: u64 },
     /// The name would be one too many.
     TooManyNames,
@@ -39,10 +39,12 @@ pub enum DeleteFault {
 }
 
 impl<K: Backend> Settings<K> {
-    /// Gives a name a value; the empty one takes its value away.
+    /// Gives a name a value. The empty value deletes the name. Whatever the result, it spends at
+    /// most the units and erases of one command (`command_units`).
     ///
     /// # Errors
-    /// `Off` exactly where an earlier call answered that power was lost; those of `Backend::set`.
+    /// `Off` exactly if an earlier call answered that power was lost; nothing changes then. The
+    /// others are those of `Backend::set`; `PowerLost` takes the backend down.
     pub fn save_one<F: Flash, L: Ledger>(
         &mut self,
         flash: &mut F,
@@ -85,10 +87,12 @@ impl<K: Backend> Settings<K> {
         }
     }
 
-    /// Takes a name's value away.
+    /// Deletes a name. Whatever the result, it spends at most the units and erases of one command
+    /// (`command_units`).
     ///
     /// # Errors
-    /// `Off` exactly where an earlier call answered that power was lost; `PowerLost`.
+    /// `Off` exactly if an earlier call answered that power was lost; nothing changes then.
+    /// `PowerLost` takes the backend down.
     pub fn delete<F: Flash, L: Ledger>(
         &mut self,
         flash: &mut F,
@@ -127,8 +131,8 @@ impl<K: Backend> Settings<K> {
     }
 }
 
-// Gives a name a value that is not empty, by a backend that is up. The backend leaves an equal
-// value as it is, so that the name is looked up once.
+// Gives a name a value that is not empty, on a backend that is up. The backend itself leaves an
+// equal value as it is, so the name is looked up only once.
 fn store<K: Backend, F: Flash, L: Ledger>(
     backend: &mut K,
     flash: &mut F,
@@ -169,8 +173,8 @@ fn store<K: Backend, F: Flash, L: Ledger>(
     }
 }
 
-// Gives a name a value that is not empty, by a backend that is up, and says whether it had another
-// one before, or none.
+// Gives a name a value that is not empty, on a backend that is up. The answer is whether this
+// changed the settings.
 pub(crate) fn put<K: Backend, F: Flash, L: Ledger>(
     backend: &mut K,
     flash: &mut F,
@@ -237,7 +241,7 @@ fn fault_of(fault: SetFault) -> SaveFault
     }
 }
 
-// Takes a name's value away, by a backend that is up.
+// Deletes a name, on a backend that is up.
 fn remove<K: Backend, F: Flash, L: Ledger>(
     backend: &mut K,
     flash: &mut F,

@@ -1,4 +1,4 @@
-// Losses of power in settings over each store: what the next mount spends, and what is left.
+// Power losses in settings over each store: what the next mount spends, and what is left.
 ghost use Rattle.std.specs.Prelude.{◌≡◌, OnOk};
 ghost use Rattle.flash_map.specs.Area.{geometry_of};
 ghost use Rattle.flash_map.specs.Lawful.{IsLawfulFor, HasKind, HasUnit};
@@ -55,7 +55,7 @@ fn loses<B: Bench, L: Ledger, R: Abort>(
     Ok(())
 }
 
-// The next mount spends so many units. What it finds.
+// The next mount spends so many units. The answer is what it finds.
 fn finds<B: Bench, L: Ledger, R: Abort>(
     rt: &R,
     alloc: Global,

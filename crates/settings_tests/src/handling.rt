@@ -119,8 +119,8 @@ fn registry(rt: HostRuntime) -> Result<(), Fail> {
     Ok(())
 }
 
-// The handler at a place takes a level, holds it and counts a commit, and the one before it holds
-// nothing.
+// The handler at a place takes a level, holds it and counts a commit; the one before it
+// holds nothing.
 #[test]
 fn second_of_two(rt: HostRuntime) -> Result<(), Fail> {
     let alloc = rt.alloc();

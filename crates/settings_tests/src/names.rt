@@ -32,7 +32,7 @@ fn texts_that_are_names(rt: HostRuntime) {
     }
 }
 
-// A name, and what is left of it behind `bt`.
+// A name, and what is left of it after `bt`.
 const MATCHES: [(&[u8], Option<&[u8]>); 5] = [
     (b"bt", Some(b"")),
     (b"bt/x", Some(b"x")),

@@ -1,14 +1,14 @@
 // What another reading of the same rules says of calls on two sectors of 512 bytes.
 
-// A name; the byte and the length of the value that it is given, a delete where the length is 0;
-// the units that are spent; need and live where there is no space.
+// A name; the byte and the length of the value that it is given, a delete if the length is 0; the
+// units that are spent; need and live if there is no space.
 pub(crate) type Call = (&'static [u8], u8, usize, u64, Option<(u64, u64)>);
 
 // A name, and the byte and the length of its value.
 pub(crate) type Left = (&'static [u8], u8, usize);
 
-// Calls on an area that is erased but for these bytes from a place on, and the names that are left,
-// in order.
+// Calls on an area that is erased except for these bytes from an offset on, and the names that are
+// left, in order.
 pub(crate) struct Case {
     pub(crate) at: usize,
     pub(crate) bytes: &'static [u8],
@@ -16,10 +16,10 @@ pub(crate) struct Case {
     pub(crate) left: &'static [Left],
 }
 
-// Behind these calls on a blank area power is lost in a set: after each number of its units from
-// the first to the second, each time on a new area, and the next mount spends so many then. Whether
-// such a loss spells another record by chance, and the value that the name has then, none where it
-// is empty.
+// After these calls on a blank area power is lost in a set: after each number of its units from
+// the first to the second, each time on a new area. The next mount then spends so many units.
+// Then whether such a loss spells another record by chance, and the value that the name has; none
+// if it is empty.
 pub(crate) struct Cut {
     pub(crate) calls: &'static [Call],
     pub(crate) name: &'static [u8],
@@ -70,7 +70,7 @@ pub(crate) static NVS: [Case; 6] = [
         ],
         left: &[(b"a", 0x55, 100)],
     },
-    // neither the value that was deleted nor its delete marks are copied
+    // neither the deleted value nor its deletes are copied
     Case {
         at: 0,
         bytes: b"",
@@ -124,8 +124,8 @@ pub(crate) static NVS_CUTS: [Cut; 3] = [
         chance: false,
         left: b"",
     },
-    // in the set that closes a sector and collects the other: inside the close entry, in the
-    // copies and gc-done, before the erase, and behind it
+    // in the set that closes a sector and collects the other: inside the close entry, in the copies
+    // and gc-done, before the erase, and after it
     Cut {
         calls: &[
             (b"a", 0x11, 100, 33, None),
@@ -194,7 +194,7 @@ pub(crate) static ZMS_CUTS: [Cut; 2] = [
         left: b"",
     },
     // in the fill and the close, before the new sector is open, in the copies, before the victim is
-    // emptied, and behind that
+    // emptied, and after that
     Cut {
         calls: &[
             (b"a", 0x11, 100, 10, None),
@@ -216,7 +216,7 @@ pub(crate) static ZMS_CUTS: [Cut; 2] = [
     },
 ];
 
-// On a bank that is erased.
+// On an erasing bank.
 pub(crate) static ZMS_ERASING: [Case; 7] = [
     Case {
         at: 0,
@@ -265,7 +265,7 @@ pub(crate) static ZMS_ERASING: [Case; 7] = [
         ],
         left: &[(b"a", 0x44, 100)],
     },
-    // it has no entry, and a unit that was put: it is erased
+    // it has no entry, but a unit that was put: it is erased
     Case {
         at: 960,
         bytes: b"\0\0\0\0\0\0\0\0\0\0\0\0\0\0\0\0\
@@ -280,8 +280,8 @@ pub(crate) static ZMS_ERASING: [Case; 7] = [
         ],
         left: &[(b"a", 0x44, 100)],
     },
-    // the open sector has no entry, and a unit right under them: there is no room, and a close with
-    // a collection makes some
+    // the open sector has no entry, but a unit right under the slots: there is no room, and a close
+    // with a collection makes some
     Case {
         at: 448,
         bytes: b"\0\0\0\0\0\0\0\0\0\0\0\0\0\0\0\0\
@@ -291,7 +291,7 @@ pub(crate) static ZMS_ERASING: [Case; 7] = [
         calls: &[(b"a", 1, 1, 7, None)],
         left: &[(b"a", 1, 1)],
     },
-    // what was put under no empty entry is no entry, and it is erased before the first one
+    // what was put without an empty entry is no entry; it is erased before the first one
     Case {
         at: 464,
         bytes: b"\xCA\x01\x01\0\x20\x29\0\x80\x61\0\0\0\0\0\0\0",
@@ -445,7 +445,7 @@ pub(crate) static FCB_LONGER: [Case; 1] = [Case {
 // An id and the bytes of its item.
 pub(crate) type Item = (u32, &'static [u8]);
 
-// A name and its value, none where it is empty.
+// A name and its value; none if it is empty.
 pub(crate) type Reported = (&'static [u8], &'static [u8]);
 
 // Over NVS: a count of 2, the setting `a`, a name with no value, and a pair beyond the count.

@@ -21,7 +21,7 @@ use std::process::Abort;
 use std::sync::ledger::{Blank, Ledger};
 use std::test::Fail;
 
-// Takes so many deliveries, and has no memory for the next.
+// Takes so many deliveries, and then runs out of memory.
 #[derive(Drop)]
 struct Tally {
     left: u32,
@@ -168,7 +168,7 @@ fn describes<K: Backend, B: Bench, L: Ledger>(
 
 // ---- handlers
 
-// What a new handler holds is known once it is boxed.
+// Hands on what a new handler holds when it is boxed.
 fn is_new(_handler: &Box<dyn Handler>, _kind: HandlerKind)
     requires { state _handler.now ≡ fresh _kind }
     ensures { state _handler.now ≡ fresh _kind }
@@ -202,7 +202,7 @@ fn puts<K: Backend>(
 
 // ---- the rows
 
-// Six names, of which one is under no subtree and one has a value that its handler rejects.
+// Six names. One is under no subtree, and one has a value that its handler rejects.
 fn fills<K: Backend, B: Bench, L: Ledger, R: Abort>(
     rt: &R,
     settings: &mut Settings<K>,
@@ -233,7 +233,7 @@ fn fills<K: Backend, B: Bench, L: Ledger, R: Abort>(
     Ok(())
 }
 
-// Memory is wanting behind two deliveries, and then nothing is committed; then a load of all.
+// Memory runs out after two deliveries, and then nothing is committed; then a load of all.
 fn fills_handlers<K: Backend, B: Bench, L: Ledger, R: Abort>(
     rt: &R,
     alloc: Global,
@@ -294,7 +294,7 @@ fn runs<K: Backend, R: Abort>(
     Ok(())
 }
 
-// A save stores the one value that is new, and a second one nothing; a delete takes it away.
+// A save stores the one value that is new, a second one stores nothing, and a delete deletes it.
 fn stores_what_is_new<K: Backend, B: Bench, L: Ledger, R: Abort>(
     rt: &R,
     settings: &mut Settings<K>,
@@ -362,8 +362,8 @@ fn rows<K: Backend, B: Bench, L: Ledger, R: Abort>(
     stores_what_is_new(rt, settings, bench, registry, steps)
 }
 
-// The rows over a store with nothing in it, and then commits of all handlers, and of those under a
-// subtree.
+// The rows over a store with nothing in it, and then commits of all handlers, and of those
+// under a subtree.
 fn over_a_store<K: Backend, B: Bench, L: Ledger, R: Abort>(
     rt: &R,
     alloc: Global,

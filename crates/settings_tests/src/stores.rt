@@ -26,7 +26,7 @@ use std::process::Abort;
 use std::sync::ledger::Ledger;
 use std::test::Fail;
 
-// Two sectors of 512 bytes that are erased but for these bytes from a place on.
+// Two sectors of 512 bytes that are erased except for these bytes from an offset on.
 pub(crate) fn image(alloc: Global, at: usize, bytes: &[u8]) -> Result<Vec<u8>, AllocError>
     ensures { IfOk result (λ image. vec_len image ≡ 1024) }
 {
@@ -115,7 +115,7 @@ pub(crate) fn put<B: Bench, L: Ledger>(
     backend.set(bench, name, value, steps)
 }
 
-// Gives a name this value; need and live where there is no space.
+// Gives a name this value. Returns need and live if there is no space.
 fn set<B: Bench, L: Ledger>(
     backend: &mut AnyBackend,
     bench: &mut B,
@@ -137,7 +137,7 @@ fn set<B: Bench, L: Ledger>(
     }
 }
 
-// Takes a name's value away.
+// Deletes a name.
 fn delete<B: Bench, L: Ledger>(
     backend: &mut AnyBackend,
     bench: &mut B,
@@ -152,7 +152,7 @@ fn delete<B: Bench, L: Ledger>(
     Ok(())
 }
 
-// Gives a name so many bytes, or takes its value away where there are none.
+// Gives a name so many bytes, or deletes it if there are none.
 fn carry_out<B: Bench, L: Ledger>(
     backend: &mut AnyBackend,
     bench: &mut B,
@@ -218,7 +218,7 @@ fn shows<B: Bench, L: Ledger, R: Abort>(
     Ok(())
 }
 
-// A backend on an area, behind these calls.
+// A backend on an area, after these calls.
 pub(crate) fn carried<B: Bench, L: Ledger, R: Abort>(
     rt: &R,
     alloc: Global,
@@ -282,8 +282,8 @@ fn of_role<B: Bench, L: Ledger, R: Abort>(
     Ok(())
 }
 
-// A name that was never set, on an area where `a` has so many bytes: that is reported with no view of
-// the flash.
+// A name that was never set, on an area where `a` has so many bytes, is reported absent with no
+// view of the flash.
 pub(crate) fn is_absent<B: Views, L: Ledger, R: Abort>(
     rt: &R,
     alloc: Global,
@@ -310,7 +310,7 @@ pub(crate) fn is_absent<B: Views, L: Ledger, R: Abort>(
     Ok(())
 }
 
-// Puts these items, whatever they are to settings.
+// Puts these items, whether they are settings or not.
 fn put_items<S: ItemStore, B: Bench, L: Ledger>(
     alloc: Global,
     bench: &mut B,

@@ -8,14 +8,15 @@ mod numbers;
 
 pub use numbers::read_number;
 
-// Where the first separator stands.
+// Where the first separator stands, if there is one.
 fn first_at(text: &[u8], separator: u8) -> Option<usize>
     ensures { result ≡ position (λ b. b == separator) text.now }
 {
     text.iter().position(|b| *b == separator)
 }
 
-/// The first part, and what follows the separator behind it; none where no separator follows.
+/// Cuts the text at its first separator: the part before it, and the text behind it. The second is
+/// `None` if there is no separator.
 pub fn cut_at(text: &[u8], separator: u8) -> (&[u8], Option<&[u8]>)
     ensures first { parts separator text.now ≡ result.0.now ∷ parts_of separator result.1 }
     ensures shorter { IfSome result.1 (λ rest. length rest.now < length text.now) }
@@ -30,7 +31,7 @@ pub fn cut_at(text: &[u8], separator: u8) -> (&[u8], Option<&[u8]>)
     }
 }
 
-/// The one part that is left; none where there is none or more than one.
+/// The only part that is left; `None` if there is no part or more than one.
 pub fn one_part(rest: Option<&[u8]>, separator: u8) -> Option<&[u8]>
     ensures { MatchOption result (length (parts_of separator rest.entry) ≢ 1)
         (λ part. parts_of separator rest.entry ≡ part.now ∷ []) }

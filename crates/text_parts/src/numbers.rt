@@ -5,11 +5,11 @@ ghost use Rattle.text_parts.specs.Numbers.{IsNoNumber};
 
 use std::alloc::{AllocError, Global};
 
-/// The number below the limit that the word is, in decimal without a sign or leading zeros; none
-/// where it is no such number.
+/// The number that the word spells in decimal, without a sign or leading zeros; `None` if it spells
+/// no such number below the limit.
 ///
 /// # Errors
-/// Want of memory alone.
+/// Out of memory, and nothing else.
 pub fn read_number(alloc: Global, word: &[u8], limit: u64) -> Result<Option<u64>, AllocError>
     ensures { IfOk result
         (λ found. MatchOption found (IsNoNumber limit word.now)

@@ -1,4 +1,4 @@
--- The unit that a guard takes, as the sector reports it before the step.
+-- The unit that a guard takes, as the sector shows it before the step.
 use Rattle.std.proofs.Common.{◌≡◌, ℕ, ◌+◌, ◌-◌, ◌≤◌, Bool, cond, leb, List, length, Option, Some, refl, sym, ap, ◌∙◌, inl, inr, arith}
 use Rattle.std.proofs.lemmas.Bool.{cases_Bool, cond-true, cond-false}
 use Rattle.flash_sim.specs.Device.{overwritten, Device}
@@ -62,7 +62,7 @@ second_unit kind b one cycle long is first =
     units_same kind (Some cycle) (Some (next_cycle (cycle_of b))) 2 2 b one (ap (λ (k : ℕ). Some k) is) refl
     (ap (λ (c : List ℕ). slot_of c 2) first ∙ covers-lower 1 2 b (guarded kind cycle 1 b) (covers-guarded kind cycle 1 b (omega arith)) (omega arith) (omega arith))
 
--- the guard under the first entry of a sector that was emptied, as the sector reports it before
+-- the guard under the first entry of a sector that was emptied, as the sector shows it before
 pub emptied_guard : (kind : Kind) (b e : List ℕ) → Empties kind b e → guard_units kind (cycle_of e) (length (valid_slots e) + 2 + 1) e ≡ first_guard kind b
 emptied_guard Erasing b e empties = refl
 emptied_guard Rewritable b e empties =

@@ -24,7 +24,7 @@ kind_on d area = (geometry_of d area).kind
 abbrev pub HasSlot : Device → Area → ℕ → Type 0
 HasSlot d area slot = (slot + 1) * 16 ≤ sector_size d area
 
--- the slot can be programmed: where the bank is one that is erased, it is erased
+-- the slot can be programmed: on an erasing bank it is erased
 abbrev pub CanPut : Device → Area → ℕ → ℕ → Type 0
 CanPut d area sector slot =
     kind_on d area ≡ Erasing → is_erased (slot_of (sector_bytes d area sector) slot).bytes ≡ true

@@ -1,4 +1,5 @@
--- Entries, and their sixteen bytes. An entry with the id FFFFFFFF is a special one and holds no value.
+-- Entries, and their sixteen bytes. An entry with the id FFFFFFFF is a special one and holds no
+-- value.
 use Rattle.std.specs.Prelude.{ℕ, ◌-◌, Bool, ◌&&◌, List, ◌∷◌, ◌++◌, length, nat_le, take, drop, replicate, slice_range, slice_index, Option, Some, None, ◌==◌, if◌then◌else◌}
 use Rattle.std.specs.List.{list_all}
 use Rattle.std.specs.Int.{w16, w32, to_le_bytes, from_le_bytes}
@@ -9,9 +10,11 @@ use Rattle.zms_cycle.specs.declared.entry.ZEntry.{ZEntry}
 abbrev pub fields : ZEntry → List ℕ
 fields e = e.cycle ∷ to_le_bytes w16 e.len ++ to_le_bytes w32 e.id ++ e.tail
 
+-- the sixteen bytes of an entry: the CRC of its fields, and these
 unfoldable pub encoded : ZEntry → List ℕ
 encoded e = crc 0xFF (fields e) ∷ fields e
 
+-- what these bytes say as an entry, whether the CRC matches or not
 abbrev pub entry_of : List ℕ → ZEntry
 entry_of bytes = record {
   cycle = slice_index bytes 1;
@@ -20,11 +23,11 @@ entry_of bytes = record {
   tail = slice_range bytes 8 16;
 }
 
--- the entry in sixteen bytes, where its CRC matches
+-- the entry in sixteen bytes, if its CRC matches
 unfoldable pub decoded : List ℕ → Option ZEntry
 decoded bytes = if crc 0xFF (drop 1 bytes) == slice_index bytes 0 then Some (entry_of bytes) else None
 
--- never checks: the CRC of 15 bytes 00 is 90
+-- the fill unit, which never passes as an entry: the CRC of 15 bytes 00 is 90
 unfoldable pub fill : List ℕ
 fill = 0x6F ∷ replicate 15 0
 
@@ -37,7 +40,7 @@ offset_of e = from_le_bytes w32 (take 4 e.tail)
 abbrev pub is_special : ZEntry → Bool
 is_special e = e.id == 0xFFFFFFFF
 
--- what distinguishes close and gc-done
+-- what distinguishes close from gc-done
 abbrev pub mark_of : ZEntry → ℕ
 mark_of e = from_le_bytes w32 (drop 4 e.tail)
 
@@ -50,6 +53,7 @@ is_close e = is_special e && (e.len == 0) && (mark_of e == 1)
 unfoldable pub is_done : ZEntry → Bool
 is_done e = is_special e && (e.len == 0) && (mark_of e == 2)
 
+-- gives a sector this cycle
 abbrev pub empty_entry : ℕ → ZEntry
 empty_entry cycle = record { cycle = cycle; len = 0xFFFF; id = 0xFFFFFFFF; tail = replicate 8 0 }
 
@@ -65,7 +69,7 @@ done_entry cycle end =
 
 -- Ordinary entries.
 
--- the entry of a value; where it has more than 8 bytes, they stand at the offset
+-- the entry of a value; if it has more than 8 bytes, they stand at the offset
 abbrev pub value_entry : ℕ → ℕ → List ℕ → ℕ → ZEntry
 value_entry cycle id bytes offset = record {
   cycle = cycle;

@@ -12,6 +12,7 @@ use Rattle.zms_cycle.specs.Areas.{IsZmsSector, CanPutAt, kind_on}
 use Rattle.zms_cycle.specs.Changes.{HasPart, guard_units, emptying, first_guard, KeepsList, left_over, AddsPair, closing_most}
 use Rattle.zms_cycle.specs.Sector.{cycle_of, valid_slots, entry_len, pair_at, cost, data_len, free, is_sound, can_close, fits}
 
+-- the sector has a cycle
 abbrev pub IsUsedOn : Device → Area → ℕ → Type 0
 IsUsedOn d area sector = IsSome (cycle_of (sector_bytes d area sector))
 
@@ -26,6 +27,7 @@ FitsOn d area sector len = IsTrue (fits (kind_on d area) (sector_bytes d area se
 abbrev pub IsClosableOn : Device → Area → ℕ → Type 0
 IsClosableOn d area sector = IsTrue (can_close (kind_on d area) (sector_bytes d area sector))
 
+-- the free bytes of the sector
 abbrev pub free_on : Device → Area → ℕ → ℕ
 free_on d area sector = free (kind_on d area) (sector_bytes d area sector)
 
@@ -44,11 +46,11 @@ abbrev pub Makes : (Kind → List ℕ → List ℕ → Type 0) → Device → De
 Makes step old new area sector =
     step (kind_on old area) (sector_bytes old area sector) (sector_bytes new area sector)
 
--- its list and marks stay, and so many bytes at most are gone of what was free
+-- its list and marks stay, and at most so many free bytes are lost
 abbrev pub Keeps : ℕ → Device → Device → Area → ℕ → Type 0
 Keeps most old new area sector = Makes (λ kind. KeepsList kind most) old new area sector
 
--- and so where a value of this length may have been cut
+-- the same if a value of this length may be torn
 abbrev pub KeepsBut : ℕ → Device → Device → Area → ℕ → Type 0
 KeepsBut len old new area sector = Keeps (left_over (kind_on old area) (data_len len)) old new area sector
 
@@ -78,7 +80,7 @@ next_guard d area sector =
 abbrev pub emptying_units : Device → Area → ℕ → ℕ
 emptying_units d area sector = emptying (kind_on d area) (sector_bytes d area sector)
 
--- the guard under the first entry behind the sector's emptying
+-- the guard under the first entry after the sector is emptied
 abbrev pub first_guard_units : Device → Area → ℕ → ℕ
 first_guard_units d area sector = first_guard (kind_on d area) (sector_bytes d area sector)
 
@@ -111,7 +113,7 @@ pub record UnitEnds {X E : Type 0} (units : ℕ) (old new : Device) (on : Area) 
   pub in_pieces : OnErr result (LosesWithin SLOT old new)
   pub spends_lost : OnErr result (SpendsBetween old new 0 0)
 
--- A slot is read on a bank that is never erased, and on no other.
+-- A slot is read on a rewritable bank, and on no other.
 pub record ReadsGuard (kind : Kind) (before after : ℕ) : Type 0 where
   pub step : kind ≡ Rewritable → after ≡ before + 1
   pub no_step : kind ≡ Erasing → after ≡ before
@@ -124,7 +126,8 @@ pub record BytesEnd {X E : Type 0} (piece : ℕ) (old new : Device) (on : Area) 
   pub in_pieces : OnErr result (LosesWithin piece old new)
   pub spends_lost : OnErr result (SpendsBetween old new 0 (len / 16))
 
--- An entry behind its value of this length, which is programmed piece by piece. A power loss keeps the list.
+-- An entry behind its value of this length, which is programmed piece by piece. A power loss keeps
+-- the list.
 pub record EntryEnds {X E : Type 0} (piece len : ℕ) (old new : Device) (on : Area) (sector : ℕ)
     (result : Result X E) : Type 0 where
   pub lost : OnErr result (KeepsBut len old new on sector)

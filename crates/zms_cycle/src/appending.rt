@@ -93,7 +93,7 @@ pub fn put_bytes<F: Flash>(
     program_padded(flash, area, sector, at, bytes)
 }
 
-// Programs a value, where its entry does not hold it.
+// Programs a value, unless its entry holds it.
 fn put_value<F: Flash>(
     flash: &mut F,
     area: &Area,
@@ -120,13 +120,13 @@ fn put_value<F: Flash>(
     put_bytes(flash, area, sector, at, bytes)
 }
 
-/// Puts a value, in calls of at most `PIECE` bytes, and then its entry, under which the guard is
-/// set first on a bank that is never erased. No bytes are a delete. What it has to know of the
-/// sector is handed to it, so its list is not read.
+/// Programs a value, in calls of at most `PIECE` bytes, and then its entry. On a rewritable bank
+/// the guard under the entry is set before it. No bytes are a delete. `opened` is what it has to
+/// know of the sector, so the list is not read.
 ///
 /// # Errors
-/// `PowerLost`: the sector's list and marks are as before. On a bank that is erased, the units of the value that were put are
-/// gone of what was free.
+/// `PowerLost`: the sector's list and marks are as before. On an erasing bank, no more free space
+/// is lost than the value takes.
 pub fn put_entry_at<F: Flash, L: Ledger>(
     flash: &mut F,
     area: &Area,
@@ -155,12 +155,12 @@ pub fn put_entry_at<F: Flash, L: Ledger>(
     put_slot(flash, area, sector, opened.slots + FIRST, &entry, steps)
 }
 
-/// Puts a value, in calls of at most `PIECE` bytes, and then its entry, under which the guard is
-/// set first on a bank that is never erased. No bytes are a delete.
+/// Programs a value, in calls of at most `PIECE` bytes, and then its entry. On a rewritable bank
+/// the guard under the entry is set before it. No bytes are a delete.
 ///
 /// # Errors
-/// `PowerLost`: the sector's list and marks are as before. On a bank that is erased, the units of the value that were put are
-/// gone of what was free.
+/// `PowerLost`: the sector's list and marks are as before. On an erasing bank, no more free space
+/// is lost than the value takes.
 pub fn put_entry<F: Flash, L: Ledger>(
     flash: &mut F,
     area: &Area,
@@ -200,9 +200,9 @@ fn done_entry(cycle: u8, data_end: u32) -> ZEntry
     }
 }
 
-/// Marks a sector into which a collection has copied all that it keeps: gc-done in the guard slot,
-/// under which the guard is set first on a bank that is never erased. What it has to know of the
-/// sector is handed to it, so its list is not read.
+/// Programs gc-done in the guard slot: a garbage collection has copied all that it keeps into this
+/// sector. On a rewritable bank the guard under gc-done is set before it. `opened` is what it has
+/// to know of the sector, so the list is not read.
 ///
 /// # Errors
 /// `PowerLost`: the sector's list and marks are as before.
@@ -236,8 +236,8 @@ pub fn put_done_at<F: Flash, L: Ledger>(
     put_slot(flash, area, sector, opened.slots + FIRST, &entry, steps)
 }
 
-/// Marks a sector into which a collection has copied all that it keeps: gc-done in the guard slot,
-/// under which the guard is set first on a bank that is never erased.
+/// Programs gc-done in the guard slot: a garbage collection has copied all that it keeps into this
+/// sector. On a rewritable bank the guard under gc-done is set before it.
 ///
 /// # Errors
 /// `PowerLost`: the sector's list and marks are as before.

@@ -87,7 +87,7 @@ fn copy_bytes<F: Flash, L: Ledger>(
     copy_padded(flash, area, from, sector, to, steps)
 }
 
-// Copies the value of an entry of another sector, where the entry does not hold it.
+// Copies the value of an entry of another sector, unless the entry holds it.
 fn copy_value<F: Flash, L: Ledger>(
     flash: &mut F,
     area: &Area,
@@ -126,13 +126,13 @@ fn copy_value<F: Flash, L: Ledger>(
     copy_bytes(flash, area, sector, to, source, steps)
 }
 
-/// Copies an entry of another sector's list, its value in calls of at most `COPY_PIECE` bytes and
-/// then the entry, under which the guard is set first on a bank that is never erased. What it has
-/// to know of the sector that it copies to is handed to it, so the list of that is not read.
+/// Copies an entry of another sector's list: its value, in calls of at most `COPY_PIECE` bytes, and
+/// then the entry. On a rewritable bank the guard under the entry is set before it. `opened` is
+/// what it has to know of the sector that it copies to, so the list of that sector is not read.
 ///
 /// # Errors
-/// `PowerLost`: the list and marks of the sector that is copied to are as before. On a bank that is erased, the units of the value
-/// that were put are gone of what was free.
+/// `PowerLost`: the list and marks of the sector that it copies to are as before. On an erasing
+/// bank, no more free space is lost than the value takes.
 pub fn copy_entry_at<F: Flash, L: Ledger>(
     flash: &mut F,
     area: &Area,
@@ -172,12 +172,12 @@ pub fn copy_entry_at<F: Flash, L: Ledger>(
     put_slot(flash, area, sector, opened.slots + FIRST, &entry, steps)
 }
 
-/// Copies an entry of another sector's list, its value in calls of at most `COPY_PIECE` bytes and
-/// then the entry, under which the guard is set first on a bank that is never erased.
+/// Copies an entry of another sector's list: its value, in calls of at most `COPY_PIECE` bytes, and
+/// then the entry. On a rewritable bank the guard under the entry is set before it.
 ///
 /// # Errors
-/// `PowerLost`: the list and marks of the sector that is copied to are as before. On a bank that is erased, the units of the value
-/// that were put are gone of what was free.
+/// `PowerLost`: the list and marks of the sector that it copies to are as before. On an erasing
+/// bank, no more free space is lost than the value takes.
 pub fn copy_entry<F: Flash, L: Ledger>(
     flash: &mut F,
     area: &Area,

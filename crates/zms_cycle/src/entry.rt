@@ -4,14 +4,17 @@ ghost use Rattle.zms_cycle.specs.Entries.{entry_of, encoded, decoded, fill};
 
 use crc8_entry::{START, checks, crc8};
 
-/// An entry: the sector's cycle when it was put, the length of the value in bytes (0 for a delete),
-/// the id, and a tail. The tail is the value itself where it has at most 8 bytes, else the offset
-/// of the value in the sector, and four bytes 00.
+/// An entry: what the sixteen bytes of a slot say.
 #[derive(Clone, Copy, Debug, PartialEq, Eq)]
 pub struct ZEntry {
+    /// The sector's cycle when the entry was programmed.
     pub cycle: u8,
+    /// Bytes of the value; 0 is a delete.
     pub len: u16,
+    /// The id of the item.
     pub id: u32,
+    /// The value itself, if it has at most 8 bytes; else the offset of the value in the sector, and
+    /// four bytes 00.
     pub tail: [u8; 8],
 }
 
@@ -44,7 +47,7 @@ pub fn encode_zentry(e: &ZEntry) -> [u8; 16]
     ]
 }
 
-/// What sixteen bytes say as an entry, whether their CRC matches or not.
+/// The entry that sixteen bytes spell, whether their CRC matches or not.
 pub fn zentry_fields(bytes: &[u8]) -> ZEntry
     requires { length bytes.now ≡ 16 }
     ensures { result ≡ entry_of bytes.now }
@@ -59,7 +62,7 @@ pub fn zentry_fields(bytes: &[u8]) -> ZEntry
     }
 }
 
-/// The entry in sixteen bytes. `None` exactly where the CRC does not match.
+/// The entry in sixteen bytes; `None` exactly if their CRC does not match.
 #[tactic(auto, unfolding(crate::specs::Entries::decoded))]
 pub fn decode_zentry(bytes: &[u8]) -> Option<ZEntry>
     requires { length bytes.now ≡ 16 }
@@ -71,7 +74,7 @@ pub fn decode_zentry(bytes: &[u8]) -> Option<ZEntry>
     Some(zentry_fields(bytes))
 }
 
-/// A unit that never checks, whatever the cycle.
+/// The fill unit: sixteen bytes that never pass as an entry.
 #[tactic(auto, unfolding(crate::specs::Entries::fill))]
 pub fn fill_unit() -> [u8; 16]
     ensures { result ≡ fill }

@@ -18,7 +18,7 @@ use flash_map::{Area, area_program, area_view, geometry};
 use flash_sim::{Flash, Kind, PowerLost, Steps};
 use std::sync::ledger::Ledger;
 
-// Where a slot starts in a sector.
+// Where a slot starts in a sector, in bytes.
 pub fn slot_start<F: Flash>(flash: &F, area: &Area, slot: u32) -> u32
     requires lawful { IsLawfulArea (F.device flash.now).banks area.now }
     requires slot { HasSlot (F.device flash.now) area.now slot }
@@ -27,7 +27,7 @@ pub fn slot_start<F: Flash>(flash: &F, area: &Area, slot: u32) -> u32
     geometry(flash, area).sector - (slot + 1) * SLOT
 }
 
-// Programs one slot. A cut changes no byte.
+// Programs one slot. A power loss changes no byte.
 pub fn put_unit<F: Flash>(
     flash: &mut F,
     area: &Area,
@@ -52,11 +52,11 @@ pub fn put_unit<F: Flash>(
     area_program(flash, area, sector, start, bytes)
 }
 
-/// On a bank that is never erased, programs the fill unit exactly where the slot is valid under the
-/// cycle. On one that is erased it programs nothing.
+/// Guards a slot: on a rewritable bank, programs the fill unit there if the slot is valid under the
+/// cycle. On an erasing bank it does nothing.
 ///
 /// # Errors
-/// `PowerLost`: no byte changed.
+/// `PowerLost`, only on a rewritable bank: no byte changed.
 pub fn guard<F: Flash, L: Ledger>(
     flash: &mut F,
     area: &Area,
@@ -101,7 +101,7 @@ pub fn guard<F: Flash, L: Ledger>(
     }
 }
 
-// Programs an entry, once the slot under it is guarded. A cut puts no entry.
+// Guards the slot under an entry, then programs the entry. A power loss leaves no entry.
 pub fn put_slot<F: Flash, L: Ledger>(
     flash: &mut F,
     area: &Area,

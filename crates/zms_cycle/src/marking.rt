@@ -51,8 +51,8 @@ fn next_cycle(cycle: Option<u8>) -> u8
     }
 }
 
-// Empties a sector of a bank that is never erased, by the empty entry of the next cycle, once slots
-// 1 and 2 are not valid under that cycle.
+// Empties a sector of a rewritable bank: guards slots 1 and 2, then programs the empty entry of the
+// next cycle.
 fn empty_by_guards<F: Flash, L: Ledger>(
     flash: &mut F,
     area: &Area,
@@ -82,8 +82,8 @@ fn empty_by_guards<F: Flash, L: Ledger>(
     put_unit(flash, area, sector, 0, &encode_zentry(&empty_entry(cycle)))
 }
 
-// Empties a sector of a bank that is erased: it is erased where a byte is not FF, and then the
-// empty entry of this cycle is put.
+// Empties a sector of an erasing bank: erases it if a byte is not FF, then programs the empty entry
+// of this cycle.
 fn empty_by_erasing<F: Flash, L: Ledger>(
     flash: &mut F,
     area: &Area,
@@ -113,16 +113,17 @@ fn empty_by_erasing<F: Flash, L: Ledger>(
     put_unit(flash, area, sector, 0, &encode_zentry(&empty_entry(cycle)))
 }
 
-/// Empties a sector by the empty entry of the next cycle. On a bank that is never erased, slots 1
-/// and 2 are made not valid under that cycle first; on one that is erased, the sector is erased
-/// first, unless it is all FF. What the guard of the first entry takes then is known before: slot 3
-/// is not changed where it may be due.
+/// Empties a sector by the empty entry of the next cycle. On a rewritable bank, slots 1 and 2 are
+/// guarded first, so that they are not valid under that cycle. On an erasing bank, the sector is
+/// erased first, unless it is all FF. On a rewritable bank slot 3 stays, so the sector as it was
+/// says what the guard of the first entry will take.
 ///
 /// # Errors
-/// `PowerLost`. On a bank that is never erased: the sector's being closed, its gc-done and its list are as before, or it is not
-/// closed and its slot 2 is not valid, so its list is empty and it has no gc-done. A sector that holds more than it may has no
-/// part in a list. The cycle, the slots and the marks are as before, and so is each value, unless the guard of slot 1 has to be
-/// put over one. On one that is erased: the sector is as before, or each byte is FF.
+/// `PowerLost`. On a rewritable bank the sector reads as before (its list, its gc-done, and whether
+/// it is closed), or it is not closed and its slot 2 is not valid, so its list is empty and it has
+/// no gc-done. An overfull sector has no list. The cycle, the slots and the marks stay, and so does
+/// each value, unless the guard of slot 1 has to overwrite one. On an erasing bank the sector is as
+/// before, or each byte is FF.
 pub fn empty_sector<F: Flash, L: Ledger>(
     flash: &mut F,
     area: &Area,
@@ -153,7 +154,7 @@ pub fn empty_sector<F: Flash, L: Ledger>(
     }
 }
 
-// Makes a slot the fill unit. A cut changes no byte.
+// Programs the fill unit into a slot. A power loss changes no byte.
 fn fill_slot<F: Flash, L: Ledger>(
     flash: &mut F,
     area: &Area,
@@ -186,7 +187,7 @@ fn fill_slot<F: Flash, L: Ledger>(
     put_unit(flash, area, sector, slot, &unit)
 }
 
-// Makes the slots under the one called top fill units, upward, down to the one called bottom.
+// Programs the fill unit into the slots under `top` down to `bottom`, upward.
 fn fill_slots<F: Flash, L: Ledger>(
     flash: &mut F,
     area: &Area,
@@ -221,8 +222,8 @@ fn fill_slots<F: Flash, L: Ledger>(
     Ok(())
 }
 
-// On a bank that is never erased, makes every unit between the values of a sector and its slots the
-// fill unit. On one that is erased there is nothing to do.
+// On a rewritable bank, programs the fill unit into every unit between the values of a sector and
+// its slots. On an erasing bank it does nothing.
 fn fill_free<F: Flash, L: Ledger>(
     flash: &mut F,
     area: &Area,
@@ -259,12 +260,12 @@ fn fill_free<F: Flash, L: Ledger>(
     }
 }
 
-/// Closes a sector by the close entry, which names the start of the lowest used slot. On a bank
-/// that is never erased, every unit between its values and its slots becomes the fill unit first.
-/// What it has to know of the sector is handed to it, so its list is not read.
+/// Closes a sector by the close entry, which names the start of the lowest used slot. On a
+/// rewritable bank, every unit between its values and its slots is programmed with the fill unit
+/// first. `opened` is what it has to know of the sector, so the list is not read.
 ///
 /// # Errors
-/// `PowerLost`: the sector's list and marks are as before. On a bank that is erased no byte changed.
+/// `PowerLost`: the sector's list and marks are as before. On an erasing bank, no byte changed.
 pub fn close_at<F: Flash, L: Ledger>(
     flash: &mut F,
     area: &Area,
@@ -306,11 +307,12 @@ pub fn close_at<F: Flash, L: Ledger>(
     )
 }
 
-/// Closes a sector by the close entry, which names the start of the lowest used slot. On a bank
-/// that is never erased, every unit between its values and its slots becomes the fill unit first.
+/// Closes a sector by the close entry, which names the start of the lowest used slot. On a
+/// rewritable bank, every unit between its values and its slots is programmed with the fill unit
+/// first.
 ///
 /// # Errors
-/// `PowerLost`: the sector's list and marks are as before. On a bank that is erased no byte changed.
+/// `PowerLost`: the sector's list and marks are as before. On an erasing bank, no byte changed.
 pub fn close<F: Flash, L: Ledger>(
     flash: &mut F,
     area: &Area,

@@ -14,7 +14,7 @@ use flash_map::{Area, area_view, geometry, is_erased, padded, trimmed_len};
 use flash_sim::{Flash, Kind, Steps};
 use std::sync::ledger::Ledger;
 
-/// The bytes of a slot, which are one unit.
+/// The bytes of a slot, which is one unit.
 pub const SLOT: u32 = 16;
 
 /// The bytes of an entry's tail. A value of at most so many bytes stands in its entry.
@@ -26,23 +26,29 @@ pub const TAIL_AT: u32 = 8;
 // The id of entries that hold no value.
 pub(crate) const SPECIAL_ID: u32 = 0xFFFF_FFFF;
 
-/// The slot in which entries begin.
+/// The first slot of entries.
 pub const FIRST: u32 = 2;
 
 // The slots that values and their entries leave: for empty, close, gc-done, one delete and the
 // guard.
 const KEPT_SLOTS: u32 = 5;
 
-/// A sector: blank, or used in a cycle, with the number of valid slots from slot 2 on and where the
-/// next value goes, in bytes.
+/// How a sector reads.
 #[derive(Clone, Copy, Debug, PartialEq, Eq)]
 pub enum SectorState {
+    /// Slot 0 holds no empty entry.
     Blank,
+    /// Slot 0 holds an empty entry.
     Used {
+        /// The cycle of the empty entry.
         cycle: u8,
+        /// Whether the close entry stands in slot 1.
         closed: bool,
+        /// How many slots from slot 2 on are valid.
         slots: u32,
+        /// Where the next value goes, in bytes; the last number of 32 bits stands for all above it.
         data_end: u32,
+        /// Whether gc-done stands in the sector.
         gc_done: bool,
     },
 }
@@ -50,7 +56,9 @@ pub enum SectorState {
 /// An ordinary entry, and its slot.
 #[derive(Clone, Copy, Debug, PartialEq, Eq)]
 pub struct SlotEntry {
+    /// The number of the slot.
     pub slot: u32,
+    /// What the slot holds.
     pub entry: ZEntry,
 }
 
@@ -171,7 +179,7 @@ pub(crate) fn valid_count(sector: &[u8], cycle: u8) -> u32
     valid_within(sector, cycle, sector.len() as u32 / SLOT - FIRST)
 }
 
-// The entry of a slot, where it is no special one.
+// The entry of a slot, unless it is a special one.
 fn ordinary(entry: Option<ZEntry>, slot: u32) -> Option<SlotEntry>
     ensures { result
         ≡ option_and_then
@@ -183,7 +191,7 @@ fn ordinary(entry: Option<ZEntry>, slot: u32) -> Option<SlotEntry>
     }
 }
 
-/// The entry in a slot, where it checks and is no special one.
+/// The entry in a slot, if its CRC matches and it is not a special one.
 pub fn entry_in(sector: &[u8], slot: u32) -> Option<SlotEntry>
     requires { (slot + 1) * 16 ≤ length sector.now }
     ensures { result ≡ entry_in (slot_of sector.now slot) }
@@ -191,8 +199,8 @@ pub fn entry_in(sector: &[u8], slot: u32) -> Option<SlotEntry>
     ordinary(entry_at(sector, slot), slot)
 }
 
-// The entry in a slot of a sector's list. Its CRC has made it one of the list, so it is not made
-// again.
+// The entry in a slot of a sector's list. A slot of the list has a CRC that matches, so it is not
+// checked again.
 fn listed_at(sector: &[u8], slot: u32) -> ZEntry
     requires from { 2 ≤ slot }
     requires listed { slot < length (valid_slots sector.now) + 2 }
@@ -201,7 +209,7 @@ fn listed_at(sector: &[u8], slot: u32) -> ZEntry
     zentry_fields(slot_of(sector, slot))
 }
 
-/// The entry in a slot of a sector's list, where it is no special one.
+/// The entry in a slot of a sector's list, unless it is a special one.
 pub fn listed_entry(sector: &[u8], slot: u32) -> Option<SlotEntry>
     requires from { 2 ≤ slot }
     requires listed { slot < length (valid_slots sector.now) + 2 }
@@ -219,7 +227,7 @@ fn holds_done(entry: &Option<ZEntry>) -> bool
     }
 }
 
-/// Where a value of more than 8 bytes stands in the sector.
+/// Where a value of more than 8 bytes starts, in bytes from the start of the sector.
 pub fn offset_of(entry: &ZEntry) -> u32
     ensures { result ≡ offset_of entry.now }
 {
@@ -351,7 +359,7 @@ pub fn read_sector(sector: &[u8], kind: Kind) -> SectorState
     }
 }
 
-/// How a sector reads. It is one step.
+/// How a sector of the area reads. It counts one step.
 pub fn state<F: Flash, L: Ledger>(
     flash: &F,
     area: &Area,
@@ -368,7 +376,7 @@ pub fn state<F: Flash, L: Ledger>(
     read_sector(bytes, geometry.kind)
 }
 
-/// Whether a sector holds its empty entry and is erased but for that.
+/// Whether a sector holds its empty entry, and FF everywhere else.
 #[tactic(auto, unfolding(crate::specs::Sector::is_fresh))]
 pub fn is_fresh(sector: &[u8]) -> bool
     requires { 16 ≤ length sector.now }
@@ -380,7 +388,7 @@ pub fn is_fresh(sector: &[u8]) -> bool
     }
 }
 
-/// Whether the close entry can be put into a sector, on a bank of this kind.
+/// Whether the close entry can be programmed, on a bank of this kind.
 #[tactic(auto, unfolding(crate::specs::Sector::can_close))]
 pub fn can_close(sector: &[u8], kind: Kind) -> bool
     requires { 32 ≤ length sector.now }
@@ -392,7 +400,7 @@ pub fn can_close(sector: &[u8], kind: Kind) -> bool
     }
 }
 
-// The cycle of a sector, or none where it is blank.
+// The cycle of a sector; `None` if it is blank.
 pub(crate) fn sector_cycle<F: Flash, L: Ledger>(
     flash: &F,
     area: &Area,
@@ -406,12 +414,14 @@ pub(crate) fn sector_cycle<F: Flash, L: Ledger>(
     cycle_of(area_view(flash, area, sector, 0, size, steps))
 }
 
-/// What a step has to know of a used sector: its cycle, the number of its valid slots from slot 2
-/// on, and where the next value goes, in bytes. The last number of 32 bits stands for all above it.
+/// What a step has to know of a used sector.
 #[derive(Clone, Copy, Debug, PartialEq, Eq)]
 pub struct Opened {
+    /// The cycle of its empty entry.
     pub cycle: u8,
+    /// How many of its slots from slot 2 on are valid.
     pub slots: u32,
+    /// Where the next value goes, in bytes; the last number of 32 bits stands for all above it.
     pub data_end: u32,
 }
 

@@ -31,8 +31,7 @@ pub fn listed_slots(sector: &[u8]) -> u32
     }
 }
 
-// Whether a slot's bytes have an id from `least` to `most` where an entry has its own. Their CRC is
-// not looked at.
+// Whether the id field of a slot is from `least` to `most`. The CRC is not checked.
 fn names(slot: &[u8], least: u32, most: u32) -> bool
     requires { length slot.now ≡ 16 }
     ensures { result ≡ (nat_le least (entry_of slot.now).id && nat_le (entry_of slot.now).id most) }
@@ -41,7 +40,7 @@ fn names(slot: &[u8], least: u32, most: u32) -> bool
     least <= id && id <= most
 }
 
-// The newer of two numbers, if it is one.
+// The newer number if `is_one`; else the older.
 fn newer(is_one: bool, newer: u32, older: u32) -> u32
     ensures { result ≡ (if is_one then newer else older) }
 {
@@ -49,7 +48,7 @@ fn newer(is_one: bool, newer: u32, older: u32) -> u32
 }
 
 // How many slots from slot 2 on have to be read for the ids from `least` to `most`: up to the last
-// one that names one of them, above the first that names another cycle. No CRC is looked at.
+// one that names one of them, above the first that names another cycle. No CRC is checked.
 fn reach_of(sector: &[u8], cycle: u8, least: u32, most: u32) -> u32
     requires long { 48 ≤ length sector.now }
     requires short { length sector.now ≤ 2 ^ 15 }
@@ -86,7 +85,7 @@ pub fn reach_in(sector: &[u8], least: u32, most: u32) -> u32
 }
 
 /// How many of the first so many slots from slot 2 on have to be read for the ids from `least` to
-/// `most`: those behind them name other ids. It looks from the last one back, at no CRC.
+/// `most`: those behind them name other ids. It reads from the last one back, and checks no CRC.
 pub fn reach_within(sector: &[u8], slots: u32, least: u32, most: u32) -> u32
     requires short { length sector.now ≤ 2 ^ 15 }
     requires inside { (slots + 2) * 16 ≤ length sector.now }

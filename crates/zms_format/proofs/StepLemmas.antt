@@ -65,7 +65,7 @@ open_closable bank b wide sound open_here used =
     let roomy : IsRoomy bank b = roomy_of bank b (omega arith) sound in
     may_closable bank b roomy.may open_here (some_flag (cycle_of b) (not_clean_cycle bank b used))
 
--- the entries of a sector, as a store of items reports them
+-- the entries of a sector, as `item_store` sees them
 entries_are : (geometry : Geometry) (b : List ℕ) → format_entries (format_of geometry) b ≡ map entry_of (entries b)
 entries_are geometry b =
     own.entries_read (λ n. entry_in (slot_of b n)) entry_of (λ f. value_of b f.entry) (slot_is b) (range_with_len 2 (length (valid_slots b)))
@@ -218,7 +218,7 @@ is_there from p is =
     some_same : (x y : Placed) → Some x ≡ Some y → x ≡ y
     some_same x y e = cc
 
--- the pair in its slot has the length that it reports
+-- the pair in its slot has the length that the entry says
 pub copied_len : (from : List ℕ) (p : Placed) → is_sound from ≡ true → 2 ≤ p.slot → p.slot < 2 + length (valid_slots from) → option_map (placed_at p.sector) (option_map entry_of (entry_in (slot_of from p.slot))) ≡ Some p → length (pair_at from p.slot).1 ≡ p.len
 copied_len from p sound first listed is =
     let t = is_there from p is in

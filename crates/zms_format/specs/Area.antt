@@ -21,16 +21,18 @@ use Rattle.zms_format.specs.declared.sector.Found.{Found}
 unfoldable pub is_begun : List ℕ → Bool
 is_begun sector = is_valid (cycle_of sector) (slot_of sector 2)
 
--- The close entry stands, or it can be put, by the kind of the bank. A blank sector is emptied before.
+-- The close entry stands, or it can be programmed, by the kind of the bank. A blank sector is
+-- emptied before.
 unfoldable pub may_close : BankKind → List ℕ → Bool
 may_close kind sector = is_closed sector || (not (is_some (cycle_of sector)) || can_close kind sector)
 
--- It is not closed, and its slot 2 is not valid. Valid slots under that one are ignored.
+-- It is not closed, its slot 2 is not valid, and it may be closed. Valid slots under slot 2 are
+-- ignored.
 unfoldable pub is_unused : BankKind → List ℕ → Bool
 is_unused kind sector = not (is_begun sector) && (not (is_closed sector) && may_close kind sector)
 
--- Nothing has to be done to it before a collection into it is begun, but to empty a blank one. On a bank that
--- is erased, a sector that is not in use may have bytes of a value that was cut; a clean one is blank or
+-- A garbage collection into it can begin at once, or as soon as a blank one is emptied. On an
+-- erasing bank a sector that is not in use may hold bytes of a torn value; a clean one is blank or
 -- fresh.
 unfoldable pub is_clean : BankKind → List ℕ → Bool
 is_clean Rewritable sector = is_unused Rewritable sector
@@ -60,11 +62,11 @@ marks_of kind sector = record {
 
 -- The area.
 
--- whatever stands in slot 1, as on a bank that is never erased
+-- whatever stands in slot 1, as on a rewritable bank
 abbrev pub plain : Reading
 plain = reading Rewritable
 
--- Where no sector is closed, the open one is the first whose slot 2 is valid, or sector 0.
+-- If no sector is closed, the open one is the first whose slot 2 is valid, or sector 0.
 abbrev pub open_place : List (List ℕ) → ℕ
 open_place sectors = open_sector plain sectors
 
@@ -75,17 +77,18 @@ is_second_open sectors open_at place =
     && (not (place == open_at)
     && (is_begun (sector_at sectors place) || is_closed_at plain sectors (previous sectors place)))
 
--- A sector that counts is not closed and has an empty entry, but the close entry cannot be put.
+-- A sector that counts is not closed and has an empty entry, but cannot take the close entry.
 abbrev pub is_dirty_at : BankKind → List (List ℕ) → ℕ → ℕ → Bool
 is_dirty_at kind sectors open_at place =
     counts_at plain sectors open_at place && not (may_close kind (sector_at sectors place))
 
--- A sector that counts holds more than it may. One that is not in use has its guard slot and no entry.
+-- A sector that counts holds more than it may. One that is not in use has its guard slot and no
+-- entry.
 abbrev pub is_overfull_at : List (List ℕ) → ℕ → ℕ → Bool
 is_overfull_at sectors open_at place =
     looked_at plain sectors open_at place && is_overfull (sector_at sectors place)
 
--- the first sector of the first kind
+-- the first kind of damage, at the first sector that shows it
 unfoldable pub damage_of : BankKind → List (List ℕ) → Option Damaged
 damage_of kind sectors =
     let open_at = open_place sectors in

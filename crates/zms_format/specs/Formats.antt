@@ -6,13 +6,14 @@ use Rattle.item_store.specs.declared.entry.Entry.{Entry}
 use Rattle.item_store.specs.declared.entry.Placed.{Placed}
 use Rattle.item_store.specs.SectorFormat.{Range, Units, SectorFormat}
 use Rattle.zms_cycle.specs.declared.reading.SlotEntry.{SlotEntry}
-use Rattle.flash_sim.specs.declared.flash.Kind.{SectorFormat as BankKind}
+use Rattle.flash_sim.specs.declared.flash.Kind.{Kind as BankKind}
 use Rattle.flash_sim.specs.declared.flash.Kind.TheVariants.{Erasing, Rewritable}
 use Rattle.zms_cycle.specs.Changes.{guard_units, emptying, first_guard, closing_most}
 use Rattle.zms_cycle.specs.Sector.{slot_of, cycle_of, valid_slots, entry_in, cost, capacity, free, is_sound, value_of}
 use Rattle.zms_format.specs.declared.sector.Found.{Found}
 use Rattle.zms_format.specs.Area.{may_close, reading, is_clean, damage_of}
 
+-- an entry as `item_store` sees it
 abbrev pub entry_of : SlotEntry → Entry
 entry_of f = record { slot = f.slot; id = f.entry.id; len = f.entry.len }
 
@@ -20,6 +21,7 @@ entry_of f = record { slot = f.slot; id = f.entry.id; len = f.entry.len }
 abbrev pub placed_of : Found → Placed
 placed_of p = record { sector = p.sector; slot = p.slot; id = p.entry.id; len = p.entry.len }
 
+-- exactly so many units, and no more if cut
 abbrev pub just : ℕ → Range
 just units = record { least = units; most = units; lost = units }
 
@@ -33,18 +35,19 @@ abbrev pub emptying_most : BankKind → ℕ
 emptying_most Rewritable = 3
 emptying_most Erasing = 2
 
--- one that is cut is counted with all that there may be
+-- what an emptying spends; a cut one at most as much as any emptying may
 abbrev pub emptying_units : BankKind → List ℕ → Range
 emptying_units kind b = record { least = emptying kind b; most = emptying kind b; lost = emptying_most kind }
 
--- The guard under the next entry. A sector without a cycle is emptied before, which leaves slot 3 as it is on
--- a bank that is never erased.
+-- The guard under the next entry. A sector without a cycle is emptied before, which leaves slot 3
+-- as it is on a rewritable bank.
 abbrev pub next_guard : BankKind → List ℕ → ℕ
 next_guard kind b =
     if is_some (cycle_of b) then guard_units kind (cycle_of b) (length (valid_slots b) + 2 + 1) b else
     first_guard kind b
 
--- an entry and its value, which take up so many units, and the guard; one that is cut is counted with a guard
+-- what an entry and its value, which take up so many units, spend with the guard; a cut one at most
+-- as much as with a guard
 abbrev pub entry_units : BankKind → List ℕ → ℕ → Range
 entry_units kind b units = record {
   least = units + next_guard kind b;
@@ -52,8 +55,8 @@ entry_units kind b units = record {
   lost = units + guard_most kind;
 }
 
--- A step spends just so many units, by its sector; a close does so by what it has to fill. In any sector of a
--- bank that is never erased a guard may be there or not.
+-- The bytes of a sector say exactly what a step in it spends; of a close they say the least and the
+-- most. In any sector of a rewritable bank a guard may be due or not.
 abbrev pub units_of : BankKind → Units
 units_of kind = record {
   begin = λ b. if is_some (cycle_of b) then just 0 else emptying_units kind b;
@@ -78,11 +81,12 @@ units_of kind = record {
   entry = λ len. cost len / 16 + 4;
 }
 
--- a sector of a bank that is erased is made ready as soon as it is the open one
+-- a sector of an erasing bank is made ready as soon as it is the open one
 abbrev pub opens_ready : BankKind → Bool
 opens_ready Rewritable = false
 opens_ready Erasing = true
 
+-- the format in an area of this geometry
 abbrev pub format_of : Geometry → SectorFormat
 format_of geometry = record {
   reading = reading geometry.kind;

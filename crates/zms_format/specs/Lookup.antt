@@ -6,7 +6,7 @@ use Rattle.zms_format.specs.declared.places.Lookup.TheVariants.{NotClosed, Openi
 use Rattle.flash_sim.specs.declared.flash.Kind.{Kind as BankKind}
 use Rattle.zms_format.specs.Area.{plain, is_second_open, is_dirty_at, is_overfull_at}
 
--- where it names a sector, that is one of the area
+-- a sector that it names is one of the area
 abbrev pub NamesWithin : Lookup → ℕ → Type 0
 NamesWithin NotClosed count = ⊤
 NamesWithin Opening count = ⊤

@@ -6,9 +6,9 @@ use Rattle.zms_cycle.specs.Sector.{pairs, part_of_list}
 use Rattle.flash_sim.specs.declared.flash.Kind.{Kind as BankKind}
 use Rattle.zms_format.specs.Area.{reading, damage_of}
 
--- In an area without damage each sector that counts has its part of the area's list, which is its pairs: it
--- is not overfull. It has at least 48 bytes, the room for slots 0, 1 and 2; a shorter one that is not in use
--- would have no guard slot.
+-- In an area without damage each sector that counts has its part of the area's list, which is its
+-- pairs: it is not overfull. It has at least 48 bytes, the room for slots 0, 1 and 2; a shorter one
+-- that is not in use would have no guard slot.
 abbrev pub EachHasItsPart : Type 0
 EachHasItsPart =
     (kind : BankKind) (sectors : List (List ℕ)) (place : ℕ) → 48 ≤ length (sector_at sectors place)

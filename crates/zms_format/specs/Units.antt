@@ -5,8 +5,8 @@ use Rattle.zms_cycle.specs.Sector.{cycle_of}
 use Rattle.zms_cycle.specs.Changes.{Empties}
 use Rattle.zms_format.specs.Formats.{units_of}
 
--- What a put or gc-done spends in a sector without a cycle, which is emptied before, is what it spends behind
--- the emptying.
+-- What a put, a copy or gc-done spends in a sector without a cycle is what it spends after the
+-- sector is emptied.
 pub record EmptyingKeepsUnits (kind : BankKind) (b e : List ℕ) : Type 0 where
   pub put : (len : ℕ) → (units_of kind).put e len ≡ (units_of kind).put b len
   pub copy : (len : ℕ) → (units_of kind).copy e len ≡ (units_of kind).copy b len

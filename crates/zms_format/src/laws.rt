@@ -11,8 +11,8 @@ pub fn parts_of_list()
     ensures parts { EachHasItsPart }
 {}
 
-/// What the first entry of a sector without a cycle spends, its guard too, is known by the bytes
-/// that the sector has before it is emptied for that entry.
+/// The units of the first entry in a sector without a cycle, its guard included, follow from the
+/// bytes that the sector has before it is emptied for that entry.
 pub fn first_entry_is_known()
     ensures known { FirstEntryIsKnown }
 {}

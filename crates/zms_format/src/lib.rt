@@ -1,5 +1,5 @@
-//! How ZMS sectors read, as `item_store` asks of a sector format: entries, marks, damage, the scan
-//! of a mount, and what each step costs.
+//! The sector format of ZMS for `item_store`: how entries and marks read, what damage is, how a
+//! mount scans an area, and what each step spends.
 #![tactic(auto)]
 
 mod laws;

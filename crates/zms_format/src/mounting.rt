@@ -1,4 +1,4 @@
-// Which sector is open, and what is wrong with an area.
+// Which sector is open, and how an area is damaged.
 ghost use Rattle.std.specs.Prelude.{◌≡◌, ◌<◌, Some, None, IfOk, IfErr, OnOk};
 ghost use Rattle.flash_map.specs.declared.area.Role.TheVariants.{Zms};
 ghost use Rattle.flash_map.specs.Area.{sectors_of};
@@ -12,7 +12,7 @@ use flash_map::{Area, Damaged, Why};
 use flash_sim::{Flash, Steps};
 use std::sync::ledger::Ledger;
 
-/// The open sector: the first that is not closed after a closed one; where none is, the first in
+/// The open sector: the first that is not closed after a closed one; if there is none, the first in
 /// use, or sector 0.
 fn open_place<F: Flash, L: Ledger>(flash: &F, area: &Area, steps: &mut Steps<L>) -> u32
     requires lawful { IsLawfulFor (F.device flash.now).banks area.now }
@@ -26,7 +26,7 @@ fn open_place<F: Flash, L: Ledger>(flash: &F, area: &Area, steps: &mut Steps<L>)
     first(flash, area, Lookup::InUse, 0, steps).unwrap_or(0)
 }
 
-/// The first sector of the first kind of damage, with this sector open.
+/// The first kind of damage, at the first sector that shows it, with this sector open.
 fn damage<F: Flash, L: Ledger>(
     flash: &F,
     area: &Area,
@@ -65,7 +65,11 @@ fn damage<F: Flash, L: Ledger>(
     })
 }
 
-/// The open sector of the area, or what is wrong with the area. It programs nothing.
+/// The open sector of the area. It programs nothing.
+///
+/// # Errors
+/// `Damaged` exactly if the area is damaged: the first kind of damage, at the first sector that
+/// shows it.
 pub fn scan<F: Flash, L: Ledger>(
     flash: &F,
     area: &Area,

@@ -14,23 +14,25 @@ use flash_map::{Area, geometry, sector_view};
 use flash_sim::{Flash, Steps};
 use std::sync::ledger::Ledger;
 
-/// What is looked for from sector to sector. Where a sector is named, it is the open one.
+/// What a mount looks for from sector to sector. The number is that of the open sector.
 #[derive(Clone, Copy, Debug, PartialEq, Eq)]
 pub enum Lookup {
+    /// A sector that is not closed.
     NotClosed,
-    /// Not closed, after a closed one.
+    /// A sector that is not closed, after a closed one.
     Opening,
-    /// Closed, or its slot 2 is valid.
+    /// A sector that is closed, or whose slot 2 is valid.
     InUse,
-    /// Neither closed nor open, but it follows a closed one or its slot 2 is valid.
+    /// A sector that is not closed and not the open one, and follows a closed one or has a valid
+    /// slot 2.
     SecondOpen(u32),
-    /// It counts, is not closed and not blank, and the close entry cannot be put.
+    /// A sector that counts, is not closed and not blank, and cannot take the close entry.
     NotClosable(u32),
-    /// It counts and holds more than it may.
+    /// A sector that counts, is in use and holds more than it may.
     Full(u32),
 }
 
-// The marks of a sector. It is one step.
+// The marks of a sector. It counts one step.
 fn marks_at<F: Flash, L: Ledger>(flash: &F, area: &Area, place: u32, steps: &mut Steps<L>) -> Marks
     requires lawful { IsLawfulFor (F.device flash.now).banks area.now }
     requires role { area.now.role ≡ Zms }
@@ -99,8 +101,8 @@ fn is_full<F: Flash, L: Ledger>(
     sector::holds_too_much(bytes, marks.slots)
 }
 
-/// Whether a sector counts and is neither closed nor blank, but the close entry cannot be put, with
-/// this one open.
+/// Whether a sector counts, is not closed and not blank, and cannot take the close entry, with this
+/// one open.
 fn is_dirty<F: Flash, L: Ledger>(
     flash: &F,
     area: &Area,
@@ -165,7 +167,7 @@ fn is_second<F: Flash, L: Ledger>(
     marks_at(flash, area, area.previous(place), steps).closed
 }
 
-/// Whether a sector is what is looked for.
+/// Whether a sector matches.
 fn is_match<F: Flash, L: Ledger>(
     flash: &F,
     area: &Area,
@@ -191,7 +193,7 @@ fn is_match<F: Flash, L: Ledger>(
     }
 }
 
-/// The first sector from this one on that is what is looked for.
+/// The first sector from this one on that matches.
 pub fn first<F: Flash, L: Ledger>(
     flash: &F,
     area: &Area,

@@ -17,8 +17,11 @@ const UNLISTED: u64 = 3;
 /// An entry that counts, and where it stands in the area.
 #[derive(Clone, Copy, Debug, PartialEq, Eq)]
 pub struct Found {
+    /// The sector, counted from 0 in the area.
     pub sector: u32,
+    /// The number of the slot.
     pub slot: u32,
+    /// What the slot holds.
     pub entry: ZEntry,
 }
 
@@ -29,7 +32,9 @@ pub struct Marks {
     pub blank: bool,
     /// Slot 2 is valid.
     pub begun: bool,
+    /// The close entry stands.
     pub closed: bool,
+    /// gc-done stands in the sector.
     pub gc_done: bool,
     /// How many slots from slot 2 on are valid.
     pub slots: u32,
@@ -78,7 +83,8 @@ pub fn read_marks(sector: &[u8], kind: Kind) -> Marks
     }
 }
 
-/// Whether a sector with these marks is closed, or can be, or is blank, on a bank of this kind.
+/// Whether a sector with these marks is closed, is blank, or can take the close entry, on a bank of
+/// this kind.
 #[tactic(auto, unfolding(crate::specs::Area::may_close))]
 pub fn may_close(sector: &[u8], marks: &Marks, kind: Kind) -> bool
     requires long { 48 ≤ length sector.now }
@@ -94,8 +100,8 @@ pub fn may_close(sector: &[u8], marks: &Marks, kind: Kind) -> bool
     can_close(sector, kind)
 }
 
-/// Whether nothing has to be done to a sector before a collection into it is begun, but to empty a
-/// blank one, on a bank of this kind.
+/// Whether a garbage collection into a sector can begin at once, or as soon as a blank one is
+/// emptied, on a bank of this kind.
 #[tactic(auto, unfolding(crate::specs::Area::is_clean))]
 pub fn is_clean(sector: &[u8], kind: Kind) -> bool
     requires long { 48 ≤ length sector.now }
@@ -120,7 +126,7 @@ pub fn placed_in(found: SlotEntry, sector: u32) -> Found
     }
 }
 
-/// What an entry and its value take up, if there is one that has a value.
+/// What an entry and its value take up, in bytes, if there is an entry with a value.
 #[tactic(auto, unfolding(zms_cycle::specs::Sector::entry_cost))]
 fn cost_of(found: &Option<SlotEntry>) -> u64
     ensures value { result ≡ option_map_or entry_cost found.now 0 }
@@ -174,7 +180,7 @@ pub fn holds_too_much(sector: &[u8], slots: u32) -> bool
     over || u64::from(capacity(sector.len() as u32)) < costs
 }
 
-/// The last entry of the id in a sector, a delete too. The sector has this number.
+/// The last entry of the id in a sector. It may be a delete. `place` is the number of the sector.
 pub fn find_in(sector: &[u8], place: u32, id: u32) -> Option<Found>
     requires long { 48 ≤ length sector.now }
     requires short { length sector.now ≤ 2 ^ 15 }

@@ -1,4 +1,4 @@
--- How the calls of a store of ZMS end: as those of one store over any sectors do, at those of ZMS.
+-- How the calls of a ZMS store end: as those of `item_store` do, over the sectors of ZMS.
 use Rattle.std.specs.Prelude.{◌≡◌, ◌⊎◌, ℕ, List, Result}
 use Rattle.flash_sim.specs.Device.{Device}
 use Rattle.flash_sim.specs.declared.flash.PowerLost.{PowerLost}
@@ -16,23 +16,26 @@ use Rattle.zms_format.specs.Formats.{format_of}
 use Rattle.zms_store.specs.declared.store.Zms.{Zms}
 use Rattle.zms_store.specs.Standing.{format_on, kept}
 
--- The area is damaged, and then nothing changed; or it is not, and its items stay, whether power is lost or
--- not. What is spent is what there is to redo: nothing, an emptying, or a collection.
+-- If the area is damaged, or memory runs out, nothing changed. Otherwise the items stay, whether
+-- power is lost or not. A mount spends what there is to redo: nothing, an emptying, or a garbage
+-- collection.
 abbrev pub MountEnds : Device → Device → Area → Result Zms MountFault → Type 0
 MountEnds old new area result =
     stands.MountEnds ZmsRole format_of kept old new area (store_in (λ (zms : Zms). zms.store) result)
 
--- Closing and collecting, with this sector open: it was clean, and nothing changed; or it was not, and a
--- whole round was made, with the room that it leaves and its units: those of the close; of the new open
--- sector, where it has to be made ready; and of a collection, where there is something to collect; or power
--- was lost in that, and the list is as before or as the round leaves it. A sector is clean (`is_clean_at`)
--- where it has no entry and all that a sector has is free in it.
+-- Closing and collecting, with this sector open. If it was clean, nothing changed. Otherwise a
+-- whole round was made: the room that it leaves, and its units. These are the units of the close,
+-- of the new open sector if that has to be made ready, and of a garbage collection if there is
+-- something to collect. If power was lost in the round, the list is as before or as the round
+-- leaves it. A sector is clean (`is_clean_at`) if it has no entry and all its space is free.
 abbrev pub RoundEnds : {T : Type 0} → Device → Device → Area → ℕ → Result T PowerLost → Type 0
 RoundEnds old new area place result = closing.RoundEnds (format_on old area) old new area place result
 
+-- how a write ends
 abbrev pub WriteEnds : {T : Type 0} → Device → Device → Area → ℕ → List ℕ → Result T WriteFault → Type 0
 WriteEnds old new area id bytes result = writing.WriteEnds (format_on old area) old new area id bytes result
 
+-- how a delete ends
 abbrev pub DeleteEnds : {T : Type 0} → Device → Device → Area → ℕ → Result T PowerLost → Type 0
 DeleteEnds old new area id result = writing.DeleteEnds (format_on old area) old new area id result
 
@@ -40,7 +43,7 @@ DeleteEnds old new area id result = writing.DeleteEnds (format_on old area) old 
 abbrev pub IsWritten : Device → Device → Area → Type 0
 IsWritten old new area = written.IsWritten (format_on old area) (sectors_of new area)
 
--- an area in which something is written stays so
+-- a written area stays written
 abbrev pub KeepsWritten : Device → Device → Area → Type 0
 KeepsWritten old new area = IsWritten old old area → IsWritten old new area
 

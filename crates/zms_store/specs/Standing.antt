@@ -1,5 +1,5 @@
--- When a store of ZMS stands on the bytes of its area: the definitions of the one store over any sectors, at
--- those of ZMS.
+-- When a ZMS store stands on the bytes of its area: the definitions of `item_store`, over the
+-- sectors of ZMS.
 use Rattle.std.specs.Prelude.{ℕ, ◌-◌, ◌^◌, length, min, List}
 use Rattle.flash_sim.specs.Device.{Device}
 use Rattle.flash_sim.specs.declared.flash.Bank.{Bank}

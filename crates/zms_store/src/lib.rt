@@ -1,5 +1,5 @@
 //! The ZMS store: items with ids of 32 bits, mounted, written and garbage collected by `item_store`
-//! over ZMS sectors.
+//! over ZMS sectors. A call cut by a power loss leaves the items from before it or those after it.
 #![tactic(auto)]
 
 mod reading;

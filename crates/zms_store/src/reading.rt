@@ -46,9 +46,9 @@ fn entry_at<F: Flash, L: Ledger>(
 }
 
 impl Zms {
-    /// The bytes of an item: none where the id has no entry, or its last one is a delete. Where no
-    /// entry of the list has an id of the same slot of the cache it takes no view of the flash, and
-    /// at most two where the last such entry has this id.
+    /// The bytes of an item; `None` if the id has no entry or its last entry is a delete. If no
+    /// entry of the list shares the id's cache slot, this takes no step. If the latest entry that
+    /// shares it has this id, it takes at most two.
     pub fn get<'a, F: Flash, L: Ledger>(
         &self,
         flash: &'a F,
@@ -67,8 +67,8 @@ impl Zms {
         self.store.get(flash, id, steps)
     }
 
-    /// Whether an item may be there: `true` exactly where an entry of the list has an id of the
-    /// same slot of the cache. Else the id has none. It looks at the cache alone.
+    /// Whether the id may have an item: `true` exactly if an entry of the list shares the id's
+    /// cache slot. If `false`, the id has no item. It reads only the cache.
     pub fn may_hold(&self, id: u32) -> bool
         ensures exactly { (d : Device) → StandsOn d self.now
             → result ≡ is_some (latest_on format_of d self.now.store.area id) }
@@ -78,10 +78,10 @@ impl Zms {
         self.store.may_hold(id)
     }
 
-    /// Makes a table of the last entries of ids, by one walk over the list, and by a search for
-    /// each id that shares its key: of 800 ids at most, the least that have bytes. It
-    /// knows each id where no more than 800 ids ever had bytes in the list. It does so as long as the area
-    /// stays as it is.
+    /// Makes a table of the last entries of ids: of 800 ids at most, the least that have bytes. It
+    /// knows each id if at most 800 ids ever had bytes in the list. It is valid as long as the area
+    /// stays as it is. This takes one walk over the list, and a search for each id that shares its
+    /// key.
     pub fn fill_last_slots<F: Flash, L: Ledger>(
         &self,
         flash: &F,
@@ -94,8 +94,8 @@ impl Zms {
         self.store.fill_last_slots(flash, last, steps)
     }
 
-    /// The bytes of an item, as `get` gives them, by a table of last entries. Where the table knows
-    /// of the id, it is one step at most; else it is what `get` does.
+    /// The bytes of an item, as `get` gives them. If the table knows the id, this takes at most one
+    /// step; otherwise it does what `get` does.
     pub fn get_by<'a, F: Flash, L: Ledger>(
         &self,
         flash: &'a F,
@@ -112,8 +112,8 @@ impl Zms {
         self.store.get_by(flash, last, id, steps)
     }
 
-    /// The least id behind this one that has a value, or the least of all. It is never the reserved
-    /// id FFFFFFFF.
+    /// The least id greater than `after` that has a value, or the least of all if `after` is not
+    /// given; `None` if there is none. It is never the reserved id FFFFFFFF.
     pub fn next_id<F: Flash, L: Ledger>(
         &self,
         flash: &F,
@@ -127,9 +127,9 @@ impl Zms {
         self.store.next_id(flash, after, steps)
     }
 
-    /// The least id behind this one that has a value, or the least of all, as `next_id` gives it,
-    /// by a table of last entries. Where the table has one, or knows all ids, nothing is looked
-    /// at; else the list is searched.
+    /// The least id greater than `after` that has a value, or the least of all, as `next_id` gives
+    /// it. If the table knows that id, or knows each id, this takes no step; otherwise it searches
+    /// the list.
     pub fn next_by<F: Flash, L: Ledger>(
         &self,
         flash: &F,
@@ -147,9 +147,9 @@ impl Zms {
         self.store.next_by(flash, last, after, steps)
     }
 
-    /// The id of an item that has these bytes, of the ids from `least` to `most`, no more than
-    /// 0x1_0020; any of them where several have.
-    /// It is one walk over the list at most, from its newest entry back.
+    /// An id from `least` to `most` whose item has these bytes; any of them if several have, `None`
+    /// if none has. The range has at most 0x1_0020 ids. This takes one walk over the list at most,
+    /// from its newest entry back.
     pub fn id_of<F: Flash, L: Ledger>(
         &self,
         flash: &F,
@@ -166,8 +166,9 @@ impl Zms {
         self.store.id_of(flash, least, most, bytes, steps)
     }
 
-    /// The least bytes of an item that are greater than `after`, or the least of all, of the ids from `least` to
-    /// `most`, no more than 0x1_0020. It is one walk over the list.
+    /// The least bytes of an item with an id from `least` to `most`: of those greater than `after`,
+    /// or of all if `after` is not given; `None` if there are none. The range has at most 0x1_0020
+    /// ids. This takes one walk over the list.
     pub fn next_of<'a, F: Flash, L: Ledger>(
         &self,
         flash: &'a F,
@@ -192,10 +193,10 @@ impl Zms {
         self.store.live_cost(flash, steps)
     }
 
-    /// The next older entry of the list: the one before the entry in this sector and slot, or the
-    /// newest one where no place is given. Where no entry stands at the place, it is the newest one
-    /// before the place, in the round to the open sector. Deletes are among them. `None` comes
-    /// exactly at the oldest entry of the list.
+    /// The next older entry of the list, deletes included: the one before the entry in this sector
+    /// and slot, or the newest one if no place is given. From a place without an entry it is the
+    /// newest entry before that place, in the round to the open sector. `None` exactly if there is
+    /// no older entry.
     pub fn walk<F: Flash, L: Ledger>(
         &self,
         flash: &F,

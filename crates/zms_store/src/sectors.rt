@@ -19,12 +19,12 @@ use zms_cycle::{
 };
 use zms_format::{find_in, is_clean, scan};
 
-/// What is kept of an open sector: what is free in it, and where its next entry goes, is known with
-/// no look at its list.
+/// What a ZMS store keeps of its open sector: enough to know its free space and where the next
+/// entry goes, without reading its list.
 #[derive(Clone, Copy, Debug, PartialEq, Eq)]
 pub struct ZmsOpen {
     gc_done: bool,
-    // none where it is blank
+    // none if it is blank
     cycle: Option<u8>,
     // how many slots its list has
     slots: u32,
@@ -51,7 +51,7 @@ impl ZmsOpen {
     }
 }
 
-// The entry in this sector, without what is its store's own.
+// The entry in this sector, as `item_store` sees it.
 fn placed(found: SlotEntry, sector: u32) -> Placed
     ensures placed { result ≡ placed_at sector (entry_of found) }
     ensures wide { result.id < 2 ^ 32 }
@@ -82,7 +82,7 @@ fn value_in<'a>(bytes: &'a [u8], found: &SlotEntry) -> &'a [u8]
     &bytes[start..start + len]
 }
 
-// The id that a slot's bytes have where an entry has its own. Their CRC is not looked at.
+// The id field of a slot. The CRC is not checked.
 fn id_of(slot: &[u8]) -> u32
     requires { length slot.now ≡ 16 }
     ensures { result ≡ (fields_of slot.now).id }

@@ -1,4 +1,4 @@
-// The store, mounting, and closing with a collection.
+// The ZMS store: mounting, and closing with a garbage collection.
 ghost use Rattle.std.specs.Prelude.{◌≡◌, ◌*◌, ◌/◌, ◌∷◌, [], false, is_err, OnOk, OnErr};
 ghost use Rattle.flash_map.specs.Area.{sector_size};
 ghost use Rattle.flash_map.specs.Faults.{mount_lost};
@@ -14,23 +14,21 @@ use item_store::Store;
 use std::alloc::Global;
 use std::sync::ledger::Ledger;
 
-/// A store over the sectors of one area.
+/// A ZMS store on one area.
 #[derive(Debug, Drop)]
 pub struct Zms {
     pub(crate) store: Store<ZmsOpen>,
 }
 
 impl Zms {
-    /// Reads the area and carries out what a loss of power left undone: the emptying of a collected
-    /// sector, which takes one to three units (one or two on a bank that is erased), or a whole
-    /// collection. Where neither was cut, nothing is programmed. The items stay, and the newest
-    /// versions of each, also where power is lost. Whatever the result, it programs at most twice
-    /// the units of a sector. An area in which anything changed has a sector in use then, also
-    /// where power is lost.
+    /// Reads the area and completes what a power loss left undone: the emptying of a collected
+    /// sector, which takes one to three units (one or two on an erasing bank), or a whole garbage
+    /// collection. The items stay, and so do the newest versions of each, even if power is lost
+    /// again. It never spends more than twice the units of a sector. An area at rest stays as it
+    /// is. If anything changed, a sector is in use afterwards, even if power was lost.
     ///
     /// # Errors
-    /// `Damaged`, and then nothing was programmed; `PowerLost`; `NoMemory`, and then nothing was programmed
-    /// either.
+    /// `Damaged` and `NoMemory`: nothing changed. `PowerLost`, only if the area was not at rest.
     pub fn mount<F: Flash, L: Ledger>(
         alloc: Global,
         flash: &mut F,
@@ -52,7 +50,7 @@ impl Zms {
         }
     }
 
-    /// The one store over any sectors that it is.
+    /// The store of `item_store` that does the work.
     pub fn store(&self) -> &Store<ZmsOpen>
         ensures { result.now ≡ self.now.store }
     {
@@ -66,21 +64,22 @@ impl Zms {
         self.store.area()
     }
 
-    /// Whether no call answered that power was lost.
+    /// Whether the store is up: no call has returned `PowerLost`.
     pub fn is_up(&self) -> bool
         ensures { result ≡ self.now.store.up }
     {
         self.store.is_up()
     }
 
-    /// Closes the open sector and collects the oldest one, where that is in use; where it is not,
-    /// the next sector is made ready on a bank that is erased. The items stay, also where power is
-    /// lost. What does not fit then is kept out by the copied items alone, and a delete fits. Where
-    /// the open sector is clean, nothing is programmed: on a bank that is never erased where its
-    /// slot 2 is not valid, on one that is erased where it is blank or fresh.
+    /// Closes the open sector and collects the oldest one, if that is in use. If it is not, on an
+    /// erasing bank the next sector is made ready. The items stay, even if power is lost. After a
+    /// round, a value fits the open sector exactly if it fits beside the items copied there, and a
+    /// delete fits. If the open sector is clean, nothing changes: on a rewritable bank it is clean
+    /// if its slot 2 is not valid, on an erasing bank if it is blank or fresh.
     ///
     /// # Errors
-    /// `PowerLost`. The store is then down.
+    /// `PowerLost`, only if the open sector is not clean: the list is as before or as after the
+    /// round, and the store is down.
     pub fn close_and_collect<F: Flash, L: Ledger>(
         &mut self,
         flash: &mut F,

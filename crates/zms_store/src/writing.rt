@@ -11,13 +11,13 @@ use flash_sim::{Flash, PowerLost, Steps};
 use std::sync::ledger::Ledger;
 
 impl Zms {
-    /// Sets an item. Bytes that the item has already are not programmed again.
+    /// Sets an item. If the item has these bytes already, nothing is programmed.
     ///
     /// # Errors
-    /// `TooLong` exactly where the bytes and their entry cost more than a sector has for them; then nothing
-    /// was programmed. `NoSpace` where no round of collections makes room: each sector but the blank one then
-    /// has live items alone, which leave no room for this one; the items are as before. `PowerLost`: the
-    /// items are as before, or with this one, and the store is down.
+    /// `TooLong` exactly if the bytes and their entry cost more than a sector has for them: nothing
+    /// was programmed. `NoSpace` if no garbage collection makes room: every sector but the blank
+    /// one then holds live items only, with no room for this one beside them. The items stay.
+    /// `PowerLost`: the items are as before or with this one set, and the store is down.
     pub fn write<F: Flash, L: Ledger>(
         &mut self,
         flash: &mut F,
@@ -43,11 +43,11 @@ impl Zms {
         self.store.write(flash, id, bytes, steps)
     }
 
-    /// Deletes an item. Where the id has none, nothing is programmed; the reserved id FFFFFFFF
-    /// never has one. It always finds room.
+    /// Deletes an item. If the id has none, nothing is programmed; the reserved id FFFFFFFF never
+    /// has one. A delete always finds room.
     ///
     /// # Errors
-    /// `PowerLost`: the items are as before, or without this one, and the store is down.
+    /// `PowerLost`: the items are as before or without this one, and the store is down.
     pub fn delete<F: Flash, L: Ledger>(
         &mut self,
         flash: &mut F,

@@ -11,8 +11,8 @@ use std::fs;
 use std::io::{self, ErrorKind};
 use std::rt::Files;
 
-/// Files of the system, and standard output. It shows nothing of what they hold. A file is written
-/// under a name that no file has, and then renamed, so that a failed write leaves what stood there.
+/// The system's files, and standard output. Contracts see nothing of what they hold. A regular file
+/// is written under a new name and then renamed, so a failed write leaves the old file.
 #[derive(Drop)]
 pub struct RealHost<'a, R> {
     rt: &'a R,
@@ -20,7 +20,7 @@ pub struct RealHost<'a, R> {
 }
 
 impl<'a, R: Files + Print> RealHost<'a, R> {
-    /// A host of the runtime, with no faults.
+    /// A host on this runtime, with a fault count of 0.
     pub fn new(rt: &'a R) -> RealHost<'a, R>
         ensures { result.faults ≡ 0 }
     {

@@ -8,10 +8,10 @@ use crate::HostFault;
 use std::alloc::Global;
 use std::io::{Read, Write};
 
-/// The bytes that are left in a file, of at most `limit`.
+/// The bytes that are left in a file, at most `limit` of them.
 ///
 /// # Errors
-/// `TooLong` where more are left. `Failed` where a read fails: none is tried again. `NoMemory`.
+/// `TooLong` if more are left. `Failed` if a read fails; no read is retried. `NoMemory`.
 pub fn read_to_end<F: Read>(alloc: Global, file: &mut F, limit: usize) -> Result<Vec<u8>, HostFault>
     ensures { ReadsToEnd (F.remaining file.old) limit result }
 {
@@ -32,8 +32,8 @@ pub fn read_to_end<F: Read>(alloc: Global, file: &mut F, limit: usize) -> Result
     Err(HostFault::Failed)
 }
 
-/// Whether all the bytes were written; where not, a prefix of them was. A write that takes nothing
-/// ends it.
+/// Writes the bytes, and says whether all were written. If not, a prefix of them was. A write that
+/// takes no byte ends the call.
 pub fn write_all<W: Write>(writer: &mut W, bytes: &[u8]) -> bool
     ensures all { OnTrue result
         (Appends (W.contents writer.old) (W.contents writer.new) bytes.now) }

@@ -1,4 +1,4 @@
-// Writing files of the system. A failed write leaves what stood there, and no other file.
+// Writing the system's files. A failed write leaves the old file and no new one.
 use crate::streams::write_all;
 use std::alloc::{AllocError, Global};
 use std::fs::{self, File, OpenFile, OpenOptions, Permissions};
@@ -12,11 +12,11 @@ const TRIES: u32 = 16;
 // How many links in a row are followed.
 const MOST_LINKS: u32 = 40;
 
-/// Whether the named file now holds just these bytes. A link is followed. What is no regular file,
-/// as a device or a pipe, is written in place.
+/// Writes the named file, and says whether it now holds exactly these bytes. Links are followed.
+/// Anything but a regular file, such as a device or a pipe, is written in place.
 ///
 /// # Errors
-/// Want of memory alone. After it, and after a failure, a regular file is as it was.
+/// Out of memory. After that, and after `false`, a regular file is as it was.
 pub fn write_file<R: Files>(
     rt: &R,
     alloc: Global,
@@ -69,7 +69,7 @@ fn replace<R: Files>(
     }
 }
 
-// Makes a file where none is.
+// Makes a new file.
 fn create<R: Files>(rt: &R, alloc: Global, name: &str, bytes: &[u8]) -> Result<bool, AllocError> {
     match behind_links(rt, alloc, name)? {
         Some(path) => put(rt, alloc, path.as_str(), None, bytes),

@@ -1,4 +1,4 @@
-use Rattle.std.proofs.Common.{ℕ, ◌<◌, ◌≤◌}
+use Rattle.std.proofs.Common.{ℕ, ◌+◌, ◌<◌, ◌≤◌}
 use Rattle.flash_map.specs.On.{on}
 use Rattle.named_items.specs.Ends.{IsFree}
 use Rattle.backend_zms.specs.IdLayout.{numbering_of}

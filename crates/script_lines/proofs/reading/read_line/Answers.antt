@@ -1,178 +1,89 @@
--- For each command, where its words are refused, and where they are the line.
-use Rattle.std.proofs.Common.{◌≡◌, ℕ, List, ◌^◌, [], ◌∷◌, codes, sym, ◌∙◌, ap, subst}
-use Rattle.std.proofs.lemmas.Result.{err_from_is_err_and}
+-- For each first word, the line that the words behind it make.
+use Rattle.std.proofs.Common.{◌≡◌, ℕ, false, List, [], ◌∷◌, codes, refl, sym, subst, ◌∙◌, rules}
+use Rattle.std.specs.List.{list_any}
 use Rattle.handlers.specs.declared.handler.HandlerKind.{HandlerKind}
 use Rattle.text_parts.specs.Parts.{parts, parts_of}
+use Rattle.script_lines.specs.declared.line.Line.TheVariants.{Set, Get, Del, Register, Load, Direct, Save, Commit, RunSet, RunGet, Names, Mount, Cut, Uncut, Migrate}
 use Rattle.script_lines.specs.declared.line.TheConstants.{UNITS_END}
-use Rattle.script_lines.specs.Command.{command_word}
 use Rattle.script_lines.specs.Line.{settings_forms, row_of}
+use Rattle.script_lines.specs.Forms.{has_word}
 use Rattle.script_lines.specs.Forms.Field.{a_name, a_kind, some_bytes, any_bytes, below}
 use Rattle.script_lines.specs.Forms.Said.{name, kind, bytes, number}
-use Rattle.script_lines.proofs.FormLemmas.{spelled, spelled_maybe, refused_row, refused_maybe}
+use Rattle.script_lines.proofs.FirstWords.{DiffersFromEach, no_form, no_text}
+use Rattle.script_lines.proofs.FormLemmas.{row_read, maybe_read, unknown_word}
 use Rattle.script_lines.proofs.TableFacts.{set_form, get_form, del_form, register_form, load_form, direct_form, save_form, commit_form, rset_form, rget_form, names_form, mount_form, cut_form, uncut_form, migrate_form}
 use Rattle.script_lines.proofs.reading.read_line.Goals as goal
 
-pub returns-in_err-name-in-Set : goal.returns-in_err-name-in-Set
-returns-in_err-name-in-Set c =
-    let p = err_from_is_err_and c.from_residual.result c.from_residual.ensures.1 in
-    let same = c.in-Some.ensures ∙ ap command_word c.in-Set.is in
-    rw (p.1, p.2) (refused_row {T = List ℕ × List ℕ} settings_forms row_of c.args.limit (λ said. name said.0 ∷ bytes said.1 ∷ []) (parts 32 c.args.text.now) c.cut_at.result.0.now (codes "set") (parts_of 32 c.cut_at.result.1) (a_name ∷ any_bytes ∷ []) c.in_err-name-in-Set.field-0.0 c.cut_at.ensures.first same set_form c.in_err-name-in-Set.ensures)
+pub returns-in-set : goal.returns-in-set
+returns-in-set c =
+    row_read {T = List ℕ × List ℕ} settings_forms row_of c.args.limit (λ said. name said.0 ∷ bytes said.1 ∷ []) (λ said. Set said.0 said.1) _ (parts 32 c.args.text.now) c.cut_at.result.0.now (codes "set") (parts_of 32 c.cut_at.result.1) (a_name ∷ any_bytes ∷ []) c.name_and_bytes_or_dash.result c.map.result c.cut_at.ensures.first (sym c.in-Ok.ensures.cases.0 ∙ c.in-set.is) set_form c.name_and_bytes_or_dash.ensures (λ said. refl) (λ said line made. search rules) c.map.ensures.cases
 
-pub returns-in_err-name-in-Get : goal.returns-in_err-name-in-Get
-returns-in_err-name-in-Get c =
-    let p = err_from_is_err_and c.from_residual-in_err-name-in-Get.result c.from_residual-in_err-name-in-Get.ensures.1 in
-    let same = c.in-Some.ensures ∙ ap command_word c.in-Get.is in
-    rw (p.1, p.2) (refused_row {T = List ℕ} settings_forms row_of c.args.limit (λ text. name text ∷ []) (parts 32 c.args.text.now) c.cut_at.result.0.now (codes "get") (parts_of 32 c.cut_at.result.1) (a_name ∷ []) c.in_err-name-in-Get.field-0.0 c.cut_at.ensures.first same get_form (c.in_err-name-in-Get.ensures c.args.limit))
+pub returns-in-get : goal.returns-in-get
+returns-in-get c =
+    row_read {T = List ℕ} settings_forms row_of c.args.limit (λ text. name text ∷ []) Get _ (parts 32 c.args.text.now) c.cut_at.result.0.now (codes "get") (parts_of 32 c.cut_at.result.1) (a_name ∷ []) c.name_alone.result c.map-in-get.result c.cut_at.ensures.first (sym c.in-Ok.ensures.cases.0 ∙ c.in-get.is) get_form (c.name_alone.ensures c.args.limit) (λ said. refl) (λ said line made. search rules) c.map-in-get.ensures.cases
 
-pub returns-in_err-name-in-Del : goal.returns-in_err-name-in-Del
-returns-in_err-name-in-Del c =
-    let p = err_from_is_err_and c.from_residual-in_err-name-in-Del.result c.from_residual-in_err-name-in-Del.ensures.1 in
-    let same = c.in-Some.ensures ∙ ap command_word c.in-Del.is in
-    rw (p.1, p.2) (refused_row {T = List ℕ} settings_forms row_of c.args.limit (λ text. name text ∷ []) (parts 32 c.args.text.now) c.cut_at.result.0.now (codes "del") (parts_of 32 c.cut_at.result.1) (a_name ∷ []) c.in_err-name-in-Del.field-0.0 c.cut_at.ensures.first same del_form (c.in_err-name-in-Del.ensures c.args.limit))
+pub returns-in-del : goal.returns-in-del
+returns-in-del c =
+    row_read {T = List ℕ} settings_forms row_of c.args.limit (λ text. name text ∷ []) Del _ (parts 32 c.args.text.now) c.cut_at.result.0.now (codes "del") (parts_of 32 c.cut_at.result.1) (a_name ∷ []) c.name_alone-in-del.result c.map-in-del.result c.cut_at.ensures.first (sym c.in-Ok.ensures.cases.0 ∙ c.in-del.is) del_form (c.name_alone-in-del.ensures c.args.limit) (λ said. refl) (λ said line made. search rules) c.map-in-del.ensures.cases
 
-pub returns-in_err-subtree-in-Register : goal.returns-in_err-subtree-in-Register
-returns-in_err-subtree-in-Register c =
-    let p = err_from_is_err_and c.from_residual-in_err-subtree-in-Register.result c.from_residual-in_err-subtree-in-Register.ensures.1 in
-    let same = c.in-Some.ensures ∙ ap command_word c.in-Register.is in
-    rw (p.1, p.2) (refused_row {T = List ℕ × HandlerKind} settings_forms row_of c.args.limit (λ said. name said.0 ∷ kind said.1 ∷ []) (parts 32 c.args.text.now) c.cut_at.result.0.now (codes "register") (parts_of 32 c.cut_at.result.1) (a_name ∷ a_kind ∷ []) c.in_err-subtree-in-Register.field-0.0 c.cut_at.ensures.first same register_form (c.in_err-subtree-in-Register.ensures c.args.limit))
+pub returns-in-register : goal.returns-in-register
+returns-in-register c =
+    row_read {T = List ℕ × HandlerKind} settings_forms row_of c.args.limit (λ said. name said.0 ∷ kind said.1 ∷ []) (λ said. Register said.0 said.1) _ (parts 32 c.args.text.now) c.cut_at.result.0.now (codes "register") (parts_of 32 c.cut_at.result.1) (a_name ∷ a_kind ∷ []) c.name_and_kind.result c.map-in-register.result c.cut_at.ensures.first (sym c.in-Ok.ensures.cases.0 ∙ c.in-register.is) register_form (c.name_and_kind.ensures c.args.limit) (λ said. refl) (λ said line made. search rules) c.map-in-register.ensures.cases
 
-pub returns-in_err-subtree-in-Load : goal.returns-in_err-subtree-in-Load
-returns-in_err-subtree-in-Load c =
-    let p = err_from_is_err_and c.from_residual-in_err-subtree-in-Load.result c.from_residual-in_err-subtree-in-Load.ensures.1 in
-    let same = c.in-Some.ensures ∙ ap command_word c.in-Load.is in
-    rw (p.1, p.2) (refused_maybe c.args.limit (parts 32 c.args.text.now) c.cut_at.result.0.now (codes "load") (parts_of 32 c.cut_at.result.1) c.in_err-subtree-in-Load.field-0.0 c.cut_at.ensures.first same load_form (c.in_err-subtree-in-Load.ensures c.args.limit))
+pub returns-in-load : goal.returns-in-load
+returns-in-load c =
+    maybe_read c.args.limit Load _ (parts 32 c.args.text.now) c.cut_at.result.0.now (codes "load") (parts_of 32 c.cut_at.result.1) c.name_or_nothing.result c.map-in-load.result c.cut_at.ensures.first (sym c.in-Ok.ensures.cases.0 ∙ c.in-load.is) load_form (c.name_or_nothing.ensures c.args.limit) (λ text. refl) (λ text line made. search rules) c.map-in-load.ensures.cases
 
-pub returns-in_err-subtree-in-Direct : goal.returns-in_err-subtree-in-Direct
-returns-in_err-subtree-in-Direct c =
-    let p = err_from_is_err_and c.from_residual-in_err-subtree-in-Direct.result c.from_residual-in_err-subtree-in-Direct.ensures.1 in
-    let same = c.in-Some.ensures ∙ ap command_word c.in-Direct.is in
-    rw (p.1, p.2) (refused_maybe c.args.limit (parts 32 c.args.text.now) c.cut_at.result.0.now (codes "direct") (parts_of 32 c.cut_at.result.1) c.in_err-subtree-in-Direct.field-0.0 c.cut_at.ensures.first same direct_form (c.in_err-subtree-in-Direct.ensures c.args.limit))
+pub returns-in-direct : goal.returns-in-direct
+returns-in-direct c =
+    maybe_read c.args.limit Direct _ (parts 32 c.args.text.now) c.cut_at.result.0.now (codes "direct") (parts_of 32 c.cut_at.result.1) c.name_or_nothing-in-direct.result c.map-in-direct.result c.cut_at.ensures.first (sym c.in-Ok.ensures.cases.0 ∙ c.in-direct.is) direct_form (c.name_or_nothing-in-direct.ensures c.args.limit) (λ text. refl) (λ text line made. search rules) c.map-in-direct.ensures.cases
 
-pub returns-in_err-subtree-in-Save : goal.returns-in_err-subtree-in-Save
-returns-in_err-subtree-in-Save c =
-    let p = err_from_is_err_and c.from_residual-in_err-subtree-in-Save.result c.from_residual-in_err-subtree-in-Save.ensures.1 in
-    let same = c.in-Some.ensures ∙ ap command_word c.in-Save.is in
-    rw (p.1, p.2) (refused_maybe c.args.limit (parts 32 c.args.text.now) c.cut_at.result.0.now (codes "save") (parts_of 32 c.cut_at.result.1) c.in_err-subtree-in-Save.field-0.0 c.cut_at.ensures.first same save_form (c.in_err-subtree-in-Save.ensures c.args.limit))
+pub returns-in-save : goal.returns-in-save
+returns-in-save c =
+    maybe_read c.args.limit Save _ (parts 32 c.args.text.now) c.cut_at.result.0.now (codes "save") (parts_of 32 c.cut_at.result.1) c.name_or_nothing-in-save.result c.map-in-save.result c.cut_at.ensures.first (sym c.in-Ok.ensures.cases.0 ∙ c.in-save.is) save_form (c.name_or_nothing-in-save.ensures c.args.limit) (λ text. refl) (λ text line made. search rules) c.map-in-save.ensures.cases
 
-pub returns-in_err-nothing-in-Commit : goal.returns-in_err-nothing-in-Commit
-returns-in_err-nothing-in-Commit c =
-    let p = err_from_is_err_and c.from_residual-in_err-nothing-in-Commit.result c.from_residual-in_err-nothing-in-Commit.ensures.1 in
-    let same = c.in-Some.ensures ∙ ap command_word c.in-Commit.is in
-    rw (p.1, p.2) (refused_row {T = Unit {0}} settings_forms row_of c.args.limit (λ _. []) (parts 32 c.args.text.now) c.cut_at.result.0.now (codes "commit") (parts_of 32 c.cut_at.result.1) ([]) c.in_err-nothing-in-Commit.field-0.0 c.cut_at.ensures.first same commit_form (c.in_err-nothing-in-Commit.ensures c.args.limit))
+pub returns-in-commit : goal.returns-in-commit
+returns-in-commit c =
+    row_read {T = Unit {0}} settings_forms row_of c.args.limit (λ _. []) (λ _. Commit) _ (parts 32 c.args.text.now) c.cut_at.result.0.now (codes "commit") (parts_of 32 c.cut_at.result.1) ([]) c.nothing.result c.map-in-commit.result c.cut_at.ensures.first (sym c.in-Ok.ensures.cases.0 ∙ c.in-commit.is) commit_form (c.nothing.ensures c.args.limit) (λ said. refl) (λ said line made. search rules) c.map-in-commit.ensures.cases
 
-pub returns-in_err-name-in-RunSet : goal.returns-in_err-name-in-RunSet
-returns-in_err-name-in-RunSet c =
-    let p = err_from_is_err_and c.from_residual-in_err-name-in-RunSet.result c.from_residual-in_err-name-in-RunSet.ensures.1 in
-    let same = c.in-Some.ensures ∙ ap command_word c.in-RunSet.is in
-    rw (p.1, p.2) (refused_row {T = List ℕ × List ℕ} settings_forms row_of c.args.limit (λ said. name said.0 ∷ bytes said.1 ∷ []) (parts 32 c.args.text.now) c.cut_at.result.0.now (codes "rset") (parts_of 32 c.cut_at.result.1) (a_name ∷ some_bytes ∷ []) c.in_err-name-in-RunSet.field-0.0 c.cut_at.ensures.first same rset_form c.in_err-name-in-RunSet.ensures)
+pub returns-in-rset : goal.returns-in-rset
+returns-in-rset c =
+    row_read {T = List ℕ × List ℕ} settings_forms row_of c.args.limit (λ said. name said.0 ∷ bytes said.1 ∷ []) (λ said. RunSet said.0 said.1) _ (parts 32 c.args.text.now) c.cut_at.result.0.now (codes "rset") (parts_of 32 c.cut_at.result.1) (a_name ∷ some_bytes ∷ []) c.name_and_bytes.result c.map-in-rset.result c.cut_at.ensures.first (sym c.in-Ok.ensures.cases.0 ∙ c.in-rset.is) rset_form c.name_and_bytes.ensures (λ said. refl) (λ said line made. search rules) c.map-in-rset.ensures.cases
 
-pub returns-in_err-name-in-RunGet : goal.returns-in_err-name-in-RunGet
-returns-in_err-name-in-RunGet c =
-    let p = err_from_is_err_and c.from_residual-in_err-name-in-RunGet.result c.from_residual-in_err-name-in-RunGet.ensures.1 in
-    let same = c.in-Some.ensures ∙ ap command_word c.in-RunGet.is in
-    rw (p.1, p.2) (refused_row {T = List ℕ} settings_forms row_of c.args.limit (λ text. name text ∷ []) (parts 32 c.args.text.now) c.cut_at.result.0.now (codes "rget") (parts_of 32 c.cut_at.result.1) (a_name ∷ []) c.in_err-name-in-RunGet.field-0.0 c.cut_at.ensures.first same rget_form (c.in_err-name-in-RunGet.ensures c.args.limit))
+pub returns-in-rget : goal.returns-in-rget
+returns-in-rget c =
+    row_read {T = List ℕ} settings_forms row_of c.args.limit (λ text. name text ∷ []) RunGet _ (parts 32 c.args.text.now) c.cut_at.result.0.now (codes "rget") (parts_of 32 c.cut_at.result.1) (a_name ∷ []) c.name_alone-in-rget.result c.map-in-rget.result c.cut_at.ensures.first (sym c.in-Ok.ensures.cases.0 ∙ c.in-rget.is) rget_form (c.name_alone-in-rget.ensures c.args.limit) (λ said. refl) (λ said line made. search rules) c.map-in-rget.ensures.cases
 
-pub returns-in_err-nothing-in-Names : goal.returns-in_err-nothing-in-Names
-returns-in_err-nothing-in-Names c =
-    let p = err_from_is_err_and c.from_residual-in_err-nothing-in-Names.result c.from_residual-in_err-nothing-in-Names.ensures.1 in
-    let same = c.in-Some.ensures ∙ ap command_word c.in-Names.is in
-    rw (p.1, p.2) (refused_row {T = Unit {0}} settings_forms row_of c.args.limit (λ _. []) (parts 32 c.args.text.now) c.cut_at.result.0.now (codes "names") (parts_of 32 c.cut_at.result.1) ([]) c.in_err-nothing-in-Names.field-0.0 c.cut_at.ensures.first same names_form (c.in_err-nothing-in-Names.ensures c.args.limit))
+pub returns-in-names : goal.returns-in-names
+returns-in-names c =
+    row_read {T = Unit {0}} settings_forms row_of c.args.limit (λ _. []) (λ _. Names) _ (parts 32 c.args.text.now) c.cut_at.result.0.now (codes "names") (parts_of 32 c.cut_at.result.1) ([]) c.nothing-in-names.result c.map-in-names.result c.cut_at.ensures.first (sym c.in-Ok.ensures.cases.0 ∙ c.in-names.is) names_form (c.nothing-in-names.ensures c.args.limit) (λ said. refl) (λ said line made. search rules) c.map-in-names.ensures.cases
 
-pub returns-in_err-nothing-in-Mount : goal.returns-in_err-nothing-in-Mount
-returns-in_err-nothing-in-Mount c =
-    let p = err_from_is_err_and c.from_residual-in_err-nothing-in-Mount.result c.from_residual-in_err-nothing-in-Mount.ensures.1 in
-    let same = c.in-Some.ensures ∙ ap command_word c.in-Mount.is in
-    rw (p.1, p.2) (refused_row {T = Unit {0}} settings_forms row_of c.args.limit (λ _. []) (parts 32 c.args.text.now) c.cut_at.result.0.now (codes "mount") (parts_of 32 c.cut_at.result.1) ([]) c.in_err-nothing-in-Mount.field-0.0 c.cut_at.ensures.first same mount_form (c.in_err-nothing-in-Mount.ensures c.args.limit))
+pub returns-in-mount : goal.returns-in-mount
+returns-in-mount c =
+    row_read {T = Unit {0}} settings_forms row_of c.args.limit (λ _. []) (λ _. Mount) _ (parts 32 c.args.text.now) c.cut_at.result.0.now (codes "mount") (parts_of 32 c.cut_at.result.1) ([]) c.nothing-in-mount.result c.map-in-mount.result c.cut_at.ensures.first (sym c.in-Ok.ensures.cases.0 ∙ c.in-mount.is) mount_form (c.nothing-in-mount.ensures c.args.limit) (λ said. refl) (λ said line made. search rules) c.map-in-mount.ensures.cases
 
-pub returns-in_err-units-in-Cut : goal.returns-in_err-units-in-Cut
-returns-in_err-units-in-Cut c =
-    let p = err_from_is_err_and c.from_residual-in_err-units-in-Cut.result c.from_residual-in_err-units-in-Cut.ensures.1 in
-    let same = c.in-Some.ensures ∙ ap command_word c.in-Cut.is in
-    rw (p.1, p.2) (refused_row {T = ℕ} settings_forms row_of c.args.limit (λ n. number n ∷ []) (parts 32 c.args.text.now) c.cut_at.result.0.now (codes "cut") (parts_of 32 c.cut_at.result.1) (below UNITS_END ∷ []) c.in_err-units-in-Cut.field-0.0 c.cut_at.ensures.first same cut_form (c.in_err-units-in-Cut.ensures c.args.limit))
+pub returns-in-cut : goal.returns-in-cut
+returns-in-cut c =
+    row_read {T = ℕ} settings_forms row_of c.args.limit (λ n. number n ∷ []) Cut _ (parts 32 c.args.text.now) c.cut_at.result.0.now (codes "cut") (parts_of 32 c.cut_at.result.1) (below UNITS_END ∷ []) c.number_alone.result c.map-in-cut.result c.cut_at.ensures.first (sym c.in-Ok.ensures.cases.0 ∙ c.in-cut.is) cut_form (c.number_alone.ensures c.args.limit) (λ said. refl) (λ said line made. search rules) c.map-in-cut.ensures.cases
 
-pub returns-in_err-nothing-in-Uncut : goal.returns-in_err-nothing-in-Uncut
-returns-in_err-nothing-in-Uncut c =
-    let p = err_from_is_err_and c.from_residual-in_err-nothing-in-Uncut.result c.from_residual-in_err-nothing-in-Uncut.ensures.1 in
-    let same = c.in-Some.ensures ∙ ap command_word c.in-Uncut.is in
-    rw (p.1, p.2) (refused_row {T = Unit {0}} settings_forms row_of c.args.limit (λ _. []) (parts 32 c.args.text.now) c.cut_at.result.0.now (codes "uncut") (parts_of 32 c.cut_at.result.1) ([]) c.in_err-nothing-in-Uncut.field-0.0 c.cut_at.ensures.first same uncut_form (c.in_err-nothing-in-Uncut.ensures c.args.limit))
+pub returns-in-uncut : goal.returns-in-uncut
+returns-in-uncut c =
+    row_read {T = Unit {0}} settings_forms row_of c.args.limit (λ _. []) (λ _. Uncut) _ (parts 32 c.args.text.now) c.cut_at.result.0.now (codes "uncut") (parts_of 32 c.cut_at.result.1) ([]) c.nothing-in-uncut.result c.map-in-uncut.result c.cut_at.ensures.first (sym c.in-Ok.ensures.cases.0 ∙ c.in-uncut.is) uncut_form (c.nothing-in-uncut.ensures c.args.limit) (λ said. refl) (λ said line made. search rules) c.map-in-uncut.ensures.cases
 
-pub returns-in_err-nothing-in-Migrate : goal.returns-in_err-nothing-in-Migrate
-returns-in_err-nothing-in-Migrate c =
-    let p = err_from_is_err_and c.from_residual-in_err-nothing-in-Migrate.result c.from_residual-in_err-nothing-in-Migrate.ensures.1 in
-    let same = c.in-Some.ensures ∙ ap command_word c.in-Migrate.is in
-    rw (p.1, p.2) (refused_row {T = Unit {0}} settings_forms row_of c.args.limit (λ _. []) (parts 32 c.args.text.now) c.cut_at.result.0.now (codes "migrate") (parts_of 32 c.cut_at.result.1) ([]) c.in_err-nothing-in-Migrate.field-0.0 c.cut_at.ensures.first same migrate_form (c.in_err-nothing-in-Migrate.ensures c.args.limit))
+pub returns-in-migrate : goal.returns-in-migrate
+returns-in-migrate c =
+    row_read {T = Unit {0}} settings_forms row_of c.args.limit (λ _. []) (λ _. Migrate) _ (parts 32 c.args.text.now) c.cut_at.result.0.now (codes "migrate") (parts_of 32 c.cut_at.result.1) ([]) c.nothing-in-migrate.result c.map-in-migrate.result c.cut_at.ensures.first (sym c.in-Ok.ensures.cases.0 ∙ c.in-migrate.is) migrate_form (c.nothing-in-migrate.ensures c.args.limit) (λ said. refl) (λ said line made. search rules) c.map-in-migrate.ensures.cases
 
-pub returns-in_ok-name-in-Set : goal.returns-in_ok-name-in-Set
-returns-in_ok-name-in-Set c =
-    let same = c.in-Some.ensures ∙ ap command_word c.in-Set.is in
-    spelled settings_forms c.args.limit (parts 32 c.args.text.now) c.cut_at.result.0.now (codes "set") (parts_of 32 c.cut_at.result.1) (a_name ∷ any_bytes ∷ []) (name c.in_ok-name-in-Set.name ∷ bytes c.in_ok-name-in-Set.value ∷ []) c.cut_at.ensures.first same set_form.there c.in_ok-name-in-Set.ensures
+-- bytes that are no text are none of the words
+pub returns-in_default : goal.returns-in_default
+returns-in_default c =
+    let none = no_text c.cut_at.result.0.now settings_forms c.in_default.ensures.cases.0 refl in
+    unknown_word c.args.limit (parts 32 c.args.text.now) c.cut_at.result.0.now (parts_of 32 c.cut_at.result.1) c.cut_at.ensures.first none
 
-pub returns-in_ok-name-in-Get : goal.returns-in_ok-name-in-Get
-returns-in_ok-name-in-Get c =
-    let same = c.in-Some.ensures ∙ ap command_word c.in-Get.is in
-    spelled settings_forms c.args.limit (parts 32 c.args.text.now) c.cut_at.result.0.now (codes "get") (parts_of 32 c.cut_at.result.1) (a_name ∷ []) (name c.in_ok-name-in-Get.name ∷ []) c.cut_at.ensures.first same get_form.there (c.in_ok-name-in-Get.ensures c.args.limit)
-
-pub returns-in_ok-name-in-Del : goal.returns-in_ok-name-in-Del
-returns-in_ok-name-in-Del c =
-    let same = c.in-Some.ensures ∙ ap command_word c.in-Del.is in
-    spelled settings_forms c.args.limit (parts 32 c.args.text.now) c.cut_at.result.0.now (codes "del") (parts_of 32 c.cut_at.result.1) (a_name ∷ []) (name c.in_ok-name-in-Del.name ∷ []) c.cut_at.ensures.first same del_form.there (c.in_ok-name-in-Del.ensures c.args.limit)
-
-pub returns-in_ok-subtree-in-Register : goal.returns-in_ok-subtree-in-Register
-returns-in_ok-subtree-in-Register c =
-    let same = c.in-Some.ensures ∙ ap command_word c.in-Register.is in
-    spelled settings_forms c.args.limit (parts 32 c.args.text.now) c.cut_at.result.0.now (codes "register") (parts_of 32 c.cut_at.result.1) (a_name ∷ a_kind ∷ []) (name c.in_ok-subtree-in-Register.subtree ∷ kind c.in_ok-subtree-in-Register.kind ∷ []) c.cut_at.ensures.first same register_form.there (c.in_ok-subtree-in-Register.ensures c.args.limit)
-
-pub returns-in_ok-subtree-in-Load : goal.returns-in_ok-subtree-in-Load
-returns-in_ok-subtree-in-Load c =
-    let same = c.in-Some.ensures ∙ ap command_word c.in-Load.is in
-    spelled_maybe settings_forms c.args.limit (parts 32 c.args.text.now) c.cut_at.result.0.now (codes "load") (parts_of 32 c.cut_at.result.1) c.in_ok-subtree-in-Load.subtree c.cut_at.ensures.first same load_form (c.in_ok-subtree-in-Load.ensures c.args.limit)
-
-pub returns-in_ok-subtree-in-Direct : goal.returns-in_ok-subtree-in-Direct
-returns-in_ok-subtree-in-Direct c =
-    let same = c.in-Some.ensures ∙ ap command_word c.in-Direct.is in
-    spelled_maybe settings_forms c.args.limit (parts 32 c.args.text.now) c.cut_at.result.0.now (codes "direct") (parts_of 32 c.cut_at.result.1) c.in_ok-subtree-in-Direct.subtree c.cut_at.ensures.first same direct_form (c.in_ok-subtree-in-Direct.ensures c.args.limit)
-
-pub returns-in_ok-subtree-in-Save : goal.returns-in_ok-subtree-in-Save
-returns-in_ok-subtree-in-Save c =
-    let same = c.in-Some.ensures ∙ ap command_word c.in-Save.is in
-    spelled_maybe settings_forms c.args.limit (parts 32 c.args.text.now) c.cut_at.result.0.now (codes "save") (parts_of 32 c.cut_at.result.1) c.in_ok-subtree-in-Save.subtree c.cut_at.ensures.first same save_form (c.in_ok-subtree-in-Save.ensures c.args.limit)
-
-pub returns-in_ok-nothing-in-Commit : goal.returns-in_ok-nothing-in-Commit
-returns-in_ok-nothing-in-Commit c =
-    let same = c.in-Some.ensures ∙ ap command_word c.in-Commit.is in
-    spelled settings_forms c.args.limit (parts 32 c.args.text.now) c.cut_at.result.0.now (codes "commit") (parts_of 32 c.cut_at.result.1) ([]) [] c.cut_at.ensures.first same commit_form.there (c.in_ok-nothing-in-Commit.ensures c.args.limit)
-
-pub returns-in_ok-name-in-RunSet : goal.returns-in_ok-name-in-RunSet
-returns-in_ok-name-in-RunSet c =
-    let same = c.in-Some.ensures ∙ ap command_word c.in-RunSet.is in
-    spelled settings_forms c.args.limit (parts 32 c.args.text.now) c.cut_at.result.0.now (codes "rset") (parts_of 32 c.cut_at.result.1) (a_name ∷ some_bytes ∷ []) (name c.in_ok-name-in-RunSet.name ∷ bytes c.in_ok-name-in-RunSet.value ∷ []) c.cut_at.ensures.first same rset_form.there c.in_ok-name-in-RunSet.ensures
-
-pub returns-in_ok-name-in-RunGet : goal.returns-in_ok-name-in-RunGet
-returns-in_ok-name-in-RunGet c =
-    let same = c.in-Some.ensures ∙ ap command_word c.in-RunGet.is in
-    spelled settings_forms c.args.limit (parts 32 c.args.text.now) c.cut_at.result.0.now (codes "rget") (parts_of 32 c.cut_at.result.1) (a_name ∷ []) (name c.in_ok-name-in-RunGet.name ∷ []) c.cut_at.ensures.first same rget_form.there (c.in_ok-name-in-RunGet.ensures c.args.limit)
-
-pub returns-in_ok-nothing-in-Names : goal.returns-in_ok-nothing-in-Names
-returns-in_ok-nothing-in-Names c =
-    let same = c.in-Some.ensures ∙ ap command_word c.in-Names.is in
-    spelled settings_forms c.args.limit (parts 32 c.args.text.now) c.cut_at.result.0.now (codes "names") (parts_of 32 c.cut_at.result.1) ([]) [] c.cut_at.ensures.first same names_form.there (c.in_ok-nothing-in-Names.ensures c.args.limit)
-
-pub returns-in_ok-nothing-in-Mount : goal.returns-in_ok-nothing-in-Mount
-returns-in_ok-nothing-in-Mount c =
-    let same = c.in-Some.ensures ∙ ap command_word c.in-Mount.is in
-    spelled settings_forms c.args.limit (parts 32 c.args.text.now) c.cut_at.result.0.now (codes "mount") (parts_of 32 c.cut_at.result.1) ([]) [] c.cut_at.ensures.first same mount_form.there (c.in_ok-nothing-in-Mount.ensures c.args.limit)
-
-pub returns-in_ok-units-in-Cut : goal.returns-in_ok-units-in-Cut
-returns-in_ok-units-in-Cut c =
-    let same = c.in-Some.ensures ∙ ap command_word c.in-Cut.is in
-    spelled settings_forms c.args.limit (parts 32 c.args.text.now) c.cut_at.result.0.now (codes "cut") (parts_of 32 c.cut_at.result.1) (below UNITS_END ∷ []) (number c.in_ok-units-in-Cut.units ∷ []) c.cut_at.ensures.first same cut_form.there (c.in_ok-units-in-Cut.ensures c.args.limit)
-
-pub returns-in_ok-nothing-in-Uncut : goal.returns-in_ok-nothing-in-Uncut
-returns-in_ok-nothing-in-Uncut c =
-    let same = c.in-Some.ensures ∙ ap command_word c.in-Uncut.is in
-    spelled settings_forms c.args.limit (parts 32 c.args.text.now) c.cut_at.result.0.now (codes "uncut") (parts_of 32 c.cut_at.result.1) ([]) [] c.cut_at.ensures.first same uncut_form.there (c.in_ok-nothing-in-Uncut.ensures c.args.limit)
-
-pub returns-in_ok-nothing-in-Migrate : goal.returns-in_ok-nothing-in-Migrate
-returns-in_ok-nothing-in-Migrate c =
-    let same = c.in-Some.ensures ∙ ap command_word c.in-Migrate.is in
-    spelled settings_forms c.args.limit (parts 32 c.args.text.now) c.cut_at.result.0.now (codes "migrate") (parts_of 32 c.cut_at.result.1) ([]) [] c.cut_at.ensures.first same migrate_form.there (c.in_ok-nothing-in-Migrate.ensures c.args.limit)
+-- a load, a direct load and a save stand in two forms
+pub returns-in_default-word : goal.returns-in_default-word
+returns-in_default-word c =
+    let d = c.in_default-word in
+    let others : DiffersFromEach c.in-Ok.word.now settings_forms = (d.not-set, (d.not-get, (d.not-del, (d.not-register, (d.not-load, (d.not-load, (d.not-direct, (d.not-direct, (d.not-save, (d.not-save, (d.not-commit, (d.not-rset, (d.not-rget, (d.not-names, (d.not-mount, (d.not-cut, (d.not-uncut, (d.not-migrate, tt)))))))))))))))))) in
+    let none = subst (λ (word : List ℕ). list_any (has_word word) settings_forms ≡ false) c.in-Ok.ensures.cases.0 (no_form c.in-Ok.word.now settings_forms others) in
+    unknown_word c.args.limit (parts 32 c.args.text.now) c.cut_at.result.0.now (parts_of 32 c.cut_at.result.1) c.cut_at.ensures.first none

@@ -1,4 +1,4 @@
-use Rattle.std.proofs.Common.{◌≡◌, ℕ, ◌<◌, List, length, sym, subst, inl, inr, arith}
+use Rattle.std.proofs.Common.{◌≡◌, ℕ, ◌<◌, length, sym, subst, inl, inr, arith}
 use Rattle.flash_map.specs.Area.{sectors_of}
 use Rattle.item_laws.specs.Area.{open_sector}
 use Rattle.item_laws.proofs.AreaReads.{length-sectors}

@@ -1,4 +1,4 @@
-use Rattle.std.proofs.Common.{◌≡◌, ℕ, ◌^◌, ◌<◌, List, Option, Some, None, IfSome, sym, subst, arith}
+use Rattle.std.proofs.Common.{ℕ, ◌^◌, ◌<◌, List, Option, Some, None, IfSome, sym, subst, arith}
 use Rattle.item_laws.specs.Bytes.{IsIdOf}
 use Rattle.item_laws.specs.Items.{Items}
 use Rattle.nvs_gc.specs.Standing.{items_on}

@@ -317,10 +317,7 @@ pub fn answer_text(alloc: Global, answer: &Answer) -> Result<Vec<u8>, NoMemory>
     requires { CanReport answer.now }
     ensures { IfOk result (λ text. text.items ≡ text_of answer.now) }
 {
-    match written(alloc, answer) {
-        Ok(text) => Ok(text),
-        Err(_) => Err(NoMemory),
-    }
+    Ok(written(alloc, answer)?)
 }
 
 /// A transcript, the texts of answers in a row, splits into lines for each answer in one way only.

@@ -22,10 +22,7 @@ use text_parts::{cut_at, one_part, read_number};
 pub fn read_name(word: &[u8]) -> Result<Name, LineFault>
     ensures { (limit : ℕ) → ReadsField limit a_name name word.now result }
 {
-    match Name::read(word) {
-        Ok(name) => Ok(name),
-        Err(_) => Err(Refused(LineWhy::Name)),
-    }
+    Name::read(word).map_err(|_| Refused(LineWhy::Name))
 }
 
 fn is_label_byte(byte: u8) -> bool

@@ -71,8 +71,5 @@ fn lines_by(alloc: Global, n: u32) -> Result<Vec<Line>, AllocError>
 pub fn gen_script(alloc: Global, n: u32) -> Result<Vec<Line>, NoMemory>
     ensures { IfOk result (λ lines. lines.items ≡ generated n) }
 {
-    match lines_by(alloc, n) {
-        Ok(lines) => Ok(lines),
-        Err(_) => Err(NoMemory),
-    }
+    Ok(lines_by(alloc, n)?)
 }

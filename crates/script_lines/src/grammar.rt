@@ -62,10 +62,7 @@ fn take_text<L: ScriptLine>(
         return Ok(());
     }
     match L::read(alloc, text, limit) {
-        Ok(said) => match lines.push(said) {
-            Ok(()) => Ok(()),
-            Err(_) => Err(ScriptFault::NoMemory),
-        },
+        Ok(said) => lines.push(said).map_err(|_| ScriptFault::NoMemory),
         Err(LineFault::Refused(why)) => Err(ScriptFault::BadLine { line, why }),
         Err(LineFault::NoMemory) => Err(ScriptFault::NoMemory),
     }

@@ -1,0 +1,5 @@
+mod Served
+mod OpenLemmas
+mod ReadyLemmas
+mod RegisterLemmas
+pub mod Values

@@ -1,0 +1,11 @@
+use Rattle.petaqwen.proofs.calls.mount.Goals as goal
+
+pub returns-clause-mounts : goal.returns-clause-mounts
+returns-clause-mounts g c = record {
+  touches = c.mount.ensures.touches;
+  ends = c.mount.ensures.ends;
+  sound = c.mount.ensures.sound;
+  keeps = c.mount.ensures.keeps;
+  rests = c.mount.ensures.rests;
+  at_most = c.mount.ensures.at_most;
+}

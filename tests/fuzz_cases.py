@@ -8,7 +8,7 @@ from image_tool.host import MemHost
 from image_tool.image import Image, read_image, read_spec, write_image
 from image_tool.tool import tool
 
-# One call of the program: its words, and the files that lie there.
+# One call of the program: its words, and the files that are there.
 Case = namedtuple("Case", "words files")
 
 IMAGE, SCRIPT, OUT = "x.img", "s.txt", "y.img"
@@ -27,7 +27,7 @@ WRONG_LINES = ["fly", "", " ", "# a note", "set a", "set a 0g", "set a 1", "set 
                "set a " + "11" * 257, "set a " + "11" * 2049, "put " + "11" * 257, "get " + "n" * 65,
                "get 1/2/3/4/5/6/7/8/9", "migrate x", "direct a="]
 
-# What stands behind each first word of a script on settings: a name, a value, a value or -, a kind, a number, or a name or nothing.
+# What follows each first word of a script of settings: a name, a value, a value or -, a kind of handler, a number, a name or nothing.
 FIELDS = {"set": "n-", "get": "n", "del": "n", "register": "nk", "load": "?", "direct": "?", "save": "?", "commit": "", "rset": "nv",
           "rget": "n", "names": "", "mount": "", "cut": "u", "uncut": "", "migrate": ""}
 ODD = {"n": ["", "/", "a//b", "a=b", "/a", "a/", "x" * 65, "1/2/3/4/5/6/7/8/9", "\x7f", "a", "c/d", "~"],
@@ -45,7 +45,7 @@ def bank(rng, kind, unit, sectors, long):
 
 
 def spec_of(rng, roles, long=False):
-    """The word of `build` for areas of these roles in this order, on one or two banks."""
+    """The SPEC of areas of these roles in this order, on one or two banks."""
     unit, first, areas = rng.choice([4, 4, 8, 16]), [0, 0], []
     for place, role in enumerate(roles):
         on = 1 if role == "zms" and (unit < 16 or rng.random() < 0.5) else 0
@@ -55,8 +55,8 @@ def spec_of(rng, roles, long=False):
         first[on] = start + count
     kept = [on for on in (0, 1) if first[on] or rng.random() < 0.05]
     banks = [bank(rng, ("erasing", "rewritable")[on], (unit, 16)[on], first[on] + rng.choice([0, 0, 1]), long) for on in kept]
-    told = ["area=" + "/".join(map(str, [role, label, kept.index(on), start, count])) for role, label, on, start, count in areas]
-    return ",".join(["version=2"] * long + banks + told)
+    rows = ["area=" + "/".join(map(str, [role, label, kept.index(on), start, count])) for role, label, on, start, count in areas]
+    return ",".join(["version=2"] * long + banks + rows)
 
 
 def settings_roles(rng):
@@ -68,7 +68,7 @@ def settings_roles(rng):
 
 
 def roles_for(rng, command):
-    """Roles that the command works on; now and then those of another one, which it refuses."""
+    """Roles that the command works on; now and then those of another command, which it refuses."""
     if rng.random() < 0.03:
         command = rng.choice(["run", "items", "log", "mirror"])
     if command == "items":
@@ -82,7 +82,7 @@ def roles_for(rng, command):
 
 
 def after_script(image, command, text):
-    """The image that the reference leaves after a script; the same image where it refuses it."""
+    """The image that the reference leaves after a script, or the same image if it refuses the script."""
     host = MemHost()
     host.files.update({IMAGE: image, SCRIPT: text})
     tool([command, IMAGE, SCRIPT, OUT], host)
@@ -90,7 +90,7 @@ def after_script(image, command, text):
 
 
 def start_image(rng, command):
-    """A blank image, or one on which a script ran before."""
+    """A blank image, or one that a script left."""
     long = rng.random() < 0.12
     image = write_image(read_spec(spec_of(rng, roles_for(rng, command), long)))
     if rng.random() < 0.4:
@@ -114,11 +114,11 @@ class Writer:
         ids = ITEM_IDS + ZMS_IDS * self.has_zms
         self.ids = rng.sample(ids, rng.choice([1, 2, 3, 5]))
         self.lengths = LENGTHS[rng.choice([0, 0, 0, 12]):] + LONG_LENGTHS * self.long
-        # How many units are left before a planned loss, as far as a guess goes; none where none is planned.
+        # A guess of how many units are left before the planned loss; none if no loss is planned.
         self.units_left = None
 
     def some_names(self):
-        """A few names; sometimes with one hash, or one whose cut delete checks by chance."""
+        """A few names; sometimes several with one hash, or one whose torn delete passes the CRC by chance."""
         rng = self.rng
         names = rng.sample(NAMES, rng.choice([1, 2, 3, 5, 8]))
         if self.has_zms and rng.random() < 0.25:
@@ -131,13 +131,13 @@ class Writer:
         return names
 
     def chances(self, body):
-        """After how many units the record of this body may be cut so that what is there checks by chance."""
+        """After how many units a cut of the record with this body leaves bytes that pass the CRC by chance."""
         want = fcb.encode_record(self.unit, body)
         torn = [(done, torn_bytes(self.unit, want, done)) for done in range(1, len(want) // self.unit)]
         return [done for done, raw in torn if raw != want and fcb.parse_record(self.unit, 0, 0, raw).checks]
 
     def cut_by_chance(self, before, words):
-        """A line whose record is cut so that it checks by chance, behind the line that plans the loss."""
+        """The line that plans a loss, and a line whose record it cuts so that the CRC accepts it by chance."""
         rng = self.rng
         for _ in range(60):
             raw = rng.randbytes(rng.choice([3, 6, 8, 11, 20, 33]))
@@ -147,7 +147,7 @@ class Writer:
         return f"{words} {raw.hex()}"
 
     def value(self):
-        """Bytes in digits: random, all FF or 00, with a tail of FF, or like an entry."""
+        """Bytes as digits: random, all FF or 00, with a tail of FF, or like an entry."""
         rng, choice = self.rng, self.rng.random()
         length = rng.choice(self.lengths)
         if choice < 0.15:
@@ -179,7 +179,7 @@ class Writer:
         return text
 
     def guess(self, line):
-        """Follows how many units are left before the planned loss."""
+        """Guesses how many units are left before the planned loss."""
         word, _, rest = line.partition(" ")
         if word == "cut":
             self.units_left = int(rest)
@@ -238,7 +238,7 @@ class Writer:
 
 
 def script(rng, command, image):
-    """The bytes of a script; one in twelve has a line that is refused."""
+    """The bytes of a script. One in twelve has a line that may be refused."""
     writer = Writer(rng, command, image)
     counts = [0, 3, 10, 20] if writer.long else [0, 3, 8, 15, 30, 60]
     lines = [writer.line() for _ in range(rng.choice(counts))]
@@ -250,7 +250,7 @@ def script(rng, command, image):
 
 
 def odd_line(rng):
-    """A line of a script on settings with odd words, lawful or not."""
+    """A line of a script of settings with odd words, valid or not."""
     word = rng.choice(list(FIELDS))
     words = [word] + [rng.choice(ODD[field]) for field in FIELDS[word].replace("?", rng.choice(["", "n"]))]
     if rng.random() < 0.2:
@@ -261,7 +261,7 @@ def odd_line(rng):
 
 
 def many_lines(rng, writer):
-    """More names of one hash than a group of ZMS holds, many small names, or so many migrations that the selector collects."""
+    """More names of one hash than a hash group of ZMS holds, many small names, or so many migrations that the selector collects garbage."""
     group = hash_group(b"z0")
     same = (f"z{k}" for k in itertools.count() if hash_group(b"z%d" % k) == group)
     return rng.choice([
@@ -275,7 +275,7 @@ def many_lines(rng, writer):
 # Foreign bytes
 
 def foreign_entry(rng, role, unit):
-    """An entry, a header or a record as another writer may have left it, and the slot from the end where it belongs, or none."""
+    """An entry, a header or a record as another writer may leave it, and its slot, counted from the end of the sector; or no slot."""
     if role == "nvs":
         ident = rng.choice([0xFFFF, 0x8000, 0x8001, 0xC001, 0x8002, 0xC002, 0x8003, 5])
         offset = rng.choice([0, unit * rng.randrange(40), rng.randrange(512)])
@@ -326,7 +326,7 @@ def foreign_image(rng, image):
 
 
 def changed_bytes(rng, raw):
-    """The bytes with some replaced, removed, doubled or added."""
+    """The bytes, with some of them replaced, removed, doubled or added."""
     raw = bytearray(raw)
     for _ in range(rng.choice([1, 1, 2, 4])):
         at, size = rng.randrange(len(raw) + 1), rng.choice([1, 1, 2, 4, 16, 60])
@@ -346,7 +346,7 @@ def changed_bytes(rng, raw):
 
 
 def changed_head(rng, raw):
-    """The image with changed bytes in its header, its banks and its areas alone."""
+    """The image with changed bytes only in its header, its banks and its areas."""
     raw = bytearray(raw)
     for _ in range(rng.choice([1, 1, 2])):
         raw[rng.randrange(min(len(raw), 72))] = rng.choice([0, 1, 2, 3, 4, 8, 16, 0x61, 0xFF, rng.randrange(256)])
@@ -375,7 +375,7 @@ def run_case(rng):
 
 
 def bytes_case(rng):
-    """A case of any command whose image, script or words were changed."""
+    """A case of any command with a changed image, script or call."""
     command = rng.choice(["run", "run", "run", "items", "log", "mirror"])
     image, choice = start_image(rng, command), rng.random()
     text = script(rng, command, read_image(image))
@@ -397,7 +397,7 @@ def bytes_case(rng):
 
 
 def words_case(rng, image, text):
-    """A call with other words than the command wants, or with a file that is not there."""
+    """A call with other words than the command takes, or with a file that is not there."""
     spec = changed_bytes(rng, spec_of(rng, settings_roles(rng), rng.random() < 0.2).encode())
     spec = "".join(chr(byte) for byte in spec if 0x20 <= byte < 0x7F) or "x"
     number = rng.choice(["0", "01", "-1", "+3", "10001", "3x", "", "99999999999999999999", "7"])

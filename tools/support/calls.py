@@ -1,22 +1,24 @@
-"""What the tools have in common in how they are called: plain errors of one line with status 2, and output files."""
+"""What the scripts have in common in how they are called: one line and status 2 for a wrong call, PROGRAM, and output files."""
 import argparse
 import os
 import sys
 import tempfile
 
+from .programs import ProgramFailed, look_at_program
+
 
 class Parser(argparse.ArgumentParser):
-    """Reads the words of a call. What is wrong is told in one line, with status 2."""
+    """Reads the words of a call. A wrong call gets one line and status 2; --help begins with the text of the script."""
 
     def __init__(self, text):
-        super().__init__(description=text, formatter_class=argparse.RawDescriptionHelpFormatter, allow_abbrev=False)
+        super().__init__(description=text, usage=argparse.SUPPRESS, formatter_class=argparse.RawDescriptionHelpFormatter, allow_abbrev=False)
 
     def refuse(self, why):
-        print(f"{self.prog}: {why}", file=sys.stderr)
+        print(f"{self.prog}: {why}".replace("\n", " "), file=sys.stderr)
         sys.exit(2)
 
     def error(self, message):
-        self.refuse(f"{message} (--help tells more)")
+        self.refuse(f"{message} (see --help)")
 
 
 def positive(text):
@@ -27,18 +29,48 @@ def positive(text):
     return value
 
 
-positive.__name__ = "number"
+def natural(text):
+    """A number of at least 0, as argparse asks for it."""
+    value = int(text)
+    if value < 0:
+        raise ValueError(text)
+    return value
+
+
+def processes(text):
+    """A number of processes, as argparse asks for it."""
+    value = positive(text)
+    if value > 1024:
+        raise ValueError(text)
+    return value
+
+
+positive.__name__ = natural.__name__ = "number"
+processes.__name__ = "number of processes"
+
+
+def program_in(parser, path):
+    """The whole path of a built image_tool; any other file is refused."""
+    try:
+        look_at_program(path)
+    except ProgramFailed as why:
+        parser.refuse(why)
+    return os.path.abspath(path)
 
 
 def look_at_outputs(parser, outputs, inputs):
-    """Refuses an output that is an input, is named twice, or has no folder, before anything is done."""
-    named = [os.path.realpath(path) for path in outputs if path]
+    """Refuses an output that is an input, is named twice, or cannot be made, before anything is done."""
+    named = [path for path in outputs if path is not None]
+    places = [os.path.realpath(path) for path in named]
     given = {os.path.realpath(path) for path in inputs if path}
-    for path in named:
-        if path in given or named.count(path) > 1:
-            parser.error(f"{path} would be written over: it is named twice")
-        if os.path.isdir(path) or not os.path.isdir(os.path.dirname(path)):
-            parser.error(f"{path} is a folder or has no folder")
+    for path, place in zip(named, places):
+        if place in given or places.count(place) > 1:
+            parser.error(f"{path} would be overwritten: the call names it twice")
+        folder = os.path.dirname(place)
+        if not path or os.path.isdir(place) or not os.path.isdir(folder):
+            parser.error(f"'{path}' is a folder, or its folder does not exist")
+        if not os.access(place if os.path.exists(place) and not os.path.isfile(place) else folder, os.W_OK):
+            parser.refuse(f"{path} cannot be written")
 
 
 def read_text(parser, path):
@@ -46,9 +78,9 @@ def read_text(parser, path):
         with open(path, encoding="utf-8", newline="\n") as file:
             return file.read()
     except OSError as error:
-        return parser.refuse(f"{path}: {error.strerror}")
+        return parser.refuse(f"'{path}': {error.strerror}")
     except UnicodeDecodeError:
-        return parser.refuse(f"{path} is no text")
+        return parser.refuse(f"{path} is not text in UTF-8")
 
 
 def write_text(parser, path, text):

@@ -14,7 +14,7 @@ def shortened(text, most):
 
 
 def commands(call, line, loss, again=None):
-    """The commands that show one loss again, in a shell."""
+    """Shell commands that show one loss again."""
     mounts = [f"cut {again - 1}", "mount", "mount"] if again else ["mount"]
     last = [f"cut {loss.unit - 1}", line.text, *mounts, *call["looks"]]
     begin = f"cp {shlex.quote(call['image'])} x.img" if call["image"] else f"{shlex.quote(call['program'])} build x.img {call['spec']}"
@@ -39,7 +39,7 @@ def mount_mark(loss):
     return "?" if not loss.mount.startswith("ok ") else str(units) if units < 10 else "+"
 
 
-def told(line, loss):
+def words_of(line, loss):
     """The mount's answer, and what is read of the settings that the line changes."""
     words = f"mount `{loss.mount}`"
     if isinstance(loss.state, list):
@@ -63,7 +63,7 @@ def text_of_line(line, losses):
     texts += bar("settings", "".join(MARKS[loss.result] for loss in losses))
     texts += bar("mount", "".join(map(mount_mark, losses)))
     at = 0
-    for words, same in itertools.groupby(losses, key=lambda loss: told(line, loss)):
+    for words, same in itertools.groupby(losses, key=lambda loss: words_of(line, loss)):
         count = len(list(same))
         place = f"before unit {at + 1}" + (f" to {at + count}" if count > 1 else "")
         texts.append(f"    {place}: {words}")
@@ -74,7 +74,7 @@ def text_of_line(line, losses):
 def text_of_summary(total, call):
     counts, noun = total.results, "records" if call["command"] == "log" else "settings"
     more = f", {total.again} more in the mounts" if call["again"] else ""
-    extra = [f", {counts[PART]} with a part of a line done" if counts[PART] else "", f", {counts[CHANCE]} spelt another record" if counts[CHANCE] else ""]
+    extra = [f", {counts[PART]} with a part of a line done" if counts[PART] else "", f", {counts[CHANCE]} accepted by chance" if counts[CHANCE] else ""]
     texts = [f"power losses: {total.losses}{more}; mounts: {total.mounts}"]
     texts.append(f"{noun}: {counts[OLD]} old, {counts[NEW]} new{''.join(extra)}; {counts[BROKEN]} torn or lost")
     where = f", after a loss before unit {total.worst_unit} of line {total.worst_line}" if total.worst else ""
@@ -82,7 +82,7 @@ def text_of_summary(total, call):
     verdict = "each mount succeeded, and each setting is old or new"
     if call["command"] == "log":
         verdict = "each mount succeeded, and each acknowledged record stands"
-    texts.append(f"BROKEN: {total.broken}" if total.broken else verdict + (", but for the records that were spelt by chance" if counts[CHANCE] else ""))
+    texts.append(f"BROKEN: {total.broken}" if total.broken else verdict + (", except for the torn records accepted by chance" if counts[CHANCE] else ""))
     return texts
 
 
@@ -118,7 +118,7 @@ def junit_case(line, losses, call):
 
 
 def plain(text):
-    """Text as XML can hold it."""
+    """Text that XML can hold."""
     return "".join(each if each >= " " or each in "\t\n" else "?" for each in text)
 
 
@@ -146,7 +146,7 @@ def data_of_loss(loss):
 
 
 def data_of(lines, losses, total, call):
-    """All of it."""
+    """Everything that was found, as data."""
     rows = [
         {
             "line": line.number, "text": line.text, "answer": line.answer, "units": line.units, "before": line.before, "after": line.after,

@@ -1,8 +1,8 @@
-"""Power losses before each unit of each line: plays them, and judges what every mount and every setting says then."""
+"""Power losses before each unit of each line: runs them, and judges what each mount answers and what is read after it."""
 from dataclasses import dataclass, field
 from typing import Optional
 
-from .programs import Play
+from .programs import Run
 from .scripts import state_in, units_of
 
 OLD, NEW, PART, CHANCE, BROKEN = "old", "new", "part", "chance", "broken"
@@ -10,14 +10,14 @@ OLD, NEW, PART, CHANCE, BROKEN = "old", "new", "part", "chance", "broken"
 
 @dataclass
 class Again:
-    """What a second loss, in the mount, broke."""
+    """A broken promise of a second loss, in the mount."""
     unit: int
     why: str
 
 
 @dataclass
 class Loss:
-    """A loss before one unit of a line: what the line and the mount answered, what is read then, and the verdict."""
+    """A loss before one unit of a line: the answers of the line and of the mount, what is read then, and the verdict."""
     unit: int
     answer: str = ""
     mount: str = ""
@@ -32,19 +32,19 @@ class Loss:
 
 
 def script_with_loss(line, loss, looks, again=None):
-    """The lines before, then this one with a loss, and the mount behind it."""
+    """The earlier lines, then this one with a loss, and the mount after it."""
     second = [f"cut {again}", "mount"] if again is not None else []
-    return [*line.front, f"cut {loss.unit - 1}", line.text, *second, "mount", *looks]
+    return [*line.earlier, f"cut {loss.unit - 1}", line.text, *second, "mount", *looks]
 
 
 # ---- verdicts
 
 def is_torn(body, wanted):
-    """Whether a record is the first bytes of the wanted one, but not all of them, and FF behind."""
-    front = len(body) - len(body) % 2
-    while front and body[front - 2:front] == "ff":
-        front -= 2
-    return len(body) == len(wanted) and body != wanted and body[:front] == wanted[:front]
+    """Whether a record is the first bytes of the wanted one, but not all of them, and FF after them."""
+    written = len(body) - len(body) % 2
+    while written and body[written - 2:written] == "ff":
+        written -= 2
+    return len(body) == len(wanted) and body != wanted and body[:written] == wanted[:written]
 
 
 def judge_log(line, loss):
@@ -99,15 +99,15 @@ def judge_order(line, losses):
             seen |= changed
 
 
-# ---- plays
+# ---- runs
 
 def read_loss(command, line, loss, looks, ended):
-    """Reads what the play of one loss ended with."""
+    """Reads the result of the run with one loss."""
     if ended.status != 0:
         loss.answer, loss.mount = f"lost {loss.unit - 1}", ended.text.strip().replace("\n", "; ") or f"status {ended.status}"
         loss.why = f"the mount failed: {loss.mount}"
         return
-    answers = ended.answers()[1 + len(line.front):]
+    answers = ended.answers()[1 + len(line.earlier):]
     loss.answer, loss.mount = answers[1:3]
     loss.mount_units = units_of(loss.mount)
     if loss.mount.startswith("ok "):
@@ -116,18 +116,18 @@ def read_loss(command, line, loss, looks, ended):
 
 
 def lose_everywhere(program, lines, looks, command, images, progress):
-    """A loss before each unit of each of these lines. With images the flash at the loss and behind the mount is kept in files."""
+    """A loss before each unit of each of these lines. With `images`, files keep the flash at the loss and after the mount."""
     losses = {line.number: [Loss(unit) for unit in range(1, line.units + 1)] for line in lines}
     all_of_them = [(line, loss) for line in lines for loss in losses[line.number]]
-    plays = []
+    runs = []
     for line, loss in all_of_them:
         name = f"{line.number}-{loss.unit}"
         if images:
             loss.torn, loss.mended = f"torn{name}.img", f"mended{name}.img"
-        plays.append(Play(line.image, script_with_loss(line, loss, looks), loss.mended, command))
+        runs.append(Run(line.image, script_with_loss(line, loss, looks), loss.mended, command))
     if images:
-        plays += [Play(line.image, script_with_loss(line, loss, [])[:-1], loss.torn, command) for line, loss in all_of_them]
-    for (line, loss), ended in zip(all_of_them, program.plays(plays, progress)):
+        runs += [Run(line.image, script_with_loss(line, loss, [])[:-1], loss.torn, command) for line, loss in all_of_them]
+    for (line, loss), ended in zip(all_of_them, program.runs(runs, progress)):
         read_loss(command, line, loss, looks, ended)
     for line in lines:
         if command == "run" and line.word() == "save":
@@ -139,7 +139,7 @@ def read_again(line, loss, unit, looks, command, ended):
     """Whether a second loss, before this unit of the mount, makes no difference; else why not."""
     if ended.status != 0:
         return f"the second mount failed: {ended.text.strip() or ended.status}"
-    answers = ended.answers()[1 + len(line.front):]
+    answers = ended.answers()[1 + len(line.earlier):]
     if answers[3] != f"lost {unit - 1}":
         return f"the first mount answered `{answers[3]}`"
     if not answers[4].startswith("ok "):
@@ -153,8 +153,8 @@ def lose_again(program, lines, losses, looks, command, progress):
         (line, loss, unit) for line in lines for loss in losses[line.number]
         if loss.mount.startswith("ok ") for unit in range(1, loss.mount_units + 1)
     ]
-    plays = [Play(line.image, script_with_loss(line, loss, looks, unit - 1), None, command) for line, loss, unit in tasks]
-    for (line, loss, unit), ended in zip(tasks, program.plays(plays, progress)):
+    runs = [Run(line.image, script_with_loss(line, loss, looks, unit - 1), None, command) for line, loss, unit in tasks]
+    for (line, loss, unit), ended in zip(tasks, program.runs(runs, progress)):
         loss.again += 1
         why = read_again(line, loss, unit, looks, command, ended)
         if why:

@@ -13,7 +13,7 @@ FONT = "font-family='ui-monospace, Menlo, Consolas, monospace' font-size='12' fi
 
 
 def runs(kinds):
-    """The letters of a sector as runs: where each begins, how long it is, which letter it has."""
+    """The letters of a sector in runs of equal ones: where each begins, its length, its letter."""
     found, at = [], 0
     for kind, group in groupby(kinds):
         length = len(list(group))
@@ -43,7 +43,7 @@ def strip(sector, y):
 
 
 def legend(kinds, y):
-    """The colours that the drawing has, three a row."""
+    """The colours of the drawing with their words, three a row."""
     parts = []
     for place, kind in enumerate(kind for kind in KINDS if kind in kinds):
         x, top = LEFT + place % 3 * 225, y + place // 3 * 20
@@ -52,7 +52,7 @@ def legend(kinds, y):
 
 
 def svg(views, most=24):
-    """The areas as one SVG: each sector a strip, under it a line for each slot or record, up to so many a sector."""
+    """The areas as one SVG. Each sector is a strip with a line for each slot or record under it, at most so many a sector."""
     parts, y = [], 12
     for view in views:
         parts.append(text(8, y + 12, view.area.title()))

@@ -7,7 +7,7 @@ LONGEST = 8 * 1024 * 1024
 
 
 class BadImage(Exception):
-    """Why a file is no image file."""
+    """Why a file is not an image file."""
 
 
 @dataclass
@@ -79,7 +79,7 @@ def area_at(raw, at, place, banks):
 
 
 def image_of(raw):
-    """The image that these bytes are; BadImage where they are none."""
+    """The image in these bytes; BadImage if they are not an image."""
     check(raw[:4] == b"ZSIM", "it does not begin with 'ZSIM'")
     check(len(raw) >= 8 and raw[4] in (1, 2) and raw[7] == 0, "its version is not 1 or 2")
     check(1 <= raw[5] <= 2 and 1 <= raw[6] <= 8, "its numbers of banks and areas are not lawful")
@@ -88,20 +88,20 @@ def image_of(raw):
         banks.append(bank_at(raw, 8 + 12 * place, start, raw[4]))
         start += banks[-1].size * banks[-1].count
     check(len(raw) >= start, f"it ends at byte {len(raw)}, and its banks end at {start}")
-    check(len(raw) == start, f"it has bytes behind its last bank, which ends at {start}")
+    check(len(raw) == start, f"it has bytes after its last bank, which ends at {start}")
     rows = 8 + 12 * raw[5]
     return Image(raw[4], [area_at(raw, rows + 16 * place, place, banks) for place in range(raw[6])])
 
 
 def read_image(path):
-    """The image in this file; BadImage says in one line why there is none."""
+    """The image in this file; BadImage says in one line why it has none."""
     try:
         with open(path, "rb") as file:
             raw = file.read(LONGEST + 1)
     except OSError as error:
-        raise BadImage(f"{path}: {error.strerror}") from error
+        raise BadImage(f"'{path}': {error.strerror}") from error
     try:
         check(len(raw) <= LONGEST, "it is longer than 8 MiB")
         return image_of(raw)
     except BadImage as why:
-        raise BadImage(f"{path} is no image file: {why}") from None
+        raise BadImage(f"{path} is not an image file: {why}") from None

@@ -1,6 +1,6 @@
-"""The page of `every_cut`: one file with the script, the flash at each loss and behind each mount, and a slider over the units.
+"""The page of `every_cut`: one file with the script, the flash at each loss and after each mount, and a slider over the units.
 
-What a sector looks like is kept as the difference to how it looked before, so that a page of a thousand losses stays small.
+The page keeps each look of a sector as the difference to the look before, so that a page of a thousand losses stays small.
 """
 import concurrent.futures
 import json
@@ -15,7 +15,7 @@ HERE = os.path.dirname(os.path.abspath(__file__))
 
 
 def look(path):
-    """How each sector of an image is drawn: a letter for each unit, the lines of words, the state."""
+    """The look of each sector of an image: a letter for each unit, the lines of words, the state."""
     image = read_image(path)
     return [
         ["".join(sector.kinds[::area.bank.unit]), dict(sector.lines), sector.state]
@@ -24,7 +24,7 @@ def look(path):
 
 
 def looks_of(paths):
-    """The looks of many images; each file is read once."""
+    """The looks of many images. Each file is read once."""
     files = list(dict.fromkeys(paths))
     with concurrent.futures.ProcessPoolExecutor() as pool:
         found = dict(zip(files, pool.map(look, files, chunksize=8)))
@@ -32,7 +32,7 @@ def looks_of(paths):
 
 
 class Texts:
-    """Texts that come often: each is kept once, and a number stands for it."""
+    """Texts that come often. Each is kept once, and a number stands for it."""
 
     def __init__(self):
         self.all, self.places = [], {}
@@ -45,7 +45,7 @@ class Texts:
 
 
 def paints(old, new):
-    """The runs of units that changed: where, how many, the new letter."""
+    """The units that changed, in runs: where each begins, how many units, the new letter."""
     found, at = [], 0
     while at < len(new):
         if old[at] == new[at]:
@@ -59,7 +59,7 @@ def paints(old, new):
 
 
 class Frames:
-    """The looks of one sector in the order in which they come, each as the difference to the one before."""
+    """The looks of one sector in their order, each as the difference to the one before."""
 
     def __init__(self, texts, units):
         self.texts, self.frames, self.last, self.places = texts, [], ("." * units, {}, ""), {}
@@ -84,7 +84,7 @@ def names_of(state):
 
 
 def changes(texts, old, new):
-    """What has to be set or dropped in the old names to get the new ones."""
+    """What to set or drop in the old names to get the new ones."""
     names = sorted({*old, *new})
     return [[texts.place(name), texts.place(new[name]) if name in new else -1] for name in names if old.get(name) != new.get(name)]
 
@@ -113,16 +113,16 @@ def page_data(data, lines, losses, folder, source):
     paths = [os.path.join(folder, name) for _, loss in every for name in (loss.torn, loss.mended)]
     drawn, areas = looks_of(paths), areas_of(os.path.join(folder, "first.img"))
     frames = [Frames(texts, area["size"] // area["unit"]) for area in areas for _ in range(area["sectors"])]
-    rows, told, first = [], [], 0
+    rows, shown, first = [], [], 0
     for line in lines:
-        told.append(line_data(texts, line, first, len(losses[line.number])))
+        shown.append(line_data(texts, line, first, len(losses[line.number])))
         first += len(losses[line.number])
     for at, (line, loss) in enumerate(every):
         torn, mended = ([frame.place(one) for frame, one in zip(frames, look_of_all)] for look_of_all in drawn[2 * at:2 * at + 2])
         read = changes(texts, names_of(line.before), names_of(loss.state)) if loss.state is not None else []
         rows.append([line.number, loss.unit, texts.place(loss.mount), loss.mount_units, loss.result, read, torn, mended, texts.place(loss.why)])
     return {
-        "script": data["script"], "source": source[:-1] if source[-1:] == [""] else source, "lines": told, "losses": rows, "areas": areas, "texts": texts.all,
+        "script": data["script"], "source": source[:-1] if source[-1:] == [""] else source, "lines": shown, "losses": rows, "areas": areas, "texts": texts.all,
         "frames": [frame.frames for frame in frames], "summary": data["summary"], "kinds": KINDS, "colours": COLOURS,
     }
 

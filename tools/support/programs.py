@@ -1,6 +1,6 @@
 """Runs image_tool many times: the program itself in parallel, or examples/unproved, which makes many calls at once.
 
-All files stand in one folder of the caller's. A play is a run of some lines on an image of this folder.
+All files are in one folder of the caller. A Run carries out some lines on an image of this folder.
 """
 import concurrent.futures
 import os
@@ -12,12 +12,12 @@ from typing import Optional
 
 
 class ProgramFailed(Exception):
-    """The program cannot be run, or it ended in a way that no input explains."""
+    """The program cannot be run, or it ends in a way that no input explains."""
 
 
 @dataclass
-class Play:
-    """Lines on an image: the names of the files in the folder; the image that is left is kept where it has a name."""
+class Run:
+    """Lines on an image: the names of the files in the folder. The image that is left is kept if it has a name."""
     image: str
     lines: list
     out: Optional[str] = None
@@ -31,13 +31,13 @@ class Ended:
 
     def answers(self):
         """The answer to the opening mount, and to each line: the texts of one answer are joined by '; '."""
-        told, answer = [], []
+        found, answer = [], []
         for line in self.text.splitlines():
             answer.append(line)
             if line.split(" ")[0] not in ("give", "have", "record"):
-                told.append("; ".join(answer))
+                found.append("; ".join(answer))
                 answer = []
-        return told
+        return found
 
 
 def script_of(lines):
@@ -61,16 +61,16 @@ def call(program, folder, words):
     return Ended(ended.returncode, ended.stdout.decode(errors="replace"))
 
 
-def play_one(task):
-    """Makes one play, in a process of the pool."""
-    program, folder, play = task
+def carry_out(task):
+    """Carries out one Run, in a process of the pool."""
+    program, folder, run = task
     own = str(os.getpid())
-    write_script(folder, f"{own}.txt", play.lines)
-    return call(program, folder, [play.command, play.image, f"{own}.txt", play.out or f"{own}.img"])
+    write_script(folder, f"{own}.txt", run.lines)
+    return call(program, folder, [run.command, run.image, f"{own}.txt", run.out or f"{own}.img"])
 
 
 class Program:
-    """The program itself. Plays that do not depend on each other run in parallel."""
+    """The program itself. Runs that do not depend on each other are carried out in parallel."""
 
     def __init__(self, program, folder, jobs=None):
         self.program, self.folder, self.jobs = os.path.abspath(program), folder, jobs or os.cpu_count() or 1
@@ -78,60 +78,60 @@ class Program:
     def build(self, image, spec):
         return call(self.program, self.folder, ["build", image, spec])
 
-    def chain(self, plays):
-        """Makes plays one after another, each on what the one before left."""
-        return [play_one((self.program, self.folder, play)) for play in plays]
+    def chain(self, runs):
+        """Carries out runs one after another, each on what the one before left."""
+        return [carry_out((self.program, self.folder, run)) for run in runs]
 
-    def plays(self, plays, progress=lambda done, all_of_them: None):
-        """Makes plays in any order; what they ended with stands in the order of the plays."""
-        ended, tasks = [], [(self.program, self.folder, play) for play in plays]
+    def runs(self, runs, progress=lambda done, all_of_them: None):
+        """Carries out runs in any order. The results are in the order of the runs."""
+        ended, tasks = [], [(self.program, self.folder, run) for run in runs]
         if not tasks:
             return ended
         chunk = max(1, min(32, len(tasks) // (4 * self.jobs)))
         with concurrent.futures.ProcessPoolExecutor(self.jobs) as pool:
-            for one in pool.map(play_one, tasks, chunksize=chunk):
+            for one in pool.map(carry_out, tasks, chunksize=chunk):
                 ended.append(one)
                 progress(len(ended), len(tasks))
         return ended
 
 
 class Unproved:
-    """The program by examples/unproved: the plays of one call are made one after another, by one build."""
+    """The program by examples/unproved: one build carries out the runs of a call one after another."""
 
     def __init__(self, program, folder):
         self.program, self.folder, self.builds = os.path.abspath(program), folder, []
 
     def build(self, image, spec):
-        """Notes the call: it is made in front of the next ones, since each build of the program takes half a minute."""
+        """Notes the call. It is made before the next runs, by the same build, since a build takes minutes."""
         self.builds.append(["build", image, spec])
         return Ended(0, "")
 
-    def chain(self, plays):
-        return self.plays(plays)
+    def chain(self, runs):
+        return self.runs(runs)
 
-    def plays(self, plays, progress=lambda done, all_of_them: None):
-        if not plays:
+    def runs(self, runs, progress=lambda done, all_of_them: None):
+        if not runs:
             return []
         words = []
-        for at, play in enumerate(plays):
-            write_script(self.folder, f"{at}.txt", play.lines)
-            words.append([play.command, play.image, f"{at}.txt", play.out or "left.img"])
-        progress(0, len(plays))
+        for at, run in enumerate(runs):
+            write_script(self.folder, f"{at}.txt", run.lines)
+            words.append([run.command, run.image, f"{at}.txt", run.out or "left.img"])
+        progress(0, len(runs))
         ended = self.calls(words)
-        progress(len(plays), len(plays))
+        progress(len(runs), len(runs))
         return ended
 
     def calls(self, words):
-        """Makes the calls, and those to `build` before them."""
+        """Makes the noted calls of `build`, and then these calls."""
         builds, self.builds = self.builds, []
         ended = self.calls_at_once([*builds, *words])
         for build, each in zip(builds, ended):
             if each.status != 0:
-                raise ProgramFailed(f"{build[2]} is no SPEC that image_tool builds")
+                raise ProgramFailed(f"'{build[2]}' is not a SPEC that image_tool builds")
         return ended[len(builds):]
 
     def calls_at_once(self, words):
-        given = script_of(" ".join(each) for each in words)
+        given = script_of([" ".join(each) for each in words])
         ran = subprocess.run([self.program], cwd=self.folder, input=given, capture_output=True, text=True, check=False)
         parts = re.split(r"^\$ image_tool .*\n", ran.stdout, flags=re.MULTILINE)[1:]
         if len(parts) != len(words):
@@ -147,10 +147,25 @@ class Unproved:
         return Ended(status, part[:found.start()] if found else part)
 
 
-def program_at(path, folder, jobs=None):
+def look_at_program(path):
+    """Fails unless this file is a program that refuses a call without words as image_tool does."""
     if not os.path.isfile(path) or not os.access(path, os.X_OK):
-        raise ProgramFailed(f"{path} is no program")
-    return Unproved(path, folder) if os.path.basename(path) == "unproved" else Program(path, folder, jobs)
+        raise ProgramFailed(f"'{path}' is not an executable file")
+    try:
+        ended = subprocess.run([os.path.abspath(path)], stdin=subprocess.DEVNULL, capture_output=True, check=False, timeout=60)
+    except OSError as error:
+        raise ProgramFailed(f"{path}: {error.strerror}") from error
+    except subprocess.TimeoutExpired as error:
+        raise ProgramFailed(f"{path} is not image_tool: a call without words does not end") from error
+    if ended.returncode != 2 or not ended.stdout.startswith(b"usage: image_tool "):
+        raise ProgramFailed(f"{path} is not image_tool: a call without words does not print its usage")
+
+
+def program_at(path, folder, jobs=None):
+    if os.path.isfile(path) and os.access(path, os.X_OK) and os.path.basename(path) == "unproved":
+        return Unproved(path, folder)
+    look_at_program(path)
+    return Program(path, folder, jobs)
 
 
 class Progress:

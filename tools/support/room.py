@@ -1,4 +1,4 @@
-"""The numbers of room of the three stores, by the rules of docs/formats.md: what settings cost, and in how many sectors they fit."""
+"""What settings cost in the three stores, and in how many sectors they fit, by the rules of docs/formats.md."""
 from collections import Counter
 
 from .sectors import group_of, is_name, up
@@ -11,8 +11,8 @@ LONGEST_NAME = 64
 
 def why_unlawful(name, length):
     if not is_name(name.encode()):
-        return f"{name} is no name of a setting"
-    return "" if 1 <= length <= 2048 else f"a value has 1 to 2048 bytes, and not {length}"
+        return f"{name} is not a name of a setting"
+    return "" if 1 <= length <= 2048 else f"a value has 1 to 2048 bytes, not {length}"
 
 
 def why_no_sector(sector, sectors, longest):
@@ -40,13 +40,13 @@ class Store:
         return up(1 if body < 128 else 2, self.unit) + up(body, self.unit) + up(1, self.unit)
 
     def item(self, length):
-        """What an item of NVS or ZMS costs: its entry and its data. ZMS keeps up to 8 bytes in the entry."""
+        """What an item of NVS or ZMS costs: its entry and its data. ZMS has up to 8 bytes in the entry."""
         if self.name == "zms":
             return 16 if length <= 8 else 16 + up(length, 16)
         return up(8, self.unit) + up(length, self.unit)
 
     def room_of_sector(self):
-        """What settings may take of a sector."""
+        """The bytes that a sector has for settings."""
         if self.name == "zms":
             return self.sector - 80
         if self.name == "nvs":
@@ -54,7 +54,7 @@ class Store:
         return self.sector - up(8, self.unit) - self.record(LONGEST_NAME, 0)
 
     def writes(self, name, length):
-        """The costs of the single writes that a new setting takes, its value's the first."""
+        """The costs of the single writes of a new setting, that of its value first."""
         if self.name == "fcb":
             return [self.record(len(name), length)]
         return [self.item(length), self.item(len(name))]
@@ -65,7 +65,7 @@ class Store:
         return count + sum(sum(self.writes(name, length)) for name, length in settings.items())
 
     def demands(self, settings):
-        """Of each set, with all other settings there: the greatest single write, and what must fit beside what is there."""
+        """For each set with all other settings there: the greatest single write, and what must fit besides."""
         total, count = self.cost(settings), self.item(2) if self.name == "nvs" else 0
         for name, length in settings.items():
             value, *others = self.writes(name, length)
@@ -73,7 +73,7 @@ class Store:
             yield max([value, *others, count]), total
 
     def least_sectors(self, settings):
-        """The least number of sectors that no set is refused in; or none, and why."""
+        """The least number of sectors in which no set is refused; or none, and why."""
         if self.name == "nvs" and len(settings) > 511:
             return None, "it has at most 511 names"
         if self.name == "zms":

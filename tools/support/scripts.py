@@ -1,15 +1,15 @@
-"""Scripts: their lines with their numbers, what an answer tells, and one whole run with the image before each line."""
+"""Scripts: their lines with their numbers, what an answer reports, and one whole run with the image before each line."""
 import json
 import re
 from dataclasses import dataclass, field
 
-from .programs import Play
+from .programs import Run
 
-# Lines that put something into memory alone. A later line may depend on it, so such a script is played from its beginning each time.
+# Lines that change memory alone. A later line may depend on that, so such a script runs from its beginning each time.
 IN_MEMORY = ("register", "load", "rset", "commit", "save")
 
 
-# The image behind the opening mount: no script can plan a loss in that one, so the lines begin here.
+# The image after the opening mount. No script can plan a loss in that mount, so the lines begin here.
 MOUNTED = "mounted.img"
 
 
@@ -25,7 +25,7 @@ class Line:
     units: int = 0
     before: object = None
     after: object = None
-    front: list = field(default_factory=list)
+    earlier: list = field(default_factory=list)
     image: str = ""
 
     def word(self):
@@ -33,7 +33,7 @@ class Line:
 
 
 def lines_in(text):
-    """The lines that count, with their numbers."""
+    """The lines without comments and empty ones, with their numbers."""
     return [Line(number, line) for number, line in enumerate(text.split("\n"), 1) if line and not line.startswith("#")]
 
 
@@ -44,18 +44,18 @@ def without_losses(lines, tool):
 
 
 def units_of(answer):
-    """The units and erases that an answer tells."""
+    """The units and erases that an answer reports."""
     words = answer.split(" ")
     place = {"ok": 1, "lost": 1, "nospace": 1, "toomany": 1, "saved": 3 if words[-2] in ("nospace", "toomany") else 2} if len(words) > 1 else {}
     return int(words[place[words[0]]]) if words[0] in place else 0
 
 
 def is_id(text):
-    """Whether a script may ask for this id; another one is refused where the script itself has it."""
+    """Whether a script may ask for this id. The script's own line refuses any other id."""
     return text.isdigit() and text.isascii() and str(int(text)) == text and int(text) < 0xFFFF_FFFF
 
 
-# ---- looks: the lines that ask for all there is, and what their answers say
+# ---- looks: the lines that read everything, and what their answers say
 
 def looks_of(command, lines, known_ids=()):
     if command == "log":
@@ -79,54 +79,54 @@ def state_in(command, looks, answers):
 # ---- one whole run
 
 def refused(program_said, lines_name):
-    """The reason of a refusal; a line that is refused has the number that it has in the script's own file."""
+    """The reason of a refusal. The number of a refused line is that of the script's own file."""
     found = re.match(r"bad script: (line \d+: \w+)", program_said)
     return f"{lines_name}: {found.group(1)}" if found else program_said.strip().splitlines()[-1]
 
 
-def play_whole(program, image, text, name, command, looks=()):
-    """Runs the script as it stands, so that a refusal has the numbers of its own file, and beside it the looks alone, on the same image."""
-    plays = [Play(image, text.split("\n"), "whole.img", command), Play(image, [*looks], MOUNTED, command)]
-    for ended in program.plays(plays):
+def run_whole(program, image, text, name, command, looks=()):
+    """Runs the script as it is, so that a refusal has the numbers of its own file, and the looks alone on the same image."""
+    runs = [Run(image, text.split("\n"), "whole.img", command), Run(image, [*looks], MOUNTED, command)]
+    for ended in program.runs(runs):
         if ended.status != 0:
             raise BadScript(refused(ended.text or f"status {ended.status}", name))
         yield ended.answers()
 
 
 def chained(program, lines, image, command, looks):
-    """Plays the lines one by one, each on the image that the one before left. The opening mount of each must have nothing to do."""
-    plays, here = [], image
+    """Runs the lines one by one, each on the image that the one before left. No opening mount may have anything to do."""
+    runs, here = [], image
     for at, line in enumerate(lines):
-        plays.append(Play(here, [line.text, *looks], f"after{at}.img", command))
-        line.front, line.image, here = [], here, f"after{at}.img"
-    return [ended.answers() for ended in program.chain(plays)]
+        runs.append(Run(here, [line.text, *looks], f"after{at}.img", command))
+        line.earlier, line.image, here = [], here, f"after{at}.img"
+    return [ended.answers() for ended in program.chain(runs)]
 
 
 def from_beginning(program, lines, image, command, looks):
-    """Plays all lines at once, with looks between them."""
+    """Runs all lines at once, with looks between them."""
     for at, line in enumerate(lines):
-        line.front, line.image = [each.text for each in lines[:at]], image
+        line.earlier, line.image = [each.text for each in lines[:at]], image
     script = [word for line in lines for word in (line.text, *looks)]
-    answers = program.plays([Play(image, script, None, command)])[0].answers()
+    answers = program.runs([Run(image, script, None, command)])[0].answers()
     step = 1 + len(looks)
     return [[answers[0], *answers[1 + at * step:1 + (at + 1) * step]] for at in range(len(lines))]
 
 
 def run_lines(program, image, text, name, command, known_ids=()):
-    """Runs a script, and tells of each line its answer, its units, what is read before and after it, and where a play of it alone begins."""
+    """Runs a script. Each line gets its answer, its units, what is read before and after it, and where a run of it alone begins."""
     lines = lines_in(text)
     looks = looks_of(command, lines, known_ids)
-    answers, opening = play_whole(program, image, text, name, command, looks)
+    answers, opening = run_whole(program, image, text, name, command, looks)
     before = state_in(command, looks, opening[1:])
-    told = None
+    found = None
     if not any(line.word() in IN_MEMORY for line in lines):
-        told = chained(program, lines, MOUNTED, command, looks)
-        if any(each[0] != "ok 0" for each in told) or [each[1] for each in told] != answers[1:]:
-            told = None
-    told = told or from_beginning(program, lines, MOUNTED, command, looks)
-    for line, each in zip(lines, told):
+        found = chained(program, lines, MOUNTED, command, looks)
+        if any(each[0] != "ok 0" for each in found) or [each[1] for each in found] != answers[1:]:
+            found = None
+    found = found or from_beginning(program, lines, MOUNTED, command, looks)
+    for line, each in zip(lines, found):
         line.answer, line.units, line.before = each[1], units_of(each[1]), before
         line.after = before = state_in(command, looks, each[2:])
     if [line.answer for line in lines] != answers[1:]:
-        raise BadScript(f"{name}: looking at the settings between the lines changes their answers")
+        raise BadScript(f"{name}: the lines answer otherwise if the settings are read between them")
     return lines, looks, answers[0]

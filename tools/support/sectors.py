@@ -1,14 +1,14 @@
 """What the bytes of sectors say, by the rules of docs/formats.md: entries, data, free space, and what a power loss left half done.
 
-Each byte of a sector gets one letter; KINDS says what they mean. Damage is not looked for: `image_tool dump` tells it.
+Each byte of a sector gets one letter; KINDS says what the letters mean. `image_tool dump` reports damage; nothing here looks for it.
 """
 from dataclasses import dataclass, field
 
 from .images import number
 
 KINDS = {
-    "E": "entry that counts",
-    "D": "data that counts",
+    "E": "live entry",
+    "D": "live data",
     "e": "obsolete entry",
     "d": "obsolete data",
     "x": "torn entry",
@@ -49,7 +49,7 @@ def crc8(raw):
 
 
 def shown(raw, is_text=False):
-    """Bytes in hexadecimal digits, or a name as text; of many the first."""
+    """Bytes in hexadecimal digits, at most the first 16, or a name as text."""
     text = f"'{raw.decode('latin-1')}'" if is_text and is_name(raw) else raw[:16].hex().upper() + (".." if len(raw) > 16 else "")
     return text or "nothing"
 
@@ -59,13 +59,13 @@ def counted(count, noun):
 
 
 def shown_body(body):
-    """The body of a record: a name with its value, where it has a name."""
+    """The body of a record: a name with its value if it has a name."""
     name, sign, value = body.partition(b"=")
     return f"{name.decode()} = {shown(value)}" if sign and is_name(name) else shown(body)
 
 
 class Entry:
-    """An entry or a record that checks: what it gives a value to (none where it says nothing), and the value; none is a delete."""
+    """An entry or a record that passes its CRC: its id or name (none if it is of no setting), and its value. No value is a delete."""
 
     def __init__(self, key, value, places, words):
         self.key, self.value, self.places, self.words = key, value, places, words
@@ -115,12 +115,12 @@ def nvs_sector(raw, unit):
             value, places = raw[offset:offset + length], [(at, slot, "E"), (offset, up(length, unit), "D")]
             sector.entries.append(Entry(ident, value, places, f"id {ident:04X}%s, {counted(length, 'byte')} at {offset}: "))
         else:
-            sector.put(at, slot, "x", f"does not count: {entry.hex(' ').upper()}")
+            sector.put(at, slot, "x", f"not an entry: {entry.hex(' ').upper()}")
     return sector
 
 
 def zms_entry(raw, cycle=None):
-    """Length, id and tail of a slot that checks, under this cycle or any; else none."""
+    """Length, id and tail of a slot that passes its CRC, under this cycle or any; else none."""
     checks = crc8(raw[1:]) == raw[0] and cycle in (None, raw[1])
     return (number(raw[2:4]), number(raw[4:8]), raw[8:]) if checks else (None, None, raw[8:])
 
@@ -169,16 +169,16 @@ def zms_sector(raw, unit):
 
 
 def fcb_record(sector, at, unit, says):
-    """Reads the record at this place, and tells where the next one begins."""
+    """Reads the record at this place, and returns where the next one begins."""
     raw = sector.raw
     width = 1 if raw[at] < 0x80 else 2
     length = raw[at] if width == 1 else (raw[at] & 0x7F) + 128 * raw[at + 1]
     body, check = raw[at + unit:at + unit + length], at + unit + up(length, unit)
     words = f"record of {counted(length, 'byte')}: {shown_body(body)}"
     if check >= len(raw):
-        sector.put(at, len(raw) - at, "x", "a record that passes the sector's end")
+        sector.put(at, len(raw) - at, "x", "a record that goes past the end of the sector")
     elif crc8(raw[at:at + width] + body) != raw[check]:
-        sector.put(at, check + unit - at, "x", words + ", does not check")
+        sector.put(at, check + unit - at, "x", words + ", fails its CRC")
     else:
         key, value = says(body)
         places = [(at, unit, "E"), (at + unit, check - at - unit, "D"), (check, unit, "E")]
@@ -204,7 +204,7 @@ def fcb_sector(raw, unit, says):
 # ---- areas
 
 def ring_of_slots(sectors):
-    """Of an NVS or a ZMS area: the sectors that count, the oldest first, and the open one."""
+    """The sectors of an NVS or a ZMS area that count, the oldest first, and the open one."""
     count, closed = len(sectors), [sector.state == "closed" for sector in sectors]
     used = [i for i in range(count) if sectors[i].state in ("in use", "closed")]
     opened = ([i for i in range(count) if not closed[i] and closed[i - 1]] + used + [0])[0]
@@ -215,7 +215,7 @@ def ring_of_slots(sectors):
 
 
 def ring_of_records(sectors):
-    """Of a ring of records: the used sectors that count, the oldest first, and the newest."""
+    """The used sectors of an FCB area that count, the oldest first, and the newest one."""
     count, idents = len(sectors), [number(sector.raw[6:8]) for sector in sectors]
     used = [i for i in range(count) if sectors[i].state == "in use"]
     firsts = [i for i in used if (i - 1) % count not in used or idents[i] != (idents[i - 1] + 1) % 65536]
@@ -241,7 +241,7 @@ def steps_of(role):
 
 
 def pairs_in(items, role, limit):
-    """The settings that items stand for: names with the values one step above them. Of two equal names the lower id counts."""
+    """The settings that items hold: names, and values one step above them. Of two equal names the one with the lower id wins."""
     count, found = items.get(0x8000, b""), {}
     first, step = steps_of(role)
     end = 0x80010000 if role == "zms" else first + (min(number(count), 511) if len(count) == 2 else 0)
@@ -257,7 +257,7 @@ NAME = " (a name)"
 
 
 def meaning_of(ident, items, role):
-    """What an id stands for among settings; nothing for a numbered item."""
+    """The meaning of an id among settings; nothing for a numbered item."""
     first, step = steps_of(role)
     if role == "nvs" and ident == 0x8000:
         return " (count of names)"
@@ -278,7 +278,7 @@ def choice_in(body, stores):
 
 @dataclass
 class SectorView:
-    """One sector as it is drawn: a letter for each byte, a line of words for each slot or record, and its state."""
+    """One sector for a drawing: a letter for each byte, a line of words for each slot or record, and its state."""
     number: int
     kinds: list
     lines: list
@@ -296,27 +296,27 @@ class AreaView:
 
 
 def finish(sector, last, items, role):
-    """Marks the entries of a sector by whether they decide, and adds their words."""
+    """Marks the entries of a sector as live or obsolete, and adds their words."""
     for entry in sector.entries:
-        decides = last.get(entry.key) is entry and entry.value
+        is_live = last.get(entry.key) is entry and entry.value
         for at, length, kind in reversed(entry.places):
-            sector.mark(at, length, kind if decides else kind.lower())
+            sector.mark(at, length, kind if is_live else kind.lower())
         words = entry.words
         if role in ("nvs", "zms"):
             meaning = meaning_of(entry.key, items, role)
             words = words.replace("%s", meaning) + shown(entry.value, meaning == NAME)
-        aside = "" if decides else " (a delete)" if not entry.value else " (older)"
+        aside = "" if is_live else " (a delete)" if not entry.value else " (older)"
         sector.lines.append((entry.places[0][0], words + aside))
 
 
 def state_of(place, sector, ring, newest):
     used = sector.state in ("in use", "closed")
     newer = ", the open one" if place == newest else ""
-    return sector.state + newer + (", counts for nothing" if used and place not in ring else "")
+    return sector.state + newer + (", ignored" if used and place not in ring else "")
 
 
 def view_of(area, image):
-    """The sectors of an area as they are drawn, and what it reads as."""
+    """The sectors of an area for a drawing, and the settings that it reads as."""
     role, stores, limit = area.role, image.store_places(), image.longest_value()
     says = (lambda body: choice_in(body, stores)) if role == "sel" else (lambda body: setting_in(body, limit))
     read = {"nvs": nvs_sector, "zms": zms_sector}.get(role, lambda raw, unit: fcb_sector(raw, unit, says))

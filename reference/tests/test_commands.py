@@ -2,7 +2,11 @@
 
 import unittest
 
+from image_tool.backends import NoSpace
 from image_tool.crc import crc8
+from image_tool.flash import Bench
+from image_tool.image import read_spec
+from image_tool.mirror import Mirror as BothAreas
 from tests.helpers import ALL, FCB, NVS, ZMS, run, times
 
 H = times
@@ -74,6 +78,17 @@ class Mirror(unittest.TestCase):
     def test_room_for_both(self):
         r = run(MIRROR, "set a 01", f"set b {H(180, '22')}", f"set b {H(160, '22')}", word="mirror")
         self.assertEqual(r.answers, ["ok 0", "ok 18", "nospace 0", "ok 96"])
+
+    def test_the_numbers_of_a_refusal_by_a_mirror(self):
+        image, bench = read_spec(MIRROR), Bench()
+        bench.load(image.banks, image.data)
+        mirror = BothAreas(bench, image.areas)
+        mirror.set(b"a", b"\x01")
+        with self.assertRaises(NoSpace) as caught:
+            mirror.set(b"b", b"\x22" * 180)
+        self.assertEqual((caught.exception.need, caught.exception.live), (200, 36))
+        mirror.set(b"b", b"\x22" * 160)
+        self.assertEqual(mirror.second.pairs(), {b"a": b"\x01", b"b": b"\x22" * 160})
 
     def test_a_cut_set_is_repaired(self):
         lines = ["cut 12", "set a 01", "mount", "get a"]

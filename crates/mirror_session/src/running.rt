@@ -34,8 +34,8 @@ pub fn run_lines<K: Priced, B: Bench, L: Ledger>(
 ) -> Result<Answers, SessionFault>
     requires map { IsMirrorMap K.serves map.now (B.device bench.old) }
     requires lines { All (IsServed (limit_of map.now)) lines.now }
-    ensures { let m = meanings K.damage K.contents K.room K.prices in
-        RunEnds K.rests m map.now (Mount ∷ lines.now) (moment (B.device bench.old) false)
+    ensures { let m = meanings K.damage K.contents K.rests K.room K.prices in
+        RunEnds m map.now (Mount ∷ lines.now) (moment (B.device bench.old) false)
         (B.device bench.new) result }
 {
     let (mut session, first) = match MirrorSession::<K>::open(alloc, bench, map, steps) {

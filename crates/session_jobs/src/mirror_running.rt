@@ -1,7 +1,7 @@
 // The run of a job on a mirror.
 ghost use Rattle.std.specs.Prelude.{◌≡◌, ℕ, ◌<◌, ◌∷◌, false, All, List};
 ghost use Rattle.zs_host.specs.Outside.{Outside};
-ghost use Rattle.any_backend.specs.ByRole.{any_rests, any_serves};
+ghost use Rattle.any_backend.specs.ByRole.{any_serves};
 ghost use Rattle.image_file.specs.Format.{plain};
 ghost use Rattle.image_file.specs.Lawful.{IsImage};
 ghost use Rattle.image_jobs.specs.Reading.{HasImage};
@@ -58,8 +58,7 @@ fn run<B: Bench, L: Ledger>(
     requires parts { blank.parts ≡ L.parts }
     requires some { 0 < L.parts }
     ensures { let old = moment (B.device bench.old) false in
-        RunEnds any_rests any_meanings areas.now (Mount ∷ lines.now) old (B.device bench.new)
-        result }
+        RunEnds any_meanings areas.now (Mount ∷ lines.now) old (B.device bench.new) result }
 {
     let mut steps = Steps::<L>::new(blank);
     run_lines::<MirrorStore, B, L>(alloc, lines, bench, areas, &mut steps)

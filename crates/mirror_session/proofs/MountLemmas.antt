@@ -19,7 +19,7 @@ use Rattle.migrator.proofs.Migration.{active-on, active-store, selector-at}
 use Rattle.mirror.specs.declared.mirror.Mirror.{Mirror}
 use Rattle.mirror.specs.declared.mounting.MirrorMount.{MirrorMount}
 use Rattle.mirror.specs.declared.mounting.MirrorMount.TheVariants.{Damaged as HasDamage, Unfit as IsNotFit, PowerLost, NoMemory as WantsMemory}
-use Rattle.mirror.specs.Mounting.{FitsAt, IsAtRest, IsCutMount, MirrorMounts, UnfitAt, both_units, mount_lost, other_place, trust_units, worked_on}
+use Rattle.mirror.specs.Mounting.{FitsAt, IsAtRest, IsCutMount, KeepsOther, MirrorMounts, UnfitAt, both_units, mount_lost, other_place, trust_units, worked_on}
 use Rattle.mirror.specs.Mirrored.{FitBoth}
 use Rattle.mirror.specs.Room.{FitsOn}
 use Rattle.mirror.specs.Trusted.{BothRead, IsMirrorMap, MirrorReads, trusted_on}
@@ -149,6 +149,14 @@ module _ {S : Type 0} (mounted_on : S → Area) (stands : S → Geometry → Lis
   abbrev IdleOnMount : Type 0
   IdleOnMount = IdleFrom mid
 
+  -- it does not repair a copy
+  abbrev CopyFrom : Device → Type 0
+  CopyFrom d = (selector trusted other : Area) → selector_of areas ≡ Some selector → slice_get areas (trusted_on areas d) ≡ Some trusted → slice_get areas (other_place areas (trusted_on areas d)) ≡ Some other
+      → KeepsOther m.damage m.contents d new selector trusted other
+
+  abbrev CopyOnMount : Type 0
+  CopyOnMount = CopyFrom mid
+
   at_rest_on : AtRest m areas old → AtRest m areas before
   at_rest_on is = record {
     selector = is.selector;
@@ -226,13 +234,14 @@ module _ {S : Type 0} (mounted_on : S → Area) (stands : S → Geometry → Lis
         let fewer : new.spent ≡ mid.spent = ap (λ (d : Device). d.spent) still ∙ sym (ap (λ (d : Device). d.spent) on_first) in
         ap done (omega (arith, are, fewer))
 
-    whole_spares : (units : ℕ) → units ≡ new.spent - mid.spent → IdleOnMount → MountSpares m areas (done units) old new
-    whole_spares units are idle = record {
+    whole_spares : (units : ℕ) → units ≡ new.spent - mid.spent → IdleOnMount → CopyOnMount → MountSpares m areas (done units) old new
+    whole_spares units are idle copy = record {
+      copy = subst CopyFrom on_first copy;
       rests = λ is. (none_spent units are (unchanged idle is), unchanged idle is);
     }
 
-    pub whole_line : (units : ℕ) (was : Bool) → units ≡ new.spent - mid.spent → SpendsOnMount → IdleOnMount → LineDone m areas Mount (done units) (moment old was) (moment new true)
-    whole_line units was are most idle =
+    pub whole_line : (units : ℕ) (was : Bool) → units ≡ new.spent - mid.spent → SpendsOnMount → IdleOnMount → CopyOnMount → LineDone m areas Mount (done units) (moment old was) (moment new true)
+    whole_line units was are most idle copy =
         let touch = touched (Ok mirror) whole in
         let accounts = kept areas Mount (done units) before new touch refl refl (are ∙ ap (λ (d : Device). new.spent - d.spent) on_first) in
         let beside_it = kept_beside areas before new false touch in
@@ -245,7 +254,7 @@ module _ {S : Type 0} (mounted_on : S → Area) (stands : S → Geometry → Lis
           quiet = λ is. absurd (false≢true is);
           cuts = tt;
           finds = ((ended (Ok mirror) whole).undamaged, within_most units are most);
-          spares = whole_spares units are idle;
+          spares = whole_spares units are idle copy;
           fits = fit_now;
           fit = λ is. fit_now;
           both = λ was_both power. both_then;
@@ -282,14 +291,15 @@ module _ {S : Type 0} (mounted_on : S → Area) (stands : S → Geometry → Lis
     ]
 
     -- power is on at rest
-    lost_spares : (answer : Answer) → IdleOnMount → MountSpares m areas answer old new
-    lost_spares answer idle = record {
+    lost_spares : (answer : Answer) → IdleOnMount → CopyOnMount → MountSpares m areas answer old new
+    lost_spares answer idle copy = record {
+      copy = subst CopyFrom on_first copy;
       rests = λ is. absurd (false≢true (sym off_now ∙ ap (λ (d : Device). d.is_on) (unchanged idle is)));
     }
 
-    pub lost_line : (units : ℕ) (was : Bool) → units ≡ new.spent - mid.spent → SpendsOnMount → IdleOnMount → ((last : ℕ) → StopsMounting (rules_of m areas old.banks last) (state_of m areas (moment old was)) (state_of m areas (moment new false)))
+    pub lost_line : (units : ℕ) (was : Bool) → units ≡ new.spent - mid.spent → SpendsOnMount → IdleOnMount → CopyOnMount → ((last : ℕ) → StopsMounting (rules_of m areas old.banks last) (state_of m areas (moment old was)) (state_of m areas (moment new false)))
         → StaysSound m areas (moment old was) (moment new false) → (FitNow m areas (moment old was) → FitNow m areas (moment new false)) → LineDone m areas Mount (lost units) (moment old was) (moment new false)
-    lost_line units was are most idle stops sound fit =
+    lost_line units was are most idle copy stops sound fit =
         let touch = touched (Err PowerLost) cut in
         let accounts = counts.lost areas Mount (lost units) before new refl touch refl refl (are ∙ ap (λ (d : Device). new.spent - d.spent) on_first) in
         let beside_it = kept_beside areas before new true touch in
@@ -302,7 +312,7 @@ module _ {S : Type 0} (mounted_on : S → Area) (stands : S → Geometry → Lis
           quiet = λ is. absurd (false≢true is);
           cuts = tt;
           finds = (cut_so.trust.sound, found, within_most units are most);
-          spares = lost_spares (lost units) idle;
+          spares = lost_spares (lost units) idle copy;
           fits = tt;
           fit = fit;
           both = λ was_both power. absurd (never_on new.is_on power);

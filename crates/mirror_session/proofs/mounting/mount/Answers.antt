@@ -16,7 +16,7 @@ returns-in-Ok-clause-done g c =
     let old = g.B.Flash.device c.args.bench.now in
     let mid = g.B.Flash.device c.restore.new.self in
     let new = g.B.Flash.device c.mount-end.new.flash in
-    λ was. rw (c.done.ensures, c.spent.ensures, c.spent-before.ensures) (whole_line K.mounted_on K.stands m K.serves c.args.map.now old mid new c.requires.map c.restore.ensures c.mount-end.result c.mount-end.ensures.touches c.mount-end.ensures.ends c.in-Ok.mirror c.in-Ok.is (λ s h x is. g.met.K.Backend.stands_reads s h x is) (new.spent - mid.spent) was refl c.mount-end.ensures.at_most c.mount-end.ensures.idle)
+    λ was. rw (c.done.ensures, c.spent.ensures, c.spent-before.ensures) (whole_line K.mounted_on K.stands m K.serves c.args.map.now old mid new c.requires.map c.restore.ensures c.mount-end.result c.mount-end.ensures.touches c.mount-end.ensures.ends c.in-Ok.mirror c.in-Ok.is (λ s h x is. g.met.K.Backend.stands_reads s h x is) (new.spent - mid.spent) was refl c.mount-end.ensures.at_most c.mount-end.ensures.idle c.mount-end.ensures.copy)
 
 pub returns-in-Ok-clause-ready : goal.returns-in-Ok-clause-ready
 returns-in-Ok-clause-ready g c =
@@ -43,7 +43,7 @@ returns-in-Err-PowerLost-clause-done g c =
     let stops = stops_mounting m K.serves c.args.map.now old new c.requires.map (g.met.B.Flash.is_lawful c.args.bench.now) (g.met.B.Flash.is_lawful c.mount-end.new.flash) banks same cut off in
     let sound = stays_sound m K.serves c.args.map.now old new c.requires.map (g.met.B.Flash.is_lawful c.args.bench.now) (g.met.B.Flash.is_lawful c.mount-end.new.flash) banks same cut off in
     let fit = stays_fit m K.serves c.args.map.now old new c.requires.map (g.met.B.Flash.is_lawful c.args.bench.now) (g.met.B.Flash.is_lawful c.mount-end.new.flash) banks same cut off in
-    λ was. rw (c.lost.ensures, c.spent.ensures, c.spent-before.ensures) (lost_line K.mounted_on K.stands m K.serves c.args.map.now old mid new c.requires.map c.restore.ensures c.mount-end.result c.mount-end.ensures.touches c.mount-end.ensures.ends end (new.spent - mid.spent) was refl c.mount-end.ensures.at_most c.mount-end.ensures.idle (λ last. stops last was) (sound was) (fit was))
+    λ was. rw (c.lost.ensures, c.spent.ensures, c.spent-before.ensures) (lost_line K.mounted_on K.stands m K.serves c.args.map.now old mid new c.requires.map c.restore.ensures c.mount-end.result c.mount-end.ensures.touches c.mount-end.ensures.ends end (new.spent - mid.spent) was refl c.mount-end.ensures.at_most c.mount-end.ensures.idle c.mount-end.ensures.copy (λ last. stops last was) (sound was) (fit was))
 
 pub returns-in-Err-Damaged-clause-stops : goal.returns-in-Err-Damaged-clause-stops
 returns-in-Err-Damaged-clause-stops g c =

@@ -129,6 +129,18 @@ module _ {S : Type 0} (mounted_on : S → Area) (stands : S → Geometry → Lis
       ap (λ (n : ℕ). cond (n == 2) LONG_VALUE_LIMIT VALUE_LIMIT)
       (map.lawful.versions mirror.trusted.place (first_store areas) mirror.trusted.area (area_at areas (first_store areas)) held.trusted.there (store_there areas (first_store areas) (first_stores serves areas d map)))
 
+module _ {S : Type 0} (mounted_on : S → Area) (stands : S → Geometry → List (List ℕ) → Type 0) (m : Meanings) (serves : Area → Geometry → Type 0) (areas : List Area) (d : Device) (map : IsMirrorMap serves areas d)
+    (lawful : IsLawful d.banks d.bytes)
+    (empties : (x : Device) (area : Area) → IsLawful x.banks x.bytes → IsLawfulFor x.banks area → serves area (geometry_of x area) → is_blank_on x area ≡ true → on m.contents x area ≡ empty) where
+  -- where the area that is named is all FF, and the other one is not, there are no settings
+  pub gone_empty : (mirror : Mirror S) → IsHeld mounted_on stands m areas d mirror → d.is_on ≡ true → is_gone areas d ≡ true → on m.contents d (area_at areas (trusted_on areas d)) ≡ empty
+  gone_empty mirror ready power gone =
+      let parts = and_parts (is_blank_at areas d (active_on areas d)) (not (is_blank_at areas d (beside_in areas (active_on areas d)))) gone in
+      let there : slice_get areas (active_on areas d) ≡ Some mirror.trusted.area = ap (slice_get areas) (sym ready.named) ∙ ready.trusted.there in
+      let blank : is_blank_on d mirror.trusted.area ≡ true = sym (ap (λ (o : Option Area). option_map_or (is_blank_on d) o false) there) ∙ parts.0 in
+      settings_are mounted_on stands m serves areas d mirror map ready power
+      ∙ empties d mirror.trusted.area lawful (map.lawful.each mirror.trusted.place mirror.trusted.area ready.trusted.there) (map.served mirror.trusted.place mirror.trusted.area ready.trusted.there ready.trusted.stores) blank
+
 -- the same, where the session says whether its mirror is up
 module _ {S : Type 0} (mounted_on : S → Area) (stands : S → Geometry → List (List ℕ) → Type 0) (m : Meanings) (serves : Area → Geometry → Type 0) (areas : List Area) (d : Device) (map : IsMirrorMap serves areas d)
     (law : (state : S) (geometry : Geometry) (sectors : List (List ℕ)) → stands state geometry sectors → m.rests (mounted_on state) geometry sectors)
@@ -146,16 +158,7 @@ module _ {S : Type 0} (mounted_on : S → Area) (stands : S → Geometry → Lis
   rests_now None ready power named = absurd (never_up d.is_on power)
   rests_now (Some mirror) ready power named = at_rest mounted_on stands m serves areas d mirror map ready law (is_up d.is_on power) (by (is_gone areas d) refl named)
     where
-      -- an area that is all FF has no settings
-      none : is_gone areas d ≡ true → on m.contents d (area_at areas (trusted_on areas d)) ≡ empty
-      none gone =
-          let parts = and_parts (is_blank_at areas d (active_on areas d)) (not (is_blank_at areas d (beside_in areas (active_on areas d)))) gone in
-          let there : slice_get areas (active_on areas d) ≡ Some mirror.trusted.area = ap (slice_get areas) (sym ready.named) ∙ ready.trusted.there in
-          let blank : is_blank_on d mirror.trusted.area ≡ true = sym (ap (λ (o : Option Area). option_map_or (is_blank_on d) o false) there) ∙ parts.0 in
-          settings_are mounted_on stands m serves areas d mirror map ready (is_up d.is_on power)
-          ∙ empties d mirror.trusted.area lawful (map.lawful.each mirror.trusted.place mirror.trusted.area ready.trusted.there) (map.served mirror.trusted.place mirror.trusted.area ready.trusted.there ready.trusted.stores) blank
-
       by : (b : Bool) → is_gone areas d ≡ b → (is_gone areas d ≡ false) ⊎ (on m.contents d (area_at areas (trusted_on areas d)) ≢ empty) → is_gone areas d ≡ false
       by b is (inl named_so) = named_so
-      by true is (inr some) = absurd (some (none is))
+      by true is (inr some) = absurd (some (gone_empty mounted_on stands m serves areas d map lawful empties mirror ready (is_up d.is_on power) is))
       by false is (inr some) = is

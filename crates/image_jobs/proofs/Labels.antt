@@ -1,143 +1,30 @@
--- Answers of a run on an image have texts: the label of the active area is one, and names rise.
-use Rattle.std.proofs.Common.{◌≡◌, ℕ, zero, suc, ◌<◌, ◌≤◌, Bool, true, false, ◌&&◌, T, List, [], ◌∷◌, length, map, Option, Some, None, Ordering, Less, Equal, Greater, refl, sym, ap, subst, ◌∙◌, arith}
-use Rattle.std.specs.Prelude.{All}
-use Rattle.std.specs.Ordering.{nat_cmp, is_lt}
-use Rattle.std.specs.Cmp.Lexicographic.{slice_cmp}
-use Rattle.std.specs.FinMap.{entries, entries_sorted}
-use Rattle.std.specs.FinMap.Entries.{below_all, is_sorted}
+-- The areas of an image have lawful labels.
+use Rattle.std.proofs.Common.{◌≡◌, ℕ, zero, suc, ◌<◌, Bool, true, List, [], ◌∷◌, length, map, refl, sym, ap, subst, ◌∙◌, arith}
 use Rattle.std.proofs.lemmas.Bool.{false≢true}
-use Rattle.std.proofs.lemmas.List.Elements.{All-nil, All-cons}
 use Rattle.flash_sim.specs.Device.{Device}
 use Rattle.flash_map.specs.declared.area.Area.{Area}
-use Rattle.flash_map.specs.declared.area.Geometry.{Geometry}
-use Rattle.backend_api.specs.Map.{Map}
 use Rattle.image_file.specs.Format.{Plain, plain_area}
 use Rattle.image_file.specs.Lawful.{IsImage, IsLabel}
 use Rattle.image_file.specs.Lawful as lawful
 use Rattle.image_jobs.specs.Held.{held}
-use Rattle.image_jobs.proofs.MapLemmas.{has_store}
-use Rattle.migrator.specs.Active.{active_on, active_with}
-use Rattle.migrator.specs.Areas.{is_store_at, first_store, selector_of}
-use Rattle.migrator.proofs.Migration.{active-store}
-use Rattle.script_lines.specs.declared.line.Line.{Line}
-use Rattle.script_lines.specs.declared.line.Line.TheVariants.{Set, Get, Del as Delete, Register, Load, Direct, Save, Commit, RunSet, RunGet, Names, Mount, Cut, Uncut, Migrate}
-use Rattle.script_lines.specs.declared.answer.Answer.{Answer}
-use Rattle.script_lines.specs.declared.answer.Answer.TheVariants.{Done, Value, Absent, Lost, Off, NoSpace, TooMany, Exists, NoKind, NoTarget, Rejected, NoHandler, Loaded, Direct as Reported, Saved, Names as Named}
-use Rattle.script_lines.specs.declared.lists.Pair.{Pair}
-use Rattle.script_lines.specs.Answer.{CanReport, Rise}
-use Rattle.session_table.specs.Bench.{Meanings, Moment, area_at, rules_of, state_of}
-use Rattle.session_table.specs.Follows.{Follows}
-use Rattle.session_table.specs.Rules.{Rules}
-use Rattle.session_table.specs.State.{State}
-use Rattle.session_table.specs.Step.{Step, as_pair}
-use Rattle.session.specs.OnMap.{LineCarried}
-use Rattle.flash_map.specs.declared.faults.Damaged.{Damaged}
-
--- ---- names rise
-
-first_of : (a b : Bool) → T (a && b) → T a
-first_of true b p = tt
-first_of false b p = p
-
-rest_of : (a b : Bool) → T (a && b) → T b
-rest_of true b p = p
-rest_of false b p = absurd p
-
-less_is : (o : Ordering) → T (is_lt o) → o ≡ Less
-less_is Less p = refl
-less_is Equal p = absurd p
-less_is Greater p = absurd p
-
-abbrev by_bytes : List ℕ → List ℕ → Ordering
-by_bytes = slice_cmp nat_cmp
-
-rises : (pairs : List (List ℕ × List ℕ)) → T (is_sorted by_bytes pairs) → Rise (map as_pair pairs)
-rises [] sorted = tt
-rises (pair ∷ []) sorted = tt
-rises (pair ∷ next ∷ pairs) sorted =
-    let before = first_of (below_all by_bytes pair.0 (next ∷ pairs)) (is_sorted by_bytes (next ∷ pairs)) sorted in (
-      less_is (by_bytes pair.0 next.0) (first_of (is_lt (by_bytes pair.0 next.0)) (below_all by_bytes pair.0 pairs) before),
-      rises (next ∷ pairs) (rest_of (below_all by_bytes pair.0 (next ∷ pairs)) (is_sorted by_bytes (next ∷ pairs)) sorted),
-    )
-
-pub names_rise : (settings : Map) → Rise (map as_pair (entries settings))
-names_rise settings = rises (entries settings) (entries_sorted settings)
-
--- ---- the label of a store area
+use Rattle.migrator.specs.Areas.{is_store_at}
+use Rattle.session.specs.Texts.{AreLabelled}
+use Rattle.session_table.specs.Bench.{area_at}
 
 label_at : (areas : List Area) (place : ℕ) → is_store_at areas place ≡ true → (lawful.area_at (map plain_area areas) place).label.bytes ≡ (area_at areas place).label.bytes
 label_at [] place store = absurd (false≢true store)
 label_at (area ∷ areas) zero store = refl
 label_at (area ∷ areas) (suc place) store = label_at areas place store
 
-pub within : (areas : List Area) (place : ℕ) → is_store_at areas place ≡ true → place < length (map plain_area areas)
+within : (areas : List Area) (place : ℕ) → is_store_at areas place ≡ true → place < length (map plain_area areas)
 within [] place store = absurd (false≢true store)
 within (area ∷ areas) zero store = omega arith
 within (area ∷ areas) (suc place) store = let below = within areas place store in omega (arith, below)
 
-pub store_label : (areas : List Area) (image : Plain) (place : ℕ) → IsImage image → map plain_area areas ≡ image.areas → is_store_at areas place ≡ true → IsLabel (area_at areas place).label.bytes
+store_label : (areas : List Area) (image : Plain) (place : ℕ) → IsImage image → map plain_area areas ≡ image.areas → is_store_at areas place ≡ true → IsLabel (area_at areas place).label.bytes
 store_label areas image place is are store =
     subst IsLabel (ap (λ (list : List Area). (lawful.area_at list place).label.bytes) (sym are) ∙ label_at areas place store)
     (is.each_area place (subst (λ (list : List Area). place < length list) are (within areas place store))).label
 
--- the active area stores settings
-active_with_store : (areas : List Area) (d : Device) → is_store_at areas (first_store areas) ≡ true → (selector : Option Area) → is_store_at areas (active_with areas d selector) ≡ true
-active_with_store areas d some None = some
-active_with_store areas d some (Some selector) = active-store areas d selector (first_store areas) some
-
-pub active_is_store : (areas : List Area) (d : Device) → is_store_at areas (first_store areas) ≡ true → is_store_at areas (active_on areas d) ≡ true
-active_is_store areas d some = active_with_store areas d some (selector_of areas)
-
--- ---- answers
-
-named_label : (r : Rules) (line : Line) (label : List ℕ) (pairs : List Pair) (old new : State) → IsLabel (r.label old.active) → Step r line (Named label pairs) old new → CanReport (Named label pairs)
-named_label r Names label pairs old new is step = (subst IsLabel (sym step.1.0) is, subst Rise (sym step.1.1) (names_rise old.settings))
-named_label r (Set name value) label pairs old new is step = absurd step.1
-named_label r (Get name) label pairs old new is step = absurd step.1
-named_label r (Delete name) label pairs old new is step = absurd step.1
-named_label r (Register subtree kind) label pairs old new is step = absurd step.1
-named_label r (Load subtree) label pairs old new is step = absurd step.1
-named_label r (Direct subtree) label pairs old new is step = absurd step.1
-named_label r (Save subtree) label pairs old new is step = absurd step.1
-named_label r Commit label pairs old new is step = absurd step.1
-named_label r (RunSet name value) label pairs old new is step = absurd step.1
-named_label r (RunGet name) label pairs old new is step = absurd step.1
-named_label r Mount label pairs old new is step = absurd step.1
-named_label r (Cut units) label pairs old new is step = absurd step.1
-named_label r Uncut label pairs old new is step = absurd step.1
-named_label r Migrate label pairs old new is step = absurd step.1.2
-
-can_report : (r : Rules) (line : Line) (answer : Answer) (old new : State) → IsLabel (r.label old.active) → Step r line answer old new → CanReport answer
-can_report r line (Named label pairs) old new is step = named_label r line label pairs old new is step
-can_report r line (Done units) old new is step = tt
-can_report r line (Value value) old new is step = tt
-can_report r line Absent old new is step = tt
-can_report r line (Lost units chance) old new is step = tt
-can_report r line Off old new is step = tt
-can_report r line (NoSpace units need live) old new is step = tt
-can_report r line (TooMany units) old new is step = tt
-can_report r line Exists old new is step = tt
-can_report r line NoKind old new is step = tt
-can_report r line NoTarget old new is step = tt
-can_report r line Rejected old new is step = tt
-can_report r line NoHandler old new is step = tt
-can_report r line (Loaded gives taken rejected passed) old new is step = tt
-can_report r line (Reported pairs) old new is step = tt
-can_report r line (Saved pairs units end) old new is step = tt
-
-module _ (m : Meanings) (damage : Area → Geometry → List (List ℕ) → Option Damaged) (areas : List Area) (labels : (d : Device) → IsLabel (area_at areas (active_on areas d)).label.bytes) where
-  pub can_report_all : (lines : List Line) (answers : List Answer) (old new : Moment) → Follows (LineCarried m damage areas) lines answers old new → All CanReport answers
-  can_report_all [] [] old new runs = All-nil CanReport
-  can_report_all [] (answer ∷ answers) old new runs = absurd runs
-  can_report_all (line ∷ lines) [] old new runs = absurd runs
-  can_report_all (line ∷ lines) (answer ∷ answers) old new (mid, carried, rest) =
-      let last : mid.device.spent ≤ mid.device.spent = omega arith in
-      let step = carried.done.step mid.device.spent last in
-      let one = can_report (rules_of m areas old.device.banks mid.device.spent) line answer (state_of m areas old) (state_of m areas mid) (labels old.device) step in
-      All-cons CanReport answer answers one (can_report_all lines answers mid new rest)
-
--- each answer of a run on an image has a text
-pub reports : (m : Meanings) (damage : Area → Geometry → List (List ℕ) → Option Damaged) (areas : List Area) (d : Device) → IsImage (held areas d)
-    → (lines : List Line) (answers : List Answer) (old new : Moment) → Follows (LineCarried m damage areas) lines answers old new → All CanReport answers
-reports m damage areas d is lines answers old new runs =
-    can_report_all m damage areas (λ e. store_label areas (held areas d) (active_on areas e) is refl (active_is_store areas e (has_store areas d is))) lines answers old new runs
+pub labelled : (areas : List Area) (d : Device) → IsImage (held areas d) → AreLabelled areas
+labelled areas d is place store = store_label areas (held areas d) place is refl store

@@ -1,15 +1,17 @@
 // The run of a job.
-ghost use Rattle.std.specs.Prelude.{◌≡◌, ℕ, ◌<◌, ◌∷◌, [], true, None, All, List, IfErr, OnOk};
+ghost use Rattle.std.specs.Prelude.{◌≡◌, ℕ, ◌<◌, ◌∷◌, [], true, None, All, List, IfErr, IfOk, OnOk};
 ghost use Rattle.flash_sim.specs.Device.{Device};
 ghost use Rattle.flash_map.specs.declared.area.Area.{Area as area};
 ghost use Rattle.zs_host.specs.Outside.{Outside};
 ghost use Rattle.handlers.specs.Registry.{registered};
 ghost use Rattle.image_file.specs.Format.{plain};
 ghost use Rattle.image_file.specs.Lawful.{IsImage};
+ghost use Rattle.script_lines.specs.Answer.{CanReport};
 ghost use Rattle.script_lines.specs.declared.line.Line.TheVariants.{Mount};
 ghost use Rattle.session_table.specs.Bench.{area_at};
 ghost use Rattle.session.specs.declared.fault.SessionFault.TheVariants.{NoMemory as WantsMemory};
 ghost use Rattle.session.specs.OnMap.{IsAtRest, IsFresh, IsServed, IsServedMap, RunEnds, damage_in, kinds, limit_of, meanings, moment};
+ghost use Rattle.session.specs.Texts.{AreLabelled};
 ghost use Rattle.image_jobs.specs.Held.{held};
 ghost use Rattle.image_jobs.specs.Inputs.{BeginsWith, GivesLines};
 ghost use Rattle.image_jobs.specs.Jobs.{IsStop, JobEnds};
@@ -84,6 +86,7 @@ fn run<K: Backend, B: Bench, L: Ledger>(
         → IfErr result (λ fault. fault ≡ WantsMemory) }
     ensures rests { OnOk result
         ((B.device bench.new).is_on ≡ true → IsAtRest K.rests areas.now (B.device bench.new)) }
+    ensures texts { AreLabelled areas.now → IfOk result (λ answers. All CanReport answers) }
 {
     let mut steps = Steps::<L>::new(blank);
     run_lines::<K, B, L>(alloc, lines, bench, areas, pool, registry, &mut steps)

@@ -1,7 +1,9 @@
 -- How a task ends, from what was prepared and what was printed and written.
 use Rattle.std.proofs.Common.{◌≡◌, ℕ, List, [], ◌∷◌, arith, Option, Some, None, Result, Ok, Err, inl, inr, refl, sym, ap, subst, ◌∙◌}
 use Rattle.std.specs.Prelude.{MatchOption, slice_index}
+use Rattle.flash_sim.specs.Device.{Device}
 use Rattle.zs_host.specs.Outside.{Outside, Files, SameBut, printed_more}
+use Rattle.handlers.specs.Registry.{Registered}
 use Rattle.handlers.specs.declared.handler.HandlerKind.{HandlerKind}
 use Rattle.image_jobs.specs.declared.jobs.Output.{Output}
 use Rattle.image_jobs.specs.declared.jobs.Output.TheVariants.{Nowhere, Into}
@@ -110,11 +112,16 @@ module _ (k : Stores) (kinds : List HandlerKind) (old : World) (new : Stage) (ho
 
 -- ---- a job on a log
 
+same_stage : (old new : Stage) → new.bench ≡ old.bench → new.registry ≡ old.registry → new ≡ old
+same_stage old new bench registry =
+    ap (λ (d : Device). record { bench = d; registry = new.registry }) bench
+    ∙ ap (λ (r : List Registered). record { bench = old.bench; registry = r }) registry
+
 pub log_prepared : (k : Stores) (kinds : List HandlerKind) (image script out : Bor (List ℕ)) (old new : World) (result : Result Outcome Stop)
     → LogJobEnds image.now script.now out.now old.outside new.outside old.stage.bench new.stage.bench result → new.stage.registry ≡ old.stage.registry → Prepares k kinds (Log image script out) old new result
 log_prepared k kinds image script out old new (Ok outcome) ends same = ((ends.0, same), ends.1)
 log_prepared k kinds image script out old new (Err (Refused refusal)) ends same = ((ends.0, same), ends.1)
-log_prepared k kinds image script out old new (Err HostFailed) ends same = ((inl ends.0, same), ends.1)
+log_prepared k kinds image script out old new (Err HostFailed) ends same = (same_stage old.stage new.stage ends.0 same, ends.1)
 log_prepared k kinds image script out old new (Err NoMemory) ends same = ((ends.0, same), ends.1)
 
 -- ---- a job on items
@@ -123,7 +130,7 @@ pub items_prepared : (k : Stores) (kinds : List HandlerKind) (image script out :
     → ItemJobEnds image.now script.now out.now old.outside new.outside old.stage.bench new.stage.bench result → new.stage.registry ≡ old.stage.registry → Prepares k kinds (Items image script out) old new result
 items_prepared k kinds image script out old new (Ok outcome) ends same = ((ends.0, same), ends.1)
 items_prepared k kinds image script out old new (Err (Refused refusal)) ends same = ((ends.0, same), ends.1)
-items_prepared k kinds image script out old new (Err HostFailed) ends same = ((inl ends.0, same), ends.1)
+items_prepared k kinds image script out old new (Err HostFailed) ends same = (same_stage old.stage new.stage ends.0 same, ends.1)
 items_prepared k kinds image script out old new (Err NoMemory) ends same = ((ends.0, same), ends.1)
 
 -- ---- a job on a mirror
@@ -132,7 +139,7 @@ pub mirror_prepared : (k : Stores) (kinds : List HandlerKind) (image script out 
     → MirrorJobEnds image.now script.now out.now old.outside new.outside old.stage.bench new.stage.bench result → new.stage.registry ≡ old.stage.registry → Prepares k kinds (Mirror image script out) old new result
 mirror_prepared k kinds image script out old new (Ok outcome) ends same = ((ends.0, same), ends.1)
 mirror_prepared k kinds image script out old new (Err (Refused refusal)) ends same = ((ends.0, same), ends.1)
-mirror_prepared k kinds image script out old new (Err HostFailed) ends same = ((inl ends.0, same), ends.1)
+mirror_prepared k kinds image script out old new (Err HostFailed) ends same = (same_stage old.stage new.stage ends.0 same, ends.1)
 mirror_prepared k kinds image script out old new (Err NoMemory) ends same = ((ends.0, same), ends.1)
 
 -- ---- words that are a command

@@ -68,7 +68,7 @@ Causes k kinds (Mirror image script out) old new refusal =
     RefusesMirror image.now script.now old.outside old.stage.bench new.bench refusal
     × (new.registry ≡ old.stage.registry)
 
--- the task stopped, since the host failed or memory ran out
+-- the task stopped, since memory ran out
 abbrev pub StopsAt : Stores → List HandlerKind → Task → World → Stage → Type 0
 StopsAt k kinds (Build out spec) old new = new ≡ old.stage
 StopsAt k kinds (ToJob job) old new = Stops k kinds job old.outside old.stage new
@@ -81,13 +81,14 @@ StopsAt k kinds (Mirror image script out) old new =
     StopsMirror image.now script.now old.outside old.stage.bench new.bench
     × (new.registry ≡ old.stage.registry)
 
--- how a task ends, before anything is printed or written
+-- How a task ends, before anything is printed or written. If the host fails, the flash is not loaded
+-- yet, and no handler is taken.
 abbrev pub Prepares : Stores → List HandlerKind → Task → World → World → Result Outcome Stop → Type 0
 Prepares k kinds task old new (Ok outcome) =
     Does k kinds task old new.stage outcome.text.items (file_of outcome.file) × (new.outside ≡ old.outside)
 Prepares k kinds task old new (Err (Refused refusal)) =
     Causes k kinds task old new.stage refusal × (new.outside ≡ old.outside)
 Prepares k kinds task old new (Err HostFailed) =
-    StopsAt k kinds task old new.stage × (new.outside ≡ failed old.outside)
+    (new.stage ≡ old.stage) × (new.outside ≡ failed old.outside)
 Prepares k kinds task old new (Err NoMemory) =
     StopsAt k kinds task old new.stage × (new.outside ≡ old.outside)

@@ -48,13 +48,22 @@ ReportsPart k kinds task from old new =
     (text : List ℕ) × (file : Option File) × Does k kinds task old new.stage text file
     × DeliversPart from new.outside text file
 
--- The task stopped, and nothing was printed; or a part was printed and written of what the task
--- would print and write.
-abbrev pub EndsEarly : Stores → List HandlerKind → Task → Outside → World → World → Type 0
-EndsEarly k kinds task from old new =
-    (StopsAt k kinds task old new.stage × (new.outside ≡ from))
-    ⊎ ReportsRefusal k kinds task from old new
-    ⊎ ReportsPart k kinds task from old new
+-- a part was printed and written of what the task would print and write
+abbrev pub ReportsSome : Stores → List HandlerKind → Task → Outside → World → World → Type 0
+ReportsSome k kinds task from old new =
+    ReportsRefusal k kinds task from old new ⊎ ReportsPart k kinds task from old new
+
+-- The host failed. Flash and handlers are as before, and nothing was printed; or a part was.
+abbrev pub FailsEarly : Stores → List HandlerKind → Task → World → World → Type 0
+FailsEarly k kinds task old new =
+    ((new.stage ≡ old.stage) × (new.outside ≡ failed old.outside))
+    ⊎ ReportsSome k kinds task (failed old.outside) old new
+
+-- Memory ran out. The task stopped, and nothing was printed; or a part was.
+abbrev pub EndsEarly : Stores → List HandlerKind → Task → World → World → Type 0
+EndsEarly k kinds task old new =
+    (StopsAt k kinds task old new.stage × (new.outside ≡ old.outside))
+    ⊎ ReportsSome k kinds task old.outside old new
 
 -- ---- what each status means
 
@@ -72,8 +81,8 @@ IsRefused k kinds task old new result =
 
 abbrev pub TaskEnds : Stores → List HandlerKind → Task → World → World → Status → Type 0
 TaskEnds k kinds task old new status.Done = IsDone k kinds task old new
-TaskEnds k kinds task old new status.HostFault = EndsEarly k kinds task (failed old.outside) old new
-TaskEnds k kinds task old new status.NoMemory = EndsEarly k kinds task old.outside old new
+TaskEnds k kinds task old new status.HostFault = FailsEarly k kinds task old new
+TaskEnds k kinds task old new status.NoMemory = EndsEarly k kinds task old new
 TaskEnds k kinds task old new status.Usage = IsRefused k kinds task old new status.Usage
 TaskEnds k kinds task old new status.NoFile = IsRefused k kinds task old new status.NoFile
 TaskEnds k kinds task old new status.BadScript = IsRefused k kinds task old new status.BadScript

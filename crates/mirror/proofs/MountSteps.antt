@@ -33,7 +33,7 @@ use Rattle.migrator.proofs.Spent.{most_then}
 use Rattle.mirror.specs.declared.mounting.MirrorMount.{MirrorMount}
 use Rattle.mirror.specs.declared.mounting.MirrorMount.TheVariants.{Damaged as IsDamaged, Unfit, PowerLost, NoMemory}
 use Rattle.mirror.specs.declared.mirror.Mirror.{Mirror}
-use Rattle.mirror.specs.Mounting.{BothEnds, FindsUnfit, FitsAt, IsCutTrust, KeepsArea, KeepsTrusted, MirrorMounts, MountsBoth, NamesTrusted, SelectorRests, TrustEnds, UnfitAt, both_units, fault_at, mount_lost, other_place, other_units, trust_units, worked_on}
+use Rattle.mirror.specs.Mounting.{BothEnds, FindsUnfit, FitsAt, IsCutTrust, KeepsArea, KeepsOther, KeepsTrusted, MirrorMounts, MountsBoth, NamesTrusted, SelectorRests, SparesBoth, TrustEnds, UnfitAt, both_mounts, both_units, fault_at, mount_lost, other_place, other_units, trust_units, worked_on}
 use Rattle.mirror.specs.Room.{FitsOn, Prices}
 use Rattle.mirror.specs.Trusted.{damage_shown, selector_place, trusted_damage, trusted_on}
 use Rattle.mirror.proofs.BothSteps.{fits-still}
@@ -237,3 +237,27 @@ mounts-spend d m e s t o before now banks same first second =
     (subst (λ (x : Map). SpendsAtMost m e (both_units d t o (maps.len x))) same
     (subst (λ (g : Geometry). SpendsAtMost m e (mount_units (geometry_of d t) + other_units g (maps.len now))) (geometry-same d m o banks)
     (subst (λ (g : Geometry). SpendsAtMost m e (mount_units g + other_units (geometry_of m o) (maps.len now))) (geometry-same d m t banks) second)))
+
+-- ---- an other area that holds the map
+
+module _ (damage : Area → Geometry → List (List ℕ) → Option Damaged) (contents : Area → Geometry → List (List ℕ) → Map) (d m : Device) (s t o : Area) (banks : m.banks ≡ d.banks) (o-same : sectors_of m o ≡ sectors_of d o) (first : SpendsAtMost d m (trust_units d s)) where
+  -- the selector alone was worked on
+  pub copy-first : KeepsOther damage contents d m s t o
+  copy-first none holds = record {
+    holds = record { sound = still damage d m o banks o-same ∙ holds.sound; reads = still contents d m o banks o-same ∙ holds.reads };
+    at_most = most_weaker d m (trust_units d s) (trust_units d s + both_mounts d t o) (within (trust_units d s) (both_mounts d t o)) first;
+  }
+
+  -- and then both areas
+  pub copy-then : (e : Device) → sectors_of m t ≡ sectors_of d t → SparesBoth damage contents m e t o → KeepsOther damage contents d e s t o
+  copy-then e t-same spares none holds =
+      let read : on contents m t ≡ on contents d t = still contents d m t banks t-same in
+      let after = spares.held (still damage d m t banks t-same ∙ none)
+      (record { sound = still damage d m o banks o-same ∙ holds.sound; reads = still contents d m o banks o-same ∙ holds.reads ∙ sym read }) in
+      record {
+        holds = record { sound = after.holds.sound; reads = after.holds.reads ∙ read };
+        at_most =
+            most_then d m e (trust_units d s) (both_mounts d t o) first
+            (subst (λ (g : Geometry). SpendsAtMost m e (mount_units (geometry_of d t) + mount_units g)) (geometry-same d m o banks)
+            (subst (λ (g : Geometry). SpendsAtMost m e (mount_units g + mount_units (geometry_of m o))) (geometry-same d m t banks) after.at_most));
+      }

@@ -31,7 +31,7 @@ use Rattle.mirror.specs.declared.mounting.MirrorMount.{MirrorMount}
 use Rattle.mirror.specs.declared.mounting.MirrorMount.TheVariants.{Damaged as IsDamaged, Unfit, PowerLost, NoMemory}
 use Rattle.mirror.specs.declared.sides.Side.{Side}
 use Rattle.mirror.specs.declared.mirror.Mirror.{Mirror}
-use Rattle.mirror.specs.Mounting.{BothEnds, FitsAt, HoldEnds, HoldsMap, KeepsArea, OtherEnds, SideEnds, SparesBoth, both_units, mount_lost, other_place, other_units}
+use Rattle.mirror.specs.Mounting.{BothEnds, FitsAt, HoldEnds, HoldsMap, KeepsArea, KeepsCopy, OtherEnds, SideEnds, SparesBoth, both_mounts, both_units, mount_lost, other_place, other_units}
 use Rattle.mirror.specs.Room.{IsMirrored, Prices}
 use Rattle.mirror.specs.Trusted.{IsMirrorMap}
 use Rattle.mirror.proofs.BothSteps.{fits-still}
@@ -116,12 +116,12 @@ module _ (damage : Area → Geometry → List (List ℕ) → Option Damaged) (co
   pub record OtherDone (m e : Device) (t o : Area) : Type 0 where
     pub banks : e.banks ≡ m.banks
     pub beside : sectors_of e t ≡ sectors_of m t
-    pub held : HoldsMap damage contents m o (on contents m t) → HoldsMap damage contents e o (on contents m t)
+    pub held : HoldsMap damage contents m o (on contents m t) → KeepsCopy damage contents m e o (on contents m t) (mount_units (geometry_of m o))
     pub idle : HoldsMap damage contents m o (on contents m t) → HoldsOn rests m o → e ≡ m
     pub units : SpendsAtMost m e (other_units (geometry_of m o) (maps.len (on contents m t)))
 
   pub other-done : (m e : Device) (b o x t : Area) → b ≡ o → x ≡ t → e.banks ≡ m.banks → sectors_of e x ≡ sectors_of m x
-      → (HoldsMap damage contents m b (on contents m x) → HoldsMap damage contents e b (on contents m x)) → (HoldsMap damage contents m b (on contents m x) → HoldsOn rests m b → e ≡ m)
+      → (HoldsMap damage contents m b (on contents m x) → KeepsCopy damage contents m e b (on contents m x) (mount_units (geometry_of m b))) → (HoldsMap damage contents m b (on contents m x) → HoldsOn rests m b → e ≡ m)
       → SpendsAtMost m e (other_units (geometry_of m b) (maps.len (on contents m x))) → OtherDone m e t o
   other-done m e b o x t b_is x_is banks beside held idle units =
       subst (λ (y : Area). OtherDone m e y o) x_is (subst (λ (y : Area). OtherDone m e x y) b_is (record { banks = banks; beside = beside; held = held; idle = idle; units = units }))
@@ -133,7 +133,10 @@ module _ (damage : Area → Geometry → List (List ℕ) → Option Damaged) (co
     spares-first = record {
       written = one.written;
       kept = λ none. record { undamaged = one.undamaged none; reads = one.reads none };
-      held = λ none holds. record { sound = still damage d m o one.banks one.beside ∙ holds.sound; reads = still contents d m o one.banks one.beside ∙ holds.reads };
+      held = λ none holds. record {
+        holds = record { sound = still damage d m o one.banks one.beside ∙ holds.sound; reads = still contents d m o one.banks one.beside ∙ holds.reads };
+        at_most = most_weaker d m (mount_units (geometry_of d t)) (both_mounts d t o) (within (mount_units (geometry_of d t)) (mount_units (geometry_of d o))) one.units;
+      };
     }
 
     pub units-first : (names : ℕ) → SpendsAtMost d m (both_units d t o names)
@@ -146,7 +149,12 @@ module _ (damage : Area → Geometry → List (List ℕ) → Option Damaged) (co
         kept = λ none. record { undamaged = still damage m e t two.banks two.beside ∙ one.undamaged none; reads = still contents m e t two.banks two.beside ∙ one.reads none };
         held = λ none holds.
             let after = two.held (record { sound = still damage d m o one.banks one.beside ∙ holds.sound; reads = still contents d m o one.banks one.beside ∙ holds.reads ∙ sym (one.reads none) }) in
-            record { sound = after.sound; reads = after.reads ∙ one.reads none };
+            record {
+              holds = record { sound = after.holds.sound; reads = after.holds.reads ∙ one.reads none };
+              at_most =
+                  most_then d m e (mount_units (geometry_of d t)) (mount_units (geometry_of d o)) one.units
+                  (subst (λ (g : Geometry). SpendsAtMost m e (mount_units g)) (geometry-same d m o one.banks) after.at_most);
+            };
       }
 
       pub idle-then : HoldsOn rests d t → HoldsOn rests d o → HoldsMap damage contents d o (on contents d t) → e ≡ d

@@ -10,6 +10,7 @@ use Rattle.flash_map.specs.declared.faults.MountFault.TheVariants.{Damaged as Mo
 use Rattle.flash_map.specs.Area.{geometry_of, sectors_of, AreApart}
 use Rattle.flash_map.specs.Lawful.{IsLawfulFor}
 use Rattle.flash_map.specs.On.{on, HoldsOn, StandsOn}
+use Rattle.flash_map.specs.Spending.{SpendsAtMost}
 use Rattle.flash_map.specs.Touches.{Touches}
 use Rattle.fcb_ring.specs.Standing.{erases_on, ring_damage}
 use Rattle.backend_api.specs.Map.{Map}
@@ -90,6 +91,10 @@ TrustEnds areas old new (Err NoMemory) = ⊥
 
 -- ---- both areas
 
+-- the most units and erases of the mounts of two areas
+abbrev pub both_mounts : Device → Area → Area → ℕ
+both_mounts d trusted other = mount_units (geometry_of d trusted) + mount_units (geometry_of d other)
+
 -- how the mount of one area ends
 abbrev pub SideEnds : {S : Type 0} → (S → Area) → (S → Geometry → List (List ℕ) → Type 0)
     → (Area → Geometry → List (List ℕ) → Option Damaged) → Device → Device → Area → ℕ
@@ -166,6 +171,14 @@ pub record HoldsMap (damage : Area → Geometry → List (List ℕ) → Option D
     (d : Device) (area : Area) (settings : Map) : Type 0 where
   pub sound : on damage d area ≡ None
   pub reads : on contents d area ≡ settings
+
+-- An area that holds these settings is not repaired: it holds them afterwards, however the call ends,
+-- and the call spends no more than this.
+pub record KeepsCopy (damage : Area → Geometry → List (List ℕ) → Option Damaged)
+    (contents : Area → Geometry → List (List ℕ) → Map) (old new : Device) (area : Area) (settings : Map)
+    (most : ℕ) : Type 0 where
+  pub holds : HoldsMap damage contents new area settings
+  pub at_most : SpendsAtMost old new most
 
 -- How the mount of the other area ends: it holds the map of the trusted one; or there is no store,
 -- because it was damaged or held another map.
@@ -248,13 +261,14 @@ module _ (damage : Area → Geometry → List (List ℕ) → Option Damaged)
       × FitsAt room prices areas old (other_place areas place) (on contents old trusted))
 
   -- What a mount of both areas keeps, however it ends. The trusted one keeps its settings, and is
-  -- all FF afterwards only if it was so before. If the other one holds the same map, it still does.
+  -- all FF afterwards only if it was so before. If the other one holds the same map, it is not
+  -- repaired.
   pub record SparesBoth (old new : Device) (trusted other : Area) : Type 0 where
     pub written : StaysWritten old new trusted
     pub kept : on damage old trusted ≡ None → KeepsArea old new trusted
     pub held :
         on damage old trusted ≡ None → HoldsMap damage contents old other (on contents old trusted)
-        → HoldsMap damage contents new other (on contents old trusted)
+        → KeepsCopy damage contents old new other (on contents old trusted) (both_mounts old trusted other)
 
 -- how the mount of both areas ends; the one at this place is trusted
 abbrev pub BothEnds : {S : Type 0} → (S → Area) → (S → Geometry → List (List ℕ) → Type 0)
@@ -408,3 +422,13 @@ both_units d trusted other names =
 -- the most units and erases of a mount of the selector that then names the trusted area
 abbrev pub trust_units : Device → Area → ℕ
 trust_units d selector = erases_on d selector + choice_units d selector
+
+-- An other area that is not damaged and holds the map of the trusted one is not repaired: it holds
+-- that map afterwards, however the mount ends, and the mount spends no more than the selector's mount,
+-- one choice, and the mounts of both areas.
+abbrev pub KeepsOther : (Area → Geometry → List (List ℕ) → Option Damaged)
+    → (Area → Geometry → List (List ℕ) → Map) → Device → Device → Area → Area → Area → Type 0
+KeepsOther damage contents old new selector trusted other =
+    on damage old trusted ≡ None → HoldsMap damage contents old other (on contents old trusted)
+    → KeepsCopy damage contents old new other (on contents old trusted)
+    (trust_units old selector + both_mounts old trusted other)

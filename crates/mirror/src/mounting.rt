@@ -14,7 +14,7 @@ ghost use Rattle.backend_api.specs.Written.{StaysWritten};
 ghost use Rattle.migrator.specs.Areas.{is_store_at, selector_of};
 ghost use Rattle.migrator.specs.Migrating.{fill_units};
 ghost use Rattle.mirror.specs.Mirrored.{SideStands};
-ghost use Rattle.mirror.specs.Mounting.{BothEnds, BothFitEnds, FitEnds, HoldEnds, HoldsMap, IsAtRest, IsKeptIf, IsNotRefused, MayCopyTrusted, MirrorMounts, OtherEnds, RepairsAs, SideEnds, SparesBoth, both_units, fault_at, mount_lost, other_place, other_units, trust_units, worked_on};
+ghost use Rattle.mirror.specs.Mounting.{BothEnds, BothFitEnds, FitEnds, HoldEnds, HoldsMap, IsAtRest, IsKeptIf, IsNotRefused, KeepsCopy, KeepsOther, MayCopyTrusted, MirrorMounts, OtherEnds, RepairsAs, SideEnds, SparesBoth, both_units, fault_at, mount_lost, other_place, other_units, trust_units, worked_on};
 ghost use Rattle.mirror.specs.Room.{IsMirrored};
 ghost use Rattle.mirror.specs.Trusted.{IsMirrorMap, MirrorReads, trusted_on};
 
@@ -262,10 +262,10 @@ fn open_other<K: Priced, F: Flash, L: Ledger>(
     ensures ends { let d = F.device flash.old in let e = F.device flash.new in
         OtherEnds K.mounted_on K.stands e area
         (on K.contents e area ≡ on K.contents d (K.mounted_on trusted.now)) result }
-    ensures held { let d = F.device flash.old in
+    ensures held { let d = F.device flash.old in let e = F.device flash.new in
         let settings = on K.contents d (K.mounted_on trusted.now) in
         HoldsMap K.damage K.contents d area settings
-        → HoldsMap K.damage K.contents (F.device flash.new) area settings }
+        → KeepsCopy K.damage K.contents d e area settings (mount_units (geometry_of d area)) }
     ensures idle { let d = F.device flash.old in
         let settings = on K.contents d (K.mounted_on trusted.now) in
         HoldsMap K.damage K.contents d area settings → HoldsOn K.rests d area
@@ -372,7 +372,8 @@ impl<K: Priced> Mirror<K> {
     /// another map, it is erased, and all settings are put into it.
     ///
     /// Whatever the result, the same area is trusted afterwards, and the mirror reads as the same
-    /// map. A mount spends at most the units and erases of the selector's mount, one choice, the
+    /// map. An other area that holds this map is not repaired, even if power is lost: it holds the
+    /// map afterwards too, and the mount spends no unit of a repair. A mount spends at most the units and erases of the selector's mount, one choice, the
     /// mounts of both areas, and one repair for the map's names. If there is nothing to do, it
     /// spends nothing.
     ///
@@ -408,6 +409,11 @@ impl<K: Priced> Mirror<K> {
             (IsAtRest K.damage K.contents K.rests map.now (F.device flash.new)) }
         ensures idle { let d = F.device flash.old in
             IsAtRest K.damage K.contents K.rests map.now d → F.device flash.new ≡ d }
+        ensures copy { let d = F.device flash.old in let e = F.device flash.new in
+            (selector trusted other : area_type) → selector_of map.now ≡ Some selector
+            → slice_get map.now (trusted_on map.now d) ≡ Some trusted
+            → slice_get map.now (other_place map.now (trusted_on map.now d)) ≡ Some other
+            → KeepsOther K.damage K.contents d e selector trusted other }
         ensures at_most { let d = F.device flash.old in
             (selector trusted other : area_type) → selector_of map.now ≡ Some selector
             → slice_get map.now (trusted_on map.now d) ≡ Some trusted

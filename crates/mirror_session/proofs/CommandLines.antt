@@ -36,7 +36,7 @@ use Rattle.mirror_session.specs.declared.answer.Answer.TheVariants.{Plain}
 use Rattle.mirror_session.specs.Answer.{done, lost}
 use Rattle.mirror_session.specs.Plan.{units_of, is_lost, replan}
 use Rattle.mirror_session.specs.Bench.{Meanings, beside_in, is_gone, moment, rules_of, state_of}
-use Rattle.mirror_session.specs.LineDone.{BothNow, Cuts, CutsBoth, Finds, FitNow, FitsThen, Keeps, LineDone, Replaced, StaysSound, is_quiet, powered_for, replaces, store_areas, worked_on}
+use Rattle.mirror_session.specs.LineDone.{BothNow, Cuts, CutsBoth, Finds, FitNow, FitsThen, Keeps, LineDone, Replaced, Spares, StaysSound, is_quiet, powered_for, replaces, store_areas, worked_on}
 use Rattle.mirror_session.specs.Standing.{IsHeld}
 use Rattle.session_table.specs.Rules.{IsCounted}
 use Rattle.mirror_session.specs.State.{State, Rules}
@@ -140,10 +140,10 @@ module _ {S : Type 0} (mounted_on : S → Area) (stands : S → Geometry → Lis
 
   module _ (touches : Touches (mirror.trusted.area ∷ mirror.other.area ∷ []) old new false) where
     whole : (line : Line) (answer : Answer) → is_lost answer ≡ false → replan line answer ≡ keeps → replaces line answer ≡ false → is_quiet line answer ≡ false → powered_for line old ≡ old → worked_on areas line old ≡ store_areas areas old → Replaced areas line answer old new → StaysSound m areas (moment old true) (moment new true) → (FitNow m areas (moment old true) → FitNow m areas (moment new true)) → (BothNow m areas (moment old true) → BothNow m areas (moment new true))
-        → units_of answer ≡ new.spent - old.spent → Cuts m areas line answer old new → Finds m areas line answer old new → FitsThen m areas line answer (moment new true)
+        → units_of answer ≡ new.spent - old.spent → Cuts m areas line answer old new → Finds m areas line answer old new → Spares m areas line answer old new → FitsThen m areas line answer (moment new true)
         → ((last : ℕ) → new.spent ≤ last → Step (rules_of m areas old.banks last) line answer (state_of m areas (moment old true)) (state_of m areas (moment new true)))
         → LineDone m areas line answer (moment old true) (moment new true)
-    whole line answer lasts stays none busy same works left sound fit both units cuts finds fits step =
+    whole line answer lasts stays none busy same works left sound fit both units cuts finds spares fits step =
         let wider = touched false touches in
         let within = subst (λ (l : List Area). Touches l old new false) (sym works) (in_stores false touches) in
         record {
@@ -157,6 +157,7 @@ module _ {S : Type 0} (mounted_on : S → Area) (stands : S → Geometry → Lis
           quiet = λ is. absurd (false≢true (sym busy ∙ is));
           cuts = cuts;
           finds = finds;
+          spares = spares;
           fits = fits;
           fit = fit;
           both = both;
@@ -206,10 +207,10 @@ module _ {S : Type 0} (mounted_on : S → Area) (stands : S → Geometry → Lis
     off_now = (touches.ends power).off
 
     broken : (line : Line) (answer : Answer) → is_lost answer ≡ true → replan line answer ≡ keeps → replaces line answer ≡ false → is_quiet line answer ≡ false → powered_for line old ≡ old → worked_on areas line old ≡ store_areas areas old → Replaced areas line answer old new → StaysSound m areas (moment old true) (moment new true) → (FitNow m areas (moment old true) → FitNow m areas (moment new true))
-        → units_of answer ≡ new.spent - old.spent → Cuts m areas line answer old new → Finds m areas line answer old new → FitsThen m areas line answer (moment new true)
+        → units_of answer ≡ new.spent - old.spent → Cuts m areas line answer old new → Finds m areas line answer old new → Spares m areas line answer old new → FitsThen m areas line answer (moment new true)
         → ((last : ℕ) → new.spent ≤ last → Step (rules_of m areas old.banks last) line answer (state_of m areas (moment old true)) (state_of m areas (moment new true)))
         → LineDone m areas line answer (moment old true) (moment new true)
-    broken line answer is_cut stays none busy same works left sound fit units cuts finds fits step =
+    broken line answer is_cut stays none busy same works left sound fit units cuts finds spares fits step =
         let wider = touched true touches in
         let within = subst (λ (l : List Area). Touches l old new true) (sym works) (in_stores true touches) in
         record {
@@ -223,6 +224,7 @@ module _ {S : Type 0} (mounted_on : S → Area) (stands : S → Geometry → Lis
           quiet = λ is. absurd (false≢true (sym busy ∙ is));
           cuts = cuts;
           finds = finds;
+          spares = spares;
           fits = fits;
           fit = fit;
           both = λ was_both on_then. absurd (false≢true (sym (ap (λ (b : Bool). b && true) off_now) ∙ on_then));
@@ -337,7 +339,7 @@ module _ {S : Type 0} (mounted_on : S → Area) (stands : S → Geometry → Lis
       pub set_done : (x : T) → result ≡ Ok x → Touches (mirror.trusted.area ∷ mirror.other.area ∷ []) old new false → on m.damage new mirror.trusted.area ≡ None → on m.damage new mirror.other.area ≡ None
           → FitBoth m.room m.prices new mirror.trusted.area mirror.other.area (on m.contents new mirror.trusted.area) → LineDone m areas (Set name value) (done units) (moment old true) (moment new true)
       set_done x is touches one two fits = let end = ended (Ok x) is in
-          whole touches (Set name value) (done units) refl refl refl refl refl refl tt (λ shown. sound_then false touches one two) (λ was_fit. done_fits touches fits (end.1.settings.other_has ∙ sym end.1.settings.trusted_has)) (λ was_both. done_both touches one two (end.1.settings.other_has ∙ sym end.1.settings.trusted_has)) units_are tt tt tt
+          whole touches (Set name value) (done units) refl refl refl refl refl refl tt (λ shown. sound_then false touches one two) (λ was_fit. done_fits touches fits (end.1.settings.other_has ∙ sym end.1.settings.trusted_has)) (λ was_both. done_both touches one two (end.1.settings.other_has ∙ sym end.1.settings.trusted_has)) units_are tt tt tt tt
           (λ last within.
           let both = seen last (λ n. settings.Done n)
           (carried_out touches (Put name value) (rules_of m areas old.banks last) (λ idle. end.1.same (idle_stored before name value idle)) (λ busy counts. some_spent old new last within (end.1.spends (busy_other before name value busy)) counts)
@@ -346,7 +348,7 @@ module _ {S : Type 0} (mounted_on : S → Area) (stands : S → Geometry → Lis
 
       pub set_many : result ≡ Err TooManyNames → Touches (mirror.trusted.area ∷ mirror.other.area ∷ []) old new false → LineDone m areas (Set name value) (Plain (settings.TooMany units)) (moment old true) (moment new true)
       set_many is touches = let end = ended (Err TooManyNames) is in
-          whole touches (Set name value) (Plain (settings.TooMany units)) refl refl refl refl refl refl tt (λ shown. subst (λ (d : Device). damage_shown m.damage areas d ≡ None) (sym end.1) shown) (same_fits touches end.1) (same_both touches end.1) units_are tt tt tt
+          whole touches (Set name value) (Plain (settings.TooMany units)) refl refl refl refl refl refl tt (λ shown. subst (λ (d : Device). damage_shown m.damage areas d ≡ None) (sym end.1) shown) (same_fits touches end.1) (same_both touches end.1) units_are tt tt tt tt
           (λ last within.
           let both = seen last (λ n. settings.TooMany n) (
             none_spent old new end.1,
@@ -358,7 +360,7 @@ module _ {S : Type 0} (mounted_on : S → Area) (stands : S → Geometry → Lis
 
       pub set_full : (need live : ℕ) → result ≡ Err (NoSpace need live) → Touches (mirror.trusted.area ∷ mirror.other.area ∷ []) old new false → LineDone m areas (Set name value) (Plain (settings.NoSpace units need live)) (moment old true) (moment new true)
       set_full need live is touches = let end = ended (Err (NoSpace need live)) is in
-          whole touches (Set name value) (Plain (settings.NoSpace units need live)) refl refl refl refl refl refl tt (λ shown. subst (λ (d : Device). damage_shown m.damage areas d ≡ None) (sym end.2) shown) (same_fits touches end.2) (same_both touches end.2) units_are tt tt tt
+          whole touches (Set name value) (Plain (settings.NoSpace units need live)) refl refl refl refl refl refl tt (λ shown. subst (λ (d : Device). damage_shown m.damage areas d ≡ None) (sym end.2) shown) (same_fits touches end.2) (same_both touches end.2) units_are tt tt tt tt
           (λ last within.
           let both = seen last (λ n. settings.NoSpace n need live) (
             none_spent old new end.2,
@@ -376,7 +378,7 @@ module _ {S : Type 0} (mounted_on : S → Area) (stands : S → Geometry → Lis
       set_lost is touches = let end = ended (Err PowerLost) is in
           let busy = other_busy before name value end.1 in
           broken touches (Set name value) (lost units) refl refl refl refl refl refl tt (λ shown. sound_then true touches end.2.trusted_sound end.2.other_sound) (λ was_fit. cut_fits touches (Put name value) end.2 end.3.0 end.3.1) units_are
-          (subst (λ (c : Command). CutsBoth m areas c old new) (sym (put_is name value some)) (cuts_both touches (Put name value) end.2)) tt tt
+          (subst (λ (c : Command). CutsBoth m areas c old new) (sym (put_is name value some)) (cuts_both touches (Put name value) end.2)) tt tt tt
           (λ last within.
           let both = seen last (λ n. settings.Lost n false) (cut_off touches (Put name value) end.2 (rules_of m areas old.banks last) (free_by last end.0.few) (room_by last end.0 busy) busy (within_most last)) in
           (λ needs. both.0, both.1))
@@ -405,7 +407,7 @@ module _ {S : Type 0} (mounted_on : S → Area) (stands : S → Geometry → Lis
     pub delete_done : (x : T) → result ≡ Ok x → Touches (mirror.trusted.area ∷ mirror.other.area ∷ []) old new false → on m.damage new mirror.trusted.area ≡ None → on m.damage new mirror.other.area ≡ None
         → FitBoth m.room m.prices new mirror.trusted.area mirror.other.area (on m.contents new mirror.trusted.area) → LineDone m areas (Del name) (done units) (moment old true) (moment new true)
     delete_done x is touches one two fits = let end = delete_ended (Ok x) is in
-        whole touches (Del name) (done units) refl refl refl refl refl refl tt (λ shown. sound_then false touches one two) (λ was_fit. done_fits touches fits (end.settings.other_has ∙ sym end.settings.trusted_has)) (λ was_both. done_both touches one two (end.settings.other_has ∙ sym end.settings.trusted_has)) units_are tt tt tt
+        whole touches (Del name) (done units) refl refl refl refl refl refl tt (λ shown. sound_then false touches one two) (λ was_fit. done_fits touches fits (end.settings.other_has ∙ sym end.settings.trusted_has)) (λ was_both. done_both touches one two (end.settings.other_has ∙ sym end.settings.trusted_has)) units_are tt tt tt tt
         (λ last within.
         let both = delete_seen last (λ n. settings.Done n)
         (carried_out touches (Delete name) (rules_of m areas old.banks last) (λ idle. end.absent (idle_absent before name idle)) (λ busy counts. some_spent old new last within (end.spends (busy_present before name busy)) counts)
@@ -415,7 +417,7 @@ module _ {S : Type 0} (mounted_on : S → Area) (stands : S → Geometry → Lis
     pub delete_lost : (fault : Lost) → result ≡ Err fault → Touches (mirror.trusted.area ∷ mirror.other.area ∷ []) old new true → LineDone m areas (Del name) (lost units) (moment old true) (moment new true)
     delete_lost fault is touches = let end = delete_ended (Err fault) is in
         let busy = present_busy before name end.0 in
-        broken touches (Del name) (lost units) refl refl refl refl refl refl tt (λ shown. sound_then true touches end.1.trusted_sound end.1.other_sound) (λ was_fit. cut_fits touches (Delete name) end.1 end.2.0 end.2.1) units_are (cuts_both touches (Delete name) end.1) tt tt
+        broken touches (Del name) (lost units) refl refl refl refl refl refl tt (λ shown. sound_then true touches end.1.trusted_sound end.1.other_sound) (λ was_fit. cut_fits touches (Delete name) end.1 end.2.0 end.2.1) units_are (cuts_both touches (Delete name) end.1) tt tt tt
         (λ last within.
         let both = delete_seen last (λ n. settings.Lost n false) (cut_off touches (Delete name) end.1 (rules_of m areas old.banks last) tt tt busy (delete_within last)) in
         (λ needs. both.0, both.1))

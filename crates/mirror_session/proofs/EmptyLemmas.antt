@@ -34,6 +34,7 @@ module _ (m : Meanings) (areas : List Area) (name value : List ℕ) (is_delete :
     quiet = is.quiet;
     cuts = as_set_cuts answer old.device new.device is.cuts;
     finds = tt;
+    spares = tt;
     fits = tt;
     fit = is.fit;
     both = is.both;

@@ -37,9 +37,9 @@ module _ (m : Meanings) (areas : List Area) where
       subst (λ (prefix : List Line). Follows (LineDone m areas) (Mount ∷ prefix) (answers ++ answer ∷ []) (moment first false) (moment new whole)) (sym (lines_on lines i line below is))
       (last (LineDone m areas) (Mount ∷ take i lines) line answers answer (moment first false) (moment mid was) (moment new whole) so_far done)
 
-  pub ran : (rests : Area → Geometry → List (List ℕ) → Type 0) (lines : List Line) (i : ℕ) (answers : List Answer) (first now : Device) (whole : Bool) → length lines ≤ i → RanTo lines i answers first now whole → RestsNow rests m areas (moment now whole)
-      → (w : Bool) × Ran m areas (Mount ∷ lines) answers (moment first false) (moment now w) × RestsNow rests m areas (moment now w)
-  ran rests lines i answers first now whole all so_far still = (
+  pub ran : (lines : List Line) (i : ℕ) (answers : List Answer) (first now : Device) (whole : Bool) → length lines ≤ i → RanTo lines i answers first now whole → RestsNow m areas (moment now whole)
+      → (w : Bool) × Ran m areas (Mount ∷ lines) answers (moment first false) (moment now w) × RestsNow m areas (moment now w)
+  ran lines i answers first now whole all so_far still = (
     whole,
     runs_of m areas (Mount ∷ lines) answers (moment first false) (moment now whole)
         (subst (λ (prefix : List Line). Follows (LineDone m areas) (Mount ∷ prefix) answers (moment first false) (moment now whole)) (take_all i lines all) so_far),

@@ -19,7 +19,7 @@ use Rattle.migrator.specs.Active.{active_on, selector_damage_on}
 use Rattle.migrator.specs.Areas.{first_store, is_store, is_store_at, target}
 use Rattle.mirror.specs.declared.mirror.Mirror.{Mirror}
 use Rattle.mirror.specs.Mirrored.{FitBoth, SideStands}
-use Rattle.mirror.specs.Mounting.{IsAtRest, other_place}
+use Rattle.mirror.specs.Mounting.{other_place}
 use Rattle.mirror.specs.declared.sides.Side.{Side}
 use Rattle.mirror.specs.Room.{FitsOn}
 use Rattle.mirror.specs.Trusted.{BothRead, IsMirrorMap, is_blank_at, is_blank_on, trusted_on}
@@ -28,7 +28,7 @@ use Rattle.session.specs.OnMap.{limit_of}
 use Rattle.session.proofs.ActiveAreas.{area_there, store_there}
 use Rattle.mirror_session.specs.Bench.{Meanings, beside_in, is_gone, moment}
 use Rattle.mirror_session.specs.LineDone.{FitNow, FitsBoth}
-use Rattle.mirror_session.specs.Standing.{IsHeld, IsReady, RestsNow}
+use Rattle.mirror_session.specs.Standing.{AtRest, IsHeld, IsReady, RestsNow}
 use Rattle.mirror_session.proofs.PlaceLemmas.{beside_some, first_stores, other_is, reads_either, store_at, trusted_of_is}
 
 side_rests : {S : Type 0} (mounted_on : S → Area) (stands : S → Geometry → List (List ℕ) → Type 0) (d : Device) (side : Side S) (rests : Area → Geometry → List (List ℕ) → Type 0)
@@ -105,9 +105,9 @@ module _ {S : Type 0} (mounted_on : S → Area) (stands : S → Geometry → Lis
       record { settings = have.0; other = λ now. have.1 }
 
   -- a mount has nothing to do
-  pub at_rest : (rests : Area → Geometry → List (List ℕ) → Type 0) → ((state : S) (geometry : Geometry) (sectors : List (List ℕ)) → stands state geometry sectors → rests (mounted_on state) geometry sectors)
-      → d.is_on ≡ true → is_gone areas d ≡ false → IsAtRest m.damage m.contents rests areas d
-  at_rest rests law power named =
+  pub at_rest : ((state : S) (geometry : Geometry) (sectors : List (List ℕ)) → stands state geometry sectors → m.rests (mounted_on state) geometry sectors)
+      → d.is_on ≡ true → is_gone areas d ≡ false → AtRest m areas d
+  at_rest law power named =
       let up = held.up power in
       let active : active_on areas d ≡ trusted_on areas d = sym (trusted_of_is areas d ∙ ap (λ (b : Bool). cond b (beside_in areas (active_on areas d)) (active_on areas d)) named) in
       let trusted : trusted_on areas d ≡ mirror.trusted.place = sym active ∙ sym held.named in
@@ -118,8 +118,8 @@ module _ {S : Type 0} (mounted_on : S → Area) (stands : S → Geometry → Lis
         trusted = mirror.trusted.area;
         other = mirror.other.area;
         placed = record { trusted_there = ap (slice_get areas) trusted ∙ held.trusted.there; other_there = ap (slice_get areas) other ∙ held.other.there };
-        trusted_rests = side_rests mounted_on stands d mirror.trusted rests law up.trusted_stands;
-        other_rests = side_rests mounted_on stands d mirror.other rests law up.other_stands;
+        trusted_rests = side_rests mounted_on stands d mirror.trusted m.rests law up.trusted_stands;
+        other_rests = side_rests mounted_on stands d mirror.other m.rests law up.other_stands;
         same = record { sound = held.other.sound; reads = up.same };
       }
 
@@ -129,9 +129,21 @@ module _ {S : Type 0} (mounted_on : S → Area) (stands : S → Geometry → Lis
       ap (λ (n : ℕ). cond (n == 2) LONG_VALUE_LIMIT VALUE_LIMIT)
       (map.lawful.versions mirror.trusted.place (first_store areas) mirror.trusted.area (area_at areas (first_store areas)) held.trusted.there (store_there areas (first_store areas) (first_stores serves areas d map)))
 
+module _ {S : Type 0} (mounted_on : S → Area) (stands : S → Geometry → List (List ℕ) → Type 0) (m : Meanings) (serves : Area → Geometry → Type 0) (areas : List Area) (d : Device) (map : IsMirrorMap serves areas d)
+    (lawful : IsLawful d.banks d.bytes)
+    (empties : (x : Device) (area : Area) → IsLawful x.banks x.bytes → IsLawfulFor x.banks area → serves area (geometry_of x area) → is_blank_on x area ≡ true → on m.contents x area ≡ empty) where
+  -- where the area that is named is all FF, and the other one is not, there are no settings
+  pub gone_empty : (mirror : Mirror S) → IsHeld mounted_on stands m areas d mirror → d.is_on ≡ true → is_gone areas d ≡ true → on m.contents d (area_at areas (trusted_on areas d)) ≡ empty
+  gone_empty mirror ready power gone =
+      let parts = and_parts (is_blank_at areas d (active_on areas d)) (not (is_blank_at areas d (beside_in areas (active_on areas d)))) gone in
+      let there : slice_get areas (active_on areas d) ≡ Some mirror.trusted.area = ap (slice_get areas) (sym ready.named) ∙ ready.trusted.there in
+      let blank : is_blank_on d mirror.trusted.area ≡ true = sym (ap (λ (o : Option Area). option_map_or (is_blank_on d) o false) there) ∙ parts.0 in
+      settings_are mounted_on stands m serves areas d mirror map ready power
+      ∙ empties d mirror.trusted.area lawful (map.lawful.each mirror.trusted.place mirror.trusted.area ready.trusted.there) (map.served mirror.trusted.place mirror.trusted.area ready.trusted.there ready.trusted.stores) blank
+
 -- the same, where the session says whether its mirror is up
 module _ {S : Type 0} (mounted_on : S → Area) (stands : S → Geometry → List (List ℕ) → Type 0) (m : Meanings) (serves : Area → Geometry → Type 0) (areas : List Area) (d : Device) (map : IsMirrorMap serves areas d)
-    (rests : Area → Geometry → List (List ℕ) → Type 0) (law : (state : S) (geometry : Geometry) (sectors : List (List ℕ)) → stands state geometry sectors → rests (mounted_on state) geometry sectors)
+    (law : (state : S) (geometry : Geometry) (sectors : List (List ℕ)) → stands state geometry sectors → m.rests (mounted_on state) geometry sectors)
     (lawful : IsLawful d.banks d.bytes)
     (empties : (x : Device) (area : Area) → IsLawful x.banks x.bytes → IsLawfulFor x.banks area → serves area (geometry_of x area) → is_blank_on x area ≡ true → on m.contents x area ≡ empty) where
   never_up : (b : Bool) → (b && false) ≡ true → ⊥
@@ -142,20 +154,11 @@ module _ {S : Type 0} (mounted_on : S → Area) (stands : S → Geometry → Lis
   is_up true is = refl
   is_up false is = is
 
-  pub rests_now : (o : Option (Mirror S)) → IsReady mounted_on stands m areas d o → RestsNow rests m areas (moment d (is_some o))
+  pub rests_now : (o : Option (Mirror S)) → IsReady mounted_on stands m areas d o → RestsNow m areas (moment d (is_some o))
   rests_now None ready power named = absurd (never_up d.is_on power)
-  rests_now (Some mirror) ready power named = at_rest mounted_on stands m serves areas d mirror map ready rests law (is_up d.is_on power) (by (is_gone areas d) refl named)
+  rests_now (Some mirror) ready power named = at_rest mounted_on stands m serves areas d mirror map ready law (is_up d.is_on power) (by (is_gone areas d) refl named)
     where
-      -- an area that is all FF has no settings
-      none : is_gone areas d ≡ true → on m.contents d (area_at areas (trusted_on areas d)) ≡ empty
-      none gone =
-          let parts = and_parts (is_blank_at areas d (active_on areas d)) (not (is_blank_at areas d (beside_in areas (active_on areas d)))) gone in
-          let there : slice_get areas (active_on areas d) ≡ Some mirror.trusted.area = ap (slice_get areas) (sym ready.named) ∙ ready.trusted.there in
-          let blank : is_blank_on d mirror.trusted.area ≡ true = sym (ap (λ (o : Option Area). option_map_or (is_blank_on d) o false) there) ∙ parts.0 in
-          settings_are mounted_on stands m serves areas d mirror map ready (is_up d.is_on power)
-          ∙ empties d mirror.trusted.area lawful (map.lawful.each mirror.trusted.place mirror.trusted.area ready.trusted.there) (map.served mirror.trusted.place mirror.trusted.area ready.trusted.there ready.trusted.stores) blank
-
       by : (b : Bool) → is_gone areas d ≡ b → (is_gone areas d ≡ false) ⊎ (on m.contents d (area_at areas (trusted_on areas d)) ≢ empty) → is_gone areas d ≡ false
       by b is (inl named_so) = named_so
-      by true is (inr some) = absurd (some (none is))
+      by true is (inr some) = absurd (some (gone_empty mounted_on stands m serves areas d map lawful empties mirror ready (is_up d.is_on power) is))
       by false is (inr some) = is

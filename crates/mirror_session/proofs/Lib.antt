@@ -20,4 +20,5 @@ mod SideLemmas
 pub mod SoundLemmas
 mod TableFacts
 mod TableLaws
+mod TextLemmas
 mod ReportLemmas

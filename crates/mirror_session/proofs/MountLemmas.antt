@@ -19,20 +19,21 @@ use Rattle.migrator.proofs.Migration.{active-on, active-store, selector-at}
 use Rattle.mirror.specs.declared.mirror.Mirror.{Mirror}
 use Rattle.mirror.specs.declared.mounting.MirrorMount.{MirrorMount}
 use Rattle.mirror.specs.declared.mounting.MirrorMount.TheVariants.{Damaged as HasDamage, Unfit as IsNotFit, PowerLost, NoMemory as WantsMemory}
-use Rattle.mirror.specs.Mounting.{FitsAt, IsCutMount, MirrorMounts, UnfitAt, both_units, mount_lost, other_place, trust_units, worked_on}
+use Rattle.mirror.specs.Mounting.{FitsAt, IsAtRest, IsCutMount, KeepsOther, MirrorMounts, UnfitAt, both_units, mount_lost, other_place, trust_units, worked_on}
 use Rattle.mirror.specs.Mirrored.{FitBoth}
 use Rattle.mirror.specs.Room.{FitsOn}
 use Rattle.mirror.specs.Trusted.{BothRead, IsMirrorMap, MirrorReads, trusted_on}
 use Rattle.session_table.specs.Bench.{area_at}
 use Rattle.session.proofs.ActiveAreas.{area_there, selector_powered, store_there}
 use Rattle.mirror_session.specs.declared.line.Line.TheVariants.{Mount}
+use Rattle.mirror_session.specs.declared.answer.Answer.{Answer}
 use Rattle.mirror_session.specs.Answer.{done, lost}
 use Rattle.mirror_session.specs.declared.fault.SessionFault.TheVariants.{Damaged as SessionDamaged, Unfit as SessionUnfit, NoMemory as SessionMemory}
 use Rattle.mirror_session.specs.Bench.{Meanings, beside_in, is_gone, moment, rules_of, state_of}
-use Rattle.mirror_session.specs.LineDone.{FitNow, FitsBoth, LineDone, MountsWithin, StaysSound}
+use Rattle.mirror_session.specs.LineDone.{FitNow, FitsBoth, LineDone, MountSpares, MountsWithin, StaysSound}
 use Rattle.session.specs.OnMap.{turned_on}
 use Rattle.mirror_session.specs.Running.{FindsNoFit, LineStops}
-use Rattle.mirror_session.specs.Standing.{IsHeld}
+use Rattle.mirror_session.specs.Standing.{AtRest, IsHeld}
 use Rattle.mirror_session.specs.State.{State, trusted_of}
 use Rattle.mirror_session.specs.Step.{Remounts, StopsMounting}
 use Rattle.mirror_session.proofs.AccountLemmas.{kept, kept_beside}
@@ -141,6 +142,36 @@ module _ {S : Type 0} (mounted_on : S → Area) (stands : S → Geometry → Lis
       subst (λ (n : ℕ). n ≤ trust_units before selector + both_units before trusted other (finite.len (on m.contents before trusted))) (sym (are ∙ ap (λ (d : Device). new.spent - d.spent) on_first))
       (most_spent before new (trust_units before selector + both_units before trusted other (finite.len (on m.contents before trusted))) (subst SpendsFrom on_first most selector trusted other selected there beside))
 
+  -- at rest it changes nothing
+  abbrev IdleFrom : Device → Type 0
+  IdleFrom d = IsAtRest m.damage m.contents m.rests areas d → new ≡ d
+
+  abbrev IdleOnMount : Type 0
+  IdleOnMount = IdleFrom mid
+
+  -- it does not repair a copy
+  abbrev CopyFrom : Device → Type 0
+  CopyFrom d = (selector trusted other : Area) → selector_of areas ≡ Some selector → slice_get areas (trusted_on areas d) ≡ Some trusted → slice_get areas (other_place areas (trusted_on areas d)) ≡ Some other
+      → KeepsOther m.damage m.contents d new selector trusted other
+
+  abbrev CopyOnMount : Type 0
+  CopyOnMount = CopyFrom mid
+
+  at_rest_on : AtRest m areas old → AtRest m areas before
+  at_rest_on is = record {
+    selector = is.selector;
+    named = is.named;
+    trusted = is.trusted;
+    other = is.other;
+    placed = record { trusted_there = is.placed.trusted_there; other_there = is.placed.other_there };
+    trusted_rests = is.trusted_rests;
+    other_rests = is.other_rests;
+    same = record { sound = is.same.sound; reads = is.same.reads };
+  }
+
+  unchanged : IdleOnMount → AtRest m areas old → new ≡ before
+  unchanged idle is = subst IdleFrom on_first idle (at_rest_on is)
+
   -- ---- it was whole
 
   module _ (mirror : Mirror S) (whole : result ≡ Ok mirror) (reads : (state : S) (geometry : Geometry) (sectors : List (List ℕ)) → stands state geometry sectors → m.damage (mounted_on state) geometry sectors ≡ None) where
@@ -176,15 +207,30 @@ module _ {S : Type 0} (mounted_on : S → Area) (stands : S → Geometry → Lis
     trusted_same = let e = ended (Ok mirror) whole in
         e.kept.kept.reads ∙ ap (λ (a : Area). on m.contents before a) (sym (area_there areas (trusted_on areas before) mirror.trusted.area e.placed.trusted_there))
 
-    abbrev made : Map → Map → ℕ → Bool → State
-    made settings other named power = record { settings = settings; other = other; named = named; gone = is_gone areas new; is_on = power; is_whole = true }
+    -- the selector names the area that is read
+    not_gone : trusted_on areas new ≡ trusted_on areas mid → is_gone areas new ≡ false
+    not_gone same = by (is_gone areas new) refl
+      where
+        active : active_on areas new ≡ trusted_on areas new
+        active = (ended (Ok mirror) whole).kept.active ∙ sym (same ∙ ap (λ (d : Device). trusted_on areas d) on_first)
 
-    remounts : (last : ℕ) (was : Bool) → Remounts (rules_of m areas old.banks last) (state_of m areas (moment old was)) (state_of m areas (moment new true))
-    remounts last was = let e = ended (Ok mirror) whole in
-        ap (λ (x : Map). made x (on m.contents new (area_at areas (beside_in areas (trusted_on areas new)))) (active_on areas new) (new.is_on && true)) (settings_are mounted_on stands m serves areas new mirror map_now held_now on_now ∙ trusted_same)
-        ∙ ap (λ (x : Map). made settings_before x (active_on areas new) (new.is_on && true)) (others_are mounted_on stands m serves areas new mirror map_now held_now on_now ∙ trusted_same)
-        ∙ ap (λ (n : ℕ). made settings_before settings_before n (new.is_on && true)) (e.kept.active ∙ trusted_of_is areas old)
-        ∙ ap (λ (b : Bool). made settings_before settings_before (trusted_of (rules_of m areas old.banks last) (state_of m areas (moment old was))) (b && true)) on_now
+        by : (b : Bool) → is_gone areas new ≡ b → is_gone areas new ≡ false
+        by true is =
+            let beside : beside_in areas (active_on areas new) ≡ active_on areas new =
+            sym (trusted_of_is areas new ∙ ap (λ (b : Bool). cond b (beside_in areas (active_on areas new)) (active_on areas new)) is) ∙ sym active in
+            absurd (other_apart serves areas new map_now (ap (other_place areas) (sym active) ∙ beside ∙ active))
+        by false is = is
+
+    abbrev made : Map → Map → ℕ → Bool → Bool → State
+    made settings other named gone power = record { settings = settings; other = other; named = named; gone = gone; is_on = power; is_whole = true }
+
+    remounts : trusted_on areas new ≡ trusted_on areas mid → (last : ℕ) (was : Bool) → Remounts (rules_of m areas old.banks last) (state_of m areas (moment old was)) (state_of m areas (moment new true))
+    remounts same last was = let e = ended (Ok mirror) whole in
+        ap (λ (x : Map). made x (on m.contents new (area_at areas (beside_in areas (trusted_on areas new)))) (active_on areas new) (is_gone areas new) (new.is_on && true)) (settings_are mounted_on stands m serves areas new mirror map_now held_now on_now ∙ trusted_same)
+        ∙ ap (λ (x : Map). made settings_before x (active_on areas new) (is_gone areas new) (new.is_on && true)) (others_are mounted_on stands m serves areas new mirror map_now held_now on_now ∙ trusted_same)
+        ∙ ap (λ (n : ℕ). made settings_before settings_before n (is_gone areas new) (new.is_on && true)) (e.kept.active ∙ trusted_of_is areas old)
+        ∙ ap (λ (b : Bool). made settings_before settings_before (trusted_of (rules_of m areas old.banks last) (state_of m areas (moment old was))) b (new.is_on && true)) (not_gone same)
+        ∙ ap (λ (b : Bool). made settings_before settings_before (trusted_of (rules_of m areas old.banks last) (state_of m areas (moment old was))) false (b && true)) on_now
 
     -- what both read as fits both
     fit_now : FitNow m areas (moment new true)
@@ -198,13 +244,24 @@ module _ {S : Type 0} (mounted_on : S → Area) (stands : S → Geometry → Lis
         let are = settings_are mounted_on stands m serves areas new mirror map_now held_now on_now in
         reads_both mounted_on stands m serves areas new mirror map_now held_now new (state_of m areas (moment new true)).settings held_now.sound held_now.trusted.sound held_now.other.sound (sym are) (e.mirrors.same ∙ sym are)
 
-    pub whole_line : (units : ℕ) (was : Bool) → units ≡ new.spent - mid.spent → SpendsOnMount → LineDone m areas Mount (done units) (moment old was) (moment new true)
-    whole_line units was are most =
+    none_spent : (units : ℕ) → units ≡ new.spent - mid.spent → new ≡ before → done units ≡ done 0
+    none_spent units are still =
+        let fewer : new.spent ≡ mid.spent = ap (λ (d : Device). d.spent) still ∙ sym (ap (λ (d : Device). d.spent) on_first) in
+        ap done (omega (arith, are, fewer))
+
+    whole_spares : (units : ℕ) → units ≡ new.spent - mid.spent → IdleOnMount → CopyOnMount → MountSpares m areas (done units) old new
+    whole_spares units are idle copy = record {
+      copy = subst CopyFrom on_first copy;
+      rests = λ is. (none_spent units are (unchanged idle is), unchanged idle is);
+    }
+
+    pub whole_line : (units : ℕ) (was : Bool) → units ≡ new.spent - mid.spent → SpendsOnMount → IdleOnMount → CopyOnMount → trusted_on areas new ≡ trusted_on areas mid → LineDone m areas Mount (done units) (moment old was) (moment new true)
+    whole_line units was are most idle copy same =
         let touch = touched (Ok mirror) whole in
         let accounts = kept areas Mount (done units) before new touch refl refl (are ∙ ap (λ (d : Device). new.spent - d.spent) on_first) in
         let beside_it = kept_beside areas before new false touch in
         record {
-          step = λ last within. (λ needs. absurd (false≢true needs), remounts last was);
+          step = λ last within. (λ needs. absurd (false≢true needs), remounts same last was);
           accounts = record { spent = accounts.spent; losses = accounts.losses; allows = accounts.allows; plan = accounts.plan; unplanned = accounts.unplanned };
           keeps = record { banks = beside_it.banks; loaded = beside_it.loaded; outside = beside_it.outside };
           touches = λ plain. touch;
@@ -212,6 +269,7 @@ module _ {S : Type 0} (mounted_on : S → Area) (stands : S → Geometry → Lis
           quiet = λ is. absurd (false≢true is);
           cuts = tt;
           finds = ((ended (Ok mirror) whole).undamaged, within_most units are most);
+          spares = whole_spares units are idle copy;
           fits = fit_now;
           fit = λ is. fit_now;
           both = λ was_both power. both_then;
@@ -247,9 +305,16 @@ module _ {S : Type 0} (mounted_on : S → Area) (stands : S → Geometry → Lis
       ]
     ]
 
-    pub lost_line : (units : ℕ) (was : Bool) → units ≡ new.spent - mid.spent → SpendsOnMount → ((last : ℕ) → StopsMounting (rules_of m areas old.banks last) (state_of m areas (moment old was)) (state_of m areas (moment new false)))
+    -- power is on at rest
+    lost_spares : (answer : Answer) → IdleOnMount → CopyOnMount → MountSpares m areas answer old new
+    lost_spares answer idle copy = record {
+      copy = subst CopyFrom on_first copy;
+      rests = λ is. absurd (false≢true (sym off_now ∙ ap (λ (d : Device). d.is_on) (unchanged idle is)));
+    }
+
+    pub lost_line : (units : ℕ) (was : Bool) → units ≡ new.spent - mid.spent → SpendsOnMount → IdleOnMount → CopyOnMount → ((last : ℕ) → StopsMounting (rules_of m areas old.banks last) (state_of m areas (moment old was)) (state_of m areas (moment new false)))
         → StaysSound m areas (moment old was) (moment new false) → (FitNow m areas (moment old was) → FitNow m areas (moment new false)) → LineDone m areas Mount (lost units) (moment old was) (moment new false)
-    lost_line units was are most stops sound fit =
+    lost_line units was are most idle copy stops sound fit =
         let touch = touched (Err PowerLost) cut in
         let accounts = counts.lost areas Mount (lost units) before new refl touch refl refl (are ∙ ap (λ (d : Device). new.spent - d.spent) on_first) in
         let beside_it = kept_beside areas before new true touch in
@@ -262,6 +327,7 @@ module _ {S : Type 0} (mounted_on : S → Area) (stands : S → Geometry → Lis
           quiet = λ is. absurd (false≢true is);
           cuts = tt;
           finds = (cut_so.trust.sound, found, within_most units are most);
+          spares = lost_spares (lost units) idle copy;
           fits = tt;
           fit = fit;
           both = λ was_both power. absurd (never_on new.is_on power);

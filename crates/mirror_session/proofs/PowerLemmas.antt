@@ -38,7 +38,7 @@ module _ (r : Rules) where
   get_power name answer old new none = absurd none
 
   names_power : (answer : settings_answer) (old new : State) → ReportsAll r answer old new → StaysOn (Plain answer) old new
-  names_power (settings.Names active pairs) old new is = power old new is.2
+  names_power (settings.Names active pairs) old new is = power old new is.3
   names_power answer old new none = absurd none
 
   mount_power : (answer : settings_answer) (old new : State) → Mounts r answer old new → new.is_on ≡ cond (is_lost (Plain answer)) false true
@@ -95,7 +95,7 @@ module _ (r : Rules) where
   get_mirrored name answer old new was none = absurd none
 
   names_mirrored : (answer : settings_answer) (old new : State) → IsMirrored old → ReportsAll r answer old new → IsMirrored new
-  names_mirrored (settings.Names active pairs) old new was is = same_mirrored old new is.2 was
+  names_mirrored (settings.Names active pairs) old new was is = same_mirrored old new is.3 was
   names_mirrored answer old new was none = absurd none
 
   mount_mirrored : (answer : settings_answer) (old new : State) → Mounts r answer old new → IsMirrored new
@@ -153,7 +153,7 @@ module _ (r : Rules) where
   get_named name answer old new none = absurd none
 
   names_named : (answer : settings_answer) (old new : State) → ReportsAll r answer old new → IsNamed r Names old new
-  names_named (settings.Names active pairs) old new is = same_named Names old new is.2
+  names_named (settings.Names active pairs) old new is = same_named Names old new is.3
   names_named answer old new none = absurd none
 
   trusted_named : (old new : State) (gone : Bool) → old.gone ≡ gone → new.named ≡ cond gone (r.beside old.named) old.named → IsNamed r Mount old new

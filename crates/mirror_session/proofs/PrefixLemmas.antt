@@ -174,7 +174,7 @@ module _ (r : Rules) (start : Map) where
     gets name answer new none = absurd none
 
     reports_all : (answer : settings_answer) (new : State) → ReportsAll r answer old new → Goes Names (Plain answer) old new first second
-    reports_all (settings.Names active pairs) new is = still Names (Plain (settings.Names active pairs)) new is.2 refl
+    reports_all (settings.Names active pairs) new is = still Names (Plain (settings.Names active pairs)) new is.3 refl
     reports_all answer new none = absurd none
 
     not_mounted : (units : ℕ) (new : State) → StopsMounting r old new → Goes Mount (Plain (settings.Lost units false)) old new first second

@@ -1,6 +1,6 @@
 -- Lines that leave the bench, and lines on the plan of losses.
 use Rattle.std.proofs.Common.{◌≡◌, ℕ, ◌+◌, ◌-◌, ◌&&◌, Bool, true, false, cond, List, [], map, Some, None, refl, sym, ap, subst, ◌∙◌, arith}
-use Rattle.std.specs.FinMap.{entries}
+use Rattle.std.specs.FinMap.{empty, entries}
 use Rattle.std.proofs.lemmas.Bool.{false≢true}
 use Rattle.flash_sim.specs.Device.{Device, Plan, After, replanned, dropped}
 use Rattle.flash_map.specs.declared.area.Area.{Area}
@@ -23,8 +23,8 @@ use Rattle.mirror_session.specs.declared.answer.Answer.{Answer}
 use Rattle.mirror_session.specs.declared.answer.Answer.TheVariants.{Plain, On, NoArea, NotYet}
 use Rattle.mirror_session.specs.Answer.{done, off}
 use Rattle.mirror_session.specs.Plan.{units_of, is_lost, replan}
-use Rattle.mirror_session.specs.Bench.{Meanings, labelled, moment, rules_of, state_of}
-use Rattle.mirror_session.specs.LineDone.{BothNow, Cuts, Finds, FitsThen, Keeps, LineDone, Replaced, StaysSound, powered_for, replaces, worked_on}
+use Rattle.mirror_session.specs.Bench.{Meanings, is_gone, labelled, moment, rules_of, state_of}
+use Rattle.mirror_session.specs.LineDone.{BothNow, Cuts, Finds, FitsThen, Keeps, LineDone, Replaced, Spares, StaysSound, powered_for, replaces, worked_on}
 use Rattle.mirror_session.specs.Step.{Step, needs_power}
 use Rattle.mirror_session.proofs.AccountLemmas.{counted_none, kept, kept_beside}
 
@@ -35,9 +35,9 @@ module _ (m : Meanings) (areas : List Area) (d : Device) where
   quiet : (whole : Bool) (line : Line) (answer : Answer)
       → ((last : ℕ) → Step (rules_of m areas d.banks last) line answer (state_of m areas (moment d whole)) (state_of m areas (moment d whole)))
       → powered_for line d ≡ d → replan line answer ≡ keeps → replaces line answer ≡ false → is_lost answer ≡ false → units_of answer ≡ 0
-      → Cuts m areas line answer d d → Finds m areas line answer d d → Replaced areas line answer d d → StaysSound m areas (moment d whole) (moment d whole) → FitsThen m areas line answer (moment d whole)
+      → Cuts m areas line answer d d → Finds m areas line answer d d → Spares m areas line answer d d → Replaced areas line answer d d → StaysSound m areas (moment d whole) (moment d whole) → FitsThen m areas line answer (moment d whole)
       → LineDone m areas line answer (moment d whole) (moment d whole)
-  quiet whole line answer step same stays none lasts units cuts finds left sound fits = record {
+  quiet whole line answer step same stays none lasts units cuts finds spares left sound fits = record {
     step = λ last within. step last;
     accounts = kept [] line answer d d (untouched [] d) stays lasts (none_spent (units_of answer) d.spent units);
     keeps = subst (λ (b : Bool). Keeps areas (cond b 1 0) d d) (sym none) (kept_beside areas d d false (untouched areas d));
@@ -48,6 +48,7 @@ module _ (m : Meanings) (areas : List Area) (d : Device) where
     quiet = λ is. refl;
     cuts = cuts;
     finds = finds;
+    spares = spares;
     fits = fits;
     fit = λ is. is;
     both = λ is. is;
@@ -56,10 +57,10 @@ module _ (m : Meanings) (areas : List Area) (d : Device) where
 
   -- with power off
   pub off_line : (whole : Bool) (line : Line) → (d.is_on && whole) ≡ false → needs_power line ≡ true → LineDone m areas line off (moment d whole) (moment d whole)
-  off_line whole (Set name value) dark needs = quiet whole (Set name value) off (λ last. (refl, dark, refl)) refl refl refl refl refl tt tt tt (λ shown. shown) tt
-  off_line whole (Get name) dark needs = quiet whole (Get name) off (λ last. (refl, dark, refl)) refl refl refl refl refl tt tt tt (λ shown. shown) tt
-  off_line whole (Del name) dark needs = quiet whole (Del name) off (λ last. (refl, dark, refl)) refl refl refl refl refl tt tt tt (λ shown. shown) tt
-  off_line whole Names dark needs = quiet whole Names off (λ last. (refl, dark, refl)) refl refl refl refl refl tt tt tt (λ shown. shown) tt
+  off_line whole (Set name value) dark needs = quiet whole (Set name value) off (λ last. (refl, dark, refl)) refl refl refl refl refl tt tt tt tt (λ shown. shown) tt
+  off_line whole (Get name) dark needs = quiet whole (Get name) off (λ last. (refl, dark, refl)) refl refl refl refl refl tt tt tt tt (λ shown. shown) tt
+  off_line whole (Del name) dark needs = quiet whole (Del name) off (λ last. (refl, dark, refl)) refl refl refl refl refl tt tt tt tt (λ shown. shown) tt
+  off_line whole Names dark needs = quiet whole Names off (λ last. (refl, dark, refl)) refl refl refl refl refl tt tt tt tt (λ shown. shown) tt
   off_line whole Mount dark needs = absurd (false≢true needs)
   off_line whole (Cut units) dark needs = absurd (false≢true needs)
   off_line whole Uncut dark needs = absurd (false≢true needs)
@@ -84,25 +85,25 @@ module _ (m : Meanings) (areas : List Area) (d : Device) where
   powered power = ap (λ (b : Bool). b && true) power
 
   pub found : (name value : List ℕ) → d.is_on ≡ true → IsStored (on m.contents d (area_at areas (trusted_on areas d))) name value → LineDone m areas (Get name) (Plain (settings.Value value)) (moment d true) (moment d true)
-  found name value power is = quiet true (Get name) (Plain (settings.Value value)) (λ last. (λ needs. powered power, (is, refl))) refl refl refl refl refl tt tt tt (λ shown. shown) tt
+  found name value power is = quiet true (Get name) (Plain (settings.Value value)) (λ last. (λ needs. powered power, (is, refl))) refl refl refl refl refl tt tt tt tt (λ shown. shown) tt
 
   pub missing : (name : List ℕ) → d.is_on ≡ true → IsAbsent (on m.contents d (area_at areas (trusted_on areas d))) name → LineDone m areas (Get name) (Plain settings.Absent) (moment d true) (moment d true)
-  missing name power is = quiet true (Get name) (Plain settings.Absent) (λ last. (λ needs. powered power, (is, refl))) refl refl refl refl refl tt tt tt (λ shown. shown) tt
+  missing name power is = quiet true (Get name) (Plain settings.Absent) (λ last. (λ needs. powered power, (is, refl))) refl refl refl refl refl tt tt tt tt (λ shown. shown) tt
 
   pub names : (active : List ℕ) (pairs : List Pair) → d.is_on ≡ true → active ≡ (area_at areas (active_on areas d)).label.bytes → pairs ≡ map as_pair (entries (on m.contents d (area_at areas (trusted_on areas d))))
-      → LineDone m areas Names (Plain (settings.Names active pairs)) (moment d true) (moment d true)
-  names active pairs power label are = quiet true Names (Plain (settings.Names active pairs)) (λ last. (λ needs. powered power, (label, are, refl))) refl refl refl refl refl tt tt tt (λ shown. shown) tt
+      → (is_gone areas d ≡ true → on m.contents d (area_at areas (trusted_on areas d)) ≡ empty) → LineDone m areas Names (Plain (settings.Names active pairs)) (moment d true) (moment d true)
+  names active pairs power label are bare = quiet true Names (Plain (settings.Names active pairs)) (λ last. (λ needs. powered power, (label, are, bare, refl))) refl refl refl refl refl tt tt tt tt (λ shown. shown) tt
 
   -- ---- an area that is not replaced
 
   pub blank_on : (label : List ℕ) → d.is_on ≡ true → LineDone m areas (Blank label) On (moment d true) (moment d true)
-  blank_on label power = quiet true (Blank label) On (λ last. (powered power, refl)) refl refl refl refl refl tt tt tt (λ shown. shown) tt
+  blank_on label power = quiet true (Blank label) On (λ last. (powered power, refl)) refl refl refl refl refl tt tt tt tt (λ shown. shown) tt
 
   pub blank_none : (label : List ℕ) (whole : Bool) → (d.is_on && whole) ≡ false → labelled areas label ≡ None → LineDone m areas (Blank label) NoArea (moment d whole) (moment d whole)
-  blank_none label whole dark none = quiet whole (Blank label) NoArea (λ last. (dark, none, refl)) refl refl refl refl refl tt tt tt (λ shown. shown) tt
+  blank_none label whole dark none = quiet whole (Blank label) NoArea (λ last. (dark, none, refl)) refl refl refl refl refl tt tt tt tt (λ shown. shown) tt
 
   pub blank_early : (label : List ℕ) (place : ℕ) → (d.is_on && false) ≡ false → labelled areas label ≡ Some place → LineDone m areas (Blank label) NotYet (moment d false) (moment d false)
-  blank_early label place dark is = quiet false (Blank label) NotYet (λ last. (dark, (place, is), refl, refl)) refl refl refl refl refl tt tt tt (λ shown. shown) tt
+  blank_early label place dark is = quiet false (Blank label) NotYet (λ last. (dark, (place, is), refl, refl)) refl refl refl refl refl tt tt tt tt (λ shown. shown) tt
 
 -- ---- plans
 
@@ -138,6 +139,7 @@ planned m areas old new units is whole =
       quiet = λ same. refl;
       cuts = tt;
       finds = tt;
+      spares = tt;
       fits = tt;
       fit = λ is. is;
       both = both_still m areas old (replanned old.plan (After units)) whole;
@@ -163,6 +165,7 @@ unplanned m areas old new is whole =
       quiet = λ same. refl;
       cuts = tt;
       finds = tt;
+      spares = tt;
       fits = tt;
       fit = λ is. is;
       both = both_still m areas old (dropped old.plan) whole;

@@ -315,6 +315,7 @@ module _ {S : Type 0} (mounted_on : S → Area) (stands : S → Geometry → Lis
     quiet = λ same. absurd (false≢true same);
     cuts = tt;
     finds = tt;
+    spares = tt;
     fits = tt;
     fit = stays_fit;
     both = λ was_both power. absurd (never_on new.is_on power);

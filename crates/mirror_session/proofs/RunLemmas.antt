@@ -20,7 +20,6 @@ use Rattle.mirror_session.specs.Plan.{units_of, is_lost, losses_in, Planned, pla
 use Rattle.mirror_session.specs.declared.fault.SessionFault.{SessionFault}
 use Rattle.mirror_session.specs.declared.fault.SessionFault.TheVariants.{Damaged, Unfit, NoMemory}
 use Rattle.mirror_session.specs.Bench.{Meanings, Moment, rules_of, state_of}
-use Rattle.mirror_session.specs.Laws.{LinesMakeRuns}
 use Rattle.session_table.specs.Bench.{StaysUnplanned}
 use Rattle.mirror_session.specs.LineDone.{BothNow, FitNow, FitsThen, Keeps, LineDone, replaces}
 use Rattle.mirror_session.specs.Running.{LineStops, Ran, RunStops, StopsAt, ReportsUnfit, is_mounted, mounted_in, replaced_in}
@@ -163,6 +162,3 @@ module _ (m : Meanings) (areas : List Area) where
       by : ReportsUnfit fault → (b : Bool) → mounted_in prefix answers ≡ b → mounted_in prefix answers ≡ false
       by reports true is = absurd (stop_fits prefix rest mid new fault stops reports (fit_of prefix answers old mid runs (inr is)))
       by reports false is = is
-
-pub lines_make_runs : LinesMakeRuns
-lines_make_runs m areas lines answers old new runs = runs_of m areas lines answers old new runs

@@ -52,9 +52,9 @@ RunsInRow =
 
 -- A run of a bench, line by line, follows the table; its counts and its plan are as its answers
 -- report, and no byte changes outside the areas of the map.
-abbrev pub LinesMakeRuns : Type 0
-LinesMakeRuns =
-    (m : Meanings) (areas : List Area) (lines : List Line) (answers : List Answer) (old new : Moment)
+abbrev pub LinesMakeRuns : Meanings → List Area → Type 0
+LinesMakeRuns m areas =
+    (lines : List Line) (answers : List Answer) (old new : Moment)
     → Follows (LineDone m areas) lines answers old new → Ran m areas lines answers old new
 
 -- the lines of a text have values within the limit

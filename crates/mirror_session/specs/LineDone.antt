@@ -15,7 +15,7 @@ use Rattle.settings_core.specs.Carrying.{command_of}
 use Rattle.migrator.specs.Active.{active_on, selector_damage_on}
 use Rattle.migrator.specs.Areas.{is_store, selector_of}
 use Rattle.mirror.specs.Mirrored.{IsCutBoth}
-use Rattle.mirror.specs.Mounting.{both_units, other_place, trust_units}
+use Rattle.mirror.specs.Mounting.{KeepsOther, both_units, other_place, trust_units}
 use Rattle.mirror.specs.Room.{Fits}
 use Rattle.mirror.specs.Trusted.{BothRead, damage_shown, trusted_on}
 use Rattle.script_lines.specs.declared.answer.Answer.TheVariants as settings
@@ -27,7 +27,9 @@ use Rattle.mirror_session.specs.declared.line.Line.TheVariants.{Set, Del, Mount,
 use Rattle.mirror_session.specs.declared.answer.Answer.{Answer}
 use Rattle.mirror_session.specs.declared.answer.Answer.TheVariants.{Plain}
 use Rattle.mirror_session.specs.Plan.{units_of, is_lost, replan, Allows, plan_after, PlansNoLoss}
+use Rattle.mirror_session.specs.Answer.{done}
 use Rattle.mirror_session.specs.Bench.{Meanings, Moment, beside_in, labelled, rules_of, state_of}
+use Rattle.mirror_session.specs.Standing.{AtRest}
 use Rattle.session_table.specs.Rules.{IsCounted}
 use Rattle.mirror_session.specs.State.{State, IsOn}
 use Rattle.mirror_session.specs.Step.{Step}
@@ -130,6 +132,19 @@ Finds m areas Mount (Plain (settings.Lost units chance)) old new =
     × MountsWithin m areas units old
 Finds m areas line answer old new = ⊤
 
+-- What a mount leaves alone. At rest it answers `ok 0`, turns power on, and does nothing else. Even if
+-- it is cut, it does not repair an other area that holds the settings that are read.
+pub record MountSpares (m : Meanings) (areas : List Area) (answer : Answer) (old new : Device) : Type 0 where
+  pub rests : AtRest m areas old → (answer ≡ done 0) × (new ≡ turned_on old)
+  pub copy : (selector trusted other : Area) → selector_of areas ≡ Some selector
+      → slice_get areas (trusted_on areas old) ≡ Some trusted
+      → slice_get areas (other_place areas (trusted_on areas old)) ≡ Some other
+      → KeepsOther m.damage m.contents (turned_on old) new selector trusted other
+
+abbrev pub Spares : Meanings → List Area → Line → Answer → Device → Device → Type 0
+Spares m areas Mount answer old new = MountSpares m areas answer old new
+Spares m areas line answer old new = ⊤
+
 -- settings fit an area of these banks
 abbrev pub FitsIn : Meanings → List Bank → Area → Map → Type 0
 FitsIn m banks area settings =
@@ -197,6 +212,7 @@ pub record LineDone (m : Meanings) (areas : List Area) (line : Line) (answer : A
   pub quiet : is_quiet line answer ≡ true → SameButPlan old.device new.device
   pub cuts : Cuts m areas line answer old.device new.device
   pub finds : Finds m areas line answer old.device new.device
+  pub spares : Spares m areas line answer old.device new.device
   pub fits : FitsThen m areas line answer new
   pub fit : FitNow m areas old → FitNow m areas new
   pub sound : StaysSound m areas old new

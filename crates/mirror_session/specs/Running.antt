@@ -131,10 +131,8 @@ pub record RunStops (m : Meanings) (areas : List Area) (lines : List Line) (old 
 -- How lines end: all were carried out, with these answers, or one stopped. After the last line
 -- a mount has nothing to do, if power is on and the selector names the area that is read or
 -- there are settings.
-abbrev pub RunEnds : (Area → Geometry → List (List ℕ) → Type 0) → Meanings → List Area → List Line → Moment
-    → Device
-    → Result (List Answer) SessionFault → Type 0
-RunEnds rests m areas lines old new (Ok answers) =
-    (whole : Bool) × Ran m areas lines answers old (moment new whole)
-    × RestsNow rests m areas (moment new whole)
-RunEnds rests m areas lines old new (Err fault) = RunStops m areas lines old new fault
+abbrev pub RunEnds : Meanings → List Area → List Line → Moment → Device → Result (List Answer) SessionFault
+    → Type 0
+RunEnds m areas lines old new (Ok answers) =
+    (whole : Bool) × Ran m areas lines answers old (moment new whole) × RestsNow m areas (moment new whole)
+RunEnds m areas lines old new (Err fault) = RunStops m areas lines old new fault

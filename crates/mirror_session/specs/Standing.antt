@@ -45,8 +45,11 @@ module _ {S : Type 0} (mounted_on : S → Area) (stands : S → Geometry → Lis
 abbrev pub NamesRead : State → Type 0
 NamesRead s = (s.gone ≡ false) ⊎ (s.settings ≢ empty)
 
--- Then, with power on, a mount has nothing to do.
-abbrev pub RestsNow : (Area → Geometry → List (List ℕ) → Type 0) → Meanings → List Area → Moment → Type 0
-RestsNow rests m areas now =
-    IsOn (state_of m areas now) → NamesRead (state_of m areas now)
-    → IsAtRest m.damage m.contents rests areas now.device
+-- a mount has nothing to do
+abbrev pub AtRest : Meanings → List Area → Device → Type 0
+AtRest m areas d = IsAtRest m.damage m.contents m.rests areas d
+
+-- this holds then, with power on
+abbrev pub RestsNow : Meanings → List Area → Moment → Type 0
+RestsNow m areas now =
+    IsOn (state_of m areas now) → NamesRead (state_of m areas now) → AtRest m areas now.device

@@ -2,7 +2,7 @@
 -- open whether power is lost in a line, which of the two areas a command that was cut has
 -- reached, and the units.
 use Rattle.std.specs.Prelude.{◌≡◌, ◌⊎◌, ℕ, ◌<◌, ◌≤◌, ◌==◌, Bool, true, false, List, [], ◌∷◌, map, Some, None, if◌then◌else◌}
-use Rattle.std.specs.FinMap.{entries}
+use Rattle.std.specs.FinMap.{empty, entries}
 use Rattle.script_lines.specs.declared.answer.Answer.{Answer as settings_answer}
 use Rattle.script_lines.specs.declared.answer.Answer.TheVariants as settings
 use Rattle.backend_api.specs.Commands.{Command, applied, all_applied}
@@ -95,10 +95,12 @@ Gets name (settings.Value value) old new = IsStored old.settings name value × (
 Gets name settings.Absent old new = IsAbsent old.settings name × (new ≡ old)
 Gets name answer old new = ⊥
 
--- the label of the named area, and all settings
+-- The label of the named area, and all settings. That area is the one that is read, as long as there
+-- are settings.
 abbrev pub ReportsAll : Rules → settings_answer → State → State → Type 0
 ReportsAll r (settings.Names active pairs) old new =
-    (active ≡ r.label old.named) × (pairs ≡ map as_pair (entries old.settings)) × (new ≡ old)
+    (active ≡ r.label old.named) × (pairs ≡ map as_pair (entries old.settings))
+    × (old.gone ≡ true → old.settings ≡ empty) × (new ≡ old)
 ReportsAll r answer old new = ⊥
 
 -- ---- mounts
@@ -107,10 +109,10 @@ ReportsAll r answer old new = ⊥
 abbrev pub renamed : Rules → State → State
 renamed r s = record s { named = trusted_of r s }
 
--- The settings stay, and both areas read as them.
+-- The settings stay, and both areas read as them. The selector names the area that is read.
 abbrev pub Remounts : Rules → State → State → Type 0
 Remounts r old new =
-    new ≡ record (renamed r old) { other = old.settings; gone = new.gone; is_on = true; is_whole = true }
+    new ≡ record (renamed r old) { other = old.settings; gone = false; is_on = true; is_whole = true }
 
 -- The settings stay even if power is lost, and are read in the same area. The selector names the
 -- area named before, or that one. What is not read may be anything.

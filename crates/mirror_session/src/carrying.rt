@@ -48,16 +48,16 @@ impl<K: Priced> MirrorSession<K> {
     ) -> Result<(MirrorSession<K>, Answer), SessionFault>
         requires map { IsMirrorMap K.serves map.now (B.device bench.old) }
 
-        ensures done { let m = meanings K.damage K.contents K.room K.prices in
+        ensures done { let m = meanings K.damage K.contents K.rests K.room K.prices in
             let d = B.device bench.old in let e = B.device bench.new in
             IfOk result
             (λ opened. LineDone m map.now Mount opened.1 (moment d false)
             (moment e (is_some opened.0.mirror))) }
-        ensures ready { let m = meanings K.damage K.contents K.room K.prices in
+        ensures ready { let m = meanings K.damage K.contents K.rests K.room K.prices in
             IfOk result
             (λ opened. IsReady K.mounted_on K.stands m map.now (B.device bench.new)
             opened.0.mirror) }
-        ensures stops { let m = meanings K.damage K.contents K.room K.prices in
+        ensures stops { let m = meanings K.damage K.contents K.rests K.room K.prices in
             IfErr result
             (λ fault. LineStops m map.now Mount (B.device bench.old) (B.device bench.new) fault) }
         ensures banks { (B.device bench.new).banks ≡ (B.device bench.old).banks }
@@ -90,19 +90,19 @@ impl<K: Priced> MirrorSession<K> {
         steps: &mut Steps<L>,
     ) -> Result<Answer, SessionFault>
         requires map { IsMirrorMap K.serves map.now (B.device bench.old) }
-        requires ready { let m = meanings K.damage K.contents K.room K.prices in
+        requires ready { let m = meanings K.damage K.contents K.rests K.room K.prices in
             IsReady K.mounted_on K.stands m map.now (B.device bench.old) self.old.mirror }
         requires line { IsServed (limit_of map.now) line.now }
 
-        ensures done { let m = meanings K.damage K.contents K.room K.prices in
+        ensures done { let m = meanings K.damage K.contents K.rests K.room K.prices in
             let d = B.device bench.old in let e = B.device bench.new in
             IfOk result
             (λ answer. LineDone m map.now line.now answer (moment d (is_some self.old.mirror))
             (moment e (is_some self.new.mirror))) }
-        ensures ready { let m = meanings K.damage K.contents K.room K.prices in
+        ensures ready { let m = meanings K.damage K.contents K.rests K.room K.prices in
             OnOk result
             (IsReady K.mounted_on K.stands m map.now (B.device bench.new) self.new.mirror) }
-        ensures stops { let m = meanings K.damage K.contents K.room K.prices in
+        ensures stops { let m = meanings K.damage K.contents K.rests K.room K.prices in
             IfErr result
             (λ fault. LineStops m map.now line.now (B.device bench.old) (B.device bench.new)
             fault) }
@@ -133,15 +133,15 @@ impl<K: Priced> MirrorSession<K> {
     ) -> Result<Answer, SessionFault>
         requires map { IsMirrorMap K.serves map.now (B.device bench.old) }
 
-        ensures done { let m = meanings K.damage K.contents K.room K.prices in
+        ensures done { let m = meanings K.damage K.contents K.rests K.room K.prices in
             let d = B.device bench.old in let e = B.device bench.new in
             IfOk result
             (λ answer. LineDone m map.now Mount answer (moment d (is_some self.old.mirror))
             (moment e (is_some self.new.mirror))) }
-        ensures ready { let m = meanings K.damage K.contents K.room K.prices in
+        ensures ready { let m = meanings K.damage K.contents K.rests K.room K.prices in
             OnOk result
             (IsReady K.mounted_on K.stands m map.now (B.device bench.new) self.new.mirror) }
-        ensures stops { let m = meanings K.damage K.contents K.room K.prices in
+        ensures stops { let m = meanings K.damage K.contents K.rests K.room K.prices in
             IfErr result
             (λ fault. LineStops m map.now Mount (B.device bench.old) (B.device bench.new) fault) }
         ensures banks { (B.device bench.new).banks ≡ (B.device bench.old).banks }
@@ -165,15 +165,15 @@ impl<K: Priced> MirrorSession<K> {
         map: &FlashMap,
     ) -> Result<Answer, NoMemory>
         requires map { IsMirrorMap K.serves map.now (B.device bench.old) }
-        requires ready { let m = meanings K.damage K.contents K.room K.prices in
+        requires ready { let m = meanings K.damage K.contents K.rests K.room K.prices in
             IsReady K.mounted_on K.stands m map.now (B.device bench.old) self.old.mirror }
 
-        ensures done { let m = meanings K.damage K.contents K.room K.prices in
+        ensures done { let m = meanings K.damage K.contents K.rests K.room K.prices in
             let d = B.device bench.old in let e = B.device bench.new in
             IfOk result
             (λ answer. LineDone m map.now (Blank label.now) answer
             (moment d (is_some self.old.mirror)) (moment e (is_some self.new.mirror))) }
-        ensures ready { let m = meanings K.damage K.contents K.room K.prices in
+        ensures ready { let m = meanings K.damage K.contents K.rests K.room K.prices in
             OnOk result
             (IsReady K.mounted_on K.stands m map.now (B.device bench.new) self.new.mirror) }
         ensures same { OnErr result (B.device bench.new ≡ B.device bench.old) }
@@ -206,16 +206,16 @@ impl<K: Priced> MirrorSession<K> {
     ) -> Result<Answer, NoMemory>
         requires map { IsMirrorMap K.serves map.now (B.device bench.old) }
         requires needs { needs_power line.now ≡ true }
-        requires ready { let m = meanings K.damage K.contents K.room K.prices in
+        requires ready { let m = meanings K.damage K.contents K.rests K.room K.prices in
             IsReady K.mounted_on K.stands m map.now (B.device bench.old) self.old.mirror }
         requires line { IsServed (limit_of map.now) line.now }
 
-        ensures done { let m = meanings K.damage K.contents K.room K.prices in
+        ensures done { let m = meanings K.damage K.contents K.rests K.room K.prices in
             let d = B.device bench.old in let e = B.device bench.new in
             IfOk result
             (λ answer. LineDone m map.now line.now answer (moment d (is_some self.old.mirror))
             (moment e (is_some self.new.mirror))) }
-        ensures ready { let m = meanings K.damage K.contents K.room K.prices in
+        ensures ready { let m = meanings K.damage K.contents K.rests K.room K.prices in
             OnOk result
             (IsReady K.mounted_on K.stands m map.now (B.device bench.new) self.new.mirror) }
         ensures same { OnErr result (B.device bench.new ≡ B.device bench.old) }
@@ -244,14 +244,14 @@ fn with_power<K: Priced, B: Bench, L: Ledger>(
     requires map { IsMirrorMap K.serves map.now (B.device bench.old) }
     requires on { (B.device bench.old).is_on ≡ true }
     requires needs { needs_power line.now ≡ true }
-    requires held { let m = meanings K.damage K.contents K.room K.prices in
+    requires held { let m = meanings K.damage K.contents K.rests K.room K.prices in
         IsHeld K.mounted_on K.stands m map.now (B.device bench.old) mirror.old }
     requires line { IsServed (limit_of map.now) line.now }
 
-    ensures done { let m = meanings K.damage K.contents K.room K.prices in
+    ensures done { let m = meanings K.damage K.contents K.rests K.room K.prices in
         let d = B.device bench.old in let e = B.device bench.new in
         IfOk result (λ answer. LineDone m map.now line.now answer (moment d true) (moment e true)) }
-    ensures held { let m = meanings K.damage K.contents K.room K.prices in
+    ensures held { let m = meanings K.damage K.contents K.rests K.room K.prices in
         IsHeld K.mounted_on K.stands m map.now (B.device bench.new) mirror.new }
     ensures same { OnErr result (B.device bench.new ≡ B.device bench.old) }
     ensures takes { OnErr result (takes_memory line.now ≡ true) }

@@ -1,5 +1,10 @@
 // Laws of the table. The functions do nothing: their contracts are the laws.
+ghost use Rattle.std.specs.Prelude.{List};
+ghost use Rattle.flash_map.specs.declared.area.Area.{Area as area_type};
+ghost use Rattle.mirror_session.specs.Bench.{meanings};
 ghost use Rattle.mirror_session.specs.Laws.{HoldsAcknowledged, KeepsNamed, LinesAreServed, LinesMakeRuns, LosesPower, RunsInRow, StaysMirrored};
+
+use mirror::Priced;
 
 /// Wherever power is lost and an area is replaced, the settings are those that commands of the
 /// lines make, in their order: all of each line that was done. A command in which power was lost
@@ -31,8 +36,9 @@ pub fn two_runs()
 
 /// Lines that are carried out one by one make a run: it follows the table, the counts and the plan
 /// are as the answers report, and no byte changes outside the areas of the map.
-pub fn line_by_line()
-    ensures { LinesMakeRuns }
+pub fn line_by_line<K: Priced>()
+    ensures { (areas : List area_type)
+        → LinesMakeRuns (meanings K.damage K.contents K.rests K.room K.prices) areas }
 {}
 
 /// The lines of a script have values within the limit with which the script was read.

@@ -31,16 +31,16 @@ pub(crate) fn mount<K: Priced, B: Bench, L: Ledger>(
 ) -> Result<Mounted<K>, SessionFault>
     requires map { IsMirrorMap K.serves map.now (B.device bench.old) }
 
-    ensures done { let m = meanings K.damage K.contents K.room K.prices in
+    ensures done { let m = meanings K.damage K.contents K.rests K.room K.prices in
         let d = B.device bench.old in let e = B.device bench.new in
         IfOk result
         (λ mounted. (was : Bool)
         → LineDone m map.now Mount mounted.answer (moment d was)
         (moment e (is_some mounted.mirror))) }
-    ensures ready { let m = meanings K.damage K.contents K.room K.prices in
+    ensures ready { let m = meanings K.damage K.contents K.rests K.room K.prices in
         IfOk result
         (λ mounted. IsReady K.mounted_on K.stands m map.now (B.device bench.new) mounted.mirror) }
-    ensures stops { let m = meanings K.damage K.contents K.room K.prices in
+    ensures stops { let m = meanings K.damage K.contents K.rests K.room K.prices in
         IfErr result
         (λ fault. LineStops m map.now Mount (B.device bench.old) (B.device bench.new) fault) }
     ensures banks { (B.device bench.new).banks ≡ (B.device bench.old).banks }

@@ -41,9 +41,10 @@ pub fn get_setting<K: Priced, B: Bench, L: Ledger>(
 ) -> Result<Answer, NoMemory>
     requires map { IsMirrorMap K.serves map.now (B.device bench.now) }
     requires on { (B.device bench.now).is_on ≡ true }
-    requires held { let m = meanings K.damage K.contents K.room K.prices in
+    requires held { let m = meanings K.damage K.contents K.rests K.room K.prices in
         IsHeld K.mounted_on K.stands m map.now (B.device bench.now) mirror.now }
-    ensures { let m = meanings K.damage K.contents K.room K.prices in let d = B.device bench.now in
+    ensures { let m = meanings K.damage K.contents K.rests K.room K.prices in
+        let d = B.device bench.now in
         IfOk result
         (λ answer. LineDone m map.now (Get name.now) answer (moment d true) (moment d true)) }
 {
@@ -127,9 +128,10 @@ pub fn report_all<K: Priced, B: Bench, L: Ledger>(
 ) -> Result<Answer, NoMemory>
     requires map { IsMirrorMap K.serves map.now (B.device bench.now) }
     requires on { (B.device bench.now).is_on ≡ true }
-    requires held { let m = meanings K.damage K.contents K.room K.prices in
+    requires held { let m = meanings K.damage K.contents K.rests K.room K.prices in
         IsHeld K.mounted_on K.stands m map.now (B.device bench.now) mirror.now }
-    ensures { let m = meanings K.damage K.contents K.room K.prices in let d = B.device bench.now in
+    ensures { let m = meanings K.damage K.contents K.rests K.room K.prices in
+        let d = B.device bench.now in
         IfOk result (λ answer. LineDone m map.now Names answer (moment d true) (moment d true)) }
 {
     let area = area_at(map, mirror.trusted());

@@ -18,3 +18,4 @@ mod QuietLemmas
 mod ReadyLemmas
 mod SaveLemmas
 mod ReportLemmas
+pub mod TextLemmas

@@ -3,3 +3,4 @@ pub mod Lists
 pub mod OnMap
 pub mod Mounting
 pub mod Moving
+pub mod Texts

@@ -1,10 +1,12 @@
 // The run of all lines of a script.
-ghost use Rattle.std.specs.Prelude.{◌≡◌, ◌∷◌, true, All, None, IfErr, OnOk};
+ghost use Rattle.std.specs.Prelude.{◌≡◌, ◌∷◌, true, All, None, IfErr, IfOk, OnOk};
 ghost use Rattle.handlers.specs.Registry.{registered};
+ghost use Rattle.script_lines.specs.Answer.{CanReport};
 ghost use Rattle.script_lines.specs.declared.line.Line.TheVariants.{Mount};
 ghost use Rattle.settings_core.specs.Saving.{AreLawful};
 ghost use Rattle.session.specs.declared.fault.SessionFault.TheVariants.{NoMemory};
 ghost use Rattle.session.specs.OnMap.{IsAtRest, IsFresh, IsServed, IsServedMap, RunEnds, damage_in, kinds, limit_of, meanings, moment};
+ghost use Rattle.session.specs.Texts.{AreLabelled};
 
 use crate::answers::Answers;
 use crate::fault::SessionFault;
@@ -20,7 +22,8 @@ use std::sync::ledger::Ledger;
 /// Mounts a map and carries out lines one after another. It returns the answers to the mount and to
 /// each line. The handlers of the pool hold nothing; those that lines register move from it into
 /// the registry. If power is on after the last line, another mount of the map would have nothing to
-/// do. A map without damage has none afterwards, whatever the result.
+/// do. A map without damage has none afterwards, whatever the result. If the labels of the map are
+/// lawful, each answer has a text (`answer_text`).
 ///
 /// # Errors
 /// `Damaged` with the damage that a mount found; a map without damage does not give it. `NoMemory`.
@@ -50,6 +53,7 @@ pub fn run_lines<K: Backend, B: Bench, L: Ledger>(
         damage_in K.damage map.now d ≡ None → IfErr result (λ fault. fault ≡ NoMemory) }
     ensures rests { let e = B.device bench.new in
         OnOk result (e.is_on ≡ true → IsAtRest K.rests map.now e) }
+    ensures texts { AreLabelled map.now → IfOk result (λ answers. All CanReport answers) }
 {
     let opened = Session::<K>::open(alloc, bench, map, steps);
     let (mut session, first) = match opened {

@@ -122,7 +122,7 @@ module _ (name script out : List ℕ) (outside : Outside) (banks : List Bank) (b
 
     done : (answers : List Answer) (whole : Bool) (text : List ℕ) (file : Option File) (map_left : IsMirrorMap any_serves areas bench')
         → Ran any_meanings areas (Mount ∷ lines) answers (opening image bench) (closing bench' whole)
-        → RestsNow any_rests any_meanings areas (closing bench' whole)
+        → RestsNow any_meanings areas (closing bench' whole)
         → text ≡ texts answers
         → WritesLeft (Some out) (held areas bench') file
         → MirrorJobDoes name script out outside bench bench' text file
@@ -216,7 +216,7 @@ module _ (name script out : List ℕ) (outside : Outside) (banks : List Bank) (b
 
       pub job_done : (answers : List Answer) (whole : Bool) (text : List ℕ) (file : Option File) → IsMirrorMap any_serves areas bench'
           → Ran any_meanings areas (Mount ∷ lines) answers (moment first false) (moment bench' whole)
-          → RestsNow any_rests any_meanings areas (moment bench' whole)
+          → RestsNow any_meanings areas (moment bench' whole)
           → text ≡ texts answers
           → WritesLeft (Some out) (held areas bench') file
           → MirrorJobDoes name script out outside bench bench' text file

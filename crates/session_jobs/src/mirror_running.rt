@@ -1,13 +1,15 @@
 // The run of a job on a mirror.
-ghost use Rattle.std.specs.Prelude.{◌≡◌, ℕ, ◌<◌, ◌∷◌, false, All, List};
+ghost use Rattle.std.specs.Prelude.{◌≡◌, ℕ, ◌<◌, ◌∷◌, false, All, IfOk, List};
 ghost use Rattle.zs_host.specs.Outside.{Outside};
-ghost use Rattle.any_backend.specs.ByRole.{any_rests, any_serves};
+ghost use Rattle.any_backend.specs.ByRole.{any_serves};
 ghost use Rattle.image_file.specs.Format.{plain};
 ghost use Rattle.image_file.specs.Lawful.{IsImage};
 ghost use Rattle.image_jobs.specs.Reading.{HasImage};
 ghost use Rattle.session.specs.OnMap.{limit_of};
+ghost use Rattle.session.specs.Texts.{AreLabelled};
 ghost use Rattle.mirror.specs.Trusted.{IsMirrorMap};
 ghost use Rattle.mirror_session.specs.declared.line.Line.TheVariants.{Mount};
+ghost use Rattle.mirror_session.specs.Answer.{CanReport};
 ghost use Rattle.mirror_session.specs.Bench.{moment};
 ghost use Rattle.mirror_session.specs.LineDone.{IsServed};
 ghost use Rattle.mirror_session.specs.Running.{RunEnds};
@@ -57,9 +59,9 @@ fn run<B: Bench, L: Ledger>(
     requires name { blank.name ≡ L.name }
     requires parts { blank.parts ≡ L.parts }
     requires some { 0 < L.parts }
-    ensures { let old = moment (B.device bench.old) false in
-        RunEnds any_rests any_meanings areas.now (Mount ∷ lines.now) old (B.device bench.new)
-        result }
+    ensures ends { let old = moment (B.device bench.old) false in
+        RunEnds any_meanings areas.now (Mount ∷ lines.now) old (B.device bench.new) result }
+    ensures texts { AreLabelled areas.now → IfOk result (λ answers. All CanReport answers) }
 {
     let mut steps = Steps::<L>::new(blank);
     run_lines::<MirrorStore, B, L>(alloc, lines, bench, areas, &mut steps)

@@ -1,18 +1,17 @@
-use Rattle.std.proofs.Common.{◌∷◌, ◌∙◌, sym, ap, subst, refl}
+use Rattle.std.proofs.Common.{◌∙◌, sym, ap, subst, refl}
 use Rattle.std.specs.Prelude.{All}
 use Rattle.flash_sim.specs.Contents.{contents}
 use Rattle.flash_sim.specs.Device.{Device}
 use Rattle.image_file.specs.Format.{plain}
-use Rattle.script_lines.specs.declared.line.Line.TheVariants.{Mount}
 use Rattle.script_lines.specs.Answer.{CanReport}
-use Rattle.session.specs.OnMap.{IsServedMap, meanings}
+use Rattle.session.specs.OnMap.{IsServedMap}
 use Rattle.image_jobs.proofs.MapLemmas.{stays_image}
 use Rattle.image_jobs.specs.Images.{begun}
 use Rattle.image_jobs.specs.Inputs.{reported_by}
 use Rattle.image_jobs.specs.Jobs.{file_of}
 use Rattle.image_jobs.specs.Stages.{stores}
 use Rattle.image_jobs.proofs.Endings.{job_done, stopped, wanted}
-use Rattle.image_jobs.proofs.Labels.{reports}
+use Rattle.image_jobs.proofs.Labels.{labelled}
 use Rattle.image_jobs.proofs.running.run_on_image.Goals as goal
 
 pub run-ran-requires-clause-map : goal.run-ran-requires-clause-map
@@ -33,7 +32,7 @@ pub report_text-requires : goal.report_text-requires
 report_text-requires g c =
     let bench = g.B.Flash.device c.args.bench.now in
     subst (All CanReport) (sym c.as_slice.ensures)
-    (reports (meanings g.K.Backend.contents g.K.Backend.room g.K.Backend.chance g.K.Backend.tears) g.K.Backend.damage c.args.image.map (begun (plain c.args.image) bench) c.requires.image (Mount ∷ c.args.lines.now) c.in-Ok.answers _ _ c.in-Ok.ensures.ends.1.in_turn)
+    (c.in-Ok.ensures.texts (labelled c.args.image.map (begun (plain c.args.image) bench) c.requires.image))
 
 pub returns-in-Err-report_text : goal.returns-in-Err-report_text
 returns-in-Err-report_text g c = λ outside begins gives.

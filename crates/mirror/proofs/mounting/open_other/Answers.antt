@@ -8,7 +8,8 @@ use Rattle.flash_map.specs.Lawful.{IsLawfulFor}
 use Rattle.flash_map.specs.On.{on, HoldsOn}
 use Rattle.flash_map.specs.Touches.{Touches}
 use Rattle.migrator.proofs.Moving.{still}
-use Rattle.mirror.specs.Mounting.{HoldsMap}
+use Rattle.backend_api.specs.Room.{mount_units}
+use Rattle.mirror.specs.Mounting.{HoldsMap, KeepsCopy}
 use Rattle.mirror.proofs.RepairSteps.{may-copy-still}
 use Rattle.mirror.proofs.SideSteps.{is-due, opened-first, opened-then}
 use Rattle.mirror.proofs.mounting.open_other.Goals as goal
@@ -22,14 +23,16 @@ returns-in-Ok-Some-clause-held g c =
     let d : Device = g.F.Flash.device c.args.flash.now in
     let m : Device = g.F.Flash.device c.mount_other-mounted.new.flash in
     let settings = on g.K.Backend.contents d (g.K.Backend.mounted_on c.args.trusted.now) in
-    subst (λ (x : Area). HoldsMap g.K.Backend.damage g.K.Backend.contents d x settings → HoldsMap g.K.Backend.damage g.K.Backend.contents m x settings) c.copy-own.ensures (c.mount_other-mounted.ensures.held settings)
+    subst (λ (x : Area). HoldsMap g.K.Backend.damage g.K.Backend.contents d x settings → KeepsCopy g.K.Backend.damage g.K.Backend.contents d m x settings (mount_units (geometry_of d x))) c.copy-own.ensures
+    (λ holds. record { holds = c.mount_other-mounted.ensures.held settings holds; at_most = c.mount_other-mounted.ensures.at_most })
 
 pub returns-in-Err-clause-held : goal.returns-in-Err-clause-held
 returns-in-Err-clause-held g c =
     let d : Device = g.F.Flash.device c.args.flash.now in
     let m : Device = g.F.Flash.device c.mount_other-mounted.new.flash in
     let settings = on g.K.Backend.contents d (g.K.Backend.mounted_on c.args.trusted.now) in
-    subst (λ (x : Area). HoldsMap g.K.Backend.damage g.K.Backend.contents d x settings → HoldsMap g.K.Backend.damage g.K.Backend.contents m x settings) c.copy-own.ensures (c.mount_other-mounted.ensures.held settings)
+    subst (λ (x : Area). HoldsMap g.K.Backend.damage g.K.Backend.contents d x settings → KeepsCopy g.K.Backend.damage g.K.Backend.contents d m x settings (mount_units (geometry_of d x))) c.copy-own.ensures
+    (λ holds. record { holds = c.mount_other-mounted.ensures.held settings holds; at_most = c.mount_other-mounted.ensures.at_most })
 
 pub returns-in-Ok-None-clause-held : goal.returns-in-Ok-None-clause-held
 returns-in-Ok-None-clause-held g c holds =

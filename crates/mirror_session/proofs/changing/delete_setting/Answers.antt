@@ -12,7 +12,7 @@ use Rattle.mirror_session.proofs.changing.delete_setting.Goals as goal
 pub returns-in-Ok-clause-done : goal.returns-in-Ok-clause-done
 returns-in-Ok-clause-done g c =
     let K = g.K.Backend in
-    let m = meanings K.damage K.contents K.room g.K.Priced.prices in
+    let m = meanings K.damage K.contents K.rests K.room g.K.Priced.prices in
     let old = g.B.Flash.device c.args.bench.now in
     let new = g.B.Flash.device c.delete-end.new.flash in
     let lawful = g.met.B.Flash.is_lawful c.args.bench.now in
@@ -25,7 +25,7 @@ returns-in-Ok-clause-done g c =
 pub returns-in-Err-clause-done : goal.returns-in-Err-clause-done
 returns-in-Err-clause-done g c =
     let K = g.K.Backend in
-    let m = meanings K.damage K.contents K.room g.K.Priced.prices in
+    let m = meanings K.damage K.contents K.rests K.room g.K.Priced.prices in
     let old = g.B.Flash.device c.args.bench.now in
     let new = g.B.Flash.device c.delete-end.new.flash in
     let lawful = g.met.B.Flash.is_lawful c.args.bench.now in
@@ -36,7 +36,7 @@ returns-in-Err-clause-done g c =
 pub returns-in-Ok-clause-held : goal.returns-in-Ok-clause-held
 returns-in-Ok-clause-held g c =
     let K = g.K.Backend in
-    let m = meanings K.damage K.contents K.room g.K.Priced.prices in
+    let m = meanings K.damage K.contents K.rests K.room g.K.Priced.prices in
     let old = g.B.Flash.device c.args.bench.now in
     let new = g.B.Flash.device c.delete-end.new.flash in
     let lawful = g.met.B.Flash.is_lawful c.args.bench.now in
@@ -49,7 +49,7 @@ returns-in-Ok-clause-held g c =
 pub returns-in-Err-clause-held : goal.returns-in-Err-clause-held
 returns-in-Err-clause-held g c =
     let K = g.K.Backend in
-    let m = meanings K.damage K.contents K.room g.K.Priced.prices in
+    let m = meanings K.damage K.contents K.rests K.room g.K.Priced.prices in
     let old = g.B.Flash.device c.args.bench.now in
     let new = g.B.Flash.device c.delete-end.new.flash in
     let lawful = g.met.B.Flash.is_lawful c.args.bench.now in

@@ -21,13 +21,13 @@ use Rattle.mirror_session.proofs.changing.set_setting.Goals as goal
 pub set-end-requires-clause-short : goal.set-end-requires-clause-short
 set-end-requires-clause-short g c =
     let K = g.K.Backend in
-    let m = meanings K.damage K.contents K.room g.K.Priced.prices in
+    let m = meanings K.damage K.contents K.rests K.room g.K.Priced.prices in
     rw (c.as_slice.ensures) (subst (λ (n : ℕ). length c.args.value.now ≤ n) (sym (limit_is K.mounted_on K.stands m K.serves c.args.map.now (g.B.Flash.device c.args.bench.now) c.args.mirror.now c.requires.map c.requires.held)) c.requires.short)
 
 pub returns-in-Ok-clause-done : goal.returns-in-Ok-clause-done
 returns-in-Ok-clause-done g c =
     let K = g.K.Backend in
-    let m = meanings K.damage K.contents K.room g.K.Priced.prices in
+    let m = meanings K.damage K.contents K.rests K.room g.K.Priced.prices in
     let old = g.B.Flash.device c.args.bench.now in
     let new = g.B.Flash.device c.set-end.new.flash in
     let lawful = g.met.B.Flash.is_lawful c.args.bench.now in
@@ -41,7 +41,7 @@ returns-in-Ok-clause-done g c =
 pub returns-in-Err-NoSpace-clause-done : goal.returns-in-Err-NoSpace-clause-done
 returns-in-Err-NoSpace-clause-done g c =
     let K = g.K.Backend in
-    let m = meanings K.damage K.contents K.room g.K.Priced.prices in
+    let m = meanings K.damage K.contents K.rests K.room g.K.Priced.prices in
     let old = g.B.Flash.device c.args.bench.now in
     let new = g.B.Flash.device c.set-end.new.flash in
     let lawful = g.met.B.Flash.is_lawful c.args.bench.now in
@@ -55,7 +55,7 @@ returns-in-Err-NoSpace-clause-done g c =
 pub returns-in-Err-TooManyNames-clause-done : goal.returns-in-Err-TooManyNames-clause-done
 returns-in-Err-TooManyNames-clause-done g c =
     let K = g.K.Backend in
-    let m = meanings K.damage K.contents K.room g.K.Priced.prices in
+    let m = meanings K.damage K.contents K.rests K.room g.K.Priced.prices in
     let old = g.B.Flash.device c.args.bench.now in
     let new = g.B.Flash.device c.set-end.new.flash in
     let lawful = g.met.B.Flash.is_lawful c.args.bench.now in
@@ -69,7 +69,7 @@ returns-in-Err-TooManyNames-clause-done g c =
 pub returns-in-Err-PowerLost-clause-done : goal.returns-in-Err-PowerLost-clause-done
 returns-in-Err-PowerLost-clause-done g c =
     let K = g.K.Backend in
-    let m = meanings K.damage K.contents K.room g.K.Priced.prices in
+    let m = meanings K.damage K.contents K.rests K.room g.K.Priced.prices in
     let old = g.B.Flash.device c.args.bench.now in
     let new = g.B.Flash.device c.set-end.new.flash in
     let lawful = g.met.B.Flash.is_lawful c.args.bench.now in
@@ -83,7 +83,7 @@ returns-in-Err-PowerLost-clause-done g c =
 pub returns-in-Ok-clause-held : goal.returns-in-Ok-clause-held
 returns-in-Ok-clause-held g c =
     let K = g.K.Backend in
-    let m = meanings K.damage K.contents K.room g.K.Priced.prices in
+    let m = meanings K.damage K.contents K.rests K.room g.K.Priced.prices in
     let old = g.B.Flash.device c.args.bench.now in
     let new = g.B.Flash.device c.set-end.new.flash in
     let lawful = g.met.B.Flash.is_lawful c.args.bench.now in
@@ -97,7 +97,7 @@ returns-in-Ok-clause-held g c =
 pub returns-in-Err-NoSpace-clause-held : goal.returns-in-Err-NoSpace-clause-held
 returns-in-Err-NoSpace-clause-held g c =
     let K = g.K.Backend in
-    let m = meanings K.damage K.contents K.room g.K.Priced.prices in
+    let m = meanings K.damage K.contents K.rests K.room g.K.Priced.prices in
     let old = g.B.Flash.device c.args.bench.now in
     let new = g.B.Flash.device c.set-end.new.flash in
     let lawful = g.met.B.Flash.is_lawful c.args.bench.now in
@@ -112,7 +112,7 @@ returns-in-Err-NoSpace-clause-held g c =
 pub returns-in-Err-TooManyNames-clause-held : goal.returns-in-Err-TooManyNames-clause-held
 returns-in-Err-TooManyNames-clause-held g c =
     let K = g.K.Backend in
-    let m = meanings K.damage K.contents K.room g.K.Priced.prices in
+    let m = meanings K.damage K.contents K.rests K.room g.K.Priced.prices in
     let old = g.B.Flash.device c.args.bench.now in
     let new = g.B.Flash.device c.set-end.new.flash in
     let lawful = g.met.B.Flash.is_lawful c.args.bench.now in
@@ -127,7 +127,7 @@ returns-in-Err-TooManyNames-clause-held g c =
 pub returns-in-Err-PowerLost-clause-held : goal.returns-in-Err-PowerLost-clause-held
 returns-in-Err-PowerLost-clause-held g c =
     let K = g.K.Backend in
-    let m = meanings K.damage K.contents K.room g.K.Priced.prices in
+    let m = meanings K.damage K.contents K.rests K.room g.K.Priced.prices in
     let old = g.B.Flash.device c.args.bench.now in
     let new = g.B.Flash.device c.set-end.new.flash in
     let lawful = g.met.B.Flash.is_lawful c.args.bench.now in

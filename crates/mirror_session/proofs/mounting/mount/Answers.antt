@@ -12,16 +12,16 @@ use Rattle.mirror_session.proofs.mounting.mount.Goals as goal
 pub returns-in-Ok-clause-done : goal.returns-in-Ok-clause-done
 returns-in-Ok-clause-done g c =
     let K = g.K.Backend in
-    let m = meanings K.damage K.contents K.room g.K.Priced.prices in
+    let m = meanings K.damage K.contents K.rests K.room g.K.Priced.prices in
     let old = g.B.Flash.device c.args.bench.now in
     let mid = g.B.Flash.device c.restore.new.self in
     let new = g.B.Flash.device c.mount-end.new.flash in
-    λ was. rw (c.done.ensures, c.spent.ensures, c.spent-before.ensures) (whole_line K.mounted_on K.stands m K.serves c.args.map.now old mid new c.requires.map c.restore.ensures c.mount-end.result c.mount-end.ensures.touches c.mount-end.ensures.ends c.in-Ok.mirror c.in-Ok.is (λ s h x is. g.met.K.Backend.stands_reads s h x is) (new.spent - mid.spent) was refl c.mount-end.ensures.at_most)
+    λ was. rw (c.done.ensures, c.spent.ensures, c.spent-before.ensures) (whole_line K.mounted_on K.stands m K.serves c.args.map.now old mid new c.requires.map c.restore.ensures c.mount-end.result c.mount-end.ensures.touches c.mount-end.ensures.ends c.in-Ok.mirror c.in-Ok.is (λ s h x is. g.met.K.Backend.stands_reads s h x is) (new.spent - mid.spent) was refl c.mount-end.ensures.at_most c.mount-end.ensures.idle c.mount-end.ensures.copy c.mount-end.ensures.trusted)
 
 pub returns-in-Ok-clause-ready : goal.returns-in-Ok-clause-ready
 returns-in-Ok-clause-ready g c =
     let K = g.K.Backend in
-    let m = meanings K.damage K.contents K.room g.K.Priced.prices in
+    let m = meanings K.damage K.contents K.rests K.room g.K.Priced.prices in
     let old = g.B.Flash.device c.args.bench.now in
     let mid = g.B.Flash.device c.restore.new.self in
     let new = g.B.Flash.device c.mount-end.new.flash in
@@ -30,7 +30,7 @@ returns-in-Ok-clause-ready g c =
 pub returns-in-Err-PowerLost-clause-done : goal.returns-in-Err-PowerLost-clause-done
 returns-in-Err-PowerLost-clause-done g c =
     let K = g.K.Backend in
-    let m = meanings K.damage K.contents K.room g.K.Priced.prices in
+    let m = meanings K.damage K.contents K.rests K.room g.K.Priced.prices in
     let old = g.B.Flash.device c.args.bench.now in
     let mid = g.B.Flash.device c.restore.new.self in
     let new = g.B.Flash.device c.mount-end.new.flash in
@@ -43,12 +43,12 @@ returns-in-Err-PowerLost-clause-done g c =
     let stops = stops_mounting m K.serves c.args.map.now old new c.requires.map (g.met.B.Flash.is_lawful c.args.bench.now) (g.met.B.Flash.is_lawful c.mount-end.new.flash) banks same cut off in
     let sound = stays_sound m K.serves c.args.map.now old new c.requires.map (g.met.B.Flash.is_lawful c.args.bench.now) (g.met.B.Flash.is_lawful c.mount-end.new.flash) banks same cut off in
     let fit = stays_fit m K.serves c.args.map.now old new c.requires.map (g.met.B.Flash.is_lawful c.args.bench.now) (g.met.B.Flash.is_lawful c.mount-end.new.flash) banks same cut off in
-    λ was. rw (c.lost.ensures, c.spent.ensures, c.spent-before.ensures) (lost_line K.mounted_on K.stands m K.serves c.args.map.now old mid new c.requires.map c.restore.ensures c.mount-end.result c.mount-end.ensures.touches c.mount-end.ensures.ends end (new.spent - mid.spent) was refl c.mount-end.ensures.at_most (λ last. stops last was) (sound was) (fit was))
+    λ was. rw (c.lost.ensures, c.spent.ensures, c.spent-before.ensures) (lost_line K.mounted_on K.stands m K.serves c.args.map.now old mid new c.requires.map c.restore.ensures c.mount-end.result c.mount-end.ensures.touches c.mount-end.ensures.ends end (new.spent - mid.spent) was refl c.mount-end.ensures.at_most c.mount-end.ensures.idle c.mount-end.ensures.copy (λ last. stops last was) (sound was) (fit was))
 
 pub returns-in-Err-Damaged-clause-stops : goal.returns-in-Err-Damaged-clause-stops
 returns-in-Err-Damaged-clause-stops g c =
     let K = g.K.Backend in
-    let m = meanings K.damage K.contents K.room g.K.Priced.prices in
+    let m = meanings K.damage K.contents K.rests K.room g.K.Priced.prices in
     let old = g.B.Flash.device c.args.bench.now in
     let mid = g.B.Flash.device c.restore.new.self in
     let new = g.B.Flash.device c.mount-end.new.flash in
@@ -59,7 +59,7 @@ returns-in-Err-Damaged-clause-stops g c =
 pub returns-in-Err-Unfit-clause-stops : goal.returns-in-Err-Unfit-clause-stops
 returns-in-Err-Unfit-clause-stops g c =
     let K = g.K.Backend in
-    let m = meanings K.damage K.contents K.room g.K.Priced.prices in
+    let m = meanings K.damage K.contents K.rests K.room g.K.Priced.prices in
     let old = g.B.Flash.device c.args.bench.now in
     let mid = g.B.Flash.device c.restore.new.self in
     let new = g.B.Flash.device c.mount-end.new.flash in
@@ -70,7 +70,7 @@ returns-in-Err-Unfit-clause-stops g c =
 pub returns-in-Err-NoMemory-clause-stops : goal.returns-in-Err-NoMemory-clause-stops
 returns-in-Err-NoMemory-clause-stops g c =
     let K = g.K.Backend in
-    let m = meanings K.damage K.contents K.room g.K.Priced.prices in
+    let m = meanings K.damage K.contents K.rests K.room g.K.Priced.prices in
     let old = g.B.Flash.device c.args.bench.now in
     let mid = g.B.Flash.device c.restore.new.self in
     let new = g.B.Flash.device c.mount-end.new.flash in
@@ -81,7 +81,7 @@ returns-in-Err-NoMemory-clause-stops g c =
 pub returns-in-Ok-clause-banks : goal.returns-in-Ok-clause-banks
 returns-in-Ok-clause-banks g c =
     let K = g.K.Backend in
-    let m = meanings K.damage K.contents K.room g.K.Priced.prices in
+    let m = meanings K.damage K.contents K.rests K.room g.K.Priced.prices in
     let old = g.B.Flash.device c.args.bench.now in
     let mid = g.B.Flash.device c.restore.new.self in
     let new = g.B.Flash.device c.mount-end.new.flash in
@@ -90,7 +90,7 @@ returns-in-Ok-clause-banks g c =
 pub returns-in-Err-PowerLost-clause-banks : goal.returns-in-Err-PowerLost-clause-banks
 returns-in-Err-PowerLost-clause-banks g c =
     let K = g.K.Backend in
-    let m = meanings K.damage K.contents K.room g.K.Priced.prices in
+    let m = meanings K.damage K.contents K.rests K.room g.K.Priced.prices in
     let old = g.B.Flash.device c.args.bench.now in
     let mid = g.B.Flash.device c.restore.new.self in
     let new = g.B.Flash.device c.mount-end.new.flash in
@@ -99,7 +99,7 @@ returns-in-Err-PowerLost-clause-banks g c =
 pub returns-in-Err-Damaged-clause-banks : goal.returns-in-Err-Damaged-clause-banks
 returns-in-Err-Damaged-clause-banks g c =
     let K = g.K.Backend in
-    let m = meanings K.damage K.contents K.room g.K.Priced.prices in
+    let m = meanings K.damage K.contents K.rests K.room g.K.Priced.prices in
     let old = g.B.Flash.device c.args.bench.now in
     let mid = g.B.Flash.device c.restore.new.self in
     let new = g.B.Flash.device c.mount-end.new.flash in
@@ -108,7 +108,7 @@ returns-in-Err-Damaged-clause-banks g c =
 pub returns-in-Err-Unfit-clause-banks : goal.returns-in-Err-Unfit-clause-banks
 returns-in-Err-Unfit-clause-banks g c =
     let K = g.K.Backend in
-    let m = meanings K.damage K.contents K.room g.K.Priced.prices in
+    let m = meanings K.damage K.contents K.rests K.room g.K.Priced.prices in
     let old = g.B.Flash.device c.args.bench.now in
     let mid = g.B.Flash.device c.restore.new.self in
     let new = g.B.Flash.device c.mount-end.new.flash in
@@ -117,7 +117,7 @@ returns-in-Err-Unfit-clause-banks g c =
 pub returns-in-Err-NoMemory-clause-banks : goal.returns-in-Err-NoMemory-clause-banks
 returns-in-Err-NoMemory-clause-banks g c =
     let K = g.K.Backend in
-    let m = meanings K.damage K.contents K.room g.K.Priced.prices in
+    let m = meanings K.damage K.contents K.rests K.room g.K.Priced.prices in
     let old = g.B.Flash.device c.args.bench.now in
     let mid = g.B.Flash.device c.restore.new.self in
     let new = g.B.Flash.device c.mount-end.new.flash in
@@ -126,7 +126,7 @@ returns-in-Err-NoMemory-clause-banks g c =
 pub overflow_sub-units : goal.overflow_sub-units
 overflow_sub-units g c =
     let K = g.K.Backend in
-    let m = meanings K.damage K.contents K.room g.K.Priced.prices in
+    let m = meanings K.damage K.contents K.rests K.room g.K.Priced.prices in
     let old = g.B.Flash.device c.args.bench.now in
     let mid = g.B.Flash.device c.restore.new.self in
     let new = g.B.Flash.device c.mount-end.new.flash in

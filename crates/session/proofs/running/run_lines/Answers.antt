@@ -4,6 +4,7 @@ use Rattle.handlers.specs.Registry.{registered}
 use Rattle.session.specs.OnMap.{kinds, meanings, moment}
 use Rattle.session.proofs.FoldLemmas.{opened, one_more, ran, undamaged, stops_first, stops_at, stops_behind, no_damage}
 use Rattle.session.proofs.ReadyLemmas.{ready_rests}
+use Rattle.session.proofs.TextLemmas.{can_report_all}
 use Rattle.script_lines.specs.declared.line.Line.TheVariants.{Mount}
 use Rattle.session.proofs.running.run_lines.Goals as goal
 
@@ -54,6 +55,10 @@ pub returns-clause-ends : goal.returns-clause-ends
 returns-clause-ends g c =
     let all : length c.args.lines.now ≤ c.loop-line.line-index = omega (arith, c.loop-line-test.false) in
     ran (meanings g.K.Backend.contents g.K.Backend.room g.K.Backend.chance g.K.Backend.tears) g.K.Backend.damage c.args.map.now c.args.lines.now c.loop-line.line-index c.loop-line.answers (moment (g.B.Flash.device c.args.bench.now) (registered (λ b. (goal.Handler-dyn g (b.vtable, b.value)).state b.value) c.args.registry.now) (kinds (λ b. (goal.Handler-dyn g (b.vtable, b.value)).state b.value) c.args.pool.items)) (g.B.Flash.device c.loop-line.bench) (registered (λ b. (goal.Handler-dyn g (b.vtable, b.value)).state b.value) c.loop-line.registry) (kinds (λ b. (goal.Handler-dyn g (b.vtable, b.value)).state b.value) c.loop-line.pool.items) all c.loop-line.invariant.0
+
+pub returns-clause-texts : goal.returns-clause-texts
+returns-clause-texts g c labels =
+    can_report_all (meanings g.K.Backend.contents g.K.Backend.room g.K.Backend.chance g.K.Backend.tears) g.K.Backend.damage c.args.map.now c.requires.map.some labels (Mount ∷ c.args.lines.now) c.loop-line.answers _ _ (returns-clause-ends g c).1.in_turn
 
 pub returns-clause-undamaged : goal.returns-clause-undamaged
 returns-clause-undamaged g c = λ was. undamaged (meanings g.K.Backend.contents g.K.Backend.room g.K.Backend.chance g.K.Backend.tears) g.K.Backend.damage c.args.map.now c.args.lines.now c.loop-line.line-index c.loop-line.answers (moment (g.B.Flash.device c.args.bench.now) (registered (λ b. (goal.Handler-dyn g (b.vtable, b.value)).state b.value) c.args.registry.now) (kinds (λ b. (goal.Handler-dyn g (b.vtable, b.value)).state b.value) c.args.pool.items)) (moment (g.B.Flash.device c.loop-line.bench) (registered (λ b. (goal.Handler-dyn g (b.vtable, b.value)).state b.value) c.loop-line.registry) (kinds (λ b. (goal.Handler-dyn g (b.vtable, b.value)).state b.value) c.loop-line.pool.items)) c.loop-line.invariant.0 was

@@ -1,20 +1,19 @@
-use Rattle.std.proofs.Common.{◌∷◌, ◌∙◌, refl, sym, ap, subst}
+use Rattle.std.proofs.Common.{◌∙◌, refl, sym, ap, subst}
 use Rattle.std.specs.Prelude.{All}
 use Rattle.flash_sim.specs.Contents.{contents}
 use Rattle.flash_sim.specs.Device.{Device}
 use Rattle.any_backend.specs.ByRole.{any_serves}
 use Rattle.image_file.specs.Format.{plain}
+use Rattle.image_jobs.proofs.Labels.{labelled}
 use Rattle.image_jobs.proofs.MapLemmas.{stays_image}
 use Rattle.image_jobs.specs.Images.{begun}
 use Rattle.image_jobs.specs.Jobs.{file_of}
 use Rattle.mirror.specs.Trusted.{IsMirrorMap}
-use Rattle.mirror_session.specs.declared.line.Line.TheVariants.{Mount}
 use Rattle.mirror_session.specs.Answer.{CanReport}
 use Rattle.mirror_session.proofs.PlaceLemmas.{map_kept}
-use Rattle.session_jobs.specs.MirrorJobs.{any_meanings, texts}
+use Rattle.session_jobs.specs.MirrorJobs.{texts}
 use Rattle.session_jobs.proofs.MirrorAreaLemmas.{is_mirror_map}
 use Rattle.session_jobs.proofs.MirrorEndings.{job_done, stopped, wanted}
-use Rattle.session_jobs.proofs.ReportLemmas.{reports}
 use Rattle.session_jobs.proofs.mirror_running.run_on_image.Goals as goal
 
 pub run-ran-requires-clause-map : goal.run-ran-requires-clause-map
@@ -30,13 +29,13 @@ returns-in-Err g c = λ outside name script has gives.
     let bench' = g.B.Flash.device c.run-ran.new.bench in
     let image = c.args.image in
     stopped name script c.args.out.now outside image.banks.items (contents image.bytes.items) image.map c.args.lines.now bench bench' c.requires.mirrored has gives first c.in_ok-load.ensures.ok
-    c.in-Err.fault c.stop_of.result c.in-Err.ensures c.stop_of.ensures
+    c.in-Err.fault c.stop_of.result c.in-Err.ensures.ends c.stop_of.ensures
 
 pub all_texts-requires : goal.all_texts-requires
 all_texts-requires g c =
     let bench = g.B.Flash.device c.args.bench.now in
     subst (All CanReport) (sym c.as_slice.ensures)
-    (reports any_meanings c.args.image.map (begun (plain c.args.image) bench) c.requires.image (Mount ∷ c.args.lines.now) c.in-Ok.answers _ _ c.in-Ok.ensures.1.in_turn)
+    (c.in-Ok.ensures.texts (labelled c.args.image.map (begun (plain c.args.image) bench) c.requires.image))
 
 pub returns-in-Err-all_texts : goal.returns-in-Err-all_texts
 returns-in-Err-all_texts g c = λ outside name script has gives.
@@ -45,13 +44,13 @@ returns-in-Err-all_texts g c = λ outside name script has gives.
     let bench' = g.B.Flash.device c.run-ran.new.bench in
     let image = c.args.image in
     wanted name script c.args.out.now outside image.banks.items (contents image.bytes.items) image.map c.args.lines.now bench bench' c.requires.mirrored has gives first c.in_ok-load.ensures.ok
-    c.in-Ok.answers c.in-Ok.ensures.0 c.in-Ok.ensures.1
+    c.in-Ok.answers c.in-Ok.ensures.ends.0 c.in-Ok.ensures.ends.1
 
 pub file_left-requires : goal.file_left-requires
 file_left-requires g c =
     let bench = g.B.Flash.device c.args.bench.now in
     stays_image c.args.image.map (begun (plain c.args.image) bench) (g.B.Flash.device c.run-ran.new.bench) c.requires.image
-    (c.in-Ok.ensures.1.keeps.banks ∙ ap (λ (d : Device). d.banks) c.in_ok-load.ensures.ok) (g.met.B.Flash.is_lawful c.run-ran.new.bench)
+    (c.in-Ok.ensures.ends.1.keeps.banks ∙ ap (λ (d : Device). d.banks) c.in_ok-load.ensures.ok) (g.met.B.Flash.is_lawful c.run-ran.new.bench)
 
 pub returns-in-Err-file_left : goal.returns-in-Err-file_left
 returns-in-Err-file_left g c = λ outside name script has gives.
@@ -60,7 +59,7 @@ returns-in-Err-file_left g c = λ outside name script has gives.
     let bench' = g.B.Flash.device c.run-ran.new.bench in
     let image = c.args.image in
     wanted name script c.args.out.now outside image.banks.items (contents image.bytes.items) image.map c.args.lines.now bench bench' c.requires.mirrored has gives first c.in_ok-load.ensures.ok
-    c.in-Ok.answers c.in-Ok.ensures.0 c.in-Ok.ensures.1
+    c.in-Ok.answers c.in-Ok.ensures.ends.0 c.in-Ok.ensures.ends.1
 
 pub returns : goal.returns
 returns g c = λ outside name script has gives.
@@ -69,8 +68,8 @@ returns g c = λ outside name script has gives.
     let bench' = g.B.Flash.device c.run-ran.new.bench in
     let image = c.args.image in (
       job_done name script c.args.out.now outside image.banks.items (contents image.bytes.items) image.map c.args.lines.now bench bench' c.requires.mirrored has gives first c.in_ok-load.ensures.ok
-          c.in-Ok.answers c.in-Ok.ensures.0 c.in-Ok-all_texts.text.items (file_of c.in-Ok-file_left.file)
-          (map_kept any_serves image.map (begun (plain image) bench) bench' (c.in-Ok.ensures.1.keeps.banks ∙ ap (λ (d : Device). d.banks) c.in_ok-load.ensures.ok) (is_mirror_map image.map (begun (plain image) bench) c.requires.image c.requires.mirrored)) c.in-Ok.ensures.1 c.in-Ok.ensures.2
+          c.in-Ok.answers c.in-Ok.ensures.ends.0 c.in-Ok-all_texts.text.items (file_of c.in-Ok-file_left.file)
+          (map_kept any_serves image.map (begun (plain image) bench) bench' (c.in-Ok.ensures.ends.1.keeps.banks ∙ ap (λ (d : Device). d.banks) c.in_ok-load.ensures.ok) (is_mirror_map image.map (begun (plain image) bench) c.requires.image c.requires.mirrored)) c.in-Ok.ensures.ends.1 c.in-Ok.ensures.ends.2
           (c.in-Ok-all_texts.ensures ∙ ap texts c.as_slice.ensures) c.in-Ok-file_left.ensures,
       refl,
     )

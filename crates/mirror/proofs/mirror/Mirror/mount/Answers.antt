@@ -16,7 +16,7 @@ use Rattle.mirror.specs.Trusted.{trusted_on}
 use Rattle.migrator.proofs.Moving.{still}
 use Rattle.mirror.proofs.KeepSteps.{keeps-both, keeps-fault, rests-behind, trusted-both, trusted-fault}
 use Rattle.mirror.proofs.MapSteps.{map-still, other-is, store-there}
-use Rattle.mirror.proofs.MountSteps.{both-touch, first-touches, lost-same, mounts-fault, mounts-first, mounts-spend, mounts-then, selector-active-still, selector-damage-still}
+use Rattle.mirror.proofs.MountSteps.{both-touch, copy-first, copy-then, first-touches, lost-same, mounts-fault, mounts-first, mounts-spend, mounts-then, selector-active-still, selector-damage-still}
 use Rattle.mirror.proofs.TrustSteps.{store-beside, trusted-again, trusted-stores}
 use Rattle.mirror.proofs.mirror.Mirror.mount.Goals as goal
 
@@ -172,3 +172,29 @@ returns-clause-at_most g c selector trusted other is there beside =
     let t-same = store-beside g.K.Backend.serves areas d m selector false c.requires.map is (g.met.F.Flash.is_lawful c.args.flash.now) (g.met.F.Flash.is_lawful c.trust.new.flash) first (trusted_on areas d) trusted there (trusted-stores g.K.Backend.serves areas d c.requires.map) in
     mounts-spend d m e selector trusted other (on g.K.Backend.contents d trusted) (on g.K.Backend.contents m trusted) first.banks (still g.K.Backend.contents d m trusted first.banks t-same) (c.trust.ensures.at_most selector is)
     (c.mount_both.ensures.at_most trusted other (ap (slice_get areas) at ∙ there) (ap (λ (n : ℕ). slice_get areas (other_place areas n)) at ∙ beside))
+
+pub returns-in-Err-clause-copy : goal.returns-in-Err-clause-copy
+returns-in-Err-clause-copy g c selector trusted other is there beside =
+    let d : Device = g.F.Flash.device c.args.flash.now in
+    let m : Device = g.F.Flash.device c.trust.new.flash in
+    let areas = c.args.map.now in
+    let first = c.in-Err.ensures.touches selector is in
+    let others = other-is g.K.Backend.serves areas d c.requires.map (trusted_on areas d) in
+    let o-same = store-beside g.K.Backend.serves areas d m selector (mount_lost {T = ℕ} (Err c.in-Err.fault)) c.requires.map is (g.met.F.Flash.is_lawful c.args.flash.now) (g.met.F.Flash.is_lawful c.trust.new.flash) first (other_place areas (trusted_on areas d)) other beside others.stores in
+    copy-first g.K.Backend.damage g.K.Backend.contents d m selector trusted other first.banks o-same (c.trust.ensures.at_most selector is)
+
+pub returns-clause-copy : goal.returns-clause-copy
+returns-clause-copy g c selector trusted other is there beside =
+    let d : Device = g.F.Flash.device c.args.flash.now in
+    let m : Device = g.F.Flash.device c.trust.new.flash in
+    let e : Device = g.F.Flash.device c.mount_both.new.flash in
+    let areas = c.args.map.now in
+    let at : c.in-Ok.place ≡ trusted_on c.args.map.now d = c.in-Ok.ensures.ends.0 in
+    let first = c.in-Ok.ensures.touches selector is in
+    let others = other-is g.K.Backend.serves areas d c.requires.map (trusted_on areas d) in
+    let flash = g.met.F.Flash.is_lawful c.args.flash.now in
+    let mid = g.met.F.Flash.is_lawful c.trust.new.flash in
+    let t-same = store-beside g.K.Backend.serves areas d m selector false c.requires.map is flash mid first (trusted_on areas d) trusted there (trusted-stores g.K.Backend.serves areas d c.requires.map) in
+    let o-same = store-beside g.K.Backend.serves areas d m selector false c.requires.map is flash mid first (other_place areas (trusted_on areas d)) other beside others.stores in
+    copy-then g.K.Backend.damage g.K.Backend.contents d m selector trusted other first.banks o-same (c.trust.ensures.at_most selector is) e t-same
+    (c.mount_both.ensures.spares trusted other (ap (slice_get areas) at ∙ there) (ap (λ (n : ℕ). slice_get areas (other_place areas n)) at ∙ beside))

@@ -38,14 +38,14 @@ begins m areas (Blank label) old new needs takes same = absurd (false≢true nee
 pub returns-in-Cut-clause-done : goal.returns-in-Cut-clause-done
 returns-in-Cut-clause-done g c =
     let K = g.K.Backend in
-    let m = meanings K.damage K.contents K.room g.K.Priced.prices in
+    let m = meanings K.damage K.contents K.rests K.room g.K.Priced.prices in
     let whole = is_some c.args.self.now.mirror in
     subst (λ (line : Line). LineDone m c.args.map.now line c.plan_loss.result (moment (g.B.Flash.device c.args.bench.now) whole) (moment (g.B.Flash.device c.plan_loss.new.bench) whole)) (sym c.in-Cut.is) (c.plan_loss.ensures.done whole)
 
 pub returns-in-Uncut-clause-done : goal.returns-in-Uncut-clause-done
 returns-in-Uncut-clause-done g c =
     let K = g.K.Backend in
-    let m = meanings K.damage K.contents K.room g.K.Priced.prices in
+    let m = meanings K.damage K.contents K.rests K.room g.K.Priced.prices in
     let whole = is_some c.args.self.now.mirror in
     subst (λ (line : Line). LineDone m c.args.map.now line c.drop_plan.result (moment (g.B.Flash.device c.args.bench.now) whole) (moment (g.B.Flash.device c.drop_plan.new.bench) whole)) (sym c.in-Uncut.is) (c.drop_plan.ensures.done whole)
 
@@ -55,7 +55,7 @@ on_mirror-requires-clause-needs g c = others_need c.args.line.now c.in_default.n
 pub returns-in-Err-on_mirror-clause-stops : goal.returns-in-Err-on_mirror-clause-stops
 returns-in-Err-on_mirror-clause-stops g c =
     let K = g.K.Backend in
-    begins (meanings K.damage K.contents K.room g.K.Priced.prices) c.args.map.now c.args.line.now (g.B.Flash.device c.args.bench.now) (g.B.Flash.device c.on_mirror.new.bench) (others_need c.args.line.now c.in_default.not-Mount c.in_default.not-Cut c.in_default.not-Uncut c.in_default.not-Blank) c.in-Err-on_mirror.ensures.takes c.in-Err-on_mirror.ensures.same
+    begins (meanings K.damage K.contents K.rests K.room g.K.Priced.prices) c.args.map.now c.args.line.now (g.B.Flash.device c.args.bench.now) (g.B.Flash.device c.on_mirror.new.bench) (others_need c.args.line.now c.in_default.not-Mount c.in_default.not-Cut c.in_default.not-Uncut c.in_default.not-Blank) c.in-Err-on_mirror.ensures.takes c.in-Err-on_mirror.ensures.same
 
 pub returns-in-Ok-on_mirror-clause-done : goal.returns-in-Ok-on_mirror-clause-done
 returns-in-Ok-on_mirror-clause-done g c = c.in-Ok-on_mirror.ensures.done
@@ -66,13 +66,13 @@ returns-in-Ok-on_mirror-clause-ready g c = c.in-Ok-on_mirror.ensures.ready
 pub returns-in-Err-clause-stops : goal.returns-in-Err-clause-stops
 returns-in-Err-clause-stops g c =
     let K = g.K.Backend in
-    let m = meanings K.damage K.contents K.room g.K.Priced.prices in
+    let m = meanings K.damage K.contents K.rests K.room g.K.Priced.prices in
     subst (λ (line : Line). (takes_memory line ≡ true) × BeginsLine m c.args.map.now line (g.B.Flash.device c.args.bench.now) (g.B.Flash.device c.replace.new.bench)) (sym c.in-Blank.is) (refl, c.in-Err.ensures.same)
 
 pub returns-in-Ok-clause-done : goal.returns-in-Ok-clause-done
 returns-in-Ok-clause-done g c =
     let K = g.K.Backend in
-    let m = meanings K.damage K.contents K.room g.K.Priced.prices in
+    let m = meanings K.damage K.contents K.rests K.room g.K.Priced.prices in
     subst (λ (line : Line). LineDone m c.args.map.now line c.in-Ok.answer (moment (g.B.Flash.device c.args.bench.now) (is_some c.args.self.now.mirror)) (moment (g.B.Flash.device c.replace.new.bench) (is_some c.replace.new.self.mirror))) (sym c.in-Blank.is) c.in-Ok.ensures.done
 
 pub returns-in-Ok-clause-ready : goal.returns-in-Ok-clause-ready
@@ -81,7 +81,7 @@ returns-in-Ok-clause-ready g c = c.in-Ok.ensures.ready
 pub returns-in-Mount-clause-done : goal.returns-in-Mount-clause-done
 returns-in-Mount-clause-done g c =
     let K = g.K.Backend in
-    let m = meanings K.damage K.contents K.room g.K.Priced.prices in
+    let m = meanings K.damage K.contents K.rests K.room g.K.Priced.prices in
     subst (λ (line : Line). IfOk c.mount.result (λ answer. LineDone m c.args.map.now line answer (moment (g.B.Flash.device c.args.bench.now) (is_some c.args.self.now.mirror)) (moment (g.B.Flash.device c.mount.new.bench) (is_some c.mount.new.self.mirror)))) (sym c.in-Mount.is) c.mount.ensures.done
 
 pub returns-in-Mount-clause-ready : goal.returns-in-Mount-clause-ready
@@ -90,5 +90,5 @@ returns-in-Mount-clause-ready g c = c.mount.ensures.ready
 pub returns-in-Mount-clause-stops : goal.returns-in-Mount-clause-stops
 returns-in-Mount-clause-stops g c =
     let K = g.K.Backend in
-    let m = meanings K.damage K.contents K.room g.K.Priced.prices in
+    let m = meanings K.damage K.contents K.rests K.room g.K.Priced.prices in
     subst (λ (line : Line). IfErr c.mount.result (λ fault. LineStops m c.args.map.now line (g.B.Flash.device c.args.bench.now) (g.B.Flash.device c.mount.new.bench) fault)) (sym c.in-Mount.is) c.mount.ensures.stops

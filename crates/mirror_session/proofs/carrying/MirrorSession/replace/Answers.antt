@@ -23,7 +23,7 @@ dark_by is_on whole result reported is = ap (λ (b : Bool). b && whole) (sym rep
 pub returns-in_default-clause-done : goal.returns-in_default-clause-done
 returns-in_default-clause-done g c =
     let K = g.K.Backend in
-    let m = meanings K.damage K.contents K.room g.K.Priced.prices in
+    let m = meanings K.damage K.contents K.rests K.room g.K.Priced.prices in
     let d = g.B.Flash.device c.args.bench.now in
     let whole = is_some c.args.self.now.mirror in
     let dark : (d.is_on && whole) ≡ false = elim c.else-is_whole.branch [
@@ -44,7 +44,7 @@ blank_area-requires g c = c.requires.map.lawful.each c.in-Some.place c.area_at-a
 pub returns-clause-done : goal.returns-clause-done
 returns-clause-done g c =
     let K = g.K.Backend in
-    let m = meanings K.damage K.contents K.room g.K.Priced.prices in
+    let m = meanings K.damage K.contents K.rests K.room g.K.Priced.prices in
     let d = g.B.Flash.device c.args.bench.now in
     let new = g.B.Flash.device c.blank_area.new.bench in
     let whole = is_some c.args.self.now.mirror in

@@ -2,6 +2,11 @@
 //! from before is there, and the next save succeeds.
 #![tactic(auto, using(petaqwen::proofs::Values::short_value))]
 
+ghost use Rattle.std.specs.Prelude.{IfOk};
+ghost use Rattle.flash_sim.specs.SparseSim.{device_of};
+ghost use Rattle.handlers.specs.Registry.{registered};
+ghost use Rattle.petaqwen.specs.Ready.{AreServed, IsReady};
+
 use petaqwen::{Board, Error, Name, SaveFault, SparseSim, Subsystem, TableHandler};
 use std::alloc::Global;
 use std::io;
@@ -18,6 +23,41 @@ struct Keys {
     in_the_end: Option<u8>,
 }
 
+// What a device does at its start: it mounts the settings, registers a handler for `bt`, and loads
+// what is stored.
+fn start(alloc: Global, board: Board<SparseSim>) -> Result<Subsystem<SparseSim>, Error>
+    requires { AreServed (device_of board.flash).banks board.map }
+    ensures { IfOk result
+        (λ s. IsReady (device_of s.board.flash) s.board.map s.settings.backend
+        (registered state s.registry)) }
+{
+    let mut settings = Subsystem::open(alloc, board, "settings")?;
+    let table = Box::new(alloc, TableHandler::new(alloc))?;
+    settings.register(Name::read(b"bt")?, table)?;
+    settings.load(alloc, None)?;
+    Ok(settings)
+}
+
+// Gives the handler a key and saves it. The answer is whether power was lost in the save.
+fn save_key(
+    alloc: Global,
+    settings: &mut Subsystem<SparseSim>,
+    key: &Name,
+    byte: u8,
+) -> Result<bool, Error>
+    requires { IsReady (device_of settings.old.board.flash) settings.old.board.map
+        settings.old.settings.backend (registered state settings.old.registry) }
+    ensures { IsReady (device_of settings.new.board.flash) settings.new.board.map
+        settings.new.settings.backend (registered state settings.new.registry) }
+{
+    settings.set(alloc, key, &[byte])?;
+    match settings.save(None).end {
+        Ok(()) => Ok(false),
+        Err(SaveFault::PowerLost) => Ok(true),
+        Err(fault) => Err(Error::Save(fault)),
+    }
+}
+
 fn held(settings: &Subsystem<SparseSim>, key: &Name) -> Result<Option<u8>, Error> {
     match settings.held(key)? {
         Some(value) => Ok(value.first().copied()),
@@ -27,29 +67,21 @@ fn held(settings: &Subsystem<SparseSim>, key: &Name) -> Result<Option<u8>, Error
 
 fn live_through(alloc: Global) -> Result<Keys, Error> {
     let key = Name::read(b"bt/key")?;
-    let table = Box::new(alloc, TableHandler::new(alloc))?;
-    let mut settings = Subsystem::open(alloc, Board::blank(alloc, LAYOUT)?, "settings")?;
-    settings.register(Name::read(b"bt")?, table)?;
-    settings.set(alloc, &key, &[1])?;
-    settings.save(None).end?;
+    let mut settings = start(alloc, Board::blank(alloc, LAYOUT)?)?;
+    save_key(alloc, &mut settings, &key, 1)?;
     let before = held(&settings, &key)?;
 
-    // Power is lost after two more units: in the save of another key.
+    // Power is lost after two more units, while another key is saved.
     settings.lose_power_after(2);
-    settings.set(alloc, &key, &[2])?;
-    let lost = settings.save(None).end == Err(SaveFault::PowerLost);
+    let lost = save_key(alloc, &mut settings, &key, 2)?;
 
     // The device starts again.
     let mut board = settings.close();
     board.restore_power();
-    let table = Box::new(alloc, TableHandler::new(alloc))?;
-    let mut settings = Subsystem::open(alloc, board, "settings")?;
-    settings.register(Name::read(b"bt")?, table)?;
-    settings.load(alloc, None)?;
+    let mut settings = start(alloc, board)?;
     let after = held(&settings, &key)?;
 
-    settings.set(alloc, &key, &[2])?;
-    settings.save(None).end?;
+    save_key(alloc, &mut settings, &key, 2)?;
     let in_the_end = held(&settings, &key)?;
     Ok(Keys {
         before,

@@ -4,8 +4,7 @@
 
 ghost use Rattle.std.specs.Prelude.{IfOk};
 ghost use Rattle.flash_sim.specs.SparseSim.{device_of};
-ghost use Rattle.handlers.specs.Registry.{registered};
-ghost use Rattle.petaqwen.specs.Ready.{AreServed, IsReady};
+ghost use Rattle.petaqwen.specs.Ready.{AreServed};
 
 use petaqwen::{Board, Error, Name, SaveFault, SparseSim, Subsystem, TableHandler};
 use std::alloc::Global;
@@ -14,48 +13,14 @@ use std::io;
 // One partition for settings over NVS: four sectors of 4096 bytes, programmed in units of 4 bytes.
 const LAYOUT: &str = "bank=erasing/4/4096/4,area=nvs/settings/0/0/4";
 
-// The first byte of the key as the handler holds it, at each point of the story.
-#[derive(Clone, Copy)]
-struct Keys {
-    before: Option<u8>,
+// A board after a power loss, and what was seen before it.
+#[derive(Drop)]
+struct Brownout {
+    board: Board<SparseSim>,
+    // the first byte of the key, as the handler held it
+    key: Option<u8>,
+    // whether power was lost while the next key was saved
     lost: bool,
-    after: Option<u8>,
-    in_the_end: Option<u8>,
-}
-
-// What a device does at its start: it mounts the settings, registers a handler for `bt`, and loads
-// what is stored.
-fn start(alloc: Global, board: Board<SparseSim>) -> Result<Subsystem<SparseSim>, Error>
-    requires { AreServed (device_of board.flash).banks board.map }
-    ensures { IfOk result
-        (λ s. IsReady (device_of s.board.flash) s.board.map s.settings.backend
-        (registered state s.registry)) }
-{
-    let mut settings = Subsystem::open(alloc, board, "settings")?;
-    let table = Box::new(alloc, TableHandler::new(alloc))?;
-    settings.register(Name::read(b"bt")?, table)?;
-    settings.load(alloc, None)?;
-    Ok(settings)
-}
-
-// Gives the handler a key and saves it. The answer is whether power was lost in the save.
-fn save_key(
-    alloc: Global,
-    settings: &mut Subsystem<SparseSim>,
-    key: &Name,
-    byte: u8,
-) -> Result<bool, Error>
-    requires { IsReady (device_of settings.old.board.flash) settings.old.board.map
-        settings.old.settings.backend (registered state settings.old.registry) }
-    ensures { IsReady (device_of settings.new.board.flash) settings.new.board.map
-        settings.new.settings.backend (registered state settings.new.registry) }
-{
-    settings.set(alloc, key, &[byte])?;
-    match settings.save(None).end {
-        Ok(()) => Ok(false),
-        Err(SaveFault::PowerLost) => Ok(true),
-        Err(fault) => Err(Error::Save(fault)),
-    }
 }
 
 fn held(settings: &Subsystem<SparseSim>, key: &Name) -> Result<Option<u8>, Error> {
@@ -65,26 +30,64 @@ fn held(settings: &Subsystem<SparseSim>, key: &Name) -> Result<Option<u8>, Error
     }
 }
 
-fn live_through(alloc: Global) -> Result<Keys, Error> {
-    let key = Name::read(b"bt/key")?;
-    let mut settings = start(alloc, Board::blank(alloc, LAYOUT)?)?;
-    save_key(alloc, &mut settings, &key, 1)?;
-    let before = held(&settings, &key)?;
+// Saves a key on a blank board, and loses power while the next one is saved.
+fn first_life(alloc: Global, key: &Name) -> Result<Brownout, Error>
+    ensures { IfOk result (λ b. AreServed (device_of b.board.flash).banks b.board.map) }
+{
+    let table = Box::new(alloc, TableHandler::new(alloc))?;
+    let mut settings = Subsystem::open(alloc, Board::blank(alloc, LAYOUT)?, "settings")?;
+    settings.register(Name::read(b"bt")?, table)?;
+    settings.set(alloc, key, &[1])?;
+    settings.save(None).end?;
+    let before = held(&settings, key)?;
 
-    // Power is lost after two more units, while another key is saved.
+    // Power is lost after two more units.
     settings.lose_power_after(2);
-    let lost = save_key(alloc, &mut settings, &key, 2)?;
+    settings.set(alloc, key, &[2])?;
+    let lost = settings.save(None).end == Err(SaveFault::PowerLost);
+    Ok(Brownout {
+        board: settings.close(),
+        key: before,
+        lost,
+    })
+}
 
-    // The device starts again.
-    let mut board = settings.close();
+// Starts again with power: the key that was loaded, and the one that another save leaves.
+fn second_life(
+    alloc: Global,
+    key: &Name,
+    board: Board<SparseSim>,
+) -> Result<(Option<u8>, Option<u8>), Error>
+    requires { AreServed (device_of board.flash).banks board.map }
+{
+    let mut board = board;
     board.restore_power();
-    let mut settings = start(alloc, board)?;
-    let after = held(&settings, &key)?;
+    let table = Box::new(alloc, TableHandler::new(alloc))?;
+    let mut settings = Subsystem::open(alloc, board, "settings")?;
+    settings.register(Name::read(b"bt")?, table)?;
+    settings.load(alloc, None)?;
+    let loaded = held(&settings, key)?;
+    settings.set(alloc, key, &[2])?;
+    settings.save(None).end?;
+    let saved = held(&settings, key)?;
+    Ok((loaded, saved))
+}
 
-    save_key(alloc, &mut settings, &key, 2)?;
-    let in_the_end = held(&settings, &key)?;
-    Ok(Keys {
-        before,
+// The answers of a whole story.
+#[derive(Clone, Copy)]
+struct Story {
+    before: Option<u8>,
+    lost: bool,
+    after: Option<u8>,
+    in_the_end: Option<u8>,
+}
+
+fn live_through(alloc: Global) -> Result<Story, Error> {
+    let name = Name::read(b"bt/key")?;
+    let Brownout { board, key, lost } = first_life(alloc, &name)?;
+    let (after, in_the_end) = second_life(alloc, &name, board)?;
+    Ok(Story {
+        before: key,
         lost,
         after,
         in_the_end,
@@ -93,11 +96,11 @@ fn live_through(alloc: Global) -> Result<Keys, Error> {
 
 fn main(rt: HostRuntime) -> io::Result<()> {
     match live_through(rt.alloc()) {
-        Ok(keys) => {
-            println!(rt; "the key before: {:?}", keys.before)?;
-            println!(rt; "power lost while another is saved: {}", keys.lost)?;
-            println!(rt; "the key after the reset: {:?}", keys.after)?;
-            println!(rt; "the key after another save: {:?}", keys.in_the_end)
+        Ok(story) => {
+            println!(rt; "the key before: {:?}", story.before)?;
+            println!(rt; "power lost while another is saved: {}", story.lost)?;
+            println!(rt; "the key after the reset: {:?}", story.after)?;
+            println!(rt; "the key after another save: {:?}", story.in_the_end)
         }
         Err(error) => println!(rt; "brown_out: {error:?}"),
     }

@@ -1,6 +1,6 @@
 //! A brown-out while a pairing key is saved, as a device lives through it: after the reset the key
 //! from before is there, and the next save succeeds.
-#![tactic(auto, using(petaqwen::proofs::Values::short_value))]
+#![tactic(auto, using(petaqwen::proofs::Values::short_value, petaqwen::proofs::Values::new_table))]
 
 ghost use Rattle.std.specs.Prelude.{IfOk};
 ghost use Rattle.flash_sim.specs.SparseSim.{device_of};

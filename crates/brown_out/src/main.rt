@@ -1,12 +1,15 @@
 //! A brown-out while a pairing key is saved, as a device lives through it: after the reset the key
 //! from before is there, and the next save succeeds.
-#![tactic(auto, using(petaqwen::proofs::Values::short_value, petaqwen::proofs::Values::new_table))]
+#![tactic(auto, using(petaqwen::proofs::Values::short_value))]
 
-ghost use Rattle.std.specs.Prelude.{IfOk};
+ghost use Rattle.std.specs.Prelude.{◌≡◌, IfOk};
+ghost use Rattle.std.specs.FinMap.{empty};
 ghost use Rattle.flash_sim.specs.SparseSim.{device_of};
+ghost use Rattle.handlers.specs.Held.{fresh};
+ghost use Rattle.handlers.specs.declared.handler.HandlerKind.TheVariants.{Table};
 ghost use Rattle.petaqwen.specs.Ready.{AreServed};
 
-use petaqwen::{Board, Error, Name, SaveFault, SparseSim, Subsystem, TableHandler};
+use petaqwen::{Board, Error, Handler, Name, SaveFault, SparseSim, Subsystem, TableHandler};
 use std::alloc::Global;
 use std::io;
 
@@ -23,6 +26,12 @@ struct Brownout {
     lost: bool,
 }
 
+// A new table holds nothing. `register` asks for that, and the proof takes it from here.
+fn is_empty(_table: &Box<dyn Handler>)
+    requires { state _table.now ≡ fresh Table }
+    ensures { (state _table.now).held ≡ empty }
+{}
+
 fn held(settings: &Subsystem<SparseSim>, key: &Name) -> Result<Option<u8>, Error> {
     match settings.held(key)? {
         Some(value) => Ok(value.first().copied()),
@@ -34,7 +43,8 @@ fn held(settings: &Subsystem<SparseSim>, key: &Name) -> Result<Option<u8>, Error
 fn first_life(alloc: Global, key: &Name) -> Result<Brownout, Error>
     ensures { IfOk result (λ b. AreServed (device_of b.board.flash).banks b.board.map) }
 {
-    let table = Box::new(alloc, TableHandler::new(alloc))?;
+    let table: Box<dyn Handler> = Box::new(alloc, TableHandler::new(alloc))?;
+    is_empty(&table);
     let mut settings = Subsystem::open(alloc, Board::blank(alloc, LAYOUT)?, "settings")?;
     settings.register(Name::read(b"bt")?, table)?;
     settings.set(alloc, key, &[1])?;
@@ -62,7 +72,8 @@ fn second_life(
 {
     let mut board = board;
     board.restore_power();
-    let table = Box::new(alloc, TableHandler::new(alloc))?;
+    let table: Box<dyn Handler> = Box::new(alloc, TableHandler::new(alloc))?;
+    is_empty(&table);
     let mut settings = Subsystem::open(alloc, board, "settings")?;
     settings.register(Name::read(b"bt")?, table)?;
     settings.load(alloc, None)?;

@@ -1,6 +1,6 @@
 //! A brown-out while a pairing key is saved, as a device lives through it: after the reset the key
 //! from before is there, and the next save succeeds.
-#![tactic(auto, using(petaqwen::proofs::Values::short_value))]
+#![tactic(auto)]
 
 ghost use Rattle.std.specs.Prelude.{◌≡◌, IfOk};
 ghost use Rattle.std.specs.FinMap.{empty};
@@ -40,6 +40,7 @@ fn held(settings: &Subsystem<SparseSim>, key: &Name) -> Result<Option<u8>, Error
 }
 
 // Saves a key on a blank board, and loses power while the next one is saved.
+#[tactic(auto, using(petaqwen::proofs::Values::short_value))]
 fn first_life(alloc: Global, key: &Name) -> Result<Brownout, Error>
     ensures { IfOk result (λ b. AreServed (device_of b.board.flash).banks b.board.map) }
 {
@@ -63,6 +64,7 @@ fn first_life(alloc: Global, key: &Name) -> Result<Brownout, Error>
 }
 
 // Starts again with power: the key that was loaded, and the one that another save leaves.
+#[tactic(auto, using(petaqwen::proofs::Values::short_value))]
 fn second_life(
     alloc: Global,
     key: &Name,

@@ -1,5 +1,5 @@
 -- Drops come only where a log is full, and a blank area is filled.
-use Rattle.std.proofs.Common.{◌≡◌, ℕ, ◌+◌, ◌-◌, ◌*◌, ◌<◌, ◌≤◌, true, false, not, List, length, inl, inr, refl, sym, ap, subst, ◌∙◌, arith}
+use Rattle.std.proofs.Common.{◌≡◌, ℕ, ◌+◌, ◌-◌, ◌*◌, ◌<◌, ◌≤◌, min, true, false, not, List, [], length, inl, inr, refl, sym, ap, subst, ◌∙◌, arith}
 use Rattle.std.specs.Prelude.{count_by}
 use Rattle.std.specs.List.{range_with_len, flat_map}
 use Rattle.std.proofs.lemmas.Bool.{cases_lt, and_parts, not-true, not-false, or_left}
@@ -24,7 +24,7 @@ use Rattle.event_ring.specs.Room.{room_on, longest_on, IsFilled}
 use Rattle.event_ring.specs.Standing.{IsOpen}
 use Rattle.event_ring.proofs.DropSteps.{left-used}
 use Rattle.event_ring.proofs.EndLemmas.{newest-filled, longest-fits}
-use Rattle.event_ring.proofs.PartLemmas.{part, parts-least, parts-filled, PartsFilled}
+use Rattle.event_ring.proofs.PartLemmas.{part, items-are, parts-least, parts-filled, PartsFilled}
 use Rattle.event_ring.proofs.PutSteps.{items-ready, filled-ready}
 
 -- what a drop needs
@@ -90,6 +90,14 @@ module _ (unit size : ℕ) (sectors : List (List ℕ)) (has : HasSize unit size 
     headers = λ k lt. absurd (omega arith);
     ids = λ k lt. absurd (omega arith);
   }
+
+pub blank-items : (d : Device) (area : Area) → IsLawful d.banks d.bytes → IsRingArea d.banks area → count_by is_written (sectors_of d area) ≡ 0 → items_on d area ≡ []
+blank-items d area lawful ring blank =
+    items-are (unit_of d area) (sectors_of d area) 0 0 (blank-form (unit_of d area) (sector_size d area) (sectors_of d area) (has_size d area lawful ring) blank)
+    ∙ ap (λ (n : ℕ). flat_map (part (unit_of d area) (sectors_of d area) 0) (range_with_len 0 n)) (none (length (sectors_of d area) - 1))
+  where
+    none : (n : ℕ) → min 0 n ≡ 0
+    none n = omega arith
 
 pub blank-filled : (d : Device) (area : Area) → IsLawful d.banks d.bytes → IsRingArea d.banks area → count_by is_written (sectors_of d area) ≡ 0 → IsFilled d area
 blank-filled d area lawful ring blank =

@@ -8,6 +8,6 @@ mod PrefixLemmas
 mod EndLemmas
 mod DropSteps
 mod CountSteps
-mod FullLemmas
+pub mod FullLemmas
 pub mod LogSteps
 pub mod ScriptLemmas

@@ -8,7 +8,7 @@ use Rattle.flash_sim.specs.Device.{Device}
 use Rattle.flash_sim.specs.declared.flash.Bank.{Bank}
 use Rattle.flash_map.specs.declared.area.Area.{Area}
 use Rattle.flash_map.specs.Area.{unit_of, sector_size, sectors_of, sector_at, value_limit}
-use Rattle.flash_map.specs.Spending.{Spends, SpendsAtMost}
+use Rattle.flash_map.specs.Spending.{Spends, SpendsAtMost, SpendsBetween}
 use Rattle.flash_map.specs.Units.{padded}
 use Rattle.flash_map.proofs.SpendingLemmas.{spends_then, spends_then_most, most_weaker}
 use Rattle.fcb_ring.specs.declared.record.RecordAt.{RecordAt}
@@ -30,7 +30,7 @@ use Rattle.event_ring.specs.Items.{Item, Whole, Torn, items_on, items_in, item_c
 use Rattle.event_ring.specs.Standing.{IsOpen}
 use Rattle.event_ring.proofs.DropSteps.{left-used, rest, prefix-rest, part-next}
 use Rattle.event_ring.proofs.EndLemmas.{cost-fits}
-use Rattle.event_ring.proofs.FullLemmas.{all-filled}
+use Rattle.event_ring.proofs.FullLemmas.{all-filled, drops-full}
 use Rattle.event_ring.proofs.ItemLemmas.{log-append, cost-append, sector-cost, sector-log}
 use Rattle.event_ring.proofs.MountSteps.{by_banks, fields_same}
 use Rattle.event_ring.proofs.PartLemmas.{part}
@@ -54,6 +54,7 @@ module _ (d : Device) (ring : Ring) (body : List ℕ) where
   keeps-all can = record {
     items = ap (λ (l : List Item). l ++ items_on d ring.area) (sym (drops-none can));
     one_sector = subst (λ (l : List Item). cost_in d ring.area l ≤ room_on d ring.area) (sym (drops-none can)) (omega arith);
+    full = λ filled drops. absurd (false≢true (sym (no-drop can) ∙ drops));
   }
 
   units-alone : CanAppend d ring body 0 → append_units d ring body ≡ units_for d ring body 0
@@ -89,6 +90,7 @@ lost-alone d e before after body stops = record {
   rest = items_on d before.area;
   kept = keeps-all d before body stops.can;
   cut = stops.cut;
+  order = λ drops. absurd (false≢true (sym (no-drop d before body stops.can) ∙ drops));
   down = stops.down;
   undamaged = stops.undamaged;
   filled = stops.filled;
@@ -135,22 +137,23 @@ module _ (d : Device) (before : Ring) (body : List ℕ) (lawful : IsLawful d.ban
       let end = end-after-header (unit_of d before.area) (sector_at (sectors_of d before.area) before.oldest) (sector_is size (sector_at (sectors_of d before.area) before.oldest) long) in
       omega (arith, sector-cost (unit_of d before.area) (sector_at (sectors_of d before.area) before.oldest) size.is_unit, end.1, long)
 
-  keeps-rest : (list : List Item) → items_on d before.area ≡ items_in d before.area before.oldest ++ list → Keeps d before body list
-  keeps-rest list is = record {
+  keeps-rest : is_too_long before.area (length body) ≡ false → (list : List Item) → items_on d before.area ≡ items_in d before.area before.oldest ++ list → Keeps d before body list
+  keeps-rest short list is = record {
     items = is ∙ ap (λ (l : List Item). l ++ list) (sym drops-oldest);
     one_sector = subst (λ (l : List Item). cost_in d before.area l ≤ room_on d before.area) (sym drops-oldest) one-sector;
+    full = λ filled needs. drops-full d before body lawful mounted filled short needs;
   }
 
   units-both : append_units d before body ≡ drop_units d before.area + record_units d before.area (length body)
   units-both = ap (λ (b : Bool). cond b (drop_units d before.area + record_units d before.area (length body)) (units_for d before body 0)) drops
 
   -- the drop is cut
-  pub drop-lost : (e : Device) (after : Ring) → StopsDropping d e before after → Loses d e before after body
-  drop-lost e after stops =
+  pub drop-lost : is_too_long before.area (length body) ≡ false → (e : Device) (after : Ring) → StopsDropping d e before after → Loses d e before after body
+  drop-lost short e after stops =
       let some = (left-used d before mounted left).0 in
       record {
         rest = rest d before lawful mounted some;
-        kept = keeps-rest (rest d before lawful mounted some) (prefix-rest d before lawful mounted some);
+        kept = keeps-rest short (rest d before lawful mounted some) (prefix-rest d before lawful mounted some);
         cut = λ on.
             let lost = stops.lost on in
             record {
@@ -158,6 +161,7 @@ module _ (d : Device) (before : Ring) (body : List ℕ) (lawful : IsLawful d.ban
               last = lost.1;
               items = subst (λ (b : Bool). LeavesItems b (unit_of e before.area) (items_on d before.area) (rest d before lawful mounted some) body (items_on e before.area)) (sym lost.2) (inl stops.keeps.items);
             };
+        order = λ needs. inl stops.keeps.items;
         down = stops.down;
         undamaged = stops.keeps.undamaged;
         filled = stops.keeps.filled;
@@ -218,7 +222,7 @@ module _ (d : Device) (before : Ring) (body : List ℕ) (lawful : IsLawful d.ban
     pub adds-then : (e : Device) (after : Ring) (count : ℕ) → e.banks ≡ m.banks → count ≡ length (sector_list d before.area before.oldest) → IsPut m e r1 after body → Adds d e before after body count
     adds-then e after count banks-e is put = record {
       rest = dropped.rest;
-      kept = keeps-rest dropped.rest dropped.items;
+      kept = keeps-rest short dropped.rest dropped.items;
       count = count-is count is;
       items = items-both e put.items;
       log = items-log (items_on e before.area) dropped.rest body (items-both e put.items);
@@ -240,11 +244,27 @@ module _ (d : Device) (before : Ring) (body : List ℕ) (lawful : IsLawful d.ban
         by false (inl same) = inr (inl (same ∙ dropped.left))
         by false (inr later) = inr later
 
+    -- the drop was carried out whole
+    spent-both : (e : Device) → SpendsAtMost m e (record_units d before.area (length body)) → SpendsBetween d e (drop_units d before.area) (append_units d before body)
+    spent-both e put = record {
+      units = drop_units d before.area + put.0;
+      at_least = more (drop_units d before.area) put.0;
+      at_most = subst (λ (n : ℕ). drop_units d before.area + put.0 ≤ n) (sym units-both) (both (drop_units d before.area) put.0 (record_units d before.area (length body)) put.1);
+      spent = spends_then d m e (drop_units d before.area) put.0 dropped.units put.2;
+    }
+      where
+        more : (a b : ℕ) → a ≤ a + b
+        more a b = omega arith
+
+        both : (a b c : ℕ) → b ≤ c → a + b ≤ a + c
+        both a b c le = omega arith
+
     pub lost-then : (e : Device) (after : Ring) → m.is_on ≡ d.is_on → StopsPutting m e r1 after body → Loses d e before after body
     lost-then e after power stops = record {
       rest = dropped.rest;
-      kept = keeps-rest dropped.rest dropped.items;
+      kept = keeps-rest short dropped.rest dropped.items;
       cut = λ on. cut-then e (stops.cut (power ∙ on));
+      order = λ needs. inr (spent-both e (subst (SpendsAtMost m e) units-then stops.units));
       down = stops.down;
       undamaged = subst (λ (x : Area). ring_damage e x ≡ None) area stops.undamaged;
       filled = filled-then e stops.filled;

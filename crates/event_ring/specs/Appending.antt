@@ -5,7 +5,7 @@ use Rattle.flash_sim.specs.Device.{Device}
 use Rattle.flash_sim.specs.declared.flash.Loss.{Loss}
 use Rattle.flash_map.specs.declared.area.Area.{Area}
 use Rattle.flash_map.specs.Area.{unit_of, value_limit}
-use Rattle.flash_map.specs.Spending.{Spends, SpendsAtMost}
+use Rattle.flash_map.specs.Spending.{Spends, SpendsAtMost, SpendsBetween}
 use Rattle.fcb_ring.specs.declared.ring.Ring.{Ring}
 use Rattle.fcb_ring.specs.Chance.{chance_on}
 use Rattle.fcb_ring.specs.Changing.{header_units, cost_on, record_units, stays_for, is_scratch_left, units_for}
@@ -14,7 +14,7 @@ use Rattle.fcb_ring.specs.Writing.{record_cost}
 use Rattle.event_ring.specs.declared.appending.LogFault.{LogFault}
 use Rattle.event_ring.specs.declared.appending.LogFault.TheVariants.{TooLong, PowerLost}
 use Rattle.event_ring.specs.Items.{Item, Whole, Torn, items_on, items_in, log_of, log_on, cost_in}
-use Rattle.event_ring.specs.Room.{room_on, IsFilled}
+use Rattle.event_ring.specs.Room.{room_on, IsFilled, IsFull}
 use Rattle.event_ring.specs.Standing.{IsOpen}
 
 -- the body is empty, or longer than a value may be
@@ -38,9 +38,11 @@ abbrev pub dropped_for : Device → Ring → List ℕ → List Item
 dropped_for d ring body = if drops_for d ring body then items_in d ring.area ring.oldest else []
 
 -- The items are those that are dropped, no more than a sector has room for, and behind them these.
+-- A log in which no sector but the newest has room for the longest record drops only if it is full.
 pub record Keeps (d : Device) (ring : Ring) (body : List ℕ) (rest : List Item) : Type 0 where
   pub items : items_on d ring.area ≡ dropped_for d ring body ++ rest
   pub one_sector : cost_in d ring.area (dropped_for d ring body) ≤ room_on d ring.area
+  pub full : IsFilled d ring.area → drops_for d ring body ≡ true → IsFull d ring.area
 
 -- the units of a drop: the header of the scratch sector, and the erase of the oldest
 abbrev pub drop_units : Device → Area → ℕ
@@ -105,11 +107,15 @@ pub record IsCut (old new : Device) (area : Area) (rest : List Item) (body : Lis
   pub items : LeavesItems (chance_on new area loss) (unit_of new area) (items_on old area) rest body
       (items_on new area)
 
--- power was off, or was lost in the append
+-- Power was off, or was lost in the append. A drop comes first: all items stand, unless at least
+-- its units were spent.
 pub record Loses (old new : Device) (before after : Ring) (body : List ℕ) : Type 0 where
   pub rest : List Item
   pub kept : Keeps old before body rest
   pub cut : old.is_on ≡ true → IsCut old new before.area rest body
+  pub order : drops_for old before body ≡ true
+      → (items_on new before.area ≡ items_on old before.area)
+      ⊎ SpendsBetween old new (drop_units old before.area) (append_units old before body)
   pub down : is_up after.stage ≡ false
   pub undamaged : ring_damage new before.area ≡ None
   pub filled : IsFilled old before.area → IsFilled new before.area

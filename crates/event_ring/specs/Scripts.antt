@@ -1,5 +1,5 @@
 -- What a script makes of the area of a log, with any power losses.
-use Rattle.std.specs.Prelude.{◌≡◌, ℕ, ◌-◌, ◌*◌, ◌<◌, true, false, List, length, count_by, Result}
+use Rattle.std.specs.Prelude.{◌≡◌, ℕ, true, false, List, length, count_by, Result}
 use Rattle.flash_sim.specs.Bank.{IsLawful}
 use Rattle.flash_sim.specs.Device.{Device}
 use Rattle.flash_map.specs.declared.area.Area.{Area}
@@ -11,8 +11,7 @@ use Rattle.fcb_ring.specs.Standing.{IsRingArea}
 use Rattle.event_ring.specs.declared.appending.LogFault.{LogFault}
 use Rattle.event_ring.specs.declared.event_log.EventLog.{EventLog}
 use Rattle.event_ring.specs.Appending.{is_too_long, drops_for, LogAppends}
-use Rattle.event_ring.specs.Items.{items_on, cost_in}
-use Rattle.event_ring.specs.Room.{room_on, longest_on}
+use Rattle.event_ring.specs.Room.{IsFull}
 use Rattle.event_ring.specs.Standing.{IsOpen, LogMounts}
 
 -- A script of mounts and appends leads from a blank area to this one. Each call may give any of its
@@ -41,6 +40,4 @@ abbrev pub DropsOnlyWhereFull : Type 0
 DropsOnlyWhereFull =
     (d : Device) (ring : Ring) (body : List ℕ) → IsReached ring.area d → IsLawful d.banks d.bytes
     → IsOpen d ring
-    → is_too_long ring.area (length body) ≡ false → drops_for d ring body ≡ true
-    → (ring.area.sectors - 1) * (room_on d ring.area - longest_on d ring.area)
-    < cost_in d ring.area (items_on d ring.area)
+    → is_too_long ring.area (length body) ≡ false → drops_for d ring body ≡ true → IsFull d ring.area

@@ -79,14 +79,17 @@ fn drop_and_put<F: Flash, L: Ledger>(
 impl EventLog {
     /// Adds a record with this body, and returns how many records that check were dropped for it.
     /// The oldest sector is dropped first, but only if the record does not fit the newest sector
-    /// and only the scratch sector is free.
+    /// and only the scratch sector is free. If no sector but the newest has room for the longest
+    /// record, that is only if the items cost more than all sectors but one have room for, less
+    /// the longest record in each.
     ///
     /// # Errors
     /// `TooLong` exactly if the body is empty or longer than a value of the area may be: nothing
     /// changes. `PowerLost`: the log is down. Its items are as before, or those kept after the
     /// drop, or these followed by a torn record of the same cost or by the record. Or, if the
     /// record's first units with FF behind them check by chance, a record follows whose body is a
-    /// proper prefix of the body, with FF behind it to its length.
+    /// proper prefix of the body, with FF behind it to its length. Where the oldest sector is to
+    /// be dropped, the items are as before unless at least the units of the drop were spent.
     ///
     /// Whatever the result: if no sector but the newest had room for the longest record, no sector
     /// but the newest has it.

@@ -7,6 +7,7 @@ mod PutLemmas
 mod ReachLemmas
 mod RunLemmas
 pub mod ServedLemmas
+pub mod StoredLemmas
 mod TableFacts
 mod TableLaws
 mod WalkSteps

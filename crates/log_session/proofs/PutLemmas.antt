@@ -1,13 +1,15 @@
 -- An append as a line.
-use Rattle.std.proofs.Common.{◌≡◌, inl, inr, ℕ, ◌+◌, ◌-◌, ◌≤◌, eqb, ltb, ◌||◌, Bool, true, false, cond, None, Some, Result, Ok, Err, List, [], ◌∷◌, ◌++◌, length, refl, sym, ap, subst, ◌∙◌, arith}
-use Rattle.std.proofs.lemmas.Bool.{false≢true}
+use Rattle.std.proofs.Common.{◌≡◌, inl, inr, ◌⊎◌, ℕ, ◌+◌, ◌-◌, ◌^◌, ◌<◌, ◌≤◌, eqb, ltb, ◌||◌, Bool, true, false, cond, None, Some, Result, Ok, Err, List, [], ◌∷◌, ◌++◌, length, refl, sym, ap, subst, ◌∙◌, arith}
+use Rattle.std.proofs.lemmas.Bool.{cases_Bool, false≢true}
 use Rattle.std.proofs.lemmas.Bool.Decides.{nat_tests}
+use Rattle.std.proofs.lemmas.List.{append-nil}
 use Rattle.std.proofs.lemmas.List.Sums.{sum_by-cons}
 use Rattle.flash_sim.specs.Device.{Device}
 use Rattle.flash_sim.specs.declared.flash.Loss.{Loss}
 use Rattle.flash_map.specs.declared.area.Area.{Area}
 use Rattle.flash_map.specs.declared.area.Geometry.{Geometry}
 use Rattle.flash_map.specs.Area.{geometry_of, unit_of, value_limit}
+use Rattle.flash_map.specs.Spending.{SpendsBetween}
 use Rattle.flash_map.specs.Touches.{Touches}
 use Rattle.fcb_ring.specs.declared.ring.Ring.{Ring}
 use Rattle.fcb_ring.specs.Chance.{chance_on}
@@ -16,7 +18,7 @@ use Rattle.fcb_ring.specs.Standing.{ring_damage}
 use Rattle.fcb_ring.specs.Writing.{record_cost}
 use Rattle.event_ring.specs.declared.appending.LogFault.{LogFault}
 use Rattle.event_ring.specs.declared.appending.LogFault.TheVariants.{TooLong, PowerLost}
-use Rattle.event_ring.specs.Appending.{Keeps, LogAppends, append_units, dropped_for, drops_for, lost_in}
+use Rattle.event_ring.specs.Appending.{Keeps, LeavesLog, LogAppends, append_units, drop_units, dropped_for, drops_for, lost_in, torn_body}
 use Rattle.event_ring.specs.Standing.{IsOpen}
 use Rattle.event_ring.specs.Items.{Item, Whole, Torn, items_cost, items_in, items_on, item_cost, log_of, log_on}
 use Rattle.event_ring.proofs.ItemLemmas.{log-append}
@@ -24,7 +26,7 @@ use Rattle.event_ring.proofs.LogSteps.{items-report}
 use Rattle.log_session.specs.declared.line.Line.TheVariants.{Put}
 use Rattle.log_session.specs.declared.answer.Answer.TheVariants.{Appended, Lost}
 use Rattle.log_session.specs.LineDone.{AppendsOn, LineDone}
-use Rattle.log_session.specs.Step.{Drops, PutUnits, header_units, most_to_put, record_units, records_cost}
+use Rattle.log_session.specs.Step.{Drops, KeepsAll, PutUnits, header_units, most_to_put, record_units, records_cost}
 use Rattle.log_session.proofs.AccountLemmas.{at_most, kept, lost, units_are, units_most}
 use Rattle.log_session.proofs.LineLemmas.{kept_beside, log_is, put_no_mount, put_no_records}
 
@@ -69,6 +71,35 @@ command_units : (geometry : Geometry) (body : List ℕ) (dropped units : ℕ) �
 command_units geometry body dropped units (inl is) = omega (arith, is.0)
 command_units geometry body dropped units (inr (inl is)) = omega (arith, is.0)
 command_units geometry body dropped units (inr (inr is)) = omega (arith, is)
+
+-- ---- the order of a lost append
+
+-- where nothing is dropped all records stand
+stand_by : (chance : Bool) (log : List (List ℕ)) (body : List ℕ) (after : List (List ℕ)) → LeavesLog chance log log body after → KeepsAll log after
+stand_by true log body after (n, fewer, is) = (torn_body body n ∷ [], is)
+stand_by false log body after (inl same) = ([], same ∙ sym (append-nil log))
+stand_by false log body after (inr (inl same)) = ([], same ∙ sym (append-nil log))
+stand_by false log body after (inr (inr same)) = (body ∷ [], same)
+
+fewer_spent : (least units : ℕ) → least ≤ units → units < least → ⊥
+fewer_spent least units le lt = omega arith
+
+module _ (ring : Ring) (body : List ℕ) (old new : Device) (rest : List Item) (units : ℕ) (chance : Bool) (kept : Keeps old ring body rest)
+    (order : drops_for old ring body ≡ true → (items_on new ring.area ≡ items_on old ring.area) ⊎ SpendsBetween old new (drop_units old ring.area) (append_units old ring body))
+    (below : new.spent < 2 ^ 64 - 1) (are : units ≡ new.spent - old.spent) (log : LeavesLog chance (log_on old ring.area) (log_of rest) body (log_on new ring.area)) (few : units < drop_units old ring.area) where
+  not_spent : (items_on new ring.area ≡ items_on old ring.area) ⊎ SpendsBetween old new (drop_units old ring.area) (append_units old ring body) → KeepsAll (log_on old ring.area) (log_on new ring.area)
+  not_spent (inl same) = ([], ap log_of same ∙ sym (append-nil (log_on old ring.area)))
+  not_spent (inr spent) =
+      let real : spent.units ≡ units = units_are old.spent new.spent spent.units spent.spent below ∙ sym are in
+      absurd (fewer_spent (drop_units old ring.area) units (subst (λ (n : ℕ). drop_units old ring.area ≤ n) real spent.at_least) few)
+
+  pub all_stand : KeepsAll (log_on old ring.area) (log_on new ring.area)
+  all_stand = elim (cases_Bool (drops_for old ring body)) [
+    | inl drops ↦ not_spent (order drops)
+    | inr none ↦
+        let same : items_on old ring.area ≡ rest = kept.items ∙ ap (λ (b : Bool). cond b (items_in old ring.area ring.oldest) [] ++ rest) none in
+        stand_by chance (log_on old ring.area) body (log_on new ring.area) (subst (λ (l : List Item). LeavesLog chance (log_on old ring.area) (log_of l) body (log_on new ring.area)) (sym same) log)
+  ]
 
 -- ---- the line
 
@@ -123,6 +154,7 @@ module _ (ring after : Ring) (body : List ℕ) (old new : Device) (on : old.is_o
             rest = log_of loses.rest;
             drops = dropped_records old ring body loses.rest (length (log_of (dropped_for old ring body))) loses.kept refl;
             log = rw spells reported;
+            order = λ counts few. all_stand ring body old new loses.rest units chance loses.kept loses.order (omega (arith, counts, within)) are (rw spells reported) few;
             off = (touches.ends on).off;
             at_most = at_most units loses.units.0 (most_to_put geometry body)
                 (subst (λ (n : ℕ). n ≤ loses.units.0) (sym are) (units_most old.spent new.spent loses.units.0 loses.units.2))

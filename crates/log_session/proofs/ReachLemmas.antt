@@ -39,7 +39,7 @@ module _ (area : Area) (old new : Device) where
   nothing : new ≡ old → IsReached area old → IsReached area new
   nothing is before = subst (IsReached area) (sym is) before
 
-  off_put : (body : _) → LineDone area (Put body) Off old new → new ≡ old
+  pub off_put : (body : _) → LineDone area (Put body) Off old new → new ≡ old
   off_put body done = let step = done.step new.spent (omega arith) in let touches = done.touches refl in touches.off step.1
 
   mounted : (answer : Answer) → LineDone area Mount answer old new → IsReached area old → IsReached area new

@@ -1,12 +1,12 @@
 -- What the table says of runs.
-use Rattle.std.specs.Prelude.{ℕ, ◌-◌, ◌*◌, ◌<◌, List, ◌++◌, map}
+use Rattle.std.specs.Prelude.{ℕ, ◌<◌, List, ◌++◌, map}
 use Rattle.std.specs.List.{All}
 use Rattle.flash_sim.specs.Bank.{IsLawful}
 use Rattle.flash_sim.specs.Device.{Device}
 use Rattle.flash_map.specs.declared.area.Area.{Area}
 use Rattle.flash_map.specs.declared.area.Geometry.{Geometry}
-use Rattle.event_ring.specs.Items.{items_on, cost_in}
-use Rattle.event_ring.specs.Room.{room_on, longest_on}
+use Rattle.fcb_ring.specs.Standing.{IsRingArea}
+use Rattle.event_ring.specs.Room.{IsFull}
 use Rattle.event_ring.specs.Scripts.{IsReached}
 use Rattle.script_lines.specs.Script.{IsScript}
 use Rattle.session_table.specs.Follows.{Follows}
@@ -18,6 +18,7 @@ use Rattle.log_session.specs.declared.answer.Answer.TheVariants.{Appended}
 use Rattle.log_session.specs.History.{IsAfterDrops, PowerStep}
 use Rattle.log_session.specs.LineDone.{IsServed, LineDone, Runs}
 use Rattle.log_session.specs.Step.{State, Step}
+use Rattle.log_session.specs.Stored.{DropsForRoom, IsBlankOn}
 
 -- wherever power is lost, the log holds, in order, every acknowledged record that was not dropped,
 -- and what lost appends left
@@ -67,5 +68,12 @@ DropsWhereFull =
     (area : Area) (body : List ℕ) (units dropped : ℕ) (old new : Device)
     → IsReached area old → IsLawful old.banks old.bytes
     → LineDone area (Put body) (Appended units dropped) old new
-    → 0 < dropped
-    → (area.sectors - 1) * (room_on old area - longest_on old area) < cost_in old area (items_on old area)
+    → 0 < dropped → IsFull old area
+
+-- From a blank area on, lines drop items only if these cost more than all sectors but one have room
+-- for, less the longest record in each, wherever power is lost.
+abbrev pub BlankDropsForRoom : Type 0
+BlankDropsForRoom =
+    (area : Area) (lines : List Line) (answers : List Answer) (old new : Device)
+    → IsLawful old.banks old.bytes → IsRingArea old.banks area → IsBlankOn old area
+    → Follows (LineDone area) lines answers old new → DropsForRoom area lines answers old new

@@ -8,3 +8,4 @@ pub mod Plan
 pub mod Running
 pub mod Standing
 pub mod Step
+pub mod Stored

@@ -1,7 +1,7 @@
 -- The table: which answers a plain list of records allows to a line, and the state after each. It
 -- leaves open whether power is lost in a line, what a lost append leaves then, how many of the
 -- oldest records an append drops, and the units.
-use Rattle.std.specs.Prelude.{◌≡◌, ◌⊎◌, ℕ, ◌+◌, ◌-◌, ◌/◌, ◌≤◌, Bool, true, false, List, [], ◌∷◌, ◌++◌, length, sum_by}
+use Rattle.std.specs.Prelude.{◌≡◌, ◌⊎◌, ℕ, ◌+◌, ◌-◌, ◌/◌, ◌<◌, ◌≤◌, Bool, true, false, List, [], ◌∷◌, ◌++◌, length, sum_by}
 use Rattle.flash_map.specs.declared.area.Geometry.{Geometry}
 use Rattle.flash_map.specs.Units.{padded}
 use Rattle.fcb_ring.specs.Writing.{record_cost}
@@ -69,21 +69,26 @@ pub record AddsRecord (geometry : Geometry) (last : ℕ) (body : List ℕ) (unit
   pub units_are : IsCounted last → PutUnits geometry body dropped units
   pub at_most : units ≤ most_to_put geometry body
 
--- Power is off. Nothing was dropped, or the oldest records were. Then the record stands, or by
--- chance a torn one, or neither.
-pub record LosesRecord (geometry : Geometry) (body : List ℕ) (units : ℕ) (chance : Bool) (old new : State) :
-    Type 0 where
+-- all records of the first log stand, and more may follow
+abbrev pub KeepsAll : List (List ℕ) → List (List ℕ) → Type 0
+KeepsAll log after = (more : List (List ℕ)) × (after ≡ log ++ more)
+
+-- Power is off. Nothing was dropped, or the oldest records were, but not before the next sector was
+-- opened and the oldest erased. Then the record stands, or by chance a torn one, or neither.
+pub record LosesRecord (geometry : Geometry) (last : ℕ) (body : List ℕ) (units : ℕ) (chance : Bool)
+    (old new : State) : Type 0 where
   pub dropped : ℕ
   pub rest : List (List ℕ)
   pub drops : Drops geometry dropped old.log rest
   pub log : LeavesLog chance old.log rest body new.log
+  pub order : IsCounted last → units < header_units geometry + 1 → KeepsAll old.log new.log
   pub off : IsOff new
   pub at_most : units ≤ most_to_put geometry body
 
 abbrev pub Appends : Geometry → ℕ → List ℕ → Answer → State → State → Type 0
 Appends geometry last body (Appended units dropped) old new =
     AddsRecord geometry last body units dropped old new
-Appends geometry last body (Lost units chance) old new = LosesRecord geometry body units chance old new
+Appends geometry last body (Lost units chance) old new = LosesRecord geometry last body units chance old new
 Appends geometry last body answer old new = ⊥
 
 -- ---- the other lines

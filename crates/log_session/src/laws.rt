@@ -1,5 +1,5 @@
 // Laws of the table. The functions do nothing: their contracts are the laws.
-ghost use Rattle.log_session.specs.Laws.{DropsWhereFull, HoldsAcknowledged, LinesAreServed, LinesMakeRuns, LosesPower, RunsInRow, RunsReach};
+ghost use Rattle.log_session.specs.Laws.{BlankDropsForRoom, DropsWhereFull, HoldsAcknowledged, LinesAreServed, LinesMakeRuns, LosesPower, RunsInRow, RunsReach};
 
 /// Wherever power is lost, the log is the first log followed by the records that appends left,
 /// without the oldest ones, which were dropped. Each acknowledged append left its record. Each
@@ -41,4 +41,10 @@ pub fn runs_reach()
 /// but one have room for, less the longest record in each.
 pub fn lines_drop_where_full()
     ensures { DropsWhereFull }
+{}
+
+/// From a blank area on, lines drop items only where the log is full in this way: whole and cut
+/// appends, and an oldest sector in which no record checks.
+pub fn items_drop_where_full()
+    ensures { BlankDropsForRoom }
 {}

@@ -23,8 +23,8 @@ pub use answers::Answers;
 pub use bodies::Bodies;
 pub use fault::SessionFault;
 pub use laws::{
-    acknowledged_records_stand, line_by_line, lines_drop_where_full, lines_fit,
-    power_follows_losses, runs_reach, two_runs,
+    acknowledged_records_stand, items_drop_where_full, line_by_line, lines_drop_where_full,
+    lines_fit, power_follows_losses, runs_reach, two_runs,
 };
 pub use line::Line;
 pub use plan::{is_lost, units_of};

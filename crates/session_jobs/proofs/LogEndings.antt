@@ -1,10 +1,11 @@
 -- How a job on a log ends, from how its lines ended on a bench that was just loaded.
 use Rattle.std.proofs.Common.{◌≡◌, ◌⊎◌, ℕ, true, List, [], ◌∷◌, map, Option, Some, None, Err, inl, inr, refl, sym, ap, subst, ◌∙◌}
+use Rattle.flash_sim.specs.Bank.{IsLawful}
 use Rattle.flash_sim.specs.Device.{Device}
 use Rattle.flash_sim.specs.declared.flash.Bank.{Bank}
 use Rattle.flash_map.specs.declared.area.Area.{Area}
 use Rattle.flash_map.specs.Area.{geometry_of, value_limit}
-use Rattle.fcb_ring.specs.Standing.{erases_on, ring_damage}
+use Rattle.fcb_ring.specs.Standing.{IsRingArea, erases_on, ring_damage}
 use Rattle.zs_host.specs.Outside.{Outside}
 use Rattle.image_file.specs.Format.{Plain, plain_area, version_of}
 use Rattle.image_jobs.specs.Held.{held}
@@ -21,6 +22,7 @@ use Rattle.log_session.specs.declared.fault.SessionFault.TheVariants.{Damaged as
 use Rattle.log_session.specs.LineDone.{state_of}
 use Rattle.log_session.specs.Running.{Ran, RunEnds, RunStops}
 use Rattle.log_session.proofs.HistoryLemmas.{holds_acknowledged}
+use Rattle.log_session.proofs.StoredLemmas.{blank_drops_for_room}
 use Rattle.session_jobs.specs.LogInputs.{HasLines, IsLogArea}
 use Rattle.session_jobs.specs.LogJobs.{HasBegunLog, IsStop, LogJobEnds, LogJobDoes, SetsLog, damage_in, log_in, texts}
 
@@ -48,13 +50,14 @@ module _ (name script out : List ℕ) (outside : Outside) (banks : List Bank) (b
     sets = record { opens = record { has = has; area_is = has_areas; role = log.role }; gives = gives }
 
     done : (answers : List Answer) (text : List ℕ) (file : Option File)
+        → IsLawful (begun image bench).banks (begun image bench).bytes → IsRingArea (begun image bench).banks area
         → ring_damage (begun image bench) area ≡ None → Ran area (Mount ∷ lines) answers (begun image bench) bench'
         → ring_damage bench' area ≡ None
         → (bench'.is_on ≡ true → erases_on bench' area ≡ 0)
         → text ≡ texts answers
         → WritesLeft (Some out) (held areas bench') file
         → LogJobDoes name script out outside bench bench' text file
-    done answers text file sound ran undamaged rests prints writes =
+    done answers text file lawful is_area sound ran undamaged rests prints writes =
         let same : held areas bench' ≡ left image bench' =
         ap (λ (banks : List Bank). record { version = version_of areas; banks = banks; areas = map plain_area areas; bytes = bench'.bytes }) ran.whole.keeps.banks in
         record {
@@ -65,6 +68,7 @@ module _ (name script out : List ℕ) (outside : Outside) (banks : List Bank) (b
           answers = answers;
           ran = ran;
           drops = holds_acknowledged (geometry_of (begun image bench) area) bench'.spent (Mount ∷ lines) answers (state_of area (begun image bench)) (state_of area bench') ran.whole.session;
+          room = λ blank. blank_drops_for_room area (Mount ∷ lines) answers (begun image bench) bench' lawful is_area blank ran.in_turn;
           reads = log_same (version_of areas) (map plain_area areas) (begun image bench) area;
           leaves = subst (λ (i : Plain). log_in i area ≡ (state_of area bench').log) same (log_same (version_of areas) (map plain_area areas) bench' area);
           sound = sound;
@@ -99,12 +103,13 @@ module _ (name script out : List ℕ) (outside : Outside) (banks : List Bank) (b
       wanted answers ran = (inr (began (inr (answers, subst (λ (d : Device). Ran area (Mount ∷ lines) answers d bench') loaded ran))), refl)
 
       pub job_done : (answers : List Answer) (text : List ℕ) (file : Option File)
+          → IsLawful first.banks first.bytes → IsRingArea (begun image bench).banks area
           → ring_damage first area ≡ None → Ran area (Mount ∷ lines) answers first bench'
           → (ring_damage first area ≡ None → ring_damage bench' area ≡ None)
           → (bench'.is_on ≡ true → erases_on bench' area ≡ 0)
           → text ≡ texts answers
           → WritesLeft (Some out) (held areas bench') file
           → LogJobDoes name script out outside bench bench' text file
-      job_done answers text file sound ran undamaged rests prints writes =
-          done answers text file (subst (λ (d : Device). ring_damage d area ≡ None) loaded sound)
+      job_done answers text file lawful is_area sound ran undamaged rests prints writes =
+          done answers text file (subst (λ (d : Device). IsLawful d.banks d.bytes) loaded lawful) is_area (subst (λ (d : Device). ring_damage d area ≡ None) loaded sound)
           (subst (λ (d : Device). Ran area (Mount ∷ lines) answers d bench') loaded ran) (undamaged sound) rests prints writes

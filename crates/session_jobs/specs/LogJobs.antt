@@ -27,6 +27,7 @@ use Rattle.log_session.specs.declared.fault.SessionFault.TheVariants.{Damaged as
 use Rattle.log_session.specs.History.{IsAfterDrops}
 use Rattle.log_session.specs.LineDone.{state_of}
 use Rattle.log_session.specs.Running.{Ran, RunStops}
+use Rattle.log_session.specs.Stored.{DropsForRoom, IsBlankOn}
 use Rattle.session_jobs.specs.LogInputs.{HasLines, LacksLines, LacksLog}
 
 -- the texts of all answers
@@ -38,6 +39,10 @@ texts answers = flat_map text_of answers
 -- the bodies of the records in its area, the oldest first
 abbrev pub log_in : Plain → Area → List (List ℕ)
 log_in image area = log_on (flash_of image) area
+
+-- no byte of its area is written
+abbrev pub IsBlankIn : Plain → Area → Type 0
+IsBlankIn image area = IsBlankOn (flash_of image) area
 
 -- the damage that a mount of its area finds
 abbrev pub damage_in : Plain → Area → Option Damaged
@@ -62,9 +67,10 @@ pub record SetsLog (name script : List ℕ) (host : Outside) (image : Plain) (ar
 -- The text gives the answers that a plain list of records gives to the opening mount and to the
 -- lines, wherever power was lost. That list begins as the log that the image reads as. OUT is the
 -- file of the image with the bytes that are left. It reads as the last log, even if power is off.
--- After each line the log is all records so far except the first ones, which were dropped. The
--- units in the answers are those that the flash spent, and its losses are the answers that report
--- one. The flash was loaded once.
+-- After each line the log is all records so far except the first ones, which were dropped. If the
+-- area of the image is blank, items are dropped only where they cost more than all sectors but one
+-- have room for, less the longest record in each. The units in the answers are those that the flash
+-- spent, and its losses are the answers that report one. The flash was loaded once.
 pub record LogJobDoes (name script out : List ℕ) (host : Outside) (old new : Device) (text : List ℕ)
     (file : Option File) : Type 0 where
   pub image : Plain
@@ -76,6 +82,7 @@ pub record LogJobDoes (name script out : List ℕ) (host : Outside) (old new : D
   pub drops :
       IsAfterDrops (geometry_of (begun image old) area) new.spent (Mount ∷ lines) answers
       (state_of area (begun image old)) (state_of area new)
+  pub room : IsBlankIn image area → DropsForRoom area (Mount ∷ lines) answers (begun image old) new
   pub reads : log_in image area ≡ (state_of area (begun image old)).log
   pub leaves : log_in (left image new) area ≡ (state_of area new).log
   -- no damage was found, and none is left; with power on at the end, a mount has nothing to do

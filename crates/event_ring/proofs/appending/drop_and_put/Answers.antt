@@ -48,7 +48,7 @@ returns-in-Err-PowerLost-clause-ends g c =
 pub returns-in_default-clause-ends : goal.returns-in_default-clause-ends
 returns-in_default-clause-ends g c = (
   c.requires.short,
-  drop-lost (g.F.Flash.device c.args.flash.now) c.args.ring.now c.args.body.now (g.met.F.Flash.is_lawful c.args.flash.now) c.requires.mounted c.requires.no_room c.requires.left
+  drop-lost (g.F.Flash.device c.args.flash.now) c.args.ring.now c.args.body.now (g.met.F.Flash.is_lawful c.args.flash.now) c.requires.mounted c.requires.no_room c.requires.left c.requires.short
       (g.F.Flash.device c.drop_oldest.new.flash) c.drop_oldest.new.ring c.in_default.ensures.stopped,
 )
 

@@ -61,7 +61,8 @@ returns g c = λ outside name script has gives.
     let bench' = g.B.Flash.device c.run-ran.new.bench in
     let image = c.args.opened.image in (
       job_done name script c.args.out.now outside image.banks.items (contents image.bytes.items) image.map c.args.opened.area c.requires.area c.args.lines.now bench bench' has gives first c.in_ok-load.ensures.ok
-          c.in-Ok.answers c.in-Ok-all_texts.text.items (file_of c.in-Ok-file_left.file) c.in-Ok.ensures.ends.0 c.in-Ok.ensures.ends.1 c.in-Ok.ensures.undamaged c.in-Ok.ensures.rests
+          c.in-Ok.answers c.in-Ok-all_texts.text.items (file_of c.in-Ok-file_left.file) (g.met.B.Flash.is_lawful c.load.new.self)
+          (is_ring_area c.args.opened.image.map c.args.opened.area (begun (plain c.args.opened.image) bench) c.requires.image c.requires.area) c.in-Ok.ensures.ends.0 c.in-Ok.ensures.ends.1 c.in-Ok.ensures.undamaged c.in-Ok.ensures.rests
           (c.in-Ok-all_texts.ensures ∙ ap texts c.as_slice.ensures) c.in-Ok-file_left.ensures,
       refl,
     )

@@ -22,7 +22,7 @@ use Rattle.log_session.specs.declared.answer.Answer.{Answer}
 use Rattle.log_session.specs.declared.answer.Answer.TheVariants.{Done, Appended, Log, Lost, Off}
 use Rattle.log_session.specs.Laws.{BlankDropsForRoom}
 use Rattle.log_session.specs.LineDone.{AppendsOn, LineDone, SameButPlan, ShowsChance}
-use Rattle.log_session.specs.Stored.{AddsItems, DropsForRoom, HoldsItems, Stored, StoredStep}
+use Rattle.log_session.specs.Stored.{AddsItems, HoldsItems, Stored, StoredStep}
 use Rattle.log_session.proofs.LineLemmas.{no_keeping, no_dropping}
 use Rattle.log_session.proofs.ReachLemmas.{off_put}
 

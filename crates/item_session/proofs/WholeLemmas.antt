@@ -1,6 +1,6 @@
 -- The whole history is kept while all sets and deletes fit a sector.
-use Rattle.std.proofs.Common.{◌≡◌, inl, inr, ℕ, ◌+◌, ◌*◌, ◌<◌, ◌≤◌, Bool, true, false, cond, eqb, leb, List, [], ◌∷◌, ◌++◌, length, refl, sym, ap, subst, ◌∙◌, arith}
-use Rattle.std.proofs.lemmas.Bool.{cases_lt, le-leb}
+use Rattle.std.proofs.Common.{◌≡◌, ◌⊎◌, inl, inr, ℕ, ◌+◌, ◌*◌, ◌<◌, ◌≤◌, Bool, true, false, cond, eqb, leb, List, [], ◌∷◌, ◌++◌, length, append-nil, refl, sym, ap, subst, ◌∙◌, arith}
+use Rattle.std.proofs.lemmas.Bool.{cases_lt, false≢true, le-leb}
 use Rattle.flash_sim.specs.Bank.{bank_at}
 use Rattle.flash_sim.specs.Device.{Device}
 use Rattle.flash_sim.specs.declared.flash.Bank.{Bank}
@@ -23,7 +23,7 @@ use Rattle.item_session.specs.Fits.{FitsOpen}
 use Rattle.item_session.specs.History.{Adds, IsKept, ReportsHistory}
 use Rattle.item_session.specs.Laws.{HistoryStaysWhole}
 use Rattle.item_session.specs.LineDone.{LineDone}
-use Rattle.item_session.specs.Whole.{Tracked, WholeStep, cap_on, free_on, line_cost, spare_on}
+use Rattle.item_session.specs.Whole.{Tracked, WholeStep, cap_on, cost_after, free_on, line_cost, spare_on}
 use Rattle.item_session.proofs.FitLemmas.{forgets_for_room}
 use Rattle.item_session.proofs.HistoryLemmas.{GoesOn, goes_on, kept_by}
 use Rattle.item_session.proofs.LineLemmas.{no_dropping, no_keeping}
@@ -106,6 +106,42 @@ module _ (format_of : Geometry → SectorFormat) (area : Area) (old new : Device
     after (Cut units) answer is few = let before = as_before in moved (record old { plan = new.plan }) (is.plans (no_keeping units)) (record { rests = before.rests; room = before.room })
     after Uncut answer is few = let before = as_before in moved (record old { plan = new.plan }) (is.plans no_dropping) (record { rests = before.rests; room = before.room })
 
+-- ---- lines that were answered `off`
+
+-- the answer is `off`, or what the line costs is counted
+counted_or_off : (cost : ℕ → ℕ) (line : Line) (answer : Answer) → (answer ≡ answers.Off) ⊎ (cost_after cost line answer ≡ line_cost cost line)
+counted_or_off cost line answers.Off = inl refl
+counted_or_off cost line (answers.Done units) = inr refl
+counted_or_off cost line (answers.Value value) = inr refl
+counted_or_off cost line answers.Absent = inr refl
+counted_or_off cost line answers.Deleted = inr refl
+counted_or_off cost line answers.Gone = inr refl
+counted_or_off cost line (answers.Space live stale free) = inr refl
+counted_or_off cost line (answers.NoSpace units need live) = inr refl
+counted_or_off cost line (answers.Lost units) = inr refl
+
+-- they add nothing to the history
+off_adds : (last : ℕ) (line : Line) (added : List (ℕ × List ℕ)) → Adds last line answers.Off added → added ≡ []
+off_adds last (Set id value) added is = is
+off_adds last (Delete id) added is = is
+off_adds last (Get id) added is = is
+off_adds last (Older id n) added is = is
+off_adds last Space added is = is
+off_adds last Mount added is = is
+off_adds last (Cut units) added is = is
+off_adds last Uncut added is = is
+
+-- they change nothing
+off_changes : (format_of : Geometry → SectorFormat) (area : Area) (old new : Device) (line : Line) → LineDone format_of area line answers.Off old new → new ≡ old
+off_changes format_of area old new (Set id value) done = let step = done.step new.spent (omega arith) in let touches = done.touches refl in touches.off step.1
+off_changes format_of area old new (Delete id) done = let step = done.step new.spent (omega arith) in let touches = done.touches refl in touches.off step.1
+off_changes format_of area old new (Get id) done = done.reports refl
+off_changes format_of area old new (Older id n) done = done.reports refl
+off_changes format_of area old new Space done = done.reports refl
+off_changes format_of area old new Mount done = let step = done.step new.spent (omega arith) in absurd (false≢true step.0)
+off_changes format_of area old new (Cut units) done = let step = done.step new.spent (omega arith) in absurd (false≢true step.0)
+off_changes format_of area old new Uncut done = let step = done.step new.spent (omega arith) in absurd (false≢true step.0)
+
 -- ---- one line
 
 abbrev WholeSoFar : (Geometry → SectorFormat) → Area → Device → List (ℕ × List ℕ) → ℕ → Type 0
@@ -116,38 +152,70 @@ record Goes (format_of : Geometry → SectorFormat) (area : Area) (line : Line) 
   pub adds : Adds new.spent line answer added
   pub reports : ReportsHistory line answer (record { state = state_of format_of area old; all = all })
   pub keeps : IsKept (record { state = state_of format_of area new; all = all ++ added })
-  pub whole : WholeSoFar format_of area new (all ++ added) (costs + line_cost (format_on format_of old area).cost line)
+  pub whole : WholeSoFar format_of area new (all ++ added) (costs + cost_after (format_on format_of old area).cost line answer)
 
 module _ (format_of : Geometry → SectorFormat) (area : Area) (line : Line) (answer : Answer) (old new : Device) (all : List (ℕ × List ℕ)) (costs : ℕ) (law : IsSectorFormat (format_on format_of old area))
     (kept : IsKept (record { state = state_of format_of area old; all = all })) (so_far : WholeSoFar format_of area old all costs) (is : LineDone format_of area line answer old new) where
   reported : GoesOn new.spent line answer all (state_of format_of area old) (state_of format_of area new)
   reported = goes_on new.spent all (state_of format_of area old) kept (rules_on format_of old area) line answer (state_of format_of area new) (is.step new.spent (omega arith))
 
-  -- more than a sector has
-  goes_past : cap_on format_of old area < costs + line_cost (format_on format_of old area).cost line → Goes format_of area line answer old new all costs
-  goes_past many =
-      let keeps = is.keeps in
-      let cap = same_cap format_of area old new keeps.banks in
-      record { added = reported.added; adds = reported.adds; reports = reported.reports; keeps = reported.keeps; whole = λ few. absurd (omega (arith, many, cap, few)) }
+  -- nothing changed, and nothing was added
+  still : WholeSoFar format_of area old (all ++ []) (costs + 0)
+  still = λ few. let now = so_far (omega (arith, few)) in let room = now.room in record { list = now.list ∙ sym (append-nil all); rests = now.rests; room = omega (arith, room) }
 
-  goes_whole : costs + line_cost (format_on format_of old area).cost line ≤ cap_on format_of old area → Goes format_of area line answer old new all costs
-  goes_whole few =
-      let now = so_far (omega (arith, few)) in
-      let forgets = forgets_for_room format_of area line answer old new law is (line_fits format_of area old new law all costs now line few) in
-      let room = after format_of area old new law all costs now line answer is few in
-      let list : list_on format_of new area ≡ all ++ forgets.added = forgets.list ∙ ap (λ (pairs : List (ℕ × List ℕ)). pairs ++ forgets.added) now.list in
+  goes_off : answer ≡ answers.Off → Goes format_of area line answer old new all costs
+  goes_off off =
+      let done = subst (λ (a : Answer). LineDone format_of area line a old new) off is in
+      let same = off_changes format_of area old new line done in
+      let none = off_adds new.spent line reported.added (subst (λ (a : Answer). Adds new.spent line a reported.added) off reported.adds) in
+      let free = ap (λ (a : Answer). cost_after (format_on format_of old area).cost line a) off in
       record {
-        added = forgets.added;
-        adds = forgets.adds;
+        added = reported.added;
+        adds = reported.adds;
         reports = reported.reports;
-        keeps = kept_by (all ++ forgets.added) (state_of format_of area new) (keeps_all (all ++ forgets.added) (list_on format_of new area) list);
-        whole = λ within. record { list = list; rests = room.rests; room = room.room };
+        keeps = reported.keeps;
+        whole = subst (λ (n : ℕ). WholeSoFar format_of area new (all ++ reported.added) (costs + n)) (sym free)
+            (subst (λ (pairs : List (ℕ × List ℕ)). WholeSoFar format_of area new (all ++ pairs) (costs + 0)) (sym none)
+            (subst (λ (d : Device). WholeSoFar format_of area d (all ++ []) (costs + 0)) (sym same) still));
       }
 
+  module _ (counts : cost_after (format_on format_of old area).cost line answer ≡ line_cost (format_on format_of old area).cost line) where
+    -- it is counted with what the line costs
+    as_counted : (pairs : List (ℕ × List ℕ)) → WholeSoFar format_of area new pairs (costs + line_cost (format_on format_of old area).cost line)
+        → WholeSoFar format_of area new pairs (costs + cost_after (format_on format_of old area).cost line answer)
+    as_counted pairs whole = subst (λ (n : ℕ). WholeSoFar format_of area new pairs (costs + n)) (sym counts) whole
+
+    -- more than a sector has
+    goes_past : cap_on format_of old area < costs + line_cost (format_on format_of old area).cost line → Goes format_of area line answer old new all costs
+    goes_past many =
+        let keeps = is.keeps in
+        let cap = same_cap format_of area old new keeps.banks in
+        record { added = reported.added; adds = reported.adds; reports = reported.reports; keeps = reported.keeps; whole = as_counted (all ++ reported.added) (λ few. absurd (omega (arith, many, cap, few))) }
+
+    goes_whole : costs + line_cost (format_on format_of old area).cost line ≤ cap_on format_of old area → Goes format_of area line answer old new all costs
+    goes_whole few =
+        let now = so_far (omega (arith, few)) in
+        let forgets = forgets_for_room format_of area line answer old new law is (line_fits format_of area old new law all costs now line few) in
+        let room = after format_of area old new law all costs now line answer is few in
+        let list : list_on format_of new area ≡ all ++ forgets.added = forgets.list ∙ ap (λ (pairs : List (ℕ × List ℕ)). pairs ++ forgets.added) now.list in
+        record {
+          added = forgets.added;
+          adds = forgets.adds;
+          reports = reported.reports;
+          keeps = kept_by (all ++ forgets.added) (state_of format_of area new) (keeps_all (all ++ forgets.added) (list_on format_of new area) list);
+          whole = as_counted (all ++ forgets.added) (λ within. record { list = list; rests = room.rests; room = room.room });
+        }
+
+    goes_counted : Goes format_of area line answer old new all costs
+    goes_counted = elim (cases_lt (cap_on format_of old area) (costs + line_cost (format_on format_of old area).cost line)) [
+      | inl many ↦ goes_past many
+      | inr few ↦ goes_whole few
+    ]
+
   goes : Goes format_of area line answer old new all costs
-  goes = elim (cases_lt (cap_on format_of old area) (costs + line_cost (format_on format_of old area).cost line)) [
-    | inl many ↦ goes_past many
-    | inr few ↦ goes_whole few
+  goes = elim (counted_or_off (format_on format_of old area).cost line answer) [
+    | inl off ↦ goes_off off
+    | inr counts ↦ goes_counted counts
   ]
 
   -- what is kept no more there never was
@@ -174,12 +242,12 @@ continues format_of area (line ∷ lines) (answer ∷ answers) old new all costs
     let mid : Device = runs.0 in
     let head = goes format_of area line answer old mid all costs law kept so_far runs.1 in
     let there = from_geometry (λ (u : Geometry). IsSectorFormat (format_of u)) old mid area runs.1.keeps.banks law in
-    let tail = continues format_of area lines answers mid new (all ++ head.added) (costs + line_cost (format_on format_of old area).cost line) there head.keeps head.whole runs.2 in
+    let tail = continues format_of area lines answers mid new (all ++ head.added) (costs + cost_after (format_on format_of old area).cost line answer) there head.keeps head.whole runs.2 in
     record {
       all = tail.all;
       costs = tail.costs;
       runs = (
-        record { device = mid; all = all ++ head.added; costs = costs + line_cost (format_on format_of old area).cost line },
+        record { device = mid; all = all ++ head.added; costs = costs + cost_after (format_on format_of old area).cost line answer },
         record {
           done = runs.1;
           records = record { added = head.added; adds = head.adds; all = refl; reports = head.reports; keeps = head.keeps };

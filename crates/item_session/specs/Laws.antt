@@ -61,7 +61,7 @@ ForgetsForRoom =
     → ForgetsNone format_of area line answer old new
 
 -- From a fresh area on, the whole history of each id is kept as long as the sets and deletes of the
--- lines, whatever they answered, cost at most what a sector has. This holds wherever power is lost.
+-- lines, but those answered `off`, cost at most what a sector has. This holds wherever power is lost.
 abbrev pub HistoryStaysWhole : Type 0
 HistoryStaysWhole =
     (format_of : Geometry → SectorFormat) (area : Area) (lines : List Line) (answers : List Answer)

@@ -19,11 +19,17 @@ use Rattle.item_session.specs.Device.{RestsOn, state_of}
 use Rattle.item_session.specs.History.{Records}
 use Rattle.item_session.specs.LineDone.{LineDone}
 
--- what a set or a delete costs, whatever it answers
+-- what a set or a delete costs
 abbrev pub line_cost : (ℕ → ℕ) → Line → ℕ
 line_cost cost (Set id value) = cost (length value)
 line_cost cost (Delete id) = cost 0
 line_cost cost line = 0
+
+-- what a line adds to the costs: nothing if it was answered `off`, and otherwise what it costs, whether
+-- it was carried out, lost or refused
+abbrev pub cost_after : (ℕ → ℕ) → Line → Answer → ℕ
+cost_after cost line answers.Off = 0
+cost_after cost line answer = line_cost cost line
 
 -- what is free in the open sector, in bytes
 abbrev pub free_on : (Geometry → SectorFormat) → Device → Area → ℕ
@@ -48,15 +54,15 @@ pub record IsFresh (format_of : Geometry → SectorFormat) (d : Device) (area : 
   pub room : cap_on format_of d area + spare_on format_of d area ≤ free_on format_of d area
 
 -- a bench, all sets and deletes that were carried out so far, and what the lines so far cost: each
--- set and delete, whatever it answered
+-- set and delete that was carried out, lost or refused, and none that was answered `off`
 pub record Tracked : Type 0 where
   pub device : Device
   pub all : List (ℕ × List ℕ)
   pub costs : ℕ
 
--- The history goes on. All of it is kept as long as the sets and deletes of the lines so far,
--- whatever they answered, cost at most what a sector has. Until then `gone` reports that there
--- never was such a version.
+-- The history goes on. All of it is kept as long as the sets and deletes of the lines so far that
+-- were not answered `off` cost at most what a sector has. Until then `gone` reports that there never
+-- was such a version.
 pub record WholeStep (format_of : Geometry → SectorFormat) (area : Area) (line : Line) (answer : Answer)
     (old new : Tracked)
     : Type 0 where
@@ -65,7 +71,8 @@ pub record WholeStep (format_of : Geometry → SectorFormat) (area : Area) (line
       Records new.device.spent line answer
       (record { state = state_of format_of area old.device; all = old.all })
       (record { state = state_of format_of area new.device; all = new.all })
-  pub costs : new.costs ≡ old.costs + line_cost (format_on format_of old.device area).cost line
+  pub costs :
+      new.costs ≡ old.costs + cost_after (format_on format_of old.device area).cost line answer
   pub whole : new.costs ≤ cap_on format_of new.device area → list_on format_of new.device area ≡ new.all
   pub gone :
       (id n : ℕ) → line ≡ Older id n → answer ≡ answers.Gone

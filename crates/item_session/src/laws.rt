@@ -32,8 +32,8 @@ pub fn versions_go_for_room()
 {}
 
 /// From a fresh area on, the whole history of each id is kept as long as the sets and deletes of
-/// the lines, whatever they answered, cost at most the bytes that a sector has. This holds wherever
-/// power is lost.
+/// the lines, but those answered `off`, cost at most the bytes that a sector has. This holds
+/// wherever power is lost.
 pub fn history_stays_whole()
     ensures { HistoryStaysWhole }
 {}

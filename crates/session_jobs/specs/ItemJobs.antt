@@ -88,7 +88,7 @@ pub record SetsItems (name script : List ℕ) (host : Outside) (image : Plain) (
 -- the image with the bytes that are left. It reads as the last list, and so as the last items, even
 -- if power is off. After each line the newest versions of each id are kept, at least one if the id
 -- has a value. From a blank area on, the whole history is kept as long as the sets and deletes of
--- the lines so far, whatever they answered, cost at most what a sector has; until then `gone`
+-- the lines so far, but those answered `off`, cost at most what a sector has; until then `gone`
 -- reports that there never was such a version. The units in the answers are those that the flash
 -- spent, and its losses are the answers that report one. The flash was loaded once.
 pub record ItemJobDoes (name script out : List ℕ) (host : Outside) (old new : Device) (text : List ℕ)

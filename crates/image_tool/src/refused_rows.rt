@@ -7,8 +7,7 @@ use image_jobs::USAGE;
 
 /// Bytes that are put into the file of a blank image, each from an offset on; how many bytes of the
 /// file stay; a command, its status, and what it prints.
-#[derive(Drop)]
-pub(crate) struct Refused<'a> {
+pub(crate) struct Refused {
     pub(crate) shows: &'static str,
     pub(crate) spec: &'static str,
     pub(crate) script: &'static str,
@@ -16,13 +15,13 @@ pub(crate) struct Refused<'a> {
     pub(crate) size: usize,
     pub(crate) command: &'static str,
     pub(crate) status: u8,
-    pub(crate) printed: &'a str,
+    pub(crate) printed: &'static str,
 }
 
 // An entry whose data passes the fence.
 const PASSES_FENCE: &[(usize, &[u8])] = &[(532, b"\x01\0\0\0\xEC\x01\xFF\x49")];
 
-pub(crate) static REFUSED: [Refused<'static>; 42] = [
+pub(crate) static REFUSED: [Refused; 42] = [
     Refused {
         shows: "an entry of NVS whose data passes the fence",
         spec: NVS,

@@ -53,7 +53,7 @@ pub(crate) struct Row {
     pub(crate) shows: &'static str,
     pub(crate) spec: &'static str,
     pub(crate) script: &'static str,
-    pub(crate) commands: &'static [&'static str],
+    pub(crate) commands: &'static str,
     pub(crate) printed: &'static str,
     pub(crate) same: bool,
     pub(crate) left: &'static [(usize, &'static [u8])],
@@ -80,11 +80,8 @@ const GENERATED: &str =
     eaebecedeeeff0f1f2f3f4f5f6f7f8f9fa\",\"app/k7\":\"eeeff0f1f2f3f4f5f6f7f8f9fafbfcfdfeff00\",\"a\
     pp/k8\":\"dbdcdddedfe0e1e2\",\"app/k9\":\"d7d8d9dadbdcdddedfe0e1e2e3e4\"}}";
 
-// Sets of 512 names.
-const MANY_SETS: &str = "(set n0 01 to n511 01)\n";
-
 // A text, and what it stands for so many times.
-static REPEATED: [(&str, &str, usize); 24] = [
+static REPEATED: [(&str, &str, usize); 7] = [
     ("(cut 2, mount)*255\n", "cut 2\nmount\n", 255),
     ("(ok 0, lost 2)*255\n", "ok 0\nlost 2\n", 255),
     ("(ok 9)*112\n", "ok 9\n", 112),
@@ -92,46 +89,46 @@ static REPEATED: [(&str, &str, usize); 24] = [
     ("(ok 9)*60\n", "ok 9\n", 60),
     ("(ok 2)*15\n", "ok 2\n", 15),
     ("(generated)", GENERATED, 1),
-    ("11*100 ", "11", 100),
-    ("11*253 ", "11", 253),
-    ("11*256 ", "11", 256),
-    ("11*257 ", "11", 257),
-    ("11*2048 ", "11", 2048),
-    ("11*2049 ", "11", 2049),
-    ("22*100 ", "22", 100),
-    ("22*160 ", "22", 160),
-    ("22*180 ", "22", 180),
-    ("22*256 ", "22", 256),
-    ("33*100 ", "33", 100),
-    ("44*100 ", "44", 100),
-    ("55*100 ", "55", 100),
-    ("66*100 ", "66", 100),
-    ("77*100 ", "77", 100),
-    ("88*100 ", "88", 100),
-    ("99*100 ", "99", 100),
 ];
 
-/// The text, with each of these words replaced by what it stands for so many times.
-pub(crate) fn with_each(
-    alloc: Global,
-    text: &str,
-    words: &[(&str, &str, usize)],
-) -> Result<String, AllocError> {
+// Sets of so many names.
+fn many_sets(alloc: Global, count: u32) -> Result<String, AllocError> {
+    let mut all = String::new(alloc);
+    for k in 0..count {
+        let line = format!(in alloc; "set n{k} 01\n")?;
+        all.push_str(line.as_str())?;
+    }
+    Ok(all)
+}
+
+// The text with each `BYTE*COUNT ` written out.
+fn with_values(alloc: Global, text: &str) -> Result<String, AllocError> {
     let mut all = String::from_str(alloc, text)?;
-    for (word, unit, count) in words {
-        if all.contains(word) {
-            let long = unit.repeat(alloc, *count)?;
-            all = all.replace(alloc, word, long.as_str())?;
+    for byte in ["11", "22", "33", "44", "55", "66", "77", "88", "99"] {
+        for count in [100, 160, 180, 253, 256, 257, 2048, 2049] {
+            let short = format!(in alloc; "{byte}*{count} ")?;
+            if all.contains(short.as_str()) {
+                let digits = byte.repeat(alloc, count)?;
+                all = all.replace(alloc, short.as_str(), digits.as_str())?;
+            }
         }
     }
     Ok(all)
 }
 
-fn many_sets(alloc: Global) -> Result<String, AllocError> {
-    let mut all = String::new(alloc);
-    for k in 0..512u32 {
-        let line = format!(in alloc; "set n{k} 01\n")?;
-        all.push_str(line.as_str())?;
+// The text with each of the texts that are repeated written out.
+fn with_repeated(alloc: Global, text: &str) -> Result<String, AllocError> {
+    let mut all = String::from_str(alloc, text)?;
+    for (short, unit, count) in &REPEATED {
+        if all.contains(short) {
+            let long = unit.repeat(alloc, *count)?;
+            all = all.replace(alloc, short, long.as_str())?;
+        }
+    }
+    let short = "(set n0 01 to n511 01)\n";
+    if all.contains(short) {
+        let names = many_sets(alloc, 512)?;
+        all = all.replace(alloc, short, names.as_str())?;
     }
     Ok(all)
 }
@@ -139,12 +136,11 @@ fn many_sets(alloc: Global) -> Result<String, AllocError> {
 /// The text, with what stands for longer texts written out: `BYTE*COUNT ` for a value, and lines
 /// and answers that are repeated.
 pub(crate) fn spelled(alloc: Global, text: &str) -> Result<String, AllocError> {
-    let all = with_each(alloc, text, &REPEATED)?;
-    if all.contains(MANY_SETS) {
-        let sets = many_sets(alloc)?;
-        return all.replace(alloc, MANY_SETS, sets.as_str());
+    if text.contains('*') || text.contains('(') {
+        let repeated = with_repeated(alloc, text)?;
+        return with_values(alloc, repeated.as_str());
     }
-    Ok(all)
+    String::from_str(alloc, text)
 }
 
 // ---- long scripts
@@ -189,37 +185,31 @@ pub(crate) const LONG_REPORTED: &str =
     k37\":\"9292929292929292929292\",\"wifi/k4\":\"888888888888888888888888888888888888\",\"wifi/k\
     7\":\"93939393939393939393939393939393939393\"}}\n";
 
-// A set in which power is lost, a mount and a look at the name.
-const LOST_SET: &str = "cut UNITS\nset NAME VALUE\nmount\nget NAME\n";
-
-// The kth line, made with this seed: a set of one of 40 names under three subtrees. Power is lost in
-// one of each hundred.
-fn long_line(alloc: Global, k: u32, seed: u32) -> Result<String, AllocError> {
-    let number = (seed >> 8) % 40;
-    let subtree = ["bt", "wifi", "app"][(number % 3) as usize];
-    let name = format!(in alloc; "{subtree}/k{number}")?;
-    let digits = format!(in alloc; "{:02}", k % 100)?;
-    let units = ["0", "1", "2"][(k / 100 % 3) as usize];
-    let (line, len) = if k % 100 == 50 {
-        (LOST_SET, 32)
-    } else {
-        ("set NAME VALUE\n", 1 + (seed >> 16) % 32)
-    };
-    let words = [
-        ("UNITS", units, 1),
-        ("NAME", name.as_str(), 1),
-        ("VALUE", digits.as_str(), len as usize),
-    ];
-    with_each(alloc, line, &words)
+// A value of so many bytes, each of them two digits of the number.
+fn digits_of(alloc: Global, number: u32, len: u32) -> Result<String, AllocError> {
+    let digits = format!(in alloc; "{}{}", number / 10 % 10, number % 10)?;
+    digits.repeat(alloc, len as usize)
 }
 
-/// 500 sets, with five losses.
+/// 500 sets of 40 names under three subtrees. Power is lost in one of each hundred; then come a
+/// mount and a look at the name.
 pub(crate) fn long_script(alloc: Global) -> Result<String, AllocError> {
     let mut script = String::new(alloc);
     let mut seed = 500u32;
     for k in 0..500u32 {
         seed = seed.wrapping_mul(1_664_525).wrapping_add(1_013_904_223);
-        let line = long_line(alloc, k, seed)?;
+        let number = (seed >> 8) % 40;
+        let subtree = ["bt", "wifi", "app"][(number % 3) as usize];
+        let name = format!(in alloc; "{subtree}/k{number}")?;
+        let is_cut = k % 100 == 50;
+        let len = if is_cut { 32 } else { 1 + (seed >> 16) % 32 };
+        let value = digits_of(alloc, k, len)?;
+        let line = if is_cut {
+            let units = k / 100 % 3;
+            format!(in alloc; "cut {units}\nset {name} {value}\nmount\nget {name}\n")?
+        } else {
+            format!(in alloc; "set {name} {value}\n")?
+        };
         script.push_str(line.as_str())?;
     }
     Ok(script)

@@ -1,13 +1,24 @@
 -- Handlers put into the pool one after another, and what the process then ends with.
-use Rattle.std.proofs.Common.{◌≡◌, ℕ, List, [], ◌∷◌, ◌++◌, map, Result, Ok, Err, inl, ap, subst, ◌∙◌}
-use Rattle.std.specs.Prelude.{IfOk}
+use Rattle.std.proofs.Common.{◌≡◌, ℕ, List, [], ◌∷◌, ◌++◌, map, Result, Ok, Err, inr, refl, sym, ap, subst, ◌∙◌}
+use Rattle.std.proofs.lemmas.Iterator.{IsCollectResult, YieldsList, items_from_collect}
+use Rattle.std.proofs.lemmas.Iterator.Adapters.{YieldsList-from_skip, YieldsList-from_vec}
+use Rattle.std.specs.Global.{Global, Vec}
+use Rattle.std.specs.Iterator.Adapters.{skip_count, skip_source, skip_steps}
+use Rattle.std.specs.Prelude.{drop}
+use Rattle.std.specs.Vec.{vec_items}
+use Rattle.std.specs.Vec.Iter.{into_iter_items, into_iter_steps}
+use Rattle.std.specs.declared.iter.Skip.{Skip}
+use Rattle.std.specs.declared.string.String.{String}
+use Rattle.std.specs.declared.vec.IntoIter.{IntoIter}
 use Rattle.std.specs.declared.alloc.AllocError.{AllocError}
 use Rattle.flash_sim.specs.Device.{Device}
 use Rattle.zs_host.specs.Outside.{Outside}
 use Rattle.handlers.specs.declared.handler.HandlerKind.{HandlerKind}
 use Rattle.handlers.specs.Registry.{Registered}
+use Rattle.image_jobs.specs.Stages.{stage}
 use Rattle.image_tool.specs.declared.status.Status.{Status}
-use Rattle.image_tool.specs.Exits.{Exits, ExitsOr, ProcessExits, no_flash, program_kinds, real_host}
+use Rattle.image_tool.specs.declared.status.Status.TheVariants as status
+use Rattle.image_tool.specs.Exits.{Exits, ExitsOr, Given, GivenExits, ProcessExits, no_flash, program_kinds, real_host}
 use Rattle.image_tool.specs.Tool.{ToolEnds, any_stores, exit_code}
 use Rattle.image_tool.specs.Worlds.{world}
 
@@ -37,8 +48,27 @@ exits {C} row {rows} {kinds} {left} words host host' old new code are none ends 
       (subst (λ (rs : List C). ToolEnds any_stores kinds words (world host old (map row rs)) (world host' new left) ends.0) none ends.2),
 )
 
-pub words_exit : (result : Result ℕ AllocError) (words : List (List ℕ)) (host host' : Outside) (old new : Device) → host ≡ real_host → old ≡ no_flash
-    → ExitsOr words host host' old new result → IfOk result ProcessExits
-words_exit (Ok code) words host host' old new is is_new ends =
-    inl (words, host', new, subst (λ (d : Device). Exits words real_host host' d new code) is_new (subst (λ (h : Outside). Exits words h host' old new code) is ends))
-words_exit (Err e) words host host' old new is is_new ends = tt
+-- the words that are collected are all but the first
+pub words_behind : (given : IntoIter (String Global) Global) (skipped : Skip (IntoIter (String Global) Global)) (words : Vec (String Global)) → skip_source skipped ≡ given → skip_count skipped ≡ 1
+    → IsCollectResult {E = AllocError} (skip_steps into_iter_steps) skipped (Ok words) → vec_items words ≡ drop 1 (into_iter_items given)
+words_behind given skipped words source count ran =
+    let all = YieldsList-from_vec (into_iter_items given) refl given.rest.ok.0 in
+    let there = subst (λ (s : IntoIter (String Global) Global). YieldsList into_iter_steps (λ x. x) s (into_iter_items given)) (sym source) all in
+    items_from_collect {E = AllocError} (Ok words) ran (YieldsList-from_skip 1 there count)
+
+-- memory ran out before the words were read
+pub unread : (words : List (List ℕ)) (host host' : Outside) (old new : Device) (code : ℕ) → code ≡ exit_code status.NoMemory → (host' ≡ host) × (new ≡ old) → Exits words host host' old new code
+unread words host host' old new code is same = (
+  status.NoMemory,
+  [],
+  is,
+  inr (inr (refl, same.0, ap (λ (d : Device). stage d []) same.1)),
+)
+
+-- on the real host and an empty bench
+pub process_exits : (given : Given) (host host' : Outside) (old new : Device) (code : ℕ) → host ≡ real_host → old ≡ no_flash → GivenExits given host host' old new code → ProcessExits given code
+process_exits given host host' old new code is is_new ends = (
+  host',
+  new,
+  subst (λ (d : Device). GivenExits given real_host host' d new code) is_new (subst (λ (h : Outside). GivenExits given h host' old new code) is ends),
+)

@@ -1,6 +1,14 @@
 -- The exit code of the process.
-use Rattle.std.specs.Prelude.{◌≡◌, ◌⊎◌, ℕ, true, None, Result, Ok, Err, List, [], ◌∷◌}
+use Rattle.std.specs.Prelude.{◌≡◌, ℕ, true, None, Result, Ok, Err, List, [], ◌∷◌, drop, map}
+use Rattle.std.specs.Global.{Global}
+use Rattle.std.specs.IoError.{error_kind}
+use Rattle.std.specs.String.{string_bytes}
+use Rattle.std.specs.Vec.Iter.{into_iter_items}
 use Rattle.std.specs.declared.alloc.AllocError.{AllocError}
+use Rattle.std.specs.declared.io.Error.{Error}
+use Rattle.std.specs.declared.io.ErrorKind.TheVariants.{InvalidData}
+use Rattle.std.specs.declared.string.String.{String}
+use Rattle.std.specs.declared.vec.IntoIter.{IntoIter}
 use Rattle.flash_sim.specs.Device.{Device, Never}
 use Rattle.zs_host.specs.Outside.{Outside}
 use Rattle.handlers.specs.declared.handler.HandlerKind.{HandlerKind}
@@ -45,18 +53,31 @@ no_flash =
       plan = Never;
     }
 
--- The words of the process ended so, on a flash with no bank.
-abbrev pub WordsExit : ℕ → Type 0
-WordsExit code =
-    (words : List (List ℕ)) × (host' : Outside) × (new : Device)
-    × Exits words real_host host' no_flash new code
+-- What the system gave as arguments, or why it gave none.
+abbrev pub Given : Type 0
+Given = Result (IntoIter (String Global) Global) Error
 
--- the words of the process are no text, and so no command
-abbrev pub TextExit : ℕ → Type 0
-TextExit code =
-    (host' : Outside) × (ends : Status) × (code ≡ exit_code ends) × NoCommandEnds real_host host' ends
+-- the words behind the first one, which is the program's name
+abbrev pub words_in : IntoIter (String Global) Global → List (List ℕ)
+words_in given = map string_bytes (drop 1 (into_iter_items given))
 
--- The exit code of the process: that of its words, or they are no text, or memory ran out before
--- they were read.
-abbrev pub ProcessExits : ℕ → Type 0
-ProcessExits code = WordsExit code ⊎ TextExit code ⊎ (code ≡ exit_code status.NoMemory)
+-- The arguments are no text, and so no command.
+abbrev pub TextExits : Outside → Outside → ℕ → Type 0
+TextExits host host' code = (ends : Status) × (code ≡ exit_code ends) × NoCommandEnds host host' ends
+
+-- The system gave no arguments: they are no text, or memory ran out before they were read.
+pub record NoneExits (error : Error) (host host' : Outside) (old new : Device) (code : ℕ) : Type 0 where
+  pub text : error_kind error ≡ InvalidData → TextExits host host' code
+  pub memory : ¬ (error_kind error ≡ InvalidData) → (code ≡ exit_code status.NoMemory) × (host' ≡ host)
+  pub bench : new ≡ old
+
+-- The exit code, for what the system gave: all words behind the program's name ended so.
+abbrev pub GivenExits : Given → Outside → Outside → Device → Device → ℕ → Type 0
+GivenExits (Ok given) host host' old new code = Exits (words_in given) host host' old new code
+GivenExits (Err error) host host' old new code = NoneExits error host host' old new code
+
+-- The exit code of the process, for what the system gave: that of the real host, with a flash that
+-- has no bank.
+abbrev pub ProcessExits : Given → ℕ → Type 0
+ProcessExits given code =
+    (host' : Outside) × (new : Device) × GivenExits given real_host host' no_flash new code

@@ -9,7 +9,7 @@ ghost use Rattle.handlers.specs.Held.{fresh};
 ghost use Rattle.handlers.specs.Registry.{registered};
 ghost use Rattle.session.specs.OnMap.{IsFresh, kinds};
 ghost use Rattle.image_tool.specs.declared.status.Status.{Status as status};
-ghost use Rattle.image_tool.specs.Exits.{ExitsOr, ProcessExits};
+ghost use Rattle.image_tool.specs.Exits.{ExitsOr, GivenExits, ProcessExits, words_in};
 ghost use Rattle.image_tool.specs.Tool.{NoCommandEnds, ToolEnds, any_stores, exit_code};
 ghost use Rattle.image_tool.specs.Worlds.{world};
 
@@ -26,8 +26,8 @@ pub use laws::{
 };
 pub use status::Status;
 use std::alloc::{AllocError, Global};
-use std::env;
-use std::io::ErrorKind;
+use std::env::{self, Args};
+use std::io::{self, ErrorKind};
 use std::process::ExitCode;
 use top::no_words;
 pub use top::tool;
@@ -127,43 +127,57 @@ fn with_handlers<H: Host, B: Bench>(
     Ok(exit_after(alloc, words, host, bench, pool, &mut registry))
 }
 
-// Makes a host and a bench.
-fn start(rt: &HostRuntime) -> Result<u8, AllocError>
-    ensures { IfOk result ProcessExits }
+// Carries out the words behind the first one, which is the program's name.
+fn start<H: Host, B: Bench>(
+    alloc: Global,
+    given: Args,
+    host: &mut H,
+    bench: &mut B,
+) -> Result<u8, AllocError>
+    ensures { ExitsOr (words_in given) (H.outside host.old) (H.outside host.new)
+        (B.device bench.old) (B.device bench.new) result }
+{
+    let words = given.skip(1).collect::<Vec<String>>(alloc)?;
+    with_handlers(alloc, words.as_slice(), host, bench)
+}
+
+// The exit code, for what the system gave as arguments.
+fn code_for<H: Host, B: Bench>(
+    alloc: Global,
+    given: io::Result<Args>,
+    host: &mut H,
+    bench: &mut B,
+) -> u8
+    ensures { GivenExits given (H.outside host.old) (H.outside host.new)
+        (B.device bench.old) (B.device bench.new) result }
+{
+    match given {
+        Ok(words) => match start(alloc, words, host, bench) {
+            Ok(code) => code,
+            Err(_) => Status::NoMemory.code(),
+        },
+        Err(error) => {
+            if error.kind() == ErrorKind::InvalidData {
+                exit_without_words(alloc, host)
+            } else {
+                Status::NoMemory.code()
+            }
+        }
+    }
+}
+
+// The exit code of the process, on the real host and an empty bench.
+fn exit(rt: &HostRuntime, given: io::Result<Args>) -> ExitCode
+    ensures { ProcessExits given (exit_status result) }
 {
     let alloc = rt.alloc();
     let mut host = RealHost::new(rt);
-    match env::args(rt) {
-        Ok(words) => {
-            let words = words.skip(1).collect::<Vec<String>>(alloc)?;
-            with_handlers(
-                alloc,
-                words.as_slice(),
-                &mut host,
-                &mut SparseSim::new(alloc),
-            )
-        }
-        Err(error) => {
-            if error.kind() == ErrorKind::InvalidData {
-                return Ok(exit_without_words(alloc, &mut host));
-            }
-            Err(AllocError)
-        }
-    }
-}
-
-// The exit code of the process.
-fn exit(rt: &HostRuntime) -> ExitCode
-    ensures { ProcessExits (exit_status result) }
-{
-    match start(rt) {
-        Ok(code) => ExitCode::from(code),
-        Err(_) => ExitCode::from(Status::NoMemory.code()),
-    }
+    let code = code_for(alloc, given, &mut host, &mut SparseSim::new(alloc));
+    ExitCode::from(code)
 }
 
 fn main(rt: HostRuntime) -> ExitCode {
-    exit(&rt)
+    exit(&rt, env::args(&rt))
 }
 
 #[cfg(test)]

@@ -32,8 +32,8 @@ fn store_from(map: &FlashMap, from: usize, end: usize) -> Option<usize>
     (from..end).find(|index| is_store_at(map, *index))
 }
 
-// The index of the first store area; 0 if there is none.
-pub(crate) fn first_store(map: &FlashMap) -> usize
+/// The index of the first store area in the order of the map; 0 if there is none.
+pub fn first_store(map: &FlashMap) -> usize
     ensures { result ≡ first_store map.now }
 {
     store_from(map, 0, map.len()).unwrap_or(0)

@@ -7,7 +7,7 @@ mod copying;
 mod migrating;
 mod selecting;
 
-pub use areas::{area_at, is_store_at, target};
+pub use areas::{area_at, first_store, is_store_at, target};
 pub use copying::put_in_order;
 pub use migrating::{MigrateFault, fill, migrate};
 pub use selecting::Selector;

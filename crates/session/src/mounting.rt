@@ -9,13 +9,13 @@ ghost use Rattle.migrator.specs.Areas.{IsLawfulMap, selector_of};
 ghost use Rattle.session.specs.OnMap.{HasSelector, IsAtRest, IsServedMap, active_area, damage_in, mount_bound, selector_erases, selectors};
 ghost use Rattle.session.specs.Mounting.{MapEnds, SelectorEnds, answered, map_lost, mounted_as, selected_as};
 
-use crate::areas::{area_at, first_store, selector_place};
+use crate::areas::selector_place;
 use crate::fault::SessionFault;
 use crate::session::Session;
 use backend_api::Backend;
 use flash_map::{Damaged, FlashMap, MountFault};
 use flash_sim::{Flash, Steps};
-use migrator::Selector;
+use migrator::{Selector, area_at, first_store};
 use script_lines::Answer;
 use settings_core::Settings;
 use std::alloc::Global;

@@ -8,7 +8,6 @@ ghost use Rattle.session_table.specs.Step.{needs_power};
 ghost use Rattle.session.specs.Mounting.{down};
 ghost use Rattle.session.specs.OnMap.{CarriedBeside, DoneWithin, IsAtRest, IsReady, IsServed, IsServedMap, LineCarried, LineStops, damage_in, is_local, kinds, limit_of, meanings, moment, StandsOnActive, StaysOnArea, HandlersFit, StopsUnchanged};
 
-use crate::areas::area_at;
 use crate::changing::{delete_setting, set_setting};
 use crate::fault::SessionFault;
 use crate::handling::with_handlers;
@@ -20,7 +19,7 @@ use backend_api::Backend;
 use flash_map::{Area, FlashMap};
 use flash_sim::{Bench, Flash, NoMemory, Steps};
 use handlers::{Handler, Registry};
-use migrator::Selector;
+use migrator::{Selector, area_at};
 use script_lines::{Answer, Line};
 use settings_core::Settings;
 use std::alloc::Global;

@@ -7,8 +7,7 @@ ghost use Rattle.image_file.specs.Lawful.{IsLabel};
 ghost use Rattle.script_lines.specs.Answer.{lines_text, lines_of, give_line, have_line, names_members, names_json, IsObjectText, dashed, taken_word, text_of, Rise, CanReport};
 ghost use Rattle.script_lines.specs.Transcript.{OneListOfLines, OneTranscript};
 
-use crate::bytes::Bytes;
-use crate::lists::{Give, Gives, Label, Pair, Pairs};
+use crate::lists::{Bytes, Give, Gives, Label, Pair, Pairs};
 use flash_sim::NoMemory;
 use serde_json::{Map, Value};
 use std::alloc::{AllocError, Global};

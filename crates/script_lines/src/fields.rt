@@ -6,8 +6,7 @@ ghost use Rattle.script_lines.specs.Forms.{words_of, IsOneWord, AreTwoWords, Rea
 ghost use Rattle.script_lines.specs.Forms.Field.{a_name, a_label, a_kind, some_bytes, any_bytes, below};
 ghost use Rattle.script_lines.specs.Forms.Said.{name, label, kind, bytes, number};
 
-use crate::bytes::Bytes;
-use crate::lists::Label;
+use crate::lists::{Bytes, Label};
 use crate::why::LineFault::{NoMemory, Refused};
 use crate::why::{LineFault, LineWhy};
 use handlers::HandlerKind;

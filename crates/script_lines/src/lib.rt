@@ -3,7 +3,6 @@
 #![tactic(auto)]
 
 mod answer;
-mod bytes;
 mod fields;
 mod generator;
 mod grammar;
@@ -15,7 +14,6 @@ mod script;
 mod why;
 
 pub use answer::{Answer, SaveEnd, answer_text, one_transcript};
-pub use bytes::Bytes;
 pub use fields::{
     name_alone, name_and_bytes, name_and_bytes_or_dash, name_and_kind, name_or_nothing, nothing,
     number_alone, one_word, read_bytes, read_bytes_or_dash, read_kind, read_label, read_name,
@@ -24,7 +22,7 @@ pub use fields::{
 pub use generator::gen_script;
 pub use grammar::{ScriptFault, ScriptLine, read_lines};
 pub use line::{Line, UNITS_END};
-pub use lists::{Give, Gives, Label, Pair, Pairs};
+pub use lists::{Bytes, Give, Gives, Label, ListOf, Pair, Pairs};
 pub use plan::{is_lost, plans_of_lines, units_of};
 pub use script::{each_is_read, one_reading, read_script};
 pub use why::{LineFault, LineWhy};

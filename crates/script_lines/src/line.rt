@@ -1,5 +1,5 @@
 // The lines of a script on settings.
-use crate::bytes::Bytes;
+use crate::lists::Bytes;
 use handlers::HandlerKind;
 use setting_name::Name;
 

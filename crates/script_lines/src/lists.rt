@@ -1,48 +1,54 @@
 // Vectors that contracts see as lists.
 ghost use Rattle.std.specs.Prelude.{◌≡◌, List, ℕ, [], ◌∷◌, ◌++◌, OnOk, OnErr};
 
-use crate::bytes::Bytes;
 use flash_sim::NoMemory;
 use setting_name::Name;
 use std::alloc::Global;
 use std::marker::Model;
 
-/// The label of an area.
+/// A list. Contracts see its items alone.
 #[derive(Debug, Drop)]
-pub struct Label {
-    items: Vec<u8>,
+pub struct ListOf<T> {
+    items: Vec<T>,
 }
 
-impl Model for Label {
-    ghost use Rattle.std.specs.Prelude.{ℕ, List};
+impl<T> Model for ListOf<T> {
+    ghost use Rattle.std.specs.Prelude.{List};
 
-    ghost Value = { List ℕ };
+    ghost Value = { List T };
 
-    ghost view = { λ label. label.items.items };
+    ghost view = { λ list. list.items.items };
 }
 
-impl Label {
-    /// An empty label. It takes no memory.
-    pub fn new(alloc: Global) -> Label
+impl<T: Drop> ListOf<T> {
+    /// An empty list. It takes no memory.
+    pub fn new(alloc: Global) -> ListOf<T>
         ensures { result ≡ [] }
     {
-        Label {
+        ListOf {
             items: Vec::new(alloc),
         }
     }
 
-    /// A label of the bytes of a vector. It takes no memory.
-    pub fn from_vec(items: Vec<u8>) -> Label
+    /// A list of the items of a vector. It takes no memory.
+    pub fn from_vec(items: Vec<T>) -> ListOf<T>
         ensures { result ≡ items.items }
     {
-        Label { items }
+        ListOf { items }
     }
 
-    /// Appends a byte.
+    /// The vector of the items. It takes no memory.
+    pub fn into_vec(self) -> Vec<T>
+        ensures { result.items ≡ self }
+    {
+        self.items
+    }
+
+    /// Appends an item.
     ///
     /// # Errors
-    /// `NoMemory`: the label is as before.
-    pub fn push(&mut self, item: u8) -> Result<(), NoMemory>
+    /// `NoMemory`: the list is as before.
+    pub fn push(&mut self, item: T) -> Result<(), NoMemory>
         ensures ok { OnOk result (self.new ≡ self.old ++ item ∷ []) }
         ensures err { OnErr result (self.new ≡ self.old) }
     {
@@ -50,13 +56,19 @@ impl Label {
         Ok(())
     }
 
-    /// The bytes in order.
-    pub fn as_slice(&self) -> &[u8]
+    /// The items in order.
+    pub fn as_slice(&self) -> &[T]
         ensures { result.now ≡ self.now }
     {
         self.items.as_slice()
     }
 }
+
+/// A byte string.
+pub type Bytes = ListOf<u8>;
+
+/// The label of an area.
+pub type Label = ListOf<u8>;
 
 /// A name with its value.
 #[derive(Debug, Drop)]
@@ -66,49 +78,7 @@ pub struct Pair {
 }
 
 /// A list of names with their values.
-#[derive(Debug, Drop)]
-pub struct Pairs {
-    items: Vec<Pair>,
-}
-
-impl Model for Pairs {
-    ghost use Rattle.std.specs.Prelude.{List};
-    ghost use Rattle.script_lines.specs.declared.lists.Pair.{Pair};
-
-    ghost Value = { List Pair };
-
-    ghost view = { λ pairs. pairs.items.items };
-}
-
-impl Pairs {
-    /// An empty list. It takes no memory.
-    pub fn new(alloc: Global) -> Pairs
-        ensures { result ≡ [] }
-    {
-        Pairs {
-            items: Vec::new(alloc),
-        }
-    }
-
-    /// Appends a pair.
-    ///
-    /// # Errors
-    /// `NoMemory`: the list is as before.
-    pub fn push(&mut self, item: Pair) -> Result<(), NoMemory>
-        ensures ok { OnOk result (self.new ≡ self.old ++ item ∷ []) }
-        ensures err { OnErr result (self.new ≡ self.old) }
-    {
-        self.items.push(item)?;
-        Ok(())
-    }
-
-    /// The pairs in order.
-    pub fn as_slice(&self) -> &[Pair]
-        ensures { result.now ≡ self.now }
-    {
-        self.items.as_slice()
-    }
-}
+pub type Pairs = ListOf<Pair>;
 
 /// A setting that a load gave to the handler of a subtree: the rest of its name, its value, and
 /// whether the handler took it.
@@ -121,46 +91,4 @@ pub struct Give {
 }
 
 /// What a load gave, in order.
-#[derive(Debug, Drop)]
-pub struct Gives {
-    items: Vec<Give>,
-}
-
-impl Model for Gives {
-    ghost use Rattle.std.specs.Prelude.{List};
-    ghost use Rattle.script_lines.specs.declared.lists.Give.{Give};
-
-    ghost Value = { List Give };
-
-    ghost view = { λ gives. gives.items.items };
-}
-
-impl Gives {
-    /// An empty list. It takes no memory.
-    pub fn new(alloc: Global) -> Gives
-        ensures { result ≡ [] }
-    {
-        Gives {
-            items: Vec::new(alloc),
-        }
-    }
-
-    /// Appends one setting that was given.
-    ///
-    /// # Errors
-    /// `NoMemory`: the list is as before.
-    pub fn push(&mut self, item: Give) -> Result<(), NoMemory>
-        ensures ok { OnOk result (self.new ≡ self.old ++ item ∷ []) }
-        ensures err { OnErr result (self.new ≡ self.old) }
-    {
-        self.items.push(item)?;
-        Ok(())
-    }
-
-    /// The settings that were given, in order.
-    pub fn as_slice(&self) -> &[Give]
-        ensures { result.now ≡ self.now }
-    {
-        self.items.as_slice()
-    }
-}
+pub type Gives = ListOf<Give>;

@@ -9,11 +9,10 @@ use Rattle.mirror_session.specs.Bench.{Meanings, meanings, moment}
 use Rattle.mirror_session.specs.LineDone.{LineDone}
 use Rattle.mirror_session.specs.Running.{BeginsLine, LineStops, takes_memory}
 use Rattle.mirror_session.specs.Step.{needs_power}
-use Rattle.script_lines.specs.declared.lists.Label.{Label}
 use Rattle.mirror_session.proofs.carrying.MirrorSession.carry_out.Goals as goal
 
 -- what is none of the four lines needs power
-others_need : (line : Line) → (line ≡ Mount → ⊥) → ((units : ℕ) → line ≡ Cut units → ⊥) → (line ≡ Uncut → ⊥) → ((label : Label) → line ≡ Blank label → ⊥) → needs_power line ≡ true
+others_need : (line : Line) → (line ≡ Mount → ⊥) → ((units : ℕ) → line ≡ Cut units → ⊥) → (line ≡ Uncut → ⊥) → ((label : List ℕ) → line ≡ Blank label → ⊥) → needs_power line ≡ true
 others_need (Set name value) mount cut uncut blank = refl
 others_need (Get name) mount cut uncut blank = refl
 others_need (Del name) mount cut uncut blank = refl

@@ -2,12 +2,13 @@
 //! from before is there, and the next save succeeds.
 #![tactic(auto)]
 
-ghost use Rattle.std.specs.Prelude.{◌≡◌, IfOk};
+ghost use Rattle.std.specs.Prelude.{◌≡◌};
 ghost use Rattle.std.specs.FinMap.{empty};
 ghost use Rattle.flash_sim.specs.SparseSim.{device_of};
 ghost use Rattle.handlers.specs.Held.{fresh};
+ghost use Rattle.handlers.specs.Registry.{registered};
 ghost use Rattle.handlers.specs.declared.handler.HandlerKind.TheVariants.{Table};
-ghost use Rattle.petaqwen.specs.Ready.{AreServed};
+ghost use Rattle.petaqwen.specs.Ready.{IsReady};
 
 use petaqwen::{Board, Error, Handler, Name, SaveFault, SparseSim, Subsystem, TableHandler};
 use std::alloc::Global;
@@ -16,11 +17,10 @@ use std::io;
 // One partition for settings over NVS: four sectors of 4096 bytes, programmed in units of 4 bytes.
 const LAYOUT: &str = "bank=erasing/4/4096/4,area=nvs/settings/0/0/4";
 
-// A board after a power loss, and what was seen before it.
-#[derive(Drop)]
-struct Brownout {
-    board: Board<SparseSim>,
-    // the first byte of the key, as the handler held it
+// What is seen until power is lost.
+#[derive(Clone, Copy)]
+struct Seen {
+    // the first byte of the key, as the handler holds it
     key: Option<u8>,
     // whether power was lost while the next key was saved
     lost: bool,
@@ -32,6 +32,37 @@ fn is_empty(_table: &Box<dyn Handler>)
     ensures { (state _table.now).held ≡ empty }
 {}
 
+// Registers a table for the names below `bt`.
+fn register_table(alloc: Global, settings: &mut Subsystem<SparseSim>) -> Result<(), Error>
+    requires ready { IsReady (device_of settings.old.board.flash) settings.old.board.map
+        settings.old.settings.backend (registered state settings.old.registry) }
+    ensures ready { IsReady (device_of settings.new.board.flash) settings.new.board.map
+        settings.new.settings.backend (registered state settings.new.registry) }
+{
+    let table: Box<dyn Handler> = Box::new(alloc, TableHandler::new(alloc))?;
+    is_empty(&table);
+    settings.register(Name::read(b"bt")?, table)?;
+    Ok(())
+}
+
+// Gives the table a key of one byte, and saves it.
+#[tactic(auto, using(petaqwen::proofs::Values::short_value))]
+fn save_key(
+    alloc: Global,
+    settings: &mut Subsystem<SparseSim>,
+    key: &Name,
+    byte: u8,
+) -> Result<(), Error>
+    requires ready { IsReady (device_of settings.old.board.flash) settings.old.board.map
+        settings.old.settings.backend (registered state settings.old.registry) }
+    ensures ready { IsReady (device_of settings.new.board.flash) settings.new.board.map
+        settings.new.settings.backend (registered state settings.new.registry) }
+{
+    settings.set(alloc, key, &[byte])?;
+    settings.save(None).end?;
+    Ok(())
+}
+
 fn held(settings: &Subsystem<SparseSim>, key: &Name) -> Result<Option<u8>, Error> {
     match settings.held(key)? {
         Some(value) => Ok(value.first().copied()),
@@ -39,50 +70,46 @@ fn held(settings: &Subsystem<SparseSim>, key: &Name) -> Result<Option<u8>, Error
     }
 }
 
-// Saves a key on a blank board, and loses power while the next one is saved.
-#[tactic(auto, using(petaqwen::proofs::Values::short_value))]
-fn first_life(alloc: Global, key: &Name) -> Result<Brownout, Error>
-    ensures { IfOk result (λ b. AreServed (device_of b.board.flash).banks b.board.map) }
+// Saves a key, and loses power while the next one is saved.
+fn save_and_lose(
+    alloc: Global,
+    settings: &mut Subsystem<SparseSim>,
+    key: &Name,
+) -> Result<Seen, Error>
+    requires ready { IsReady (device_of settings.old.board.flash) settings.old.board.map
+        settings.old.settings.backend (registered state settings.old.registry) }
+    ensures ready { IsReady (device_of settings.new.board.flash) settings.new.board.map
+        settings.new.settings.backend (registered state settings.new.registry) }
 {
-    let table: Box<dyn Handler> = Box::new(alloc, TableHandler::new(alloc))?;
-    is_empty(&table);
-    let mut settings = Subsystem::open(alloc, Board::blank(alloc, LAYOUT)?, "settings")?;
-    settings.register(Name::read(b"bt")?, table)?;
-    settings.set(alloc, key, &[1])?;
-    settings.save(None).end?;
-    let before = held(&settings, key)?;
+    register_table(alloc, settings)?;
+    save_key(alloc, settings, key, 1)?;
+    let before = held(settings, key)?;
 
     // Power is lost after two more units.
     settings.lose_power_after(2);
-    settings.set(alloc, key, &[2])?;
-    let lost = settings.save(None).end == Err(SaveFault::PowerLost);
-    Ok(Brownout {
-        board: settings.close(),
+    let end = save_key(alloc, settings, key, 2);
+    Ok(Seen {
         key: before,
-        lost,
+        lost: end == Err(Error::Save(SaveFault::PowerLost)),
     })
 }
 
-// Starts again with power: the key that was loaded, and the one that another save leaves.
-#[tactic(auto, using(petaqwen::proofs::Values::short_value))]
-fn second_life(
+// Starts again: the key that was loaded, and the one that another save leaves.
+fn load_and_save(
     alloc: Global,
+    settings: &mut Subsystem<SparseSim>,
     key: &Name,
-    board: Board<SparseSim>,
 ) -> Result<(Option<u8>, Option<u8>), Error>
-    requires { AreServed (device_of board.flash).banks board.map }
+    requires ready { IsReady (device_of settings.old.board.flash) settings.old.board.map
+        settings.old.settings.backend (registered state settings.old.registry) }
+    ensures ready { IsReady (device_of settings.new.board.flash) settings.new.board.map
+        settings.new.settings.backend (registered state settings.new.registry) }
 {
-    let mut board = board;
-    board.restore_power();
-    let table: Box<dyn Handler> = Box::new(alloc, TableHandler::new(alloc))?;
-    is_empty(&table);
-    let mut settings = Subsystem::open(alloc, board, "settings")?;
-    settings.register(Name::read(b"bt")?, table)?;
+    register_table(alloc, settings)?;
     settings.load(alloc, None)?;
-    let loaded = held(&settings, key)?;
-    settings.set(alloc, key, &[2])?;
-    settings.save(None).end?;
-    let saved = held(&settings, key)?;
+    let loaded = held(settings, key)?;
+    save_key(alloc, settings, key, 2)?;
+    let saved = held(settings, key)?;
     Ok((loaded, saved))
 }
 
@@ -96,12 +123,22 @@ struct Story {
 }
 
 fn live_through(alloc: Global) -> Result<Story, Error> {
-    let name = Name::read(b"bt/key")?;
-    let Brownout { board, key, lost } = first_life(alloc, &name)?;
-    let (after, in_the_end) = second_life(alloc, &name, board)?;
+    let key = Name::read(b"bt/key")?;
+
+    let mut settings = Subsystem::open(alloc, Board::blank(alloc, LAYOUT)?, "settings")?;
+    let seen = save_and_lose(alloc, &mut settings, &key);
+    let mut board = settings.close();
+    let seen = seen?;
+
+    board.restore_power();
+    let mut settings = Subsystem::open(alloc, board, "settings")?;
+    let found = load_and_save(alloc, &mut settings, &key);
+    let _board = settings.close();
+    let (after, in_the_end) = found?;
+
     Ok(Story {
-        before: key,
-        lost,
+        before: seen.key,
+        lost: seen.lost,
         after,
         in_the_end,
     })

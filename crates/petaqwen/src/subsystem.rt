@@ -57,8 +57,9 @@ impl<F: Flash> Subsystem<F> {
     /// registered yet.
     ///
     /// # Errors
-    /// `NoPartition` exactly where no partition for settings has the label; then nothing changes. `Mount`: the bytes are those of no
-    /// store, power was lost, or memory was wanting. The board comes back.
+    /// `NoPartition` exactly where no partition for settings has the label; then nothing changes.
+    /// `Mount`: the bytes are those of no store, power was lost, or memory was wanting. The board
+    /// comes back.
     pub fn open(alloc: Global, board: Board<F>, label: &str) -> Result<Subsystem<F>, Unopened<F>>
         requires sound { AreServed (F.device board.flash).banks board.map }
 
@@ -99,8 +100,8 @@ impl<F: Flash> Subsystem<F> {
     /// Registers a handler that holds nothing yet for a subtree of names, behind all others.
     ///
     /// # Errors
-    /// `Exists` exactly where the subtree is registered; `NoMemory` only where it is not. The handler is dropped, and nothing else
-    /// changes.
+    /// `Exists` exactly where the subtree is registered; `NoMemory` only where it is not. The
+    /// handler is dropped, and nothing else changes.
     pub fn register(
         &mut self,
         subtree: Name,
@@ -125,8 +126,8 @@ impl<F: Flash> Subsystem<F> {
     /// that.
     ///
     /// # Errors
-    /// `NoHandler` exactly where no subtree matches the name; `Rejected` exactly where the handler does not accept the value;
-    /// `NoMemory`. Nothing changes then.
+    /// `NoHandler` exactly where no subtree matches the name; `Rejected` exactly where the handler
+    /// does not accept the value; `NoMemory`. Nothing changes then.
     pub fn set(&mut self, alloc: Global, name: &Name, value: &[u8]) -> Result<(), RuntimeFault>
         requires ready { IsReady (F.device self.old.board.flash) self.old.board.map
             self.old.settings.backend (registered state self.old.registry) }
@@ -202,8 +203,8 @@ impl<F: Flash> Subsystem<F> {
     /// were taken, were rejected, and found no handler.
     ///
     /// # Errors
-    /// `Off` exactly where an earlier call answered that power was lost; nothing changes then. `NoMemory`: some of the values were
-    /// given, and nothing was committed.
+    /// `Off` exactly where an earlier call answered that power was lost; nothing changes then.
+    /// `NoMemory`: some of the values were given, and nothing was committed.
     pub fn load(&mut self, alloc: Global, subtree: Option<&Name>) -> Result<Loaded, LoadFault>
         requires ready { IsReady (F.device self.old.board.flash) self.old.board.map
             self.old.settings.backend (registered state self.old.registry) }

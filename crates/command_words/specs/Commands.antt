@@ -3,7 +3,6 @@ use Rattle.std.specs.Prelude.{◌≡◌, ◌==◌, ℕ, ◌≤◌, ⊤, Bool, tr
 use Rattle.std.specs.Fmt.{decimal}
 use Rattle.std.specs.List.{list_all}
 use Rattle.std.specs.Str.{bytes_eq}
-use Rattle.command_words.specs.declared.commands.TheConstants.{MOST_LINES}
 use Rattle.command_words.specs.declared.commands.Command.{Command}
 use Rattle.command_words.specs.declared.commands.Command.TheVariants.{Build, Run, Dump, Migrate, Gen, Log, Items, Mirror}
 use Rattle.command_words.specs.declared.commands.StoreKind.{StoreKind}
@@ -27,7 +26,7 @@ store_word Fcb = codes "fcb"
 
 -- a generated script can have so many lines
 abbrev pub IsLines : ℕ → Type 0
-IsLines n = (1 ≤ n) × (n ≤ MOST_LINES)
+IsLines n = (1 ≤ n) × (n ≤ 10_000)
 
 -- the first word of the command
 abbrev pub name_of : Command → List ℕ

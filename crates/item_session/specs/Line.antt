@@ -14,7 +14,6 @@ use Rattle.item_session.specs.declared.ids.Ids.TheVariants.{Short, Long}
 use Rattle.item_session.specs.declared.ids.TheConstants.{SHORT_END, LONG_END}
 use Rattle.item_session.specs.declared.line.Line.{Line}
 use Rattle.item_session.specs.declared.line.Line.TheVariants.{Set, Get, Delete, Older, Space, Cut, Uncut, Mount}
-use Rattle.item_session.specs.declared.line.TheConstants.{VERSIONS_END}
 use Rattle.item_session.specs.declared.reading.Command.{Command}
 use Rattle.item_session.specs.declared.reading.Command.TheVariants as commands
 
@@ -29,7 +28,7 @@ item_forms ids =
     form (codes "set") (below ids ∷ some_bytes ∷ [])
     ∷ form (codes "get") (below ids ∷ [])
     ∷ form (codes "del") (below ids ∷ [])
-    ∷ form (codes "older") (below ids ∷ below VERSIONS_END ∷ [])
+    ∷ form (codes "older") (below ids ∷ below 4_294_967_296 ∷ [])
     ∷ form (codes "space") []
     ∷ form (codes "cut") (below UNITS_END ∷ [])
     ∷ form (codes "uncut") []

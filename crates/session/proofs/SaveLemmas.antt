@@ -1,6 +1,7 @@
 -- A save, as a line on a map of areas.
 use Rattle.std.proofs.Common.{◌≡◌, ◌⊎◌, ℕ, ◌-◌, ◌^◌, ◌<◌, ◌≤◌, Bool, true, false, Option, Some, List, [], ◌∷◌, ◌++◌, refl, sym, ap, subst, ◌∙◌, inl, inr, arith}
 use Rattle.std.specs.Prelude.{Result, Ok, Err}
+use Rattle.std.proofs.lemmas.List.{nil_from_length}
 use Rattle.std.proofs.lemmas.List.Sums.{fold-append}
 use Rattle.flash_sim.specs.Device.{Device}
 use Rattle.flash_sim.specs.declared.flash.Loss.{Loss}
@@ -165,6 +166,7 @@ module _ (contents : Area → Geometry → List (List ℕ) → Map) (room : Area
               e.pairs_are,
               record { split = meets.split; settings = sym same ∙ meets.carried.settings; free = meets.carried.free; many = subst (λ (now : Map). is_too_many (room (active_area areas old) (geometry_of old (active_area areas old))) now meets.split.at ≡ true) same meets.too_many },
               state-is (on contents new (active_area areas new)) old.is_on e.touches.ends.on refl,
+              λ none. none-spent (meets.carried.none (nil_from_length meets.split.done (sym meets.split.count_is ∙ none))),
             ),
           );
           accounts = kept (active_area areas old ∷ []) (Save subtree) (Saved pairs units TooMany) old new e.touches refl refl spent;

@@ -66,14 +66,15 @@ Changes r commands answer old new = ⊥
 abbrev pub reported : ℕ → ℕ
 reported count = more_pairs 0 count
 
--- a save, which stands for any number of commands
+-- a save, which stands for any number of commands; it spends nothing if it carried none of them out
+-- and the name of the first would be one too many
 abbrev pub Saves : Rules → List Command → Answer → State → State → Type 0
 Saves r commands (Saved pairs units Whole) old new =
     (pairs ≡ reported (length commands)) × CommandsDone r commands units old new
 Saves r commands (Saved pairs units ManyNames) old new =
     (done : ℕ) × (pairs ≡ reported done)
     × StopsForNames (r.room old.active) commands done old.settings new.settings
-    × (new ≡ record old { settings = new.settings })
+    × (new ≡ record old { settings = new.settings }) × (done ≡ 0 → units ≡ 0)
 Saves r commands (Saved pairs units (NoRoom need live)) old new =
     (done : ℕ) × (pairs ≡ reported done)
     × MeetsNoRoom (r.room old.active) (r.geometry old.active).sectors old.settings new.settings commands

@@ -366,7 +366,7 @@ module _ {S : Type 0} (mounted_on : S → Area) (stands : S → Geometry → Lis
 
   pub memory_stops : result ≡ Err WantsMemory → trusted_on areas new ≡ trusted_on areas mid → ((settings : Map) → MirrorReads m.damage m.contents areas mid settings → MirrorReads m.damage m.contents areas new settings)
       → LineStops m areas Mount old new SessionMemory
-  memory_stops is same keeps = (refl, (touched (Err WantsMemory) is, same ∙ ap (λ (d : Device). trusted_on areas d) on_first, kept_reads))
+  memory_stops is same keeps = (refl, λ needs. absurd (false≢true needs), (touched (Err WantsMemory) is, same ∙ ap (λ (d : Device). trusted_on areas d) on_first, kept_reads))
     where
       kept_reads : (settings : Map) → MirrorReads m.damage m.contents areas old settings → MirrorReads m.damage m.contents areas new settings
       kept_reads settings reads = keeps settings (subst (λ (d : Device). MirrorReads m.damage m.contents areas d settings) (sym on_first)

@@ -24,7 +24,7 @@ use Rattle.mirror_session.specs.Standing.{RestsNow}
 use Rattle.mirror_session.specs.LineDone.{BothNow, FitNow, FitsBoth, Keeps, LineDone, replaces}
 use Rattle.session.specs.OnMap.{turned_on}
 use Rattle.session_table.specs.Rules.{IsCounted}
-use Rattle.mirror_session.specs.Step.{Step}
+use Rattle.mirror_session.specs.Step.{Step, needs_power}
 
 -- how many areas were replaced
 abbrev pub replaced_in : List Line → List Answer → ℕ
@@ -78,14 +78,16 @@ abbrev pub FindsNoFit : Meanings → List Area → Device → Type 0
 FindsNoFit m areas d = ¬ FitsBoth m areas d.banks (on m.contents d (area_at areas (trusted_on areas d)))
 
 -- Why a line was not carried out: a mount found the damage that the map shows, or settings that do
--- not fit one of the areas; or memory ran out for a line that takes some.
+-- not fit one of the areas; or memory ran out for a line that takes some, with power on if the line
+-- needs it.
 abbrev pub LineStops : Meanings → List Area → Line → Device → Device → SessionFault → Type 0
 LineStops m areas line old new (Damaged place damaged) =
     (line ≡ Mount) × (damage_shown m.damage areas old ≡ Some (place, damaged)) × BeginsMount areas old new
 LineStops m areas line old new (Unfit place) =
     (line ≡ Mount) × IsUnfit m.damage m.contents m.room m.prices areas (turned_on old) new place
     × FindsNoFit m areas old
-LineStops m areas line old new NoMemory = (takes_memory line ≡ true) × BeginsLine m areas line old new
+LineStops m areas line old new NoMemory =
+    (takes_memory line ≡ true) × (needs_power line ≡ true → old.is_on ≡ true) × BeginsLine m areas line old new
 
 -- ---- all lines
 

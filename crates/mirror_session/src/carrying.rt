@@ -220,6 +220,7 @@ impl<K: Priced> MirrorSession<K> {
             (IsReady K.mounted_on K.stands m map.now (B.device bench.new) self.new.mirror) }
         ensures same { OnErr result (B.device bench.new ≡ B.device bench.old) }
         ensures takes { OnErr result (takes_memory line.now ≡ true) }
+        ensures on { OnErr result ((B.device bench.old).is_on ≡ true) }
         ensures banks { (B.device bench.new).banks ≡ (B.device bench.old).banks }
     {
         if !bench.is_on() {

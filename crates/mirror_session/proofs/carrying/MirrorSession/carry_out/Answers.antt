@@ -23,16 +23,16 @@ others_need Uncut mount cut uncut blank = absurd (uncut refl)
 others_need (Blank label) mount cut uncut blank = absurd (blank label refl)
 
 -- memory was wanting in a line that needs power, and nothing changed
-begins : (m : Meanings) (areas : List Area) (line : Line) (old new : Device) → needs_power line ≡ true → takes_memory line ≡ true → new ≡ old
-    → (takes_memory line ≡ true) × BeginsLine m areas line old new
-begins m areas (Set name value) old new needs takes same = (takes, same)
-begins m areas (Get name) old new needs takes same = (takes, same)
-begins m areas (Del name) old new needs takes same = (takes, same)
-begins m areas Names old new needs takes same = (takes, same)
-begins m areas Mount old new needs takes same = absurd (false≢true needs)
-begins m areas (Cut units) old new needs takes same = absurd (false≢true needs)
-begins m areas Uncut old new needs takes same = absurd (false≢true needs)
-begins m areas (Blank label) old new needs takes same = absurd (false≢true needs)
+begins : (m : Meanings) (areas : List Area) (line : Line) (old new : Device) → needs_power line ≡ true → old.is_on ≡ true → takes_memory line ≡ true → new ≡ old
+    → (takes_memory line ≡ true) × (needs_power line ≡ true → old.is_on ≡ true) × BeginsLine m areas line old new
+begins m areas (Set name value) old new needs powered takes same = (takes, λ needed. powered, same)
+begins m areas (Get name) old new needs powered takes same = (takes, λ needed. powered, same)
+begins m areas (Del name) old new needs powered takes same = (takes, λ needed. powered, same)
+begins m areas Names old new needs powered takes same = (takes, λ needed. powered, same)
+begins m areas Mount old new needs powered takes same = absurd (false≢true needs)
+begins m areas (Cut units) old new needs powered takes same = absurd (false≢true needs)
+begins m areas Uncut old new needs powered takes same = absurd (false≢true needs)
+begins m areas (Blank label) old new needs powered takes same = absurd (false≢true needs)
 
 pub returns-in-Cut-clause-done : goal.returns-in-Cut-clause-done
 returns-in-Cut-clause-done g c =
@@ -54,7 +54,7 @@ on_mirror-requires-clause-needs g c = others_need c.args.line.now c.in_default.n
 pub returns-in-Err-on_mirror-clause-stops : goal.returns-in-Err-on_mirror-clause-stops
 returns-in-Err-on_mirror-clause-stops g c =
     let K = g.K.Backend in
-    begins (meanings K.damage K.contents K.rests K.room g.K.Priced.prices) c.args.map.now c.args.line.now (g.B.Flash.device c.args.bench.now) (g.B.Flash.device c.on_mirror.new.bench) (others_need c.args.line.now c.in_default.not-Mount c.in_default.not-Cut c.in_default.not-Uncut c.in_default.not-Blank) c.in-Err-on_mirror.ensures.takes c.in-Err-on_mirror.ensures.same
+    begins (meanings K.damage K.contents K.rests K.room g.K.Priced.prices) c.args.map.now c.args.line.now (g.B.Flash.device c.args.bench.now) (g.B.Flash.device c.on_mirror.new.bench) (others_need c.args.line.now c.in_default.not-Mount c.in_default.not-Cut c.in_default.not-Uncut c.in_default.not-Blank) c.in-Err-on_mirror.ensures.on c.in-Err-on_mirror.ensures.takes c.in-Err-on_mirror.ensures.same
 
 pub returns-in-Ok-on_mirror-clause-done : goal.returns-in-Ok-on_mirror-clause-done
 returns-in-Ok-on_mirror-clause-done g c = c.in-Ok-on_mirror.ensures.done
@@ -66,7 +66,7 @@ pub returns-in-Err-clause-stops : goal.returns-in-Err-clause-stops
 returns-in-Err-clause-stops g c =
     let K = g.K.Backend in
     let m = meanings K.damage K.contents K.rests K.room g.K.Priced.prices in
-    subst (λ (line : Line). (takes_memory line ≡ true) × BeginsLine m c.args.map.now line (g.B.Flash.device c.args.bench.now) (g.B.Flash.device c.replace.new.bench)) (sym c.in-Blank.is) (refl, c.in-Err.ensures.same)
+    subst (λ (line : Line). (takes_memory line ≡ true) × (needs_power line ≡ true → (g.B.Flash.device c.args.bench.now).is_on ≡ true) × BeginsLine m c.args.map.now line (g.B.Flash.device c.args.bench.now) (g.B.Flash.device c.replace.new.bench)) (sym c.in-Blank.is) (refl, λ needs. absurd (false≢true needs), c.in-Err.ensures.same)
 
 pub returns-in-Ok-clause-done : goal.returns-in-Ok-clause-done
 returns-in-Ok-clause-done g c =

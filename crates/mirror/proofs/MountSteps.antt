@@ -84,6 +84,9 @@ module _ (damage : Area → Geometry → List (List ℕ) → Option Damaged) whe
       ∙ ap (option_map (λ x. (trusted_on areas d, x))) (shown-trusted areas d t there ∙ is)
       ∙ ap (λ (n : ℕ). Some (n, shown)) (sym at)
 
+none-some : {X : Type 0} (o : Option X) (x : X) → o ≡ None → o ≡ Some x → ⊥
+none-some o x none some = cc
+
 module _ {S : Type 0} (mounted : S → Area) (stands : S → Geometry → List (List ℕ) → Type 0) (damage : Area → Geometry → List (List ℕ) → Option Damaged) (contents : Area → Geometry → List (List ℕ) → Map)
     (room : Area → Geometry → Room) (prices : Area → Geometry → Prices) (areas : List Area) (s : Area) (selected : selector_of areas ≡ Some s) where
   -- the selector was not mounted
@@ -96,6 +99,7 @@ module _ {S : Type 0} (mounted : S → Area) (stands : S → Geometry → List (
         trusted = ap (trusted_on areas) did.2;
         active = inl (ap (active_on areas) did.2);
         touches = touches;
+        unchanged = λ found at. did.2;
       }
   mounts-fault d e (Unfit place) did touches = absurd did
   mounts-fault d e PowerLost did touches = record { trust = did; later = inl touches }
@@ -160,6 +164,7 @@ module _ {S : Type 0} (mounted : S → Area) (stands : S → Geometry → List (
       trusted = ap (trusted_on areas) did.2 ∙ again;
       active = inr (ap (active_on areas) did.2 ∙ named.active);
       touches = subst (λ (x : Device). Touches (s ∷ []) d x false) (sym did.2) touches;
+      unchanged = λ found seen. absurd (none-some (selector_damage_on areas d) found named.sound seen);
     }
     mounts-then place (Err (Unfit unfit)) is did = record {
       undamaged = shows-none damage areas d t there named.sound (sym was ∙ did.sound);

@@ -339,6 +339,7 @@ module _ (damage : Area → Geometry → List (List ℕ) → Option Damaged)
     pub trusted : trusted_on areas new ≡ trusted_on areas old
     pub active : (active_on areas new ≡ active_on areas old) ⊎ (active_on areas new ≡ trusted_on areas old)
     pub touches : Touches (selector ∷ []) old new false
+    pub unchanged : (found : Damaged) → selector_damage_on areas old ≡ Some found → new ≡ old
 
   -- Power was lost after the selector's mount, in the trusted area, which was undamaged and keeps
   -- its settings. The other one is untouched.

@@ -6,6 +6,8 @@ use Rattle.flash_map.specs.declared.area.Geometry.{Geometry}
 use Rattle.flash_map.specs.On.{on}
 use Rattle.flash_map.specs.Touches.{Touches}
 use Rattle.backend_api.specs.Map.{Map}
+use Rattle.flash_map.specs.declared.faults.Damaged.{Damaged as Found}
+use Rattle.migrator.specs.Active.{selector_damage_on}
 use Rattle.migrator.specs.Areas.{selector_of}
 use Rattle.mirror.specs.Mounting.{IsUnfit}
 use Rattle.mirror.specs.Trusted.{MirrorReads, damage_shown, trusted_on}
@@ -73,6 +75,11 @@ BeginsLine m areas Mount old new =
     → MirrorReads m.damage m.contents areas new settings)
 BeginsLine m areas line old new = new ≡ old
 
+-- a damaged selector stays as it is
+abbrev pub LeavesDamagedSelector : List Area → Device → Device → Type 0
+LeavesDamagedSelector areas old new =
+    (found : Found) → selector_damage_on areas old ≡ Some found → new ≡ turned_on old
+
 -- the settings of the mirror do not fit both areas
 abbrev pub FindsNoFit : Meanings → List Area → Device → Type 0
 FindsNoFit m areas d = ¬ FitsBoth m areas d.banks (on m.contents d (area_at areas (trusted_on areas d)))
@@ -83,6 +90,7 @@ FindsNoFit m areas d = ¬ FitsBoth m areas d.banks (on m.contents d (area_at are
 abbrev pub LineStops : Meanings → List Area → Line → Device → Device → SessionFault → Type 0
 LineStops m areas line old new (Damaged place damaged) =
     (line ≡ Mount) × (damage_shown m.damage areas old ≡ Some (place, damaged)) × BeginsMount areas old new
+    × LeavesDamagedSelector areas old new
 LineStops m areas line old new (Unfit place) =
     (line ≡ Mount) × IsUnfit m.damage m.contents m.room m.prices areas (turned_on old) new place
     × FindsNoFit m areas old

@@ -1,4 +1,5 @@
 mod FieldLemmas
+mod HeaderLemmas
 mod ImageLemmas
 mod LawfulLemmas
 mod ReadingLemmas

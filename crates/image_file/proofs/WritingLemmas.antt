@@ -1,6 +1,7 @@
 -- Writing one part behind another.
 use Rattle.std.proofs.Common.{◌≡◌, ℕ, ◌+◌, ◌<◌, ◌≤◌, Option, Some, None, List, [], ◌∷◌, ◌++◌, length, get_or, map, take, slice_get, refl, sym, ap, subst, ◌∙◌, append_assoc, arith}
 use Rattle.std.specs.Global.{Vec}
+use Rattle.std.specs.Prelude.{Result, Ok, Err, OnOk, is_ok, if◌then◌else◌}
 use Rattle.std.specs.List.{flat_map, concat}
 use Rattle.std.proofs.lemmas.List.{take_more, append-nil, get_or-map, length-map}
 use Rattle.std.proofs.lemmas.Option.{slice_get-get_or}
@@ -12,6 +13,17 @@ use Rattle.image_file.specs.Lawful.{IsImage, FitsText, area_at, no_area}
 
 pub regroup : (a b c d : List ℕ) → ((a ++ b) ++ c) ++ d ≡ a ++ (b ++ (c ++ d))
 regroup a b c d = append_assoc (a ++ b) c d ∙ append_assoc a b (c ++ d)
+
+-- six parts, one behind another
+pub six_parts : (old a b d e f g one two three four five : List ℕ) → one ≡ old ++ a → two ≡ one ++ b → three ≡ two ++ d → four ≡ three ++ e → five ≡ four ++ f → five ++ g ≡ old ++ (a ++ (b ++ (d ++ (e ++ (f ++ g)))))
+six_parts old a b d e f g one two three four five is-one is-two is-three is-four is-five =
+    ap (λ (l : List ℕ). l ++ g) (is-five ∙ ap (λ (l : List ℕ). l ++ f) (is-four ∙ ap (λ (l : List ℕ). l ++ e) (is-three ∙ ap (λ (l : List ℕ). l ++ d) (is-two ∙ ap (λ (l : List ℕ). l ++ b) is-one))))
+    ∙ simp append_assoc
+
+-- the last part, if it was written
+pub appended : {X E : Type 0} (r : Result X E) (new more old whole : List ℕ) → new ≡ (if is_ok r then more else old) → more ≡ whole → OnOk r (new ≡ whole)
+appended (Ok x) new more old whole is same = is ∙ same
+appended (Err e) new more old whole is same = tt
 
 same_some : {X : Type 0} (x y : X) → Some x ≡ Some y → x ≡ y
 same_some x y is = cc

@@ -1,5 +1,5 @@
 // Reading an image's file.
-ghost use Rattle.std.specs.Prelude.{◌≡◌, ℕ, ◌+◌, ◌*◌, ◌<◌, ◌≤◌, ◌↔◌, length, map, slice_index, IsTrue};
+ghost use Rattle.std.specs.Prelude.{◌≡◌, ◌∷◌, [], ℕ, ◌+◌, ◌*◌, ◌<◌, ◌≤◌, ◌↔◌, length, map, slice_index, IsTrue};
 ghost use Rattle.flash_sim.specs.Bank.{bank_at, capacity};
 ghost use Rattle.flash_sim.specs.Contents.{contents};
 ghost use Rattle.image_file.specs.declared.image.ImageFault.TheVariants.{Bad};
@@ -9,7 +9,7 @@ ghost use Rattle.image_file.specs.Format.{plain_area};
 ghost use Rattle.image_file.specs.Lawful.{IsImageBank};
 ghost use Rattle.image_file.specs.Said.{bank_said, version_said, field_at, bank_place, area_place, bank_count, area_count, banks_said, areas_said, all_banks, all_areas, contents_place, contents_said};
 ghost use Rattle.image_file.specs.Table.{BankAt, AreaAt, ContentsAt, Departs, FirstFault, Holds, AllHold, header_rows, rows_of, contents_rows};
-ghost use Rattle.image_file.specs.Reading.{Reads, ReadsImage};
+ghost use Rattle.image_file.specs.Reading.{Reads, ByteWithin, ByteFault, ReadsImage};
 
 use crate::fields::{area_of, bank_of, field};
 use crate::image::{Image, ImageFault, ImageWhy};
@@ -44,6 +44,32 @@ fn byte_at(bytes: &[u8], at: usize) -> Result<u8, ImageFault>
     }
 }
 
+// The byte at this place, if it is from `least` to `most`.
+fn byte_within(
+    bytes: &[u8],
+    at: usize,
+    least: u8,
+    most: u8,
+    why: ImageWhy,
+) -> Result<u8, ImageFault>
+    requires { at ≤ length bytes.now }
+    ensures { Reads (ByteWithin bytes.now at least most) (ByteFault bytes.now at least most why)
+        result }
+{
+    let byte = byte_at(bytes, at)?;
+    if !(least..=most).contains(&byte) {
+        return Err(bad(at, why));
+    }
+    Ok(byte)
+}
+
+// Whether a text is the letters that a file begins with.
+fn is_magic(text: &[u8]) -> bool
+    ensures { IsTrue result ↔ (text.now ≡ 0x5A ∷ 0x53 ∷ 0x49 ∷ 0x4D ∷ []) }
+{
+    text == b"ZSIM".as_slice()
+}
+
 // The first eight bytes.
 fn read_header(bytes: &[u8]) -> Result<Counts, ImageFault>
     ensures { Reads
@@ -51,24 +77,13 @@ fn read_header(bytes: &[u8]) -> Result<Counts, ImageFault>
         × (counts.banks ≡ bank_count bytes.now) × (counts.areas ≡ area_count bytes.now))
         (FirstFault bytes.now header_rows) result }
 {
-    if field(bytes, 0, 4)? != b"ZSIM".as_slice() {
+    if !is_magic(field(bytes, 0, 4)?) {
         return Err(bad(0, ImageWhy::BadMagic));
     }
-    let version = byte_at(bytes, 4)?;
-    if !(1..=2).contains(&version) {
-        return Err(bad(4, ImageWhy::BadVersion));
-    }
-    let banks = byte_at(bytes, 5)?;
-    if !(1..=2).contains(&banks) {
-        return Err(bad(5, ImageWhy::BadBank));
-    }
-    let areas = byte_at(bytes, 6)?;
-    if !(1..=8).contains(&areas) {
-        return Err(bad(6, ImageWhy::BadArea));
-    }
-    if byte_at(bytes, 7)? != 0 {
-        return Err(bad(7, ImageWhy::BadVersion));
-    }
+    let version = byte_within(bytes, 4, 1, 2, ImageWhy::BadVersion)?;
+    let banks = byte_within(bytes, 5, 1, 2, ImageWhy::BadBank)?;
+    let areas = byte_within(bytes, 6, 1, 8, ImageWhy::BadArea)?;
+    byte_within(bytes, 7, 0, 0, ImageWhy::BadVersion)?;
     Ok(Counts {
         version,
         banks: usize::from(banks),

@@ -38,15 +38,13 @@ fn put_bank(file: &mut Vec<u8>, bank: &Bank) -> Result<(), AllocError>
 {
     file.extend_from_slice(&[kind_byte(bank.kind), bank.unit as u8, 0, 0])?;
     put_number(file, bank.sector)?;
-    put_number(file, bank.count)?;
-    Ok(())
+    put_number(file, bank.count)
 }
 
 fn put_number(file: &mut Vec<u8>, number: u32) -> Result<(), AllocError>
     ensures { OnOk result (file.new.items ≡ file.old.items ++ to_le_bytes w32 number) }
 {
-    file.extend_from_slice(&number.to_le_bytes())?;
-    Ok(())
+    file.extend_from_slice(&number.to_le_bytes())
 }
 
 fn put_banks(file: &mut Vec<u8>, banks: &[Bank]) -> Result<(), AllocError>
@@ -79,8 +77,7 @@ fn put_area(file: &mut Vec<u8>, area: &Area) -> Result<(), AllocError>
     file.extend_from_slice(&(area.sectors as u16).to_le_bytes())?;
     file.extend_from_slice(&[label.len() as u8, 0])?;
     file.extend_from_slice(label)?;
-    file.extend_from_slice(zeros(8 - label.len()))?;
-    Ok(())
+    file.extend_from_slice(zeros(8 - label.len()))
 }
 
 fn put_area_at(file: &mut Vec<u8>, areas: &FlashMap, i: usize) -> Result<(), AllocError>
@@ -139,8 +136,7 @@ fn put_image(
     file.extend_from_slice(&[b'Z', b'S', b'I', b'M', version, bank_count, area_count, 0])?;
     put_banks(file, banks)?;
     put_areas(file, areas)?;
-    put_contents(file, bytes)?;
-    Ok(())
+    put_contents(file, bytes)
 }
 
 /// The file of a lawful image with these banks, areas and bytes of each bank.

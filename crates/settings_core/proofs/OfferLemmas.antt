@@ -1,17 +1,20 @@
 -- Offering one setting.
-use Rattle.std.proofs.Common.{Option, ◌≡◌, ℕ, List, [], ◌∷◌, get_or, Some, Bool, true, false, sym, ap, ◌∙◌}
+use Rattle.std.proofs.Common.{Option, ◌≡◌, ℕ, ◌<◌, List, [], ◌∷◌, length, map, get_or, Some, None, Result, Ok, Err, inl, Bool, true, false, true≢false, sym, ap, ◌∙◌, arith}
 use Rattle.std.proofs.Math.ListN.{get_or-map}
-use Rattle.std.specs.Prelude.{option_map}
+use Rattle.std.specs.Prelude.{option_map, is_err}
 use Rattle.std.specs.Option.{unwrap_or}
 use Rattle.setting_name.specs.Match.{matched_rest}
-use Rattle.handlers.specs.Best.{best}
+use Rattle.flash_sim.specs.declared.flash.NoMemory.{NoMemory as Lack}
+use Rattle.handlers.specs.Best.{best, depth, is_greatest}
 use Rattle.handlers.specs.Registry.{Registered, subtrees, nobody, state_at, with_state}
 use Rattle.settings_core.specs.Reported.{reported_more}
 use Rattle.std.proofs.lemmas.Bool.{cond-false}
-use Rattle.std.proofs.lemmas.List.{set-get_or}
+use Rattle.std.proofs.lemmas.List.{set-get_or, length-map}
+use Rattle.std.proofs.lemmas.List.Quantifiers.{position-Some}
 use Rattle.handlers.specs.Held.{given}
 use Rattle.settings_core.specs.Runtime.{Takes, Accepts, Rejects}
-use Rattle.settings_core.specs.Deliveries.{Delivery, delivery, deliver, is_taken, Give, Delivers}
+use Rattle.settings_core.specs.declared.offering.Offered.{Offered}
+use Rattle.settings_core.specs.Deliveries.{Delivery, delivery, deliver, is_taken, Give, Delivers, OfferEnds}
 
 pub delivery-best : (before : List Registered) (name value rest subtree : List ℕ) (place : ℕ) → best (subtrees before) name ≡ Some place → subtree ≡ (get_or before place nobody).subtree
     → rest ≡ unwrap_or (matched_rest name subtree) [] → delivery (subtrees before) (name, value) ≡ Some (record { place = place; rest = rest; value = value })
@@ -19,6 +22,20 @@ delivery-best before name value rest subtree place is own left =
     ap (option_map (λ place. record { place = place; rest = unwrap_or (matched_rest name (get_or (subtrees before) place [])) []; value = value })) is
     ∙ ap (λ text. Some (record { place = place; rest = unwrap_or (matched_rest name text) []; value = value })) (get_or-map (λ h. h.subtree) before place nobody ∙ sym own)
     ∙ ap (λ text. Some (record { place = place; rest = text; value = value })) (sym left)
+
+pub delivery-none : (before : List Registered) (name value : List ℕ) → best (subtrees before) name ≡ None → delivery (subtrees before) (name, value) ≡ None
+delivery-none before name value none =
+    ap (option_map (λ place. record { place = place; rest = unwrap_or (matched_rest name (get_or (subtrees before) place [])) []; value = value })) none
+
+pub best_within : (handlers : List Registered) (name : List ℕ) (place : ℕ) → best (subtrees handlers) name ≡ Some place → place < length handlers
+best_within handlers name place is =
+    let depths = map (depth name) (subtrees handlers) in
+    omega (arith, (position-Some (is_greatest depths) depths place 0 is).0, length-map (subtrees handlers) (depth name), length-map handlers (λ (h : Registered). h.subtree))
+
+-- an offer for which there was no memory
+pub offer_lacks : (before after : List Registered) (old new : Option (List Give)) (setting : List ℕ × List ℕ) (result : Result Offered Lack) → is_err result ≡ true → after ≡ before → new ≡ old → OfferEnds before after old new setting result
+offer_lacks before after old new setting (Ok x) failed same unreported = absurd (true≢false (sym failed))
+offer_lacks before after old new setting (Err lack) failed same unreported = (unreported, inl same)
 
 pub delivers : (before after : List Registered) (old new : Option (List Give)) (name value rest subtree : List ℕ) (place : ℕ) (taken answer : Bool) → best (subtrees before) name ≡ Some place → subtree ≡ (get_or before place nobody).subtree
     → rest ≡ unwrap_or (matched_rest name subtree) [] → (taken ≡ is_taken before (record { place = place; rest = rest; value = value })) × (after ≡ deliver before (record { place = place; rest = rest; value = value }))

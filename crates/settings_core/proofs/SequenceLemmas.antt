@@ -1,5 +1,5 @@
 -- Commands that are carried out after others.
-use Rattle.std.proofs.Common.{◌≡◌, ℕ, ◌+◌, Bool, true, false, List, [], ◌∷◌, ◌++◌, length, Option, None, Result, Ok, Err, refl, sym, ap, subst, ◌∙◌, arith, length-append}
+use Rattle.std.proofs.Common.{◌≡◌, ℕ, ◌+◌, ◌-◌, ◌^◌, ◌<◌, min, Bool, true, false, true≢false, List, [], ◌∷◌, ◌++◌, length, Option, None, Result, Ok, Err, refl, sym, ap, subst, ◌∙◌, arith, length-append}
 use Rattle.std.proofs.lemmas.List.{append_assoc}
 use Rattle.flash_sim.specs.Device.{Device}
 use Rattle.flash_sim.specs.Bank.{bank_at}
@@ -224,3 +224,28 @@ put_refused mounted_on stands runs damage room contents chance tears T U area st
   goes_on = λ kept. goes_on (lost_same T U fault ∙ kept);
   down = λ lost. down (lost_same T U fault ∙ lost);
 }
+
+-- a part of one put that was carried out
+pub put_stored : {S : Type 0} (mounted_on : S → Area) (stands : S → Geometry → List (List ℕ) → Type 0) (runs : S → Bool) (damage : Area → Geometry → List (List ℕ) → Option Damaged)
+    (room : Area → Geometry → Room) (contents : Area → Geometry → List (List ℕ) → Map) (chance : Area → Geometry → List (List ℕ) → Loss → Bool) (tears : Area → Geometry → Command → ℕ → Map → Map → Type 0)
+    (T U : Type 0) (x : T) (y : U) (area : Area) (state : S) (old new : Device) (name text value : List ℕ) (was now count : ℕ) → name ≡ text → mounted_on state ≡ area → Touches (area ∷ []) old new false
+    → CarryEndsOn {T = T} room contents chance tears true area old new (Put name value ∷ []) count (Ok x) → SpendsAtMost old new (due_units (geometry_of old area) (on contents old area) (Put name value ∷ [])) → on damage new area ≡ None → StandsOn mounted_on stands new state
+    → now ≡ more_pairs was count → CarriesOn {T = U} mounted_on stands runs damage room contents chance tears area state old new (Put text value ∷ []) was now (Ok y)
+put_stored mounted_on stands runs damage room contents chance tears T U x y area state old new name text value was now count same here touches ends at_most sound there counts = record {
+  area_is = here;
+  touches = touches;
+  count = count;
+  counts = counts;
+  ends = subst (λ (n : List ℕ). CarryEndsOn {T = U} room contents chance tears true area old new (Put n value ∷ []) count (Ok y)) same ends;
+  at_most = subst (λ (n : List ℕ). SpendsAtMost old new (due_units (geometry_of old area) (on contents old area) (Put n value ∷ []))) same at_most;
+  sound = sound;
+  goes_on = λ kept. there;
+  down = λ lost. absurd (true≢false (sym lost));
+}
+
+-- the count after one pair more, and after none
+pub one_more : (n : ℕ) → n < 2 ^ 32 → min (n + 1) (2 ^ 32 - 1) ≡ more_pairs n 1
+one_more n few = omega arith
+
+pub none_more : (n : ℕ) → n ≡ more_pairs n 0
+none_more n = omega arith

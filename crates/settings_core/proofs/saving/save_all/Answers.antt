@@ -17,10 +17,16 @@ loop-i-init g c =
     let d = g.F.Flash.device c.args.flash.now in
     no_carries tt c.args.backend.now d c.args.pairs.now refl (g.met.K.Backend.stands_reads c.args.backend.now (geometry_of d area) (sectors_of d area) c.requires.stands) c.requires.stands
 
-pub save_at-requires-clause-settings : goal.save_at-requires-clause-settings
-save_at-requires-clause-settings g c =
-    let handlers = registered (λ b. (goal.Handler-dyn g (b.vtable, b.value)).state b.value) c.args.registry.now in
-    subst (λ a. AreLawful (value_limit a) handlers) (sym c.loop-i.invariant.area_is) c.requires.settings
+pub save_at-requires : goal.save_at-requires
+save_at-requires g c = record {
+  settings = let handlers = registered (λ b. (goal.Handler-dyn g (b.vtable, b.value)).state b.value) c.args.registry.now in
+      subst (λ a. AreLawful (value_limit a) handlers) (sym c.loop-i.invariant.area_is) c.requires.settings;
+  lawful = let e : Device = g.F.Flash.device c.loop-i.flash in
+      subst (λ a. IsLawfulFor e.banks a) (sym c.loop-i.invariant.area_is)
+      (subst (λ (banks : List Bank). IsLawfulFor banks (g.K.Backend.mounted_on c.args.backend.now)) (sym c.loop-i.invariant.touches.banks) c.requires.lawful);
+  stands = c.loop-i.invariant.goes_on refl;
+  within = subst (λ n. c.loop-i.i < n) c.len.ensures c.loop-i-test.true;
+}
 
 pub loop-i-preserved : goal.loop-i-preserved
 loop-i-preserved g c =
@@ -40,18 +46,6 @@ returns-in-Err g c =
     c.save_at.new.backend (g.F.Flash.device c.args.flash.now) (g.F.Flash.device c.save_at.new.flash) l c.args.pairs.now c.save_at.new.pairs (Err c.in-Err.fault))
     (handlers_rest key handlers c.loop-i.i lt)
     (stops_more (puts_of (exported key (drop (c.loop-i.i + 1) handlers))) (carries_on c.loop-i.invariant c.in-Err.ensures))
-
-pub save_at-requires-clause-lawful : goal.save_at-requires-clause-lawful
-save_at-requires-clause-lawful g c =
-    let e : Device = g.F.Flash.device c.loop-i.flash in
-    subst (λ a. IsLawfulFor e.banks a) (sym c.loop-i.invariant.area_is)
-    (subst (λ (banks : List Bank). IsLawfulFor banks (g.K.Backend.mounted_on c.args.backend.now)) (sym c.loop-i.invariant.touches.banks) c.requires.lawful)
-
-pub save_at-requires-clause-stands : goal.save_at-requires-clause-stands
-save_at-requires-clause-stands g c = c.loop-i.invariant.goes_on refl
-
-pub save_at-requires-clause-within : goal.save_at-requires-clause-within
-save_at-requires-clause-within g c = subst (λ n. c.loop-i.i < n) c.len.ensures c.loop-i-test.true
 
 pub returns : goal.returns
 returns g c =

@@ -1,5 +1,8 @@
 use Rattle.std.proofs.Common.{◌+◌, List, Ok, Err, ap, sym, subst, ◌∙◌, refl, arith, drop}
 use Rattle.std.specs.Prelude.{option_map}
+use Rattle.flash_sim.specs.Device.{Device}
+use Rattle.flash_sim.specs.declared.flash.Bank.{Bank}
+use Rattle.flash_map.specs.Lawful.{IsLawfulFor}
 use Rattle.flash_map.specs.Area.{geometry_of, sectors_of, value_limit}
 use Rattle.backend_api.specs.Commands.{Command, puts_of}
 use Rattle.backend_api.specs.Map.{IsValue}
@@ -15,14 +18,17 @@ loop-rest-init g c =
     let d = g.F.Flash.device c.args.flash.now in
     no_carries tt c.args.backend.now d c.args.pairs.now refl (g.met.K.Backend.stands_reads c.args.backend.now (geometry_of d area) (sectors_of d area) c.requires.stands) c.requires.stands
 
-pub save_pair-requires-clause-name : goal.save_pair-requires-clause-name
-save_pair-requires-clause-name g c =
-    (pair_lawful _ c.args.subtree.now _ c.loop-rest.i c.in-Some.rest.now c.in-Some.value.now c.requires.settings (sym c.export_at.ensures.0 ∙ ap (option_map seen) c.in-Some.is)).0
-
-pub save_pair-requires-clause-value : goal.save_pair-requires-clause-value
-save_pair-requires-clause-value g c =
-    subst (λ a. IsValue (value_limit a) c.in-Some.value.now) (sym c.loop-rest.invariant.area_is)
-    (pair_lawful (value_limit (g.K.Backend.mounted_on c.args.backend.now)) c.args.subtree.now _ c.loop-rest.i c.in-Some.rest.now c.in-Some.value.now c.requires.settings (sym c.export_at.ensures.0 ∙ ap (option_map seen) c.in-Some.is)).1
+pub save_pair-requires : goal.save_pair-requires
+save_pair-requires g c =
+    let area = g.K.Backend.mounted_on c.args.backend.now in
+    let e : Device = g.F.Flash.device c.loop-rest.flash in
+    let there = pair_lawful (value_limit area) c.args.subtree.now _ c.loop-rest.i c.in-Some.rest.now c.in-Some.value.now c.requires.settings (sym c.export_at.ensures.0 ∙ ap (option_map seen) c.in-Some.is) in
+    record {
+      lawful = subst (λ a. IsLawfulFor e.banks a) (sym c.loop-rest.invariant.area_is) (subst (λ (banks : List Bank). IsLawfulFor banks area) (sym c.loop-rest.invariant.touches.banks) c.requires.lawful);
+      stands = c.loop-rest.invariant.goes_on refl;
+      name = there.0;
+      value = subst (λ a. IsValue (value_limit a) c.in-Some.value.now) (sym c.loop-rest.invariant.area_is) there.1;
+    }
 
 pub overflow_add-i : goal.overflow_add-i
 overflow_add-i g c =

@@ -1,4 +1,4 @@
-use Rattle.std.proofs.Common.{◌≡◌, ◌^◌, ◌<◌, rules, true, Some, None, ap, sym, ◌∙◌}
+use Rattle.std.proofs.Common.{◌≡◌, ◌^◌, ◌<◌, true, Some, None, ap, sym, ◌∙◌}
 use Rattle.std.specs.FinMap as finite
 use Rattle.flash_map.specs.Area.{geometry_of, sectors_of}
 use Rattle.flash_map.specs.On.{on}
@@ -9,15 +9,15 @@ use Rattle.settings_core.proofs.settings.Settings.load_direct.Goals as goal
 pub loop-name-init : goal.loop-name-init
 loop-name-init g c = none_reported _ _ _
 
-pub report_name-reported-requires-clause-room : goal.report_name-reported-requires-clause-room
-report_name-reported-requires-clause-room g c =
+pub report_name-reported-requires : goal.report_name-reported-requires
+report_name-reported-requires g c =
     let area = g.K.Backend.mounted_on c.args.self.now.backend in
     let d = g.F.Flash.device c.args.flash.now in
     let settings = on g.K.Backend.contents d area in
-    let up : g.K.Backend.runs c.args.self.now.backend ≡ true = search rules in
+    let up : g.K.Backend.runs c.args.self.now.backend ≡ true = sym c.is_up.ensures ∙ c.if-not-is_up.false in
     let next : next_name settings c.loop-name.after ≡ Some c.in-Some.name = ap (next_name settings) (sym c.as_ref.ensures.value) ∙ sym c.next_name.ensures ∙ c.in-Some.is in
     let few : finite.len settings < 2 ^ 32 = (g.met.K.Backend.reads_settings d area (g.met.F.Flash.is_lawful c.args.flash.now) c.requires.lawful (g.met.K.Backend.stands_serves c.args.self.now.backend (geometry_of d area) (sectors_of d area) (c.requires.stands up)) (g.met.K.Backend.stands_reads c.args.self.now.backend (geometry_of d area) (sectors_of d area) (c.requires.stands up))).few in
-    room_reported _ _ _ settings c.loop-name.after c.loop-name.count c.in-Some.name next few c.loop-name.invariant
+    record { lawful = c.requires.lawful; stands = c.requires.stands up; room = room_reported _ _ _ settings c.loop-name.after c.loop-name.count c.in-Some.name next few c.loop-name.invariant }
 
 pub loop-name-smaller : goal.loop-name-smaller
 loop-name-smaller g c =
@@ -40,7 +40,7 @@ returns g c =
     let area = g.K.Backend.mounted_on c.args.self.now.backend in
     let d = g.F.Flash.device c.args.flash.now in
     let settings = on g.K.Backend.contents d area in
-    let up : g.K.Backend.runs c.args.self.now.backend ≡ true = search rules in
+    let up : g.K.Backend.runs c.args.self.now.backend ≡ true = sym c.is_up.ensures ∙ c.if-not-is_up.false in
     let next : next_name settings c.loop-name.after ≡ None = ap (next_name settings) (sym c.as_ref.ensures.value) ∙ sym c.next_name.ensures ∙ c.in_default.is in
     let all = all_reported _ _ _ settings c.loop-name.after c.loop-name.count next c.loop-name.invariant in
     (up, all.0, all.1)

@@ -1,5 +1,6 @@
 -- How a job ends, from how its lines ended on a bench that was just loaded.
-use Rattle.std.proofs.Common.{◌≡◌, ◌⊎◌, ℕ, true, List, ◌∷◌, map, Option, None, Err, inl, inr, refl, sym, ap, subst, ◌∙◌}
+use Rattle.std.proofs.Common.{◌≡◌, ◌⊎◌, ℕ, true, List, ◌∷◌, map, Option, Some, None, Err, inl, inr, refl, sym, ap, subst, ◌∙◌}
+use Rattle.std.proofs.lemmas.Option.{none-some}
 use Rattle.flash_sim.specs.Device.{Device}
 use Rattle.flash_sim.specs.declared.flash.Bank.{Bank}
 use Rattle.flash_map.specs.declared.area.Area.{Area}
@@ -17,12 +18,13 @@ use Rattle.session.specs.declared.fault.SessionFault.TheVariants.{Damaged as IsD
 use Rattle.session.specs.OnMap.{IsAtRest, Ran, RunStops, damage_in, limit_of, moment}
 use Rattle.image_jobs.specs.declared.jobs.Job.{Job}
 use Rattle.image_jobs.specs.Held.{held}
-use Rattle.image_jobs.specs.Images.{ReadsAs, begun, damage_of, left}
-use Rattle.image_jobs.specs.Inputs.{BeginsWith, GivesLines, out_of, reported_by}
+use Rattle.image_jobs.specs.Images.{ReadsAs, begun, damage_of, left, settings_of}
+use Rattle.image_jobs.specs.Inputs.{BeginsWith, GivesLines, counts_settings, out_of, reported_by}
 use Rattle.image_jobs.specs.declared.stops.Refusal.TheVariants.{BadSpec, NoFile, BadFile, NoLog, NoItems, NoMirror, BadArea, Unfit, BadScript}
 use Rattle.image_jobs.specs.declared.stops.Stop.{Stop}
 use Rattle.image_jobs.specs.declared.stops.Stop.TheVariants.{Refused, HostFailed, NoMemory}
-use Rattle.image_jobs.specs.Jobs.{File, FindsDamage, HasBegun, IsStop, JobEnds, JobDoes, Sets, WritesLeft, closing, opening}
+use Rattle.image_jobs.specs.Jobs.{File, FindsDamage, HasBegun, IsStop, JobEnds, JobDoes, SaysDamage, Sets, WritesLeft, closing, opening}
+use Rattle.image_jobs.specs.Reading.{MakesOr}
 use Rattle.image_jobs.specs.Stages.{Stage, Stores, stage}
 use Rattle.image_jobs.proofs.Held.{damage_same, reads_as}
 
@@ -42,16 +44,25 @@ module _ (k : Stores) (kinds : List HandlerKind) (job : Job) (outside : Outside)
     pub sets : Sets job outside image areas lines
     sets = record { opens = record { begins = begins; has = record { version = refl; are = refl } }; gives = gives }
 
+    held_left : (answers : List Answer) (left_kinds : List HandlerKind) → Ran k.meanings k.damage areas (Mount ∷ lines) answers (opening old image kinds) (closing new left_kinds)
+        → held areas bench' ≡ left image bench'
+    held_left answers left_kinds ran =
+        ap (λ (banks : List Bank). record { version = version_of areas; banks = banks; areas = map plain_area areas; bytes = bench'.bytes }) ran.whole.keeps.banks
+
+    stays_undamaged : (damage_in k.damage areas (begun image bench) ≡ None → damage_in k.damage areas bench' ≡ None)
+        → damage_of k areas image ≡ None → damage_of k areas (held areas bench') ≡ None
+    stays_undamaged undamaged none =
+        damage_same (version_of areas) (map plain_area areas) areas bench' k ∙ undamaged (sym (damage_same (version_of areas) (map plain_area areas) areas (begun image bench) k) ∙ none)
+
     pub done : (answers : List Answer) (left_kinds : List HandlerKind) (text : List ℕ) (file : Option File)
         → Ran k.meanings k.damage areas (Mount ∷ lines) answers (opening old image kinds) (closing new left_kinds)
         → (damage_in k.damage areas (begun image bench) ≡ None → damage_in k.damage areas bench' ≡ None)
         → (bench'.is_on ≡ true → IsAtRest k.rests areas bench')
-        → text ≡ reported_by job.report lines answers
+        → text ≡ reported_by job.report lines answers (settings_of k areas (held areas bench'))
         → WritesLeft (out_of job.output) (held areas bench') file
         → JobDoes k kinds job outside old new text file
     done answers left_kinds text file ran undamaged rests prints writes =
-        let same : held areas bench' ≡ left image bench' =
-        ap (λ (banks : List Bank). record { version = version_of areas; banks = banks; areas = map plain_area areas; bytes = bench'.bytes }) ran.whole.keeps.banks in
+        let same : held areas bench' ≡ left image bench' = held_left answers left_kinds ran in
         record {
           image = image;
           areas = areas;
@@ -62,13 +73,11 @@ module _ (k : Stores) (kinds : List HandlerKind) (job : Job) (outside : Outside)
           ran = ran;
           reads = reads_as (version_of areas) (map plain_area areas) areas (begun image bench) k registry kinds;
           leaves = subst (λ (i : Plain). ReadsAs k areas i (state_of k.meanings areas (closing new left_kinds))) same (reads_as (version_of areas) (map plain_area areas) areas bench' k registry' left_kinds);
-          undamaged = λ none.
-              subst (λ (i : Plain). damage_of k areas i ≡ None) same
-              (damage_same (version_of areas) (map plain_area areas) areas bench' k ∙ undamaged (sym (damage_same (version_of areas) (map plain_area areas) areas (begun image bench) k) ∙ none));
+          undamaged = λ none. subst (λ (i : Plain). damage_of k areas i ≡ None) same (stays_undamaged undamaged none);
           rests = rests;
           banks = ran.whole.keeps.banks;
           loads = ran.whole.keeps.loads;
-          prints = prints;
+          prints = subst (λ (i : Plain). text ≡ reported_by job.report lines answers (settings_of k areas i)) same prints;
           writes = subst (λ (i : Plain). WritesLeft (out_of job.output) i file) same writes;
         }
 
@@ -83,12 +92,36 @@ module _ (k : Stores) (kinds : List HandlerKind) (job : Job) (outside : Outside)
       sets = sets;
       place = place;
       named = named;
-      stops = stops;
+      stops = inl stops;
       shows = λ none. no (serves (sym (damage_same (version_of areas) (map plain_area areas) areas (begun image bench) k) ∙ none));
     }
       where
         no : IsDamaged place damage ≡ WantsMemory → ⊥
         no is = cc
+
+    -- the image that is left shows damage, where its settings are counted
+    pub damaged_left : (answers : List Answer) (left_kinds : List HandlerKind) (place : ℕ) (damage : Damaged) (label : List ℕ) → label ≡ (area_at areas place).label.bytes
+        → counts_settings job.report ≡ true
+        → Ran k.meanings k.damage areas (Mount ∷ lines) answers (opening old image kinds) (closing new left_kinds)
+        → (damage_in k.damage areas (begun image bench) ≡ None → damage_in k.damage areas bench' ≡ None)
+        → damage_of k areas (held areas bench') ≡ Some (place, damage)
+        → FindsDamage k kinds job outside old new label damage
+    damaged_left answers left_kinds place damage label named counts ran undamaged says = record {
+      image = image;
+      areas = areas;
+      lines = lines;
+      sets = sets;
+      place = place;
+      named = named;
+      stops = inr (record {
+        counts = counts;
+        answers = answers;
+        left_kinds = left_kinds;
+        ran = ran;
+        leaves = subst (λ (i : Plain). damage_of k areas i ≡ Some (place, damage)) (held_left answers left_kinds ran) says;
+      });
+      shows = λ none. none-some (place, damage) (sym (stays_undamaged undamaged none) ∙ says);
+    }
 
     pub began : (RunStops k.meanings k.damage areas (Mount ∷ lines) (opening old image kinds) bench' WantsMemory
         ⊎ ((answers : List Answer) × (left_kinds : List HandlerKind) × Ran k.meanings k.damage areas (Mount ∷ lines) answers (opening old image kinds) (closing new left_kinds)))
@@ -127,11 +160,27 @@ module _ (k : Stores) (kinds : List HandlerKind) (job : Job) (outside : Outside)
       wanted answers left_kinds ran =
           (inr (began (inr (answers, left_kinds, subst (λ (d : Device). Ran k.meanings k.damage areas (Mount ∷ lines) answers (moment d registry kinds) (closing new left_kinds)) loaded ran))), refl)
 
+      -- the lines were carried out, and there is no report
+      pub unreported : {X : Type 0} (P : X → Type 0) (answers : List Answer) (left_kinds : List HandlerKind) (stop : Stop)
+          → Ran k.meanings k.damage areas (Mount ∷ lines) answers (moment first registry kinds) (closing new left_kinds)
+          → (damage_in k.damage areas first ≡ None → damage_in k.damage areas bench' ≡ None)
+          → MakesOr P (λ refusal. (counts_settings job.report ≡ true) × SaysDamage k areas (held areas bench') refusal) (Err stop)
+          → JobEnds k kinds job outside outside old new (Err stop)
+      unreported P answers left_kinds (Refused (BadArea label damage)) ran undamaged says = (
+        inr (inr (damaged_left answers left_kinds says.1.0 damage label.bytes says.1.1 says.0
+            (subst (λ (d : Device). Ran k.meanings k.damage areas (Mount ∷ lines) answers (moment d registry kinds) (closing new left_kinds)) loaded ran)
+            (subst (λ (d : Device). damage_in k.damage areas d ≡ None → damage_in k.damage areas bench' ≡ None) loaded undamaged) says.1.2)),
+        refl,
+      )
+      unreported P answers left_kinds (Refused refusal) ran undamaged says = absurd says.1
+      unreported P answers left_kinds HostFailed ran undamaged says = absurd says
+      unreported P answers left_kinds NoMemory ran undamaged says = wanted answers left_kinds ran
+
       pub job_done : (answers : List Answer) (left_kinds : List HandlerKind) (text : List ℕ) (file : Option File)
           → Ran k.meanings k.damage areas (Mount ∷ lines) answers (moment first registry kinds) (closing new left_kinds)
           → (damage_in k.damage areas first ≡ None → damage_in k.damage areas bench' ≡ None)
           → (bench'.is_on ≡ true → IsAtRest k.rests areas bench')
-          → text ≡ reported_by job.report lines answers
+          → text ≡ reported_by job.report lines answers (settings_of k areas (held areas bench'))
           → WritesLeft (out_of job.output) (held areas bench') file
           → JobDoes k kinds job outside old new text file
       job_done answers left_kinds text file ran undamaged rests prints writes =

@@ -1,4 +1,5 @@
 pub mod BlankLemmas
+mod Counts
 mod Endings
 mod Held
 pub mod Labels

@@ -5,7 +5,7 @@ use Rattle.std.specs.Global.{Vec}
 use Rattle.std.specs.List.{slice_get, range_with_len}
 use Rattle.std.proofs.lemmas.Bool.{false≢true}
 use Rattle.std.proofs.lemmas.List.FromFn.{length-map-range_with_len}
-use Rattle.std.proofs.lemmas.List.Elements.{All-nil, All-cons, All-append}
+use Rattle.std.proofs.lemmas.List.Elements.{All-nil, All-cons}
 use Rattle.flash_map.specs.Area.{value_limit}
 use Rattle.flash_map.specs.declared.area.Area.{Area}
 use Rattle.flash_map.specs.declared.area.TheConstants.{VALUE_LIMIT, LONG_VALUE_LIMIT}
@@ -71,8 +71,8 @@ module _ (limit : ℕ) (enough : VALUE_LIMIT ≤ limit) where
       (served_by (eqb (state_after seed from / 2 ^ 24 % 8) 0) (eqb (state_after seed from / 2 ^ 24 % 8) 1) from (state_after seed from))
       (served_from seed (from + 1) count)
 
-  pub served_generated : (n : ℕ) → All (IsServed limit) (generated n ++ Names ∷ [])
-  served_generated n = All-append (IsServed limit) (generated n) (Names ∷ []) (served_from n 1 n) (All-cons (IsServed limit) Names [] tt (All-nil (IsServed limit)))
+  pub served_generated : (n : ℕ) → All (IsServed limit) (generated n)
+  served_generated n = served_from n 1 n
 
   pub served_names : All (IsServed limit) (Names ∷ [])
   served_names = All-cons (IsServed limit) Names [] tt (All-nil (IsServed limit))

@@ -1,10 +1,11 @@
 -- The image that a job begins with and the lines that it carries out, or why there are none; and
 -- what it prints of the answers.
-use Rattle.std.specs.Prelude.{◌≡◌, ℕ, Option, Some, None, List, [], ◌∷◌, ◌++◌, codes}
+use Rattle.std.specs.Prelude.{◌≡◌, ℕ, Bool, true, false, Option, Some, None, List, [], ◌∷◌, codes}
 use Rattle.text_parts.specs.Parts.{parts}
 use Rattle.zs_host.specs.Outside.{Outside}
 use Rattle.image_file.specs.Format.{Plain}
 use Rattle.image_file.specs.Spec.{IsSpec, FirstBad, nothing_listed}
+use Rattle.backend_api.specs.Map.{Map}
 use Rattle.command_words.specs.declared.commands.StoreKind.{StoreKind}
 use Rattle.command_words.specs.declared.commands.StoreKind.TheVariants as store
 use Rattle.command_words.specs.Commands.{store_word}
@@ -23,7 +24,7 @@ use Rattle.image_jobs.specs.declared.jobs.Output.TheVariants.{Nowhere, Into}
 use Rattle.image_jobs.specs.declared.stops.Refusal.{Refusal}
 use Rattle.image_jobs.specs.declared.stops.Refusal.TheVariants.{BadSpec}
 use Rattle.image_jobs.specs.Reading.{HasImage, LacksImage, HasScript, LacksScript}
-use Rattle.image_jobs.specs.Texts.{texts, last_text, summary}
+use Rattle.image_jobs.specs.Texts.{texts, last_text, pairs_of, summary}
 
 -- SPEC describes no image: one of its items is the first that is not lawful
 abbrev pub LacksSpec : List ℕ → Refusal → Type 0
@@ -48,7 +49,7 @@ abbrev pub GivesLines : Source → ℕ → Outside → List Line → Type 0
 GivesLines (Script name) limit host lines = HasScript limit host name.now lines
 GivesLines Names limit host lines = lines ≡ line.Names ∷ []
 GivesLines Migration limit host lines = lines ≡ line.Mount ∷ line.Migrate ∷ []
-GivesLines (Generated n) limit host lines = lines ≡ generated n ++ line.Names ∷ []
+GivesLines (Generated n) limit host lines = lines ≡ generated n
 
 abbrev pub LacksSource : Source → ℕ → Outside → Refusal → Type 0
 LacksSource (Script name) limit host refusal = LacksScript limit host name.now refusal
@@ -56,10 +57,17 @@ LacksSource Names limit host refusal = ⊥
 LacksSource Migration limit host refusal = ⊥
 LacksSource (Generated n) limit host refusal = ⊥
 
-abbrev pub reported_by : Report → List Line → List Answer → List ℕ
-reported_by All lines answers = texts answers
-reported_by Last lines answers = last_text answers
-reported_by (Summary kind n) lines answers = summary (store_word kind) n lines answers
+-- what is printed of the answers to lines, which left these settings
+abbrev pub reported_by : Report → List Line → List Answer → Map → List ℕ
+reported_by All lines answers settings = texts answers
+reported_by Last lines answers settings = last_text answers
+reported_by (Summary kind n) lines answers settings =
+    summary (store_word kind) n lines answers (pairs_of settings)
+
+-- a summary counts the settings that are left
+abbrev pub counts_settings : Report → Bool
+counts_settings (Summary kind n) = true
+counts_settings report = false
 
 -- the file into which the image that is left is written
 abbrev pub out_of : Output → Option (List ℕ)

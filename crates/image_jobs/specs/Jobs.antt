@@ -21,9 +21,9 @@ use Rattle.image_jobs.specs.declared.stops.Refusal.{Refusal}
 use Rattle.image_jobs.specs.declared.stops.Refusal.TheVariants.{BadSpec, NoFile, BadFile, NoLog, NoItems, NoMirror, BadArea, Unfit, BadScript}
 use Rattle.image_jobs.specs.declared.stops.Stop.{Stop}
 use Rattle.image_jobs.specs.declared.stops.Stop.TheVariants.{Refused, HostFailed, NoMemory}
-use Rattle.image_jobs.specs.Images.{HasAreas, ReadsAs, begun, damage_of, left}
+use Rattle.image_jobs.specs.Images.{HasAreas, ReadsAs, begun, damage_of, left, settings_of}
 use Rattle.image_jobs.specs.declared.jobs.Job.{Job}
-use Rattle.image_jobs.specs.Inputs.{BeginsWith, LacksStart, LacksSource, GivesLines, out_of, reported_by}
+use Rattle.image_jobs.specs.Inputs.{BeginsWith, LacksStart, LacksSource, GivesLines, counts_settings, out_of, reported_by}
 use Rattle.image_jobs.specs.Stages.{Stage, Stores}
 
 -- a file's name and its bytes
@@ -77,7 +77,8 @@ WritesLeft (Some out) image file = (bytes : List ℕ) × IsImageFile bytes image
 -- that it names as active. OUT is the file of the image with the bytes that are left. It reads as
 -- the last map, in the area that is active at the end, even if power is off. The units in the
 -- answers are those that the flash spent, and its losses are the answers that report one. The
--- handlers that were registered hold what the last state says. The flash was loaded once.
+-- handlers that were registered hold what the last state says. The flash was loaded once. A summary
+-- counts the settings that OUT reads as.
 pub record JobDoes (k : Stores) (kinds : List HandlerKind) (job : Job) (host : Outside) (old new : Stage)
     (text : List ℕ) (file : Option File) : Type 0 where
   pub image : Plain
@@ -96,13 +97,23 @@ pub record JobDoes (k : Stores) (kinds : List HandlerKind) (job : Job) (host : O
   pub rests : new.bench.is_on ≡ true → IsAtRest k.rests areas new.bench
   pub banks : new.bench.banks ≡ image.banks
   pub loads : new.bench.loads ≡ counted old.bench.loads 1
-  pub prints : text ≡ reported_by job.report lines answers
+  pub prints : text ≡ reported_by job.report lines answers (settings_of k areas (left image new.bench))
   pub writes : WritesLeft (out_of job.output) (left image new.bench) file
 
 -- ---- refused
 
--- A mount found damage, in the selector or in the active area. The image showed some at the start,
--- or no mount would have been refused.
+-- All lines were carried out, and the settings that are left were to be counted, but the image that
+-- is left shows this damage.
+pub record LeavesDamage (k : Stores) (job : Job) (image : Plain) (areas : List Area) (lines : List Line)
+    (old : Moment) (new : Stage) (found : ℕ × Damaged) : Type 0 where
+  pub counts : counts_settings job.report ≡ true
+  pub answers : List Answer
+  pub left_kinds : List HandlerKind
+  pub ran : Ran k.meanings k.damage areas (Mount ∷ lines) answers old (closing new left_kinds)
+  pub leaves : damage_of k areas (left image new.bench) ≡ Some found
+
+-- A mount found damage, in the selector or in the active area; or a summary found some in the image
+-- that is left. The image showed some at the start, or neither would have been.
 pub record FindsDamage (k : Stores) (kinds : List HandlerKind) (job : Job) (host : Outside)
     (old new : Stage) (label : List ℕ) (damage : Damaged) : Type 0 where
   pub image : Plain
@@ -113,6 +124,7 @@ pub record FindsDamage (k : Stores) (kinds : List HandlerKind) (job : Job) (host
   pub named : label ≡ (area_at areas place).label.bytes
   pub stops : RunStops k.meanings k.damage areas (Mount ∷ lines) (opening old image kinds) new.bench
       (IsDamaged place damage)
+      ⊎ LeavesDamage k job image areas lines (opening old image kinds) new (place, damage)
   pub shows : damage_of k areas image ≡ None → ⊥
 
 abbrev pub IsDamage : Stores → List HandlerKind → Job → Outside → Stage → Stage → Refusal → Type 0
@@ -180,3 +192,10 @@ IsStop areas (IsDamaged place damage) (Refused (BadArea label found)) =
     (label.bytes ≡ (area_at areas place).label.bytes) × (found ≡ damage)
 IsStop areas WantsMemory NoMemory = ⊤
 IsStop areas fault stop = ⊥
+
+-- the refusal says which damage a mount of the image finds
+abbrev pub SaysDamage : Stores → List Area → Plain → Refusal → Type 0
+SaysDamage k areas image (BadArea label damage) =
+    (place : ℕ) × (label.bytes ≡ (area_at areas place).label.bytes)
+    × (damage_of k areas image ≡ Some (place, damage))
+SaysDamage k areas image refusal = ⊥

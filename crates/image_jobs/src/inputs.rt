@@ -1,5 +1,5 @@
 // The image and the lines of a job.
-ghost use Rattle.std.specs.Prelude.{◌≡◌, ◌≤◌, ◌∷◌, ◌++◌, [], All, IfOk};
+ghost use Rattle.std.specs.Prelude.{◌≡◌, ◌≤◌, ◌∷◌, [], All, IfOk};
 ghost use Rattle.flash_map.specs.declared.area.TheConstants.{VALUE_LIMIT};
 ghost use Rattle.image_file.specs.Format.{plain};
 ghost use Rattle.image_file.specs.Lawful.{IsImage};
@@ -7,7 +7,6 @@ ghost use Rattle.image_file.specs.Spec.{IsSpec};
 ghost use Rattle.session.specs.OnMap.{IsServed};
 ghost use Rattle.image_jobs.specs.Inputs.{BeginsWith, LacksSource, LacksSpec, LacksStart, GivesLines, blank_spec};
 ghost use Rattle.image_jobs.specs.Reading.{MakesOr, ReadsOr};
-ghost use Rattle.script_lines.specs.Generator.{generated};
 ghost use Rattle.script_lines.specs.declared.line.Line.TheVariants as line;
 
 use crate::jobs::{Source, Start};
@@ -64,7 +63,11 @@ pub fn open_start<'a, H: Host>(
     }
 }
 
-fn asks_names(alloc: Global) -> Result<Vec<Line>, NoMemory>
+/// The line `names` alone.
+///
+/// # Errors
+/// `NoMemory`.
+pub fn asks_names(alloc: Global) -> Result<Vec<Line>, NoMemory>
     ensures { IfOk result (λ lines. lines.items ≡ line.Names ∷ []) }
 {
     let mut lines = Vec::new(alloc);
@@ -78,14 +81,6 @@ fn migrates(alloc: Global) -> Result<Vec<Line>, NoMemory>
     let mut lines = Vec::new(alloc);
     lines.push(Line::Mount)?;
     lines.push(Line::Migrate)?;
-    Ok(lines)
-}
-
-fn generates(alloc: Global, n: u32) -> Result<Vec<Line>, NoMemory>
-    ensures { IfOk result (λ lines. lines.items ≡ generated n ++ line.Names ∷ []) }
-{
-    let mut lines = gen_script(alloc, n)?;
-    lines.push(Line::Names)?;
     Ok(lines)
 }
 
@@ -109,6 +104,6 @@ pub fn read_source<'a, H: Host>(
         Source::Script { name } => read_lines(alloc, name, limit, host),
         Source::Names => Ok(asks_names(alloc)?),
         Source::Migration => Ok(migrates(alloc)?),
-        Source::Generated { n } => Ok(generates(alloc, n)?),
+        Source::Generated { n } => Ok(gen_script(alloc, n)?),
     }
 }

@@ -19,7 +19,7 @@ pub enum Source<'a> {
     Names,
     /// `mount` and `migrate`.
     Migration,
-    /// The generated script of `n` lines, followed by `names`.
+    /// The generated script of `n` lines.
     Generated { n: u32 },
 }
 
@@ -30,7 +30,7 @@ pub enum Report {
     All,
     /// The text of the last answer.
     Last,
-    /// The summary of a generated script of `n` lines.
+    /// The summary of a generated script of `n` lines, which counts the settings that are left.
     Summary { store: StoreKind, n: u32 },
 }
 

@@ -3,6 +3,8 @@
 #![tactic(auto)]
 
 mod building;
+mod carrying;
+mod counting;
 mod inputs;
 mod jobs;
 mod laws;
@@ -15,11 +17,12 @@ mod running;
 mod stops;
 
 pub use building::build;
+pub use carrying::label_at;
 pub use jobs::{Job, Output, Report, Source, Start};
 pub use laws::{blank_maps, lawful_maps, limits, lines_fit};
 pub use loading::{file_left, longest_value};
 pub use outcome::{OutFile, Outcome};
 pub use reading::{read_image_file, read_script_text};
 pub use refusing::{USAGE, refusal_line};
-pub use running::{label_at, run_job};
+pub use running::run_job;
 pub use stops::{Refusal, Stop};

@@ -1,15 +1,28 @@
 // What is printed of the answers.
-ghost use Rattle.std.specs.Prelude.{◌≡◌, ◌∷◌, ◌++◌, [], All, codes, length, count_by, sum_by, not, IfOk, OnOk};
+ghost use Rattle.std.specs.Prelude.{◌≡◌, ◌∷◌, ◌++◌, [], true, All, List, codes, length, count_by, sum_by, not, IfOk, OnOk};
 ghost use Rattle.std.specs.Fmt.{decimal};
 ghost use Rattle.std.specs.String.{string_bytes};
 ghost use Rattle.command_words.specs.Commands.{store_word};
+ghost use Rattle.flash_sim.specs.Device.{Device};
+ghost use Rattle.flash_map.specs.declared.area.Area.{Area as area};
+ghost use Rattle.image_file.specs.Lawful.{IsImage};
 ghost use Rattle.script_lines.specs.Answer.{CanReport};
-ghost use Rattle.image_jobs.specs.Inputs.{reported_by};
-ghost use Rattle.image_jobs.specs.Texts.{texts, last_text, last_pairs, but_last, counted, summary, is_set, is_del, is_get, is_fine};
+ghost use Rattle.session.specs.OnMap.{IsServedMap};
+ghost use Rattle.image_jobs.specs.Held.{held};
+ghost use Rattle.image_jobs.specs.Images.{settings_of};
+ghost use Rattle.image_jobs.specs.Inputs.{counts_settings, reported_by};
+ghost use Rattle.image_jobs.specs.Jobs.{SaysDamage};
+ghost use Rattle.image_jobs.specs.Reading.{MakesOr};
+ghost use Rattle.image_jobs.specs.Stages.{stores};
+ghost use Rattle.image_jobs.specs.Texts.{texts, last_text, last_pairs, counted, summary, is_set, is_del, is_get, is_fine};
 
+use crate::counting::names_left;
 use crate::jobs::Report;
+use crate::stops::Stop;
+use backend_api::Backend;
 use command_words::StoreKind;
-use flash_sim::NoMemory;
+use flash_map::FlashMap;
+use flash_sim::{Bench, NoMemory};
 use script_lines::{Answer, Line, Pair, answer_text};
 use std::alloc::{AllocError, Global};
 
@@ -98,17 +111,11 @@ fn bytes_in(pairs: &[Pair]) -> Result<u64, NoMemory>
     Ok(bytes)
 }
 
-// How many answers, except the last, are not fine.
+// How many answers are not fine.
 fn refused(answers: &[Answer]) -> usize
-    ensures { result ≡ count_by (λ answer. not (is_fine answer)) (but_last answers.now) }
+    ensures { result ≡ count_by (λ answer. not (is_fine answer)) answers.now }
 {
-    let count = answers.len();
-    let prefix = if count == 0 {
-        answers
-    } else {
-        &answers[..count - 1]
-    };
-    prefix.iter().filter(|answer| !is_fine(answer)).count()
+    answers.iter().filter(|answer| !is_fine(answer)).count()
 }
 
 // Appends a word and a number.
@@ -150,19 +157,19 @@ fn line_counts(alloc: Global, text: &mut String, lines: &[Line]) -> Result<(), A
     add_count(alloc, text, "get", gets(lines) as u64)
 }
 
-// The summary of a generated script.
+// The summary of a generated script that left these settings.
 fn summary(
     alloc: Global,
     store: StoreKind,
     n: u32,
     lines: &[Line],
     answers: &[Answer],
+    pairs: &[Pair],
 ) -> Result<Vec<u8>, NoMemory>
     ensures { IfOk result
-        (λ text. text.items ≡ summary (store_word store) n lines.now answers.now) }
+        (λ text. text.items ≡ summary (store_word store) n lines.now answers.now pairs.now) }
 {
     let word = store_word(store);
-    let pairs = last_pairs(answers);
     let bytes = bytes_in(pairs)?;
     let mut text = format!(in alloc; "gen {word} {n}:")?;
     line_counts(alloc, &mut text, lines)?;
@@ -173,22 +180,39 @@ fn summary(
     Ok(text.into_bytes())
 }
 
-/// What is printed of the answers to lines.
+/// What is printed of the answers to lines, which left this bench. A summary counts the settings
+/// that the bench's image reads as, whether power is on or off.
 ///
 /// # Errors
-/// `NoMemory`.
-pub fn report_text(
+/// `Refused` if the settings are to be counted, and the image shows damage; `NoMemory`.
+pub fn report_text<'a, K: Backend, B: Bench>(
     alloc: Global,
     report: Report,
     lines: &[Line],
     answers: &[Answer],
-) -> Result<Vec<u8>, NoMemory>
-    requires { All CanReport answers.now }
-    ensures { IfOk result (λ text. text.items ≡ reported_by report lines.now answers.now) }
+    areas: &FlashMap,
+    bench: &B,
+) -> Result<Vec<u8>, Stop<'a>>
+    requires texts { All CanReport answers.now }
+    requires serves { (areas : List area) (d : Device) → IsImage (held areas d)
+        → IsServedMap K.serves areas d }
+    requires image { IsImage (held areas.now (B.device bench.now)) }
+    ensures { let k = stores K.contents K.room K.chance K.tears K.damage K.rests in
+        let image = held areas.now (B.device bench.now) in
+        MakesOr (λ text. text.items
+        ≡ reported_by report lines.now answers.now (settings_of k areas.now image))
+        (λ refusal. (counts_settings report ≡ true) × SaysDamage k areas.now image refusal) result }
 {
     match report {
-        Report::All => all_texts(alloc, answers),
-        Report::Last => last_text(alloc, answers),
-        Report::Summary { store, n } => summary(alloc, store, n, lines, answers),
+        Report::All => Ok(all_texts(alloc, answers)?),
+        Report::Last => Ok(last_text(alloc, answers)?),
+        Report::Summary { store, n } => {
+            let asked = match names_left::<K, B>(alloc, areas, bench) {
+                Ok(asked) => asked,
+                Err(stop) => return Err(stop),
+            };
+            let pairs = last_pairs(asked.as_slice());
+            Ok(summary(alloc, store, n, lines, answers, pairs)?)
+        }
     }
 }

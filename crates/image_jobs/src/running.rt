@@ -1,96 +1,33 @@
 // The run of a job.
-ghost use Rattle.std.specs.Prelude.{◌≡◌, ℕ, ◌<◌, ◌∷◌, [], true, None, All, List, IfErr, IfOk, OnOk};
+ghost use Rattle.std.specs.Prelude.{◌≡◌, List, [], All};
 ghost use Rattle.flash_sim.specs.Device.{Device};
 ghost use Rattle.flash_map.specs.declared.area.Area.{Area as area};
 ghost use Rattle.zs_host.specs.Outside.{Outside};
 ghost use Rattle.handlers.specs.Registry.{registered};
 ghost use Rattle.image_file.specs.Format.{plain};
 ghost use Rattle.image_file.specs.Lawful.{IsImage};
-ghost use Rattle.script_lines.specs.Answer.{CanReport};
-ghost use Rattle.script_lines.specs.declared.line.Line.TheVariants.{Mount};
-ghost use Rattle.session_table.specs.Bench.{area_at};
-ghost use Rattle.session.specs.declared.fault.SessionFault.TheVariants.{NoMemory as WantsMemory};
-ghost use Rattle.session.specs.OnMap.{IsAtRest, IsFresh, IsServed, IsServedMap, RunEnds, damage_in, kinds, limit_of, meanings, moment};
-ghost use Rattle.session.specs.Texts.{AreLabelled};
+ghost use Rattle.session.specs.OnMap.{IsFresh, IsServed, IsServedMap, kinds, limit_of};
 ghost use Rattle.image_jobs.specs.Held.{held};
 ghost use Rattle.image_jobs.specs.Inputs.{BeginsWith, GivesLines};
-ghost use Rattle.image_jobs.specs.Jobs.{IsStop, JobEnds};
+ghost use Rattle.image_jobs.specs.Jobs.{JobEnds};
 ghost use Rattle.image_jobs.specs.Stages.{stage, stores};
 
+use crate::carrying::{run, stop_of};
 use crate::inputs::{open_start, read_source};
 use crate::jobs::Job;
 use crate::loading::{file_left, longest_value};
 use crate::outcome::Outcome;
 use crate::report::report_text;
-use crate::stops::{Refusal, Stop};
-use arrayvec::ArrayString;
+use crate::stops::Stop;
 use backend_api::Backend;
-use flash_map::FlashMap;
-use flash_sim::{Bench, Steps};
+use flash_sim::Bench;
 use handlers::{Handler, Registry};
 use image_file::Image;
 use script_lines::Line;
-use session::{Answers, SessionFault, run_lines};
 use std::alloc::Global;
 use std::marker::Brand;
-use std::sync::ledger::{Blank, Ledger};
+use std::sync::ledger::Blank;
 use zs_host::Host;
-
-/// The label of the area at this place; an empty one if there is no such area.
-pub fn label_at(areas: &FlashMap, place: usize) -> ArrayString<8>
-    ensures { result.bytes ≡ (area_at areas.now place).label.bytes }
-{
-    match areas.at(place) {
-        Some(area) => area.label,
-        None => ArrayString::new(),
-    }
-}
-
-// Why the lines stopped.
-fn stop_of<'a>(areas: &FlashMap, fault: SessionFault) -> Stop<'a>
-    ensures { IsStop areas.now fault result }
-{
-    match fault {
-        SessionFault::Damaged { area, damage } => {
-            let label = label_at(areas, area);
-            Stop::Refused(Refusal::BadArea { label, damage })
-        }
-        SessionFault::NoMemory => Stop::NoMemory,
-    }
-}
-
-// Carries out the lines, and counts the steps.
-fn run<K: Backend, B: Bench, L: Ledger>(
-    alloc: Global,
-    areas: &FlashMap,
-    lines: &[Line],
-    bench: &mut B,
-    pool: Vec<Box<dyn Handler>>,
-    registry: &mut Registry,
-    blank: Blank,
-) -> Result<Answers, SessionFault>
-    requires map { IsServedMap K.serves areas.now (B.device bench.old) }
-    requires lines { All (IsServed (limit_of areas.now)) lines.now }
-    requires pool { All (IsFresh state) pool.items }
-    requires registry { registered state registry.old ≡ [] }
-    requires name { blank.name ≡ L.name }
-    requires parts { blank.parts ≡ L.parts }
-    requires some { 0 < L.parts }
-    ensures ends { let d = B.device bench.old in let e = B.device bench.new in
-        RunEnds (meanings K.contents K.room K.chance K.tears) K.damage areas.now (Mount ∷ lines.now)
-        (moment d (registered state registry.old) (kinds state pool.items)) e
-        (registered state registry.new) result }
-    ensures undamaged { damage_in K.damage areas.now (B.device bench.old) ≡ None
-        → damage_in K.damage areas.now (B.device bench.new) ≡ None }
-    ensures serves { damage_in K.damage areas.now (B.device bench.old) ≡ None
-        → IfErr result (λ fault. fault ≡ WantsMemory) }
-    ensures rests { OnOk result
-        ((B.device bench.new).is_on ≡ true → IsAtRest K.rests areas.now (B.device bench.new)) }
-    ensures texts { AreLabelled areas.now → IfOk result (λ answers. All CanReport answers) }
-{
-    let mut steps = Steps::<L>::new(blank);
-    run_lines::<K, B, L>(alloc, lines, bench, areas, pool, registry, &mut steps)
-}
 
 // Carries out the lines on the image.
 fn run_on_image<'a, K: Backend, B: Bench>(
@@ -122,9 +59,16 @@ fn run_on_image<'a, K: Backend, B: Bench>(
         Ok(answers) => answers,
         Err(fault) => return Err(stop_of(&map, fault)),
     };
-    let text = match report_text(alloc, job.report, lines, answers.as_slice()) {
+    let text = match report_text::<K, B>(
+        alloc,
+        job.report,
+        lines,
+        answers.as_slice(),
+        &map,
+        bench,
+    ) {
         Ok(text) => text,
-        Err(_) => return Err(Stop::NoMemory),
+        Err(stop) => return Err(stop),
     };
     let file = match file_left(alloc, &job.output, &map, bench) {
         Ok(file) => file,
@@ -137,7 +81,8 @@ fn run_on_image<'a, K: Backend, B: Bench>(
 /// the lines, and returns what is to be printed and written. It prints and writes nothing itself.
 ///
 /// # Errors
-/// `Refused`, in this order: there is no image; there are no lines; a mount finds damage.
+/// `Refused`, in this order: there is no image; there are no lines; a mount finds damage; the
+/// settings that are left are counted, and their image shows damage.
 /// `HostFailed`: nothing was carried out. `NoMemory`: nothing was carried out, or some or all of
 /// the lines were.
 #[inline(never)]

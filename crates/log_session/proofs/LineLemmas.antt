@@ -1,6 +1,8 @@
 -- Lines that change no record: those that leave the bench, those on the plan, and mounts.
-use Rattle.std.proofs.Common.{◌≡◌, ℕ, ◌+◌, ◌-◌, ◌≤◌, Bool, true, false, List, [], ◌∷◌, Option, Some, None, refl, sym, ap, subst, ◌∙◌, arith}
+use Rattle.std.proofs.Common.{◌≡◌, ℕ, ◌+◌, ◌-◌, ◌≤◌, Bool, true, false, List, [], ◌∷◌, Option, Some, None, Result, Ok, Err, refl, sym, ap, subst, ◌∙◌, arith}
+use Rattle.std.specs.Prelude.{OnErr}
 use Rattle.std.proofs.lemmas.Bool.{false≢true}
+use Rattle.flash_sim.specs.declared.flash.NoMemory.{NoMemory}
 use Rattle.flash_sim.specs.Device.{Device, After, replanned, dropped}
 use Rattle.flash_map.specs.declared.area.Area.{Area}
 use Rattle.flash_map.specs.Area.{geometry_of, unit_of, sectors_of}
@@ -51,7 +53,7 @@ put_no_mount body is = cc
 pub put_no_records : (body : List ℕ) → Put body ≡ Records → ⊥
 put_no_records body is = cc
 
-records_no_mount : Records ≡ Mount → ⊥
+pub records_no_mount : Records ≡ Mount → ⊥
 records_no_mount is = cc
 
 quiet : (area : Area) (d : Device) (line : Line) (answer : Answer)
@@ -83,6 +85,15 @@ records_off area d dark = quiet area d Records Off (λ last. (refl, dark, refl))
 pub reported : (area : Area) (d : Device) (bodies : List (List ℕ)) → d.is_on ≡ true → bodies ≡ log_on d area → LineDone area Records (Log bodies) d d
 reported area d bodies on are = quiet area d Records (Log bodies) (λ last. (λ needs. on, (are, refl))) refl refl refl refl tt records_no_mount tt
 
+-- what holds if memory runs out
+pub whole_if_err : (r : Result Answer NoMemory) (d : Device) → OnErr r (d ≡ d)
+whole_if_err (Ok answer) d = tt
+whole_if_err (Err e) d = refl
+
+pub wants_if_err : (r : Result Answer NoMemory) (line : Line) (d : Device) → line ≡ Records → OnErr r (d.is_on ≡ true) → OnErr r ((line ≡ Records) × (d.is_on ≡ true))
+wants_if_err (Ok answer) line d is on = tt
+wants_if_err (Err e) line d is on = (is, on)
+
 -- ---- plans
 
 same_spent : (spent : ℕ) → spent + 0 ≡ spent
@@ -97,13 +108,13 @@ no_keeping units is = cc
 pub no_dropping : replan Uncut ≡ keeps → ⊥
 no_dropping is = cc
 
-cut_no_mount : (units : ℕ) → Cut units ≡ Mount → ⊥
+pub cut_no_mount : (units : ℕ) → Cut units ≡ Mount → ⊥
 cut_no_mount units is = cc
 
 cut_no_records : (units : ℕ) → Cut units ≡ Records → ⊥
 cut_no_records units is = cc
 
-uncut_no_mount : Uncut ≡ Mount → ⊥
+pub uncut_no_mount : Uncut ≡ Mount → ⊥
 uncut_no_mount is = cc
 
 uncut_no_records : Uncut ≡ Records → ⊥

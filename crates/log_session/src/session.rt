@@ -3,7 +3,7 @@ ghost use Rattle.std.specs.Prelude.{◌≡◌, true, None, IfOk, IfErr, OnErr, O
 ghost use Rattle.fcb_ring.specs.Standing.{IsRingArea, erases_on, ring_damage};
 ghost use Rattle.flash_map.specs.Area.{value_limit};
 ghost use Rattle.log_session.specs.declared.answer.Answer.TheVariants.{Done};
-ghost use Rattle.log_session.specs.declared.line.Line.TheVariants.{Mount, Records};
+ghost use Rattle.log_session.specs.declared.line.Line.TheVariants.{Put, Mount, Records};
 ghost use Rattle.log_session.specs.LineDone.{IsServed, LineDone};
 ghost use Rattle.log_session.specs.Standing.{IsMounted, IsReady, IsSound, ShowsDamage};
 
@@ -16,6 +16,7 @@ use crate::reporting::report_records;
 use event_ring::EventLog;
 use flash_map::{Area, Damaged};
 use flash_sim::{Bench, Flash, NoMemory, Steps};
+use script_lines::Bytes;
 use std::alloc::Global;
 use std::sync::ledger::Ledger;
 
@@ -115,6 +116,49 @@ fn mount_again<B: Bench, L: Ledger>(
     }
 }
 
+// Appends a record to the log that was mounted on an undamaged area.
+fn run_put<B: Bench, L: Ledger>(
+    body: &Bytes,
+    bench: &mut B,
+    area: &Area,
+    log: &mut Option<EventLog>,
+    steps: &mut Steps<L>,
+) -> Answer
+    requires sound { IsSound (B.device bench.old) area.now }
+    requires mounted { IsMounted (B.device bench.old) area.now log.old }
+    requires line { IsServed (value_limit area.now) (Put body.now) }
+
+    ensures done { LineDone area.now (Put body.now) result (B.device bench.old)
+        (B.device bench.new) }
+    ensures sound { IsSound (B.device bench.new) area.now }
+    ensures mounted { IsMounted (B.device bench.new) area.now log.new }
+{
+    match log {
+        Some(log) if bench.is_on() => put_record(bench, log, area, body, steps),
+        _ => Answer::Off,
+    }
+}
+
+// Lists the records of the log that was mounted on an area.
+fn run_records<B: Bench, L: Ledger>(
+    alloc: Global,
+    bench: &B,
+    area: &Area,
+    log: &Option<EventLog>,
+    steps: &mut Steps<L>,
+) -> Result<Answer, NoMemory>
+    requires { IsMounted (B.device bench.now) area.now log.now }
+
+    ensures done { IfOk result
+        (λ answer. LineDone area.now Records answer (B.device bench.now) (B.device bench.now)) }
+    ensures memory { OnErr result ((B.device bench.now).is_on ≡ true) }
+{
+    match log {
+        Some(log) if bench.is_on() => report_records(alloc, bench, log, area, steps),
+        _ => Ok(Answer::Off),
+    }
+}
+
 // Carries out a line on an undamaged area, with the log that was mounted on it.
 fn run_line<B: Bench, L: Ledger>(
     alloc: Global,
@@ -138,14 +182,8 @@ fn run_line<B: Bench, L: Ledger>(
     ensures memory { OnErr result ((line.now ≡ Records) × ((B.device bench.old).is_on ≡ true)) }
 {
     match line {
-        Line::Put { body } => match log {
-            Some(log) if bench.is_on() => Ok(put_record(bench, log, area, body, steps)),
-            _ => Ok(Answer::Off),
-        },
-        Line::Records => match log {
-            Some(log) if bench.is_on() => report_records(alloc, bench, log, area, steps),
-            _ => Ok(Answer::Off),
-        },
+        Line::Put { body } => Ok(run_put(body, bench, area, log, steps)),
+        Line::Records => run_records(alloc, bench, area, log, steps),
         Line::Mount => Ok(mount_again(bench, area, log, steps)),
         Line::Cut { units } => Ok(plan_loss(bench, area, *units)),
         Line::Uncut => Ok(drop_plan(bench, area)),

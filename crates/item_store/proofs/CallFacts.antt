@@ -16,7 +16,7 @@ use Rattle.item_store.specs.Steps.{Keeps, KeepsMarks, Marks, StopsClearing}
 use Rattle.item_store.specs.Spending.{both, copies, collect_units, ready_units, again_units}
 use Rattle.item_store.specs.Standing.{IsStoreArea, KeepsItems, SpendsIn, SpendsUpTo}
 use Rattle.item_store.specs.Collecting.{HasBegun, HasCopied, StopsCopying, CollectsAt, KeepsOrCollects}
-use Rattle.item_store.proofs.Areas.{keeps_then, same_geometry, size_there, large_there, stopped, has_stopped, stopped-keeps, victim_cut, collected_at, collects-keeps, only_else}
+use Rattle.item_store.proofs.Areas.{keeps_then, same_geometry, size_there, large_there, stopped, has_stopped, stopped-keeps, victim_cut, collected_at, collects-keeps, only_else, only_then}
 use Rattle.item_store.proofs.CollectSteps.{start_stops, start_form, start_none, start_copies, again_collects, mark_room, mark_cut, prepare_cut}
 use Rattle.item_store.proofs.ListSteps.{stopped-list, whole-list, again-list, cut-list}
 use Rattle.item_store.proofs.Ranges.{both-in, first-lost, then-lost, within-in, within-lost}
@@ -121,8 +121,14 @@ module _ (format_of : Geometry → SectorFormat) (role : Role) (a : Device) (are
           within-in d e (k.units.done (sector_at (sectors_of d area) place)) k.units.any_done done_in
           (to_geometry (λ u. SpendsIn d e ((format_of u).units.done (sector_at (sectors_of d area) place))) a d area banks mark)
 
+      victim_closed : k.reading.is_closed (sector_at (sectors_of e area) victim) ≡ true
+      victim_closed =
+          let same : sector_at (sectors_of e area) (next old place) ≡ sector_at old (next old place) = only_else old (sectors_of e area) place (next old place) (only_then old (sectors_of d area) (sectors_of e area) place has.only only) (after-apart (length old) place form.ring.within form.ring.several) in
+          let shut : k.reading.is_closed (sector_at old (next old place)) ≡ true = next-closed k.reading old place 0 form.ring ∙ refl in
+          ap (λ (v : ℕ). k.reading.is_closed (sector_at (sectors_of e area) v)) at ∙ ap k.reading.is_closed same ∙ shut
+
       clear_in : LiesIn (k.units.clear (sector_at (sectors_of e area) victim)) k.units.any_clear
-      clear_in = law.units.clear_in (sector_at (sectors_of e area) victim)
+      clear_in = law.clear_in (sector_at (sectors_of e area) victim) victim_closed
 
       pub spends_all : (z : Device) → SpendsIn a d (copies (format_of (geometry_of a area)) (to_copy (format_of (geometry_of a area)).reading (sectors_of a area) place))
           → SpendsIn d e ((format_of (geometry_of d area)).units.done (sector_at (sectors_of d area) place)) → SpendsIn e z ((format_of (geometry_of e area)).units.clear (sector_at (sectors_of e area) victim)) → SpendsIn a z (collect_units (format_of (geometry_of a area)) (sectors_of a area) place)

@@ -15,6 +15,7 @@ mod LastsSlots
 mod LastsWalk
 mod ListSteps
 mod LiveSteps
+mod MarkFacts
 mod MountSteps
 mod NextSteps
 pub mod OlderSteps

@@ -32,7 +32,7 @@ module _ (k : SectorFormat) (law : IsSectorFormat k) (role : Role) (a : Device) 
   clear_most =
       let none : copies_cost k.cost [] ≤ k.cap (sector_size a area) = omega arith in
       let all = law.mount (sector_size a area) (sector_at (sectors_of a area) place) [] own.lawful.at_least none in
-      let wide = (law.units.clear_in (sector_at (sectors_of a area) (next (sectors_of a area) place))).lost in
+      let wide = law.units.clear_lost (sector_at (sectors_of a area) (next (sectors_of a area) place)) in
       omega arith
 
   redo_most : (redo : Redo) → redo_of k (sectors_of a area) place ≡ redo → (redo_units k (sectors_of a area) place redo).lost ≤ k.units.mount (sector_size a area)

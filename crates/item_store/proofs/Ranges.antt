@@ -99,7 +99,7 @@ module _ (k : SectorFormat) (law : IsSectorFormat k) where
       ≤ max (k.units.begin (sector_at sectors place)).lost k.units.any_clear.lost + (copies_cost (λ len. (k.units.any_copy len).lost) (to_copy k.reading sectors place) + (k.units.any_done.lost + k.units.any_clear.lost))
   again-lost sectors place =
       let outer = both-lost (ready_units k sectors place) (collect_units k sectors place) (ready-covers sectors place) in
-      let first = one-lost (is_clean_at k sectors place) (k.units.begin (sector_at sectors place)) (k.units.clear (sector_at sectors place)) k.units.any_clear.lost (law.units.clear_in (sector_at sectors place)).lost in
+      let first = one-lost (is_clean_at k sectors place) (k.units.begin (sector_at sectors place)) (k.units.clear (sector_at sectors place)) k.units.any_clear.lost (law.units.clear_lost (sector_at sectors place)) in
       let later = collect-lost sectors place in
       omega arith
 

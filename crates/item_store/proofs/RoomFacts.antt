@@ -21,7 +21,7 @@ use Rattle.item_laws.proofs.Rounding.{no_room, crammed}
 use Rattle.item_store.specs.declared.store.Store.{Store}
 use Rattle.item_store.specs.SectorFormat.{Range, SectorFormat, IsSectorFormat, fits}
 use Rattle.item_store.specs.Cached.{IsCacheOn}
-use Rattle.item_store.specs.Collecting.{KeepsOrDoesPass, DoesPassAt}
+use Rattle.item_store.specs.Collecting.{KeepsOrDoesPass, DoesPassAt, RoundMarksFirst}
 use Rattle.item_store.specs.Room.{has_room, IsShort, parts_of, collected, Rounds, rounds_units, MakesRoom, IsFull, StopsMakingRoom}
 use Rattle.item_store.specs.Spending.{none, round_units}
 use Rattle.item_store.specs.Standing.{list_of, KeepsItems, SpendsIn, SpendsUpTo}
@@ -173,8 +173,9 @@ module _ {T : Type 0} (role : Role) (format_of : Geometry → SectorFormat) (kep
             | inr pass_done ↦ inr (pass_done ∙ ap (λ ps. joined (collect_oldest ps)) (rounds-parts k law size len (sectors_of a area) so_far.before (sectors_of d area) so_far.rounds))
           ]
 
-      pub stops_now : made + 1 < area.sectors → KeepsItems (format_of (geometry_of d area)) (sectors_of d area) (sectors_of e area) → KeepsOrDoesPass (format_of (geometry_of d area)) (sectors_of d area) (sectors_of e area) current → SpendsUpTo d e (round_units (format_of (geometry_of d area)) (sectors_of d area) current) → StopsMakingRoom (format_of (geometry_of a area)) a e area len
-      stops_now few keeps lists spends =
+      pub stops_now : made + 1 < area.sectors → KeepsItems (format_of (geometry_of d area)) (sectors_of d area) (sectors_of e area) → KeepsOrDoesPass (format_of (geometry_of d area)) (sectors_of d area) (sectors_of e area) current → SpendsUpTo d e (round_units (format_of (geometry_of d area)) (sectors_of d area) current)
+          → RoundMarksFirst (format_of (geometry_of d area)) (sectors_of d area) (sectors_of e area) current → StopsMakingRoom (format_of (geometry_of a area)) a e area len
+      stops_now few keeps lists spends marks =
           let count = so_far.count in
           let s = between_then so_far.spends spends in
           let is = ap (λ (r : Range). r.lost) units_same in
@@ -189,6 +190,8 @@ module _ {T : Type 0} (role : Role) (format_of : Geometry → SectorFormat) (kep
             list = list_cut lists;
             spends = between_within s _ _ (omega arith) (omega arith);
             at_most = subst (λ (n : ℕ). SpendsBetween a e 0 ((n + 1) * k.units.round size)) (sym count) (most_more e 0 (round_units (format_of (geometry_of d area)) (sectors_of d area) current).lost cut_most spends);
+            marks = subst (λ (p : ℕ). RoundMarksFirst k (sectors_of d area) (sectors_of e area) p) (to_geometry (λ u. current ≡ open_sector (format_of u).reading (sectors_of d area)) a d area banks so_far.standing.current)
+                (to_geometry (λ u. RoundMarksFirst (format_of u) (sectors_of d area) (sectors_of e area) current) a d area banks marks);
           }
 
       pub searching_more : (place : ℕ) (later : T) → Touches (area ∷ []) d e false → place ≡ next (sectors_of d area) current → AtRest (format_of (geometry_of d area)).reading (sectors_of e area) (next (sectors_of d area) current)

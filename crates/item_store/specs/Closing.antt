@@ -4,7 +4,7 @@ use Rattle.flash_sim.specs.Device.{Device}
 use Rattle.flash_sim.specs.declared.flash.PowerLost.{PowerLost}
 use Rattle.flash_map.specs.declared.area.Area.{Area}
 use Rattle.flash_map.specs.Area.{sector_size, sectors_of}
-use Rattle.item_store.specs.Collecting.{KeepsOrDoesPass, DoesPassAt}
+use Rattle.item_store.specs.Collecting.{KeepsOrDoesPass, DoesPassAt, RoundMarksFirst}
 use Rattle.item_store.specs.SectorFormat.{SectorFormat, is_clean_at}
 use Rattle.item_store.specs.Spending.{round_units}
 use Rattle.item_store.specs.Standing.{SpendsIn, SpendsUpTo}
@@ -22,11 +22,13 @@ pub record DoesPass (k : SectorFormat) (old new : Device) (area : Area) (place :
   pub units : SpendsIn old new (round_units k (sectors_of old area) place)
 
 -- The open sector was not clean, and power was lost in the round: the list is as before, or as the
--- whole round leaves it, and no more units are spent than a round that is cut spends at most.
+-- whole round leaves it, and no more units are spent than a round that is cut spends at most. Where
+-- a byte of the victim is gone, gc-done stands.
 pub record StopsPass (k : SectorFormat) (old new : Device) (area : Area) (place : ℕ) : Type 0 where
   pub used : is_clean_at k (sectors_of old area) place ≡ false
   pub list : KeepsOrDoesPass k (sectors_of old area) (sectors_of new area) place
   pub bound : SpendsUpTo old new (round_units k (sectors_of old area) place)
+  pub marks : RoundMarksFirst k (sectors_of old area) (sectors_of new area) place
 
 -- a round from this open sector, which is not clean
 abbrev pub PassEnds : {T : Type 0} → SectorFormat → Device → Device → Area → ℕ → Result T PowerLost → Type 0

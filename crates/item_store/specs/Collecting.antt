@@ -2,7 +2,7 @@
 use Rattle.std.specs.Prelude.{◌≡◌, ◌⊎◌, ℕ, ◌+◌, ◌*◌, ◌<◌, Bool, true, false, List, ◌++◌, length, Option, Some, None, nat_le}
 use Rattle.std.specs.List.{flat_map}
 use Rattle.flash_map.specs.Area.{sector_at, ChangesOnly}
-use Rattle.item_laws.specs.Area.{next, is_closed_at}
+use Rattle.item_laws.specs.Area.{next, is_blank_at, is_closed_at}
 use Rattle.item_laws.specs.Forms.{rest, to_copy, pairs_at}
 use Rattle.item_laws.specs.PairRounds.{copies_cost, joined, collect_oldest}
 use Rattle.item_laws.specs.Rounds.{Collects, IsRound, parts}
@@ -13,7 +13,7 @@ use Rattle.item_store.specs.declared.entry.Redo.TheVariants.{Nothing, ClearNext,
 use Rattle.item_store.specs.SectorFormat.{Range, SectorFormat, entries, slots, fits}
 use Rattle.item_store.specs.Spending.{none, again_units}
 use Rattle.item_store.specs.Standing.{list_of}
-use Rattle.item_store.specs.Steps.{Adds}
+use Rattle.item_store.specs.Steps.{Keeps, Adds, Closes}
 use Rattle.std.specs.Prelude.{if◌then◌else◌}
 
 -- The open sector has no entry and all its room, and is ready for an entry. No other sector
@@ -86,6 +86,36 @@ pub record DoesPassAt (k : SectorFormat) (size : ℕ) (old new : List (List ℕ)
   -- the entries of all sectors but the new open one and the victim stay in their slots
   pub others : (j : ℕ) → (j ≡ next old place → ⊥) → (j ≡ next old (next old place) → ⊥)
       → entries k (sector_at new j) ≡ entries k (sector_at old j)
+
+-- ---- gc-done and the victim
+
+-- A collection into this open sector, cut or not: gc-done stands there before a byte of the victim
+-- changes.
+abbrev pub MarksFirst : SectorFormat → List (List ℕ) → List (List ℕ) → ℕ → Type 0
+MarksFirst k old new place =
+    (sector_at new (next old place) ≡ sector_at old (next old place))
+    ⊎ (k.reading.has_gc_done (sector_at new place) ≡ true)
+
+-- A round was cut in its close: the sector's list is as before, or the sector is closed. No other
+-- sector changed.
+pub record StopsInClose (k : SectorFormat) (old new : List (List ℕ)) (place : ℕ) : Type 0 where
+  pub only : ChangesOnly old new place
+  pub either : Keeps k (sector_at old place) (sector_at new place)
+      ⊎ Closes k (sector_at old place) (sector_at new place)
+  pub blank : is_blank_at k.reading old place ≡ true
+      → (sector_at new place ≡ sector_at old place) ⊎ Closes k (sector_at old place) (sector_at new place)
+
+-- A round closed its sector. In the collection that followed, gc-done stands first.
+pub record GoesOnMarking (k : SectorFormat) (old new : List (List ℕ)) (place : ℕ) : Type 0 where
+  -- the sectors behind the close
+  pub closed : List (List ℕ)
+  pub only : ChangesOnly old closed place
+  pub closes : Closes k (sector_at old place) (sector_at closed place)
+  pub marks : MarksFirst k closed new (next old place)
+
+-- a round, cut or not
+abbrev pub RoundMarksFirst : SectorFormat → List (List ℕ) → List (List ℕ) → ℕ → Type 0
+RoundMarksFirst k old new place = StopsInClose k old new place ⊎ GoesOnMarking k old new place
 
 -- ---- the list
 

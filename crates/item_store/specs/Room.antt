@@ -8,7 +8,7 @@ use Rattle.item_laws.specs.PairRounds.{joined, collect_oldest, live_cost}
 use Rattle.item_laws.specs.Area.{open_sector}
 use Rattle.item_laws.specs.Rounds.{parts, IsCrammed}
 use Rattle.item_store.specs.SectorFormat.{Range, SectorFormat, fits}
-use Rattle.item_store.specs.Collecting.{fits_beside, DoesPassAt}
+use Rattle.item_store.specs.Collecting.{fits_beside, DoesPassAt, RoundMarksFirst}
 use Rattle.item_store.specs.Spending.{none, both, round_units}
 use Rattle.item_store.specs.Standing.{list_at, KeepsItems, SpendsIn}
 
@@ -136,3 +136,5 @@ pub record StopsMakingRoom (k : SectorFormat) (old new : Device) (area : Area) (
       let whole = rounds_units k before in
       SpendsBetween old new whole.least (whole.most + (round_at k mid).lost)
   pub at_most : SpendsBetween old new 0 (most_rounds k old area (length before + 1))
+  -- where the cut round took a byte of its victim, gc-done stands
+  pub marks : RoundMarksFirst k mid (sectors_of new area) (open_sector k.reading mid)

@@ -38,8 +38,8 @@ pub record Units : Type 0 where
   pub done : List ℕ → Range
   pub close : List ℕ → Range
   pub clear : List ℕ → Range
-  -- the same in any sector: the units of a collection follow from what is copied, not from what the
-  -- bytes of a sector become on the way
+  -- the same in any sector, and the emptying of any closed one: the units of a collection follow from
+  -- what is copied, not from what the bytes of a sector become on the way
   pub any_copy : ℕ → Range
   pub any_done : Range
   pub any_clear : Range
@@ -61,7 +61,7 @@ pub record AreUnits (u : Units) : Type 0 where
   pub any_clears : CoversWhole u.any_clear
   pub copy_in : (b : List ℕ) (len : ℕ) → LiesIn (u.copy b len) (u.any_copy len)
   pub done_in : (b : List ℕ) → LiesIn (u.done b) u.any_done
-  pub clear_in : (b : List ℕ) → LiesIn (u.clear b) u.any_clear
+  pub clear_lost : (b : List ℕ) → (u.clear b).lost ≤ u.any_clear.lost
 
 -- how the sectors of an area of one geometry hold entries
 pub record SectorFormat : Type 0 where
@@ -149,6 +149,7 @@ pub record IsSectorFormat (k : SectorFormat) : Type 0 where
       → k.reading.is_closed b ≡ false → k.is_ready b ≡ true
   pub begun : (b : List ℕ) → k.is_ready b ≡ true → k.units.begin b ≡ record { least = 0; most = 0; lost = 0 }
   pub units : AreUnits k.units
+  pub clear_in : (b : List ℕ) → k.reading.is_closed b ≡ true → LiesIn (k.units.clear b) k.units.any_clear
   -- a value takes up at least its bytes, and a sector has at most its size
   pub least : (len : ℕ) → len ≤ k.cost len
   pub most : (size : ℕ) → k.cap size ≤ size

@@ -12,7 +12,7 @@ use Rattle.item_laws.specs.Forms.{AtRest}
 use Rattle.item_store.specs.declared.store.Store.{Store}
 use Rattle.item_store.specs.Cached.{IsCacheOn}
 use Rattle.item_store.specs.SectorFormat.{SectorFormat}
-use Rattle.item_store.specs.Collecting.{redo_of, redo_list, redo_units, KeepsOrRedoes}
+use Rattle.item_store.specs.Collecting.{redo_of, redo_list, redo_units, KeepsOrRedoes, MarksFirst}
 use Rattle.item_store.specs.Standing.{IsStoreArea, list_at, KeepsItems, SpendsIn, SpendsUpTo}
 
 -- The store is up: the area is not damaged and at rest, and the store knows its open sector and
@@ -70,3 +70,9 @@ MountEnds role format_of kept old new area (Err MountLost) =
     × ¬ AtRest k.reading (sectors_of old area) place
     × KeepsOrRedoes k (sectors_of old area) (sectors_of new area) place
 MountEnds role format_of kept old new area (Err NoMemory) = new ≡ old
+
+-- Where a mount, cut or not, took a byte of the sector behind the open one, gc-done stands in the
+-- open one.
+abbrev pub MountMarksFirst : SectorFormat → Device → Device → Area → Type 0
+MountMarksFirst k old new area =
+    MarksFirst k (sectors_of old area) (sectors_of new area) (open_sector k.reading (sectors_of old area))

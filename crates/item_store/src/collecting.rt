@@ -11,7 +11,7 @@ ghost use Rattle.item_store.specs.Stands.{StandsAt};
 ghost use Rattle.item_store.specs.SectorFormat.{is_clean_at, slots};
 ghost use Rattle.item_store.specs.Listed.{format_on};
 ghost use Rattle.item_store.specs.Seen.{holds_live};
-ghost use Rattle.item_store.specs.Collecting.{HasBegun, HasCopied, StopsCopying, CollectsAt, KeepsOrCollects, redo_of};
+ghost use Rattle.item_store.specs.Collecting.{HasBegun, HasCopied, StopsCopying, CollectsAt, KeepsOrCollects, MarksFirst, RoundMarksFirst, redo_of};
 ghost use Rattle.item_store.specs.Spending.{copies, collect_units, ready_units, again_units};
 ghost use Rattle.item_store.specs.Standing.{IsStoreArea, KeepsItems, SpendsIn, SpendsUpTo};
 ghost use Rattle.item_store.specs.Steps.{Keeps, StopsClearing};
@@ -156,6 +156,9 @@ fn collect<T: SlotSectors, F: Flash, L: Ledger>(
         OnErr result
         (SpendsUpTo d e
         (collect_units (format_on T.format_of d area.now) (sectors_of d area.now) current)) }
+    ensures marks { let d = F.device flash.old in let e = F.device flash.new in
+        let k = format_on T.format_of d area.now in
+        MarksFirst k (sectors_of d area.now) (sectors_of e area.now) current }
 {
     let victim = area.next(current);
     copy_live(flash, area, opened, current, victim, steps)?;
@@ -246,6 +249,9 @@ fn collect_again<T: SlotSectors, F: Flash, L: Ledger>(
         OnErr result
         (SpendsUpTo d e (again_units (format_on T.format_of d area.now) (sectors_of d area.now)
         current)) }
+    ensures marks { let d = F.device flash.old in let e = F.device flash.new in
+        let k = format_on T.format_of d area.now in
+        MarksFirst k (sectors_of d area.now) (sectors_of e area.now) current }
 {
     prepare(flash, area, opened, current, steps)?;
     collect(flash, area, opened, current, steps)
@@ -302,6 +308,9 @@ pub fn redo<T: SlotSectors, F: Flash, L: Ledger>(
         → F.device flash.new ≡ d }
     ensures ends { let d = F.device flash.old in let e = F.device flash.new in
         RedoEnds T.format_of T.kept d e area.now current opened.new result }
+    ensures marks { let d = F.device flash.old in let e = F.device flash.new in
+        let k = format_on T.format_of d area.now in
+        MarksFirst k (sectors_of d area.now) (sectors_of e area.now) current }
 {
     match what_to_redo(flash, area, opened, current, steps) {
         Redo::Nothing => Ok(()),
@@ -337,6 +346,9 @@ fn open_next<T: SlotSectors, F: Flash, L: Ledger>(
         IsWritten k (sectors_of d area.now) → IsWritten k new }
     ensures ends { let d = F.device flash.old in let e = F.device flash.new in
         OpenEnds T.format_of T.kept d e area.now current opened.new result }
+    ensures marks { let d = F.device flash.old in let e = F.device flash.new in
+        let k = format_on T.format_of d area.now in
+        MarksFirst k (sectors_of d area.now) (sectors_of e area.now) current }
 {
     if T::is_closed(flash, area, area.next(current), steps) {
         return collect_again(flash, area, opened, current, steps);
@@ -375,6 +387,9 @@ pub fn round<T: SlotSectors, F: Flash, L: Ledger>(
         (new ≡ sectors_of d area.now) ⊎ IsWritten k new }
     ensures ends { let d = F.device flash.old in let e = F.device flash.new in
         RoundEndsOn T.format_of T.kept d e area.now current opened.new result }
+    ensures marks { let d = F.device flash.old in let e = F.device flash.new in
+        let k = format_on T.format_of d area.now in
+        RoundMarksFirst k (sectors_of d area.now) (sectors_of e area.now) current }
 {
     opened.close(flash, area, current, steps)?;
     let place = area.next(current);

@@ -8,7 +8,7 @@ ghost use Rattle.item_store.specs.Closing.{RoundEnds, PassEnds};
 ghost use Rattle.item_store.specs.SectorFormat.{is_clean_at};
 ghost use Rattle.item_store.specs.Listed.{format_on};
 ghost use Rattle.item_store.specs.Standing.{IsStoreArea, KeepsItems};
-ghost use Rattle.item_store.specs.Stands.{StandsOn, MountEnds};
+ghost use Rattle.item_store.specs.Stands.{StandsOn, MountEnds, MountMarksFirst};
 ghost use Rattle.item_store.specs.Written.{IsWritten};
 
 use crate::cached::{CACHE_SLOTS, fill, follow_round};
@@ -25,7 +25,7 @@ use std::sync::ledger::Ledger;
 impl<T: SlotSectors> Store<T> {
     /// Reads the area and completes what a power loss left undone. The items stay, even if power is
     /// lost again. An area at rest stays as it is. If anything changed, some sector is not blank
-    /// afterwards, even if power was lost.
+    /// afterwards, even if power was lost. No byte of a collected sector goes before gc-done stands.
     ///
     /// # Errors
     /// `Damaged` and `NoMemory`: nothing changed. `PowerLost`, only if the area was not at rest.
@@ -48,6 +48,8 @@ impl<T: SlotSectors> Store<T> {
         ensures changed { let d = F.device flash.old in let e = F.device flash.new in
             (F.device flash.new ≡ d)
             ⊎ IsWritten (format_on T.format_of d area) (sectors_of e area) }
+        ensures marks { let d = F.device flash.old in let e = F.device flash.new in
+            MountMarksFirst (format_on T.format_of d area) d e area }
     {
         match Cache::with_slots(alloc, CACHE_SLOTS) {
             Err(_) => Err(MountFault::NoMemory),
@@ -76,6 +78,8 @@ impl<T: SlotSectors> Store<T> {
         ensures changed { let d = F.device flash.old in let e = F.device flash.new in
             (F.device flash.new ≡ d)
             ⊎ IsWritten (format_on T.format_of d area) (sectors_of e area) }
+        ensures marks { let d = F.device flash.old in let e = F.device flash.new in
+            MountMarksFirst (format_on T.format_of d area) d e area }
     {
         match T::scan(flash, &area, steps) {
             Err(damaged) => Err(MountFault::Damaged(damaged)),
@@ -130,7 +134,7 @@ impl<T: SlotSectors> Store<T> {
     ///
     /// # Errors
     /// `PowerLost`, only if the open sector is not clean: the list is as before or as after the
-    /// round, and the store is down.
+    /// round, and the store is down. Where a byte of the collected sector is gone, gc-done stands.
     pub fn close_and_collect<F: Flash, L: Ledger>(
         &mut self,
         flash: &mut F,

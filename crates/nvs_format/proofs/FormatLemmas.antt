@@ -93,7 +93,7 @@ units_are unit = record {
   any_clears = covered 1;
   copy_in = λ b len. inside (cost unit len / unit);
   done_in = λ b. inside (slot_size unit / unit);
-  clear_in = λ b. inside 1;
+  clear_lost = λ b. omega arith;
 }
 
 pub nvs_is_format : (unit : ℕ) → IsUnit unit → IsSectorFormat (format_in unit)
@@ -117,6 +117,7 @@ nvs_is_format unit is-unit = record {
   used = λ b long sound used open_here. refl;
   begun = λ b ready. refl;
   units = units_are unit;
+  clear_in = λ b closed. inside 1;
   least = λ len. let rounded = (padding unit is-unit).no_less len in omega arith;
   most = λ size. omega arith;
   round = λ size closed opened pairs large long blank room.

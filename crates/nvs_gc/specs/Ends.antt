@@ -22,10 +22,15 @@ abbrev pub MountEnds : Device → Device → Area → Result Nvs MountFault → 
 MountEnds old new area result =
     stands.MountEnds NvsRole format_of kept old new area (store_in (λ (nvs : Nvs). nvs.store) result)
 
+-- Where a mount, cut or not, took a byte of the sector behind the open one, gc-done stands in the
+-- open one.
+abbrev pub MarksFirst : Device → Device → Area → Type 0
+MarksFirst old new area = stands.MountMarksFirst (format_on old area) old new area
+
 -- Closing and collecting, with this sector open. If it was blank, nothing changed. Otherwise a
 -- whole round was made: the room that it leaves, and exactly the units that it spends. If power was
--- lost in the round, the list is as before or as the round leaves it. A sector of NVS is clean
--- (`is_clean_at`) if it is blank.
+-- lost in the round, the list is as before or as the round leaves it, and where a byte of the victim
+-- is gone, gc-done stands. A sector of NVS is clean (`is_clean_at`) if it is blank.
 abbrev pub RoundEnds : {T : Type 0} → Device → Device → Area → ℕ → Result T PowerLost → Type 0
 RoundEnds old new area place result = closing.RoundEnds (format_on old area) old new area place result
 

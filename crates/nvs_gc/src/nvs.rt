@@ -13,7 +13,7 @@ ghost use Rattle.nvs_format.specs.Formats.{format_of, placed_of};
 ghost use Rattle.item_store.specs.Cached.{latest_on};
 ghost use Rattle.item_store.specs.Latest.{IsKnown, KnowsOn};
 ghost use Rattle.item_store.specs.Older.{IsNextOlder, newest_before};
-ghost use Rattle.nvs_gc.specs.Ends.{MountEnds, RoundEnds, WriteEnds, DeleteEnds, KeepsWritten, SameOrWritten, sector_units};
+ghost use Rattle.nvs_gc.specs.Ends.{MountEnds, MarksFirst, RoundEnds, WriteEnds, DeleteEnds, KeepsWritten, SameOrWritten, sector_units};
 ghost use Rattle.nvs_gc.specs.Standing.{IsNvsArea, StandsOn, format_on, KeepsItems, IsPlacedOn, IsUndamaged, entries_on, items_on, live_cost_on};
 
 use crate::sectors::{NvsOpen, read_again};
@@ -56,7 +56,7 @@ impl Nvs {
     /// or a whole garbage collection. The items stay, and so do the newest versions of each, even
     /// if power is lost again. It never spends more units and erases than a sector has units. An
     /// area at rest stays as it is. If anything changed, the area is not all FF afterwards, even if
-    /// power was lost.
+    /// power was lost. The collected sector is not erased before gc-done stands.
     ///
     /// # Errors
     /// `Damaged` and `NoMemory`: nothing changed. `PowerLost`, only if the area was not at rest.
@@ -74,6 +74,7 @@ impl Nvs {
             SpendsBetween d (F.device flash.new) 0 (sector_units d area) }
         ensures written { KeepsWritten (F.device flash.old) (F.device flash.new) area }
         ensures changed { SameOrWritten (F.device flash.old) (F.device flash.new) area }
+        ensures marks { MarksFirst (F.device flash.old) (F.device flash.new) area }
     {
         match Store::<NvsOpen>::mount(alloc, flash, area, steps) {
             Ok(store) => Ok(Nvs { store }),
@@ -108,7 +109,7 @@ impl Nvs {
     ///
     /// # Errors
     /// `PowerLost`, only if the open sector is not blank: the list is as before or as after the
-    /// round, and the store is down.
+    /// round, and the store is down. Where a byte of the collected sector is gone, gc-done stands.
     pub fn close_and_collect<F: Flash, L: Ledger>(
         &mut self,
         flash: &mut F,

@@ -14,7 +14,7 @@ use Rattle.item_store.specs.SectorFormat.{Range, LiesIn, CoversWhole, AreUnits, 
 use Rattle.item_store.proofs.ReadLemmas as own
 use Rattle.item_store.specs.declared.entry.Entry.{Entry}
 use Rattle.zms_cycle.specs.declared.reading.SlotEntry.{SlotEntry}
-use Rattle.zms_cycle.specs.Sector.{slot_of, is_valid, cycle_of, valid_slots, free, entry_in, pair_of, is_sound, value_of, cost, capacity, data_len}
+use Rattle.zms_cycle.specs.Sector.{slot_of, is_valid, holds_close, is_closed, cycle_of, valid_slots, free, entry_in, pair_of, is_sound, value_of, cost, capacity, data_len}
 use Rattle.zms_cycle.proofs.CopyCalls.{ordinary_id}
 use Rattle.zms_cycle.specs.Changes.{guard_units, next_cycle, Empties, emptying, first_guard, closing_most}
 use Rattle.zms_cycle.proofs.GuardUnits.{emptied_guard}
@@ -22,9 +22,11 @@ use Rattle.zms_format.specs.Area.{may_close, is_unused, is_clean}
 use Rattle.zms_format.proofs.Roomy.{IsRoomy, roomy_of, clean_unused, unused_clean, clean_end, not_clean_cycle}
 use Rattle.zms_format.proofs.Damages.{ring_undamaged, undamaged_ring}
 use Rattle.zms_format.proofs.EntryReads.{bytes_len}
+use Rattle.zms_format.proofs.Erased.{cycle_none}
+use Rattle.flash_map.proofs.ErasedBytes.{erased_is}
 use Rattle.zms_format.proofs.Sectors.{laws, read_room, unused_slots}
 use Rattle.zms_format.proofs.ZmsEntries.{are_zms}
-use Rattle.zms_format.specs.Formats.{entry_of, format_of, just, guard_most, emptying_most, emptying_units, next_guard, entry_units, units_of, opens_ready}
+use Rattle.zms_format.specs.Formats.{entry_of, format_of, just, guard_most, emptying_least, emptying_most, emptying_units, next_guard, entry_units, units_of, opens_ready}
 use Rattle.zms_format.specs.Units.{FirstEntryIsKnown}
 
 pub slot_is : (b : List ℕ) (n : ℕ) (f : SlotEntry) → entry_in (slot_of b n) ≡ Some f → (entry_of f).slot ≡ n
@@ -111,6 +113,24 @@ emptying_within Erasing b = (least (is_erased b), most (is_erased b))
     most true = omega arith
     most false = omega arith
 
+-- a closed sector holds an empty entry, so it is not erased
+closed_kept : (b : List ℕ) → is_closed b ≡ true → is_erased b ≡ false
+closed_kept b closed = by_flag (is_erased b) refl
+  where
+    by_flag : (erased : Bool) → is_erased b ≡ erased → erased ≡ false
+    by_flag false is = refl
+    by_flag true is =
+        let none : cycle_of b ≡ None = ap cycle_of (erased_is b is) ∙ cycle_none (length b) in
+        absurd (true≢false (sym closed ∙ ap (λ (o : Option ℕ). is_valid o (slot_of b 1) && holds_close (slot_of b 1)) none))
+
+closed_least : (bank : BankKind) (b : List ℕ) → is_closed b ≡ true → emptying_least bank ≤ emptying bank b
+closed_least Rewritable b closed = (emptying_within Rewritable b).0
+closed_least Erasing b closed = two_of (is_erased b) (closed_kept b closed)
+  where
+    two_of : (t : Bool) → t ≡ false → 2 ≤ cond t 1 2
+    two_of true is = absurd (true≢false is)
+    two_of false is = omega arith
+
 closing_within : (bank : BankKind) (b : List ℕ) (size : ℕ) → length b ≡ size → closing_most bank (free bank b) ≤ size / 16 + 1
 closing_within Rewritable b size long = omega arith
 closing_within Erasing b size long = omega arith
@@ -143,8 +163,13 @@ module _ (bank : BankKind) where
     any_clears = omega arith;
     copy_in = λ b len. entry_in_any b (cost len / 16);
     done_in = λ b. entry_in_any b 1;
-    clear_in = λ b. let within = emptying_within bank b in record { least = within.0; most = within.1; lost = omega arith };
+    clear_lost = λ b. omega arith;
   }
+
+  closed_in : (b : List ℕ) → is_closed b ≡ true → LiesIn ((units_of bank).clear b) (units_of bank).any_clear
+  closed_in b closed =
+      let within = emptying_within bank b in
+      record { least = closed_least bank b closed; most = within.1; lost = omega arith }
 
   -- the copy of a pair, with a guard, spends no more than twice the units of the pair
   copies_most : (pairs : List (ℕ × List ℕ)) → 8 * copies_cost (λ len. ((units_of bank).any_copy len).lost) pairs ≤ copies_cost cost pairs
@@ -234,6 +259,7 @@ zms_is_format geometry = record {
       let roomy : IsRoomy geometry.kind b = roomy_of geometry.kind b (omega arith) sound in
       ready_of geometry.kind b (not_clean_cycle geometry.kind b used) roomy.sound roomy.may;
   units = units_are geometry.kind;
+  clear_in = closed_in geometry.kind;
   begun = λ b ready. (begun_none geometry b (and_parts (is_some (cycle_of b)) (is_sound b && may_close geometry.kind b) ready).0);
   least = least_cost;
   most = λ size. omega arith;

@@ -35,6 +35,11 @@ abbrev pub emptying_most : BankKind → ℕ
 emptying_most Rewritable = 3
 emptying_most Erasing = 2
 
+-- that of a closed sector, at least: on an erasing bank it is not erased yet
+abbrev pub emptying_least : BankKind → ℕ
+emptying_least Rewritable = 1
+emptying_least Erasing = 2
+
 -- what an emptying spends; a cut one at most as much as any emptying may
 abbrev pub emptying_units : BankKind → List ℕ → Range
 emptying_units kind b = record { least = emptying kind b; most = emptying kind b; lost = emptying_most kind }
@@ -56,7 +61,8 @@ entry_units kind b units = record {
 }
 
 -- The bytes of a sector say exactly what a step in it spends; of a close they say the least and the
--- most. In any sector of a rewritable bank a guard may be due or not.
+-- most. In any sector of a rewritable bank a guard may be due or not. On an erasing bank a closed
+-- sector is emptied by exactly an erase and an empty entry.
 abbrev pub units_of : BankKind → Units
 units_of kind = record {
   begin = λ b. if is_some (cycle_of b) then just 0 else emptying_units kind b;
@@ -75,7 +81,7 @@ units_of kind = record {
         lost = cost len / 16 + guard_most kind;
       };
   any_done = record { least = 1; most = 1 + guard_most kind; lost = 1 + guard_most kind };
-  any_clear = record { least = 1; most = emptying_most kind; lost = emptying_most kind };
+  any_clear = record { least = emptying_least kind; most = emptying_most kind; lost = emptying_most kind };
   round = λ size. 3 * (size / 16) + 9;
   mount = λ size. 2 * (size / 16);
   entry = λ len. cost len / 16 + 4;

@@ -1,4 +1,4 @@
-use Rattle.std.proofs.Common.{◌≡◌, ℕ, Bool, true, false, List, [], ◌∷◌, sym, ap, subst, ◌∙◌, inl}
+use Rattle.std.proofs.Common.{◌≡◌, ℕ, Bool, true, false, List, [], ◌∷◌, sym, ap, subst, ◌∙◌, inl, inr}
 use Rattle.std.proofs.lemmas.Result.{on_ok_weaker, on_err_weaker}
 use Rattle.flash_sim.specs.Device.{Device}
 use Rattle.flash_sim.specs.declared.flash.Bank.{Bank}
@@ -13,7 +13,7 @@ use Rattle.item_laws.specs.Forms.{to_copy}
 use Rattle.item_store.specs.SectorFormat.{SectorFormat, IsSectorFormat}
 use Rattle.item_store.specs.Standing.{IsStoreArea}
 use Rattle.item_store.specs.Spending.{both, copies}
-use Rattle.item_store.proofs.Areas.{unit_is, stopped-keeps}
+use Rattle.item_store.proofs.Areas.{unit_is, only_then, stopped-keeps}
 use Rattle.item_store.proofs.CopyLoop.{either}
 use Rattle.item_store.proofs.ListSteps.{stopped-list}
 use Rattle.item_store.proofs.Ranges.{first-lost}
@@ -21,6 +21,7 @@ use Rattle.item_store.proofs.SlotFacts.{current_within}
 use Rattle.item_store.proofs.CallFacts.{to_geometry, from_geometry, mark_opened, mark_collecting, mark_has_room, mark_lost, mark_lost_list, mark_spends_lost, cleared, cleared_keeps, clear_lost, clear_lost_list, open_same, spends_all, spends_all_lost}
 use Rattle.item_store.proofs.WrittenSteps.{stopped-written}
 use Rattle.item_store.proofs.WrittenFacts.{mark_cut-written, clear-written}
+use Rattle.item_store.proofs.MarkFacts.{own-marks}
 use Rattle.item_store.proofs.collecting.collect.Goals as goal
 
 pub next-victim-requires : goal.next-victim-requires
@@ -301,3 +302,39 @@ returns-clause-kept g c =
     let here : c.mark_done.new.self ≡ g.T.SlotSectors.kept (geometry_of a area) (sector_at (sectors_of e area) place) =
     to_geometry (λ u. c.mark_done.new.self ≡ g.T.SlotSectors.kept u (sector_at (sectors_of e area) place)) a d area did.touches.banks marked.ok.kept in
     on_ok_weaker c.clear.result (λ clears. here ∙ ap (λ (b : List ℕ). g.T.SlotSectors.kept (geometry_of a area) b) (sym own)) c.clear.ensures.clears
+
+pub returns-in_err-copy_live-clause-marks : goal.returns-in_err-copy_live-clause-marks
+returns-in_err-copy_live-clause-marks g c =
+    let a : Device = g.F.Flash.device c.args.flash.now in
+    let area : Area = c.args.area.now in
+    let place : ℕ = c.args.current in
+    own-marks (g.T.SlotSectors.format_of (geometry_of a area)) (sectors_of a area) (sectors_of (g.F.Flash.device c.copy_live.new.flash) area) place 0 c.requires.collecting.ring c.in_err-copy_live.ensures.lost.only
+
+pub returns-in_err-mark_done-clause-marks : goal.returns-in_err-mark_done-clause-marks
+returns-in_err-mark_done-clause-marks g c =
+    let a : Device = g.F.Flash.device c.args.flash.now in
+    let area : Area = c.args.area.now in
+    let place : ℕ = c.args.current in
+    let d : Device = g.F.Flash.device c.copy_live.new.flash in
+    let e : Device = g.F.Flash.device c.mark_done.new.flash in
+    own-marks (g.T.SlotSectors.format_of (geometry_of a area)) (sectors_of a area) (sectors_of e area) place 0 c.requires.collecting.ring
+    (only_then (sectors_of a area) (sectors_of d area) (sectors_of e area) place c.in_ok-copy_live.ensures.copies.only c.in_err-mark_done.ensures.only)
+
+pub returns-clause-marks : goal.returns-clause-marks
+returns-clause-marks g c =
+    let a : Device = g.F.Flash.device c.args.flash.now in
+    let area : Area = c.args.area.now in
+    let place : ℕ = c.args.current in
+    let law : IsSectorFormat (g.T.SlotSectors.format_of (geometry_of a area)) = g.met.T.SlotSectors.lawful (geometry_of a area) (unit_is a area (g.met.F.Flash.is_lawful c.args.flash.now) c.requires.area.lawful) in
+    let d : Device = g.F.Flash.device c.copy_live.new.flash in
+    let did = c.in_ok-copy_live.ensures in
+    let e : Device = g.F.Flash.device c.mark_done.new.flash in
+    let both = then did.touches c.in_ok-mark_done.ensures.touches in
+    let marked = c.in_ok-mark_done.ensures in
+    let z : Device = g.F.Flash.device c.clear.new.flash in
+    let at : c.next-victim.result ≡ next (sectors_of a area) place = c.next-victim.ensures.value ∙ next_there a area place in
+    let own : sector_at (sectors_of z area) place ≡ sector_at (sectors_of e area) place =
+    open_same g.T.SlotSectors.format_of g.T.SlotSectors.role a area place law (g.met.F.Flash.is_lawful c.args.flash.now) c.requires.area c.requires.collecting d did.touches.banks did.copies e both.banks marked.only marked.ok.marks c.next-victim.result at z c.clear.ensures.only in
+    let stands : (g.T.SlotSectors.format_of (geometry_of a area)).reading.has_gc_done (sector_at (sectors_of e area) place) ≡ true =
+    to_geometry (λ u. (g.T.SlotSectors.format_of u).reading.has_gc_done (sector_at (sectors_of e area) place) ≡ true) a d area did.touches.banks marked.ok.marks.list.gc_done in
+    inr (ap (g.T.SlotSectors.format_of (geometry_of a area)).reading.has_gc_done own ∙ stands)

@@ -13,6 +13,8 @@ use Rattle.item_store.proofs.SlotFacts.{current_within}
 use Rattle.item_store.proofs.CallFacts.{to_geometry, not_closed, prepare_stops, again_form, again_none, again_collected, again_keeps, again_lists, again_spends, again_spends_lost}
 use Rattle.item_store.specs.Written.{IsWritten}
 use Rattle.item_store.proofs.WrittenSteps.{stopped-written}
+use Rattle.item_store.specs.Collecting.{MarksFirst}
+use Rattle.item_store.proofs.MarkFacts.{own-marks, then-marks}
 use Rattle.item_store.proofs.collecting.collect_again.Goals as goal
 
 pub prepare-requires-clause-inside : goal.prepare-requires-clause-inside
@@ -144,3 +146,21 @@ returns-clause-list_lost g c =
     let did = c.in_ok-prepare.ensures in
     let e : Device = g.F.Flash.device c.collect.new.flash in
     on_err_weaker c.collect.result (λ either. again_lists g.T.SlotSectors.format_of g.T.SlotSectors.role a area place law (g.met.F.Flash.is_lawful c.args.flash.now) c.requires.area c.requires.collecting d did.touches.banks did.begun e either) c.collect.ensures.list_lost
+
+pub returns-in_err-prepare-clause-marks : goal.returns-in_err-prepare-clause-marks
+returns-in_err-prepare-clause-marks g c =
+    let a : Device = g.F.Flash.device c.args.flash.now in
+    let area : Area = c.args.area.now in
+    let place : ℕ = c.args.current in
+    own-marks (g.T.SlotSectors.format_of (geometry_of a area)) (sectors_of a area) (sectors_of (g.F.Flash.device c.prepare.new.flash) area) place 0 c.requires.collecting.ring c.in_err-prepare.ensures.only
+
+pub returns-clause-marks : goal.returns-clause-marks
+returns-clause-marks g c =
+    let a : Device = g.F.Flash.device c.args.flash.now in
+    let area : Area = c.args.area.now in
+    let place : ℕ = c.args.current in
+    let d : Device = g.F.Flash.device c.prepare.new.flash in
+    let did = c.in_ok-prepare.ensures in
+    let e : Device = g.F.Flash.device c.collect.new.flash in
+    then-marks (g.T.SlotSectors.format_of (geometry_of a area)) (sectors_of a area) (sectors_of d area) (sectors_of e area) place 0 c.requires.collecting.ring did.only
+    (to_geometry (λ u. MarksFirst (g.T.SlotSectors.format_of u) (sectors_of d area) (sectors_of e area) place) a d area did.touches.banks c.collect.ensures.marks)

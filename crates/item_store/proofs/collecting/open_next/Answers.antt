@@ -1,4 +1,4 @@
-use Rattle.std.proofs.Common.{rules, ◌≡◌, ℕ, true, false, sym, ap, subst, ◌∙◌}
+use Rattle.std.proofs.Common.{rules, ◌≡◌, ℕ, true, false, inl, refl, sym, ap, subst, ◌∙◌}
 use Rattle.std.specs.Prelude.{OnOk, OnErr}
 use Rattle.std.proofs.lemmas.Result.{on_ok_weaker, on_err_weaker}
 use Rattle.flash_sim.specs.Device.{Device}
@@ -12,8 +12,9 @@ use Rattle.item_store.specs.SectorFormat.{Range, IsSectorFormat}
 use Rattle.item_store.specs.Standing.{SpendsIn, SpendsUpTo}
 use Rattle.item_store.proofs.Areas.{unit_is}
 use Rattle.item_store.proofs.CopyLoop.{either}
-use Rattle.item_store.proofs.OpenFacts.{place_in, place_not_closed, next_collecting, no_rest, again_units-are, again_lost, no_collection, open_units-are, opened_by, opened_keeps, opened_idle, idle_keeps, ready_lost, ready_lost_list}
+use Rattle.item_store.proofs.OpenFacts.{place_in, place_not_closed, next_collecting, next_rests, no_rest, again_units-are, again_lost, no_collection, open_units-are, opened_by, opened_keeps, opened_idle, idle_keeps, ready_lost, ready_lost_list}
 use Rattle.item_store.proofs.WrittenSteps.{blank-written}
+use Rattle.item_store.proofs.MarkFacts.{own-marks}
 use Rattle.item_store.proofs.collecting.open_next.Goals as goal
 
 pub next-requires : goal.next-requires
@@ -208,3 +209,22 @@ returns-clause-items g c =
     let at : c.next.result ≡ next (sectors_of a area) place = c.next.ensures.value ∙ next_there a area place in
     let free : is_closed_at (g.T.SlotSectors.format_of (geometry_of a area)).reading (sectors_of a area) (next (sectors_of a area) place) ≡ false = ap (is_closed_at (g.T.SlotSectors.format_of (geometry_of a area)).reading (sectors_of a area)) (sym at) ∙ sym c.is_closed.ensures ∙ c.if-is_closed.false in
     idle_keeps g.T.SlotSectors.format_of a area place law c.requires.form c.requires.blank free
+
+pub returns-then-is_closed-clause-marks : goal.returns-then-is_closed-clause-marks
+returns-then-is_closed-clause-marks g c =
+    c.collect_again.ensures.marks
+
+pub returns-then-opens_ready-clause-marks : goal.returns-then-opens_ready-clause-marks
+returns-then-opens_ready-clause-marks g c =
+    let a : Device = g.F.Flash.device c.args.flash.now in
+    let area : Area = c.args.area.now in
+    let place : ℕ = c.args.current in
+    let law : IsSectorFormat (g.T.SlotSectors.format_of (geometry_of a area)) = g.met.T.SlotSectors.lawful (geometry_of a area) (unit_is a area (g.met.F.Flash.is_lawful c.args.flash.now) c.requires.area.lawful) in
+    let at : c.next.result ≡ next (sectors_of a area) place = c.next.ensures.value ∙ next_there a area place in
+    let free : is_closed_at (g.T.SlotSectors.format_of (geometry_of a area)).reading (sectors_of a area) (next (sectors_of a area) place) ≡ false = ap (is_closed_at (g.T.SlotSectors.format_of (geometry_of a area)).reading (sectors_of a area)) (sym at) ∙ sym c.is_closed.ensures ∙ c.if-is_closed.false in
+    let rested = next_rests g.T.SlotSectors.format_of a area place law c.requires.form c.requires.blank free in
+    own-marks (g.T.SlotSectors.format_of (geometry_of a area)) (sectors_of a area) (sectors_of (g.F.Flash.device c.prepare.new.flash) area) place rested.blanks rested.ring c.prepare.ensures.only
+
+pub returns-clause-marks : goal.returns-clause-marks
+returns-clause-marks g c =
+    inl refl

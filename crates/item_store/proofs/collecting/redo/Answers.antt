@@ -21,6 +21,7 @@ use Rattle.item_laws.proofs.Places.{after-apart}
 use Rattle.item_store.proofs.CollectSteps.{rest_from, collecting_from, collected_from, redo-at_rest, redo-collecting, not_again, not_next, next_not_again, victim_emptied, victim_cut_keeps}
 use Rattle.item_store.proofs.ListSteps.{whole-list, emptied-list, victim_cut-list}
 use Rattle.item_store.proofs.WrittenSteps.{victim-written}
+use Rattle.item_store.proofs.MarkFacts.{victim-marks}
 use Rattle.item_store.proofs.collecting.redo.Goals as goal
 
 -- ---- nothing is to be done
@@ -337,3 +338,25 @@ returns-in-ClearNext-clause-written g c =
 pub returns-in-CollectAgain-clause-written : goal.returns-in-CollectAgain-clause-written
 returns-in-CollectAgain-clause-written g c =
     inr c.collect_again.ensures.written
+
+pub returns-in-Nothing-clause-marks : goal.returns-in-Nothing-clause-marks
+returns-in-Nothing-clause-marks g c =
+    inl refl
+
+pub returns-in-ClearNext-clause-marks : goal.returns-in-ClearNext-clause-marks
+returns-in-ClearNext-clause-marks g c =
+    let a : Device = g.F.Flash.device c.args.flash.now in
+    let area : Area = c.args.area.now in
+    let place : ℕ = c.args.current in
+    let law : IsSectorFormat (g.T.SlotSectors.format_of (geometry_of a area)) = g.met.T.SlotSectors.lawful (geometry_of a area) (unit_is a area (g.met.F.Flash.is_lawful c.args.flash.now) c.requires.area.lawful) in
+    let count = length-sectors a area in
+    let form : IsForm (g.T.SlotSectors.format_of (geometry_of a area)).reading (sectors_of a area) place = form_here (g.T.SlotSectors.format_of (geometry_of a area)) law (sectors_of a area) place (omega (arith, c.requires.area.lawful.several)) c.requires.undamaged c.requires.current in
+    let what = sym c.what_to_redo.ensures ∙ c.in-ClearNext.is in
+    let d : Device = g.F.Flash.device c.clear.new.flash in
+    let at : c.next.result ≡ next (sectors_of a area) place = c.next.ensures.value ∙ next_there a area place in
+    let only : ChangesOnly (sectors_of a area) (sectors_of d area) (next (sectors_of a area) place) = subst (λ (v : ℕ). ChangesOnly (sectors_of a area) (sectors_of d area) v) at c.clear.ensures.only in
+    victim-marks (g.T.SlotSectors.format_of (geometry_of a area)) (sectors_of a area) (sectors_of d area) place (collected_from (g.T.SlotSectors.format_of (geometry_of a area)) law (sectors_of a area) place form what) only
+
+pub returns-in-CollectAgain-clause-marks : goal.returns-in-CollectAgain-clause-marks
+returns-in-CollectAgain-clause-marks g c =
+    c.collect_again.ensures.marks

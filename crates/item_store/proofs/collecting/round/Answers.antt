@@ -1,4 +1,4 @@
-use Rattle.std.proofs.Common.{rules, ◌≡◌, ℕ, cond, inr, subst, ◌∙◌, arith}
+use Rattle.std.proofs.Common.{rules, ◌≡◌, ℕ, cond, inl, inr, subst, ◌∙◌, arith}
 use Rattle.flash_sim.specs.Device.{Device}
 use Rattle.flash_map.specs.declared.area.Area.{Area}
 use Rattle.flash_map.specs.Area.{geometry_of, sectors_of, sector_at}
@@ -14,6 +14,7 @@ use Rattle.item_store.proofs.CallFacts.{to_geometry}
 use Rattle.item_laws.proofs.AreaReads.{length-sectors}
 use Rattle.item_store.proofs.WrittenSteps.{close-written, close-changed}
 use Rattle.item_store.proofs.WrittenFacts.{opened-written}
+use Rattle.item_store.proofs.MarkFacts.{round-marks}
 use Rattle.item_store.proofs.collecting.round.Goals as goal
 
 pub close-requires-clause-inside : goal.close-requires-clause-inside
@@ -276,3 +277,28 @@ returns-clause-changed g c =
     let did = c.in_ok-close.ensures in
     let e : Device = g.F.Flash.device c.open_next.new.flash in
     inr (opened-written g.T.SlotSectors.format_of a area place law (open_within g.T.SlotSectors.format_of g.T.SlotSectors.role a area place law (g.met.F.Flash.is_lawful c.args.flash.now) c.requires.stands.area c.requires.stands.undamaged c.requires.stands.current c.requires.stands.rested) b did.touches.banks did.ends.only did.ends.closes e c.in_ok-open_next.ensures.written)
+
+pub returns-in_err-close-clause-marks : goal.returns-in_err-close-clause-marks
+returns-in_err-close-clause-marks g c =
+    let did = c.in_err-close.ensures.ends in
+    inl (record { only = did.only; either = did.lost; blank = did.blank_lost })
+
+pub returns-in_err-open_next-clause-marks : goal.returns-in_err-open_next-clause-marks
+returns-in_err-open_next-clause-marks g c =
+    let a : Device = g.F.Flash.device c.args.flash.now in
+    let area : Area = c.args.area.now in
+    let place : ℕ = c.args.current in
+    let b : Device = g.F.Flash.device c.close.new.flash in
+    let did = c.in_ok-close.ensures in
+    let at : c.next-place.result ≡ next (sectors_of a area) place = c.next-place.ensures.value ∙ next_there a area place in
+    round-marks g.T.SlotSectors.format_of a b (g.F.Flash.device c.open_next.new.flash) area place c.next-place.result did.touches.banks did.ends.only did.ends.closes at c.in_err-open_next.ensures.marks
+
+pub returns-clause-marks : goal.returns-clause-marks
+returns-clause-marks g c =
+    let a : Device = g.F.Flash.device c.args.flash.now in
+    let area : Area = c.args.area.now in
+    let place : ℕ = c.args.current in
+    let b : Device = g.F.Flash.device c.close.new.flash in
+    let did = c.in_ok-close.ensures in
+    let at : c.next-place.result ≡ next (sectors_of a area) place = c.next-place.ensures.value ∙ next_there a area place in
+    round-marks g.T.SlotSectors.format_of a b (g.F.Flash.device c.open_next.new.flash) area place c.next-place.result did.touches.banks did.ends.only did.ends.closes at c.in_ok-open_next.ensures.marks

@@ -51,7 +51,7 @@ returns-in_err-place-clause-stops g c =
     let area : Area = c.args.area.now in
     let law : IsSectorFormat (g.T.SlotSectors.format_of (geometry_of a area)) = g.met.T.SlotSectors.lawful (geometry_of a area) (unit_is a area (g.met.F.Flash.is_lawful c.args.flash.now) c.requires.stands.area.lawful) in
     let did = c.in_err-place.ensures in
-    on_err c.from_residual.result (stops_now g.T.SlotSectors.role g.T.SlotSectors.format_of g.T.SlotSectors.kept a d area c.args.current.now c.args.opened.now c.loop-round.current c.loop-round.opened c.args.len (c.loop-round._round - 1) law (g.met.F.Flash.is_lawful c.args.flash.now) c.requires.stands c.loop-round.invariant.searching (g.met.F.Flash.is_lawful c.loop-round.flash) (sym c.fits.ensures ∙ c.if-fits.false) (g.F.Flash.device c.round.new.flash) (omega arith) did.items did.ends.list_lost did.ends.spends_lost)
+    on_err c.from_residual.result (stops_now g.T.SlotSectors.role g.T.SlotSectors.format_of g.T.SlotSectors.kept a d area c.args.current.now c.args.opened.now c.loop-round.current c.loop-round.opened c.args.len (c.loop-round._round - 1) law (g.met.F.Flash.is_lawful c.args.flash.now) c.requires.stands c.loop-round.invariant.searching (g.met.F.Flash.is_lawful c.loop-round.flash) (sym c.fits.ensures ∙ c.if-fits.false) (g.F.Flash.device c.round.new.flash) (omega arith) did.items did.ends.list_lost did.ends.spends_lost did.marks)
 
 pub loop-round-preserved : goal.loop-round-preserved
 loop-round-preserved g c =

@@ -4,7 +4,7 @@ use Rattle.flash_map.specs.declared.area.Area.{Area}
 use Rattle.flash_map.specs.Area.{geometry_of, sector_size, sectors_of}
 use Rattle.item_laws.specs.Forms.{AtRest}
 use Rattle.item_store.specs.SectorFormat.{SectorFormat, IsSectorFormat}
-use Rattle.item_store.specs.Collecting.{redo_of, redo_list, redo_units, KeepsOrRedoes}
+use Rattle.item_store.specs.Collecting.{redo_of, redo_list, redo_units, KeepsOrRedoes, MarksFirst}
 use Rattle.item_store.specs.Standing.{list_of, SpendsIn, SpendsUpTo}
 use Rattle.item_store.proofs.Areas.{unit_is}
 use Rattle.item_store.proofs.MountSteps.{mount-most, mount-most_lost, mount-nothing}
@@ -108,3 +108,21 @@ fill-requires-clause-on g c =
 pub fill-requires-clause-slots : goal.fill-requires-clause-slots
 fill-requires-clause-slots g c =
     c.requires.slots
+
+pub returns-in-Ok-redo-clause-marks : goal.returns-in-Ok-redo-clause-marks
+returns-in-Ok-redo-clause-marks g c =
+    let a : Device = g.F.Flash.device c.args.flash.now in
+    let d : Device = g.F.Flash.device c.redo.new.flash in
+    let area : Area = c.args.area in
+    subst (λ (p : ℕ). MarksFirst (g.T.SlotSectors.format_of (geometry_of a area)) (sectors_of a area) (sectors_of d area) p) c.in-Ok.ensures.opened c.in-Ok-redo.ensures.marks
+
+pub returns-in-Err-redo-clause-marks : goal.returns-in-Err-redo-clause-marks
+returns-in-Err-redo-clause-marks g c =
+    let a : Device = g.F.Flash.device c.args.flash.now in
+    let d : Device = g.F.Flash.device c.redo.new.flash in
+    let area : Area = c.args.area in
+    subst (λ (p : ℕ). MarksFirst (g.T.SlotSectors.format_of (geometry_of a area)) (sectors_of a area) (sectors_of d area) p) c.in-Ok.ensures.opened c.in-Err-redo.ensures.marks
+
+pub returns-in-Err-clause-marks : goal.returns-in-Err-clause-marks
+returns-in-Err-clause-marks g c =
+    inl refl

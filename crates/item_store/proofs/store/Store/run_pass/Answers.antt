@@ -58,4 +58,4 @@ returns-in_err-self-clause-ends g c =
     let area : Area = c.args.self.now.area in
     let did = c.in_err-self.ensures in
     run_pass-stops (g.T.SlotSectors.format_of (geometry_of a area)) a (g.F.Flash.device c.round.new.flash) area c.args.self.now.current c.from_residual.result c.from_residual.ensures.0
-    (record { used = c.requires.used; list = did.ends.list_lost; bound = did.ends.spends_lost })
+    (record { used = c.requires.used; list = did.ends.list_lost; bound = did.ends.spends_lost; marks = did.marks })

@@ -337,13 +337,12 @@ module _ {S : Type 0} (mounted_on : S → Area) (stands : S → Geometry → Lis
   -- ---- it stopped
 
   pub damaged_stops : (place : ℕ) (shown : Damaged) → result ≡ Err (HasDamage place shown) → LineStops m areas Mount old new (SessionDamaged place shown)
-  damaged_stops place shown is = let e = ended (Err (HasDamage place shown)) is in
-      (
-        refl,
-        e.is_shown,
-        λ selector selected. subst (λ (s : Area). Touches (s ∷ []) before new false) (some_area map.selector selector (sym map.selected ∙ selected)) e.touches,
-        λ found seen. e.unchanged found (selector_powered areas old ∙ seen),
-      )
+  damaged_stops place shown is = let e = ended (Err (HasDamage place shown)) is in (
+    refl,
+    e.is_shown,
+    λ selector selected. subst (λ (s : Area). Touches (s ∷ []) before new false) (some_area map.selector selector (sym map.selected ∙ selected)) e.touches,
+    λ found seen. e.unchanged found (selector_powered areas old ∙ seen),
+  )
     where
       some_area : (x y : Area) → Some x ≡ Some y → x ≡ y
       some_area x y e = cc

@@ -1,5 +1,5 @@
 -- What the writes of a new setting make of the items, whether one is refused or power is lost.
-use Rattle.std.proofs.Common.{◌≡◌, ℕ, ◌+◌, ◌-◌, ◌*◌, ◌<◌, List, length, None, Result, Err, refl, ap, subst, ◌∙◌, inl, inr, arith}
+use Rattle.std.proofs.Common.{◌≡◌, ◌⊎◌, ℕ, ◌+◌, ◌-◌, ◌*◌, ◌<◌, ◌≤◌, List, length, None, Result, Err, refl, ap, subst, ◌∙◌, inl, inr, arith}
 use Rattle.std.specs.FinMap.{get, insert, remove}
 use Rattle.flash_sim.specs.Device.{Device}
 use Rattle.flash_sim.specs.declared.flash.PowerLost.{PowerLost as Lost}
@@ -42,6 +42,19 @@ module _ (price : ℕ → ℕ) (cap sectors : ℕ) (before : Items) (first secon
     -- power is lost in the delete
     pub undo-lost : (T U : Type 0) (d e : Device) (after : Items) (lost : Lost) → DeleteEnds {T = U} d e mid after second (Err lost) → PutsPair {T = T} price cap sectors before after first second name value (Err PowerLost)
     undo-lost T U d e after lost ends = elim ends.items [ inl same ↦ inr (inl (same ∙ there)) | inr cut ↦ inl (undone after cut) ]
+
+-- power is lost in the write of the name
+pub name-cut : (before mid after : Items) (first second : ℕ) (text name value : List ℕ) → mid ≡ insert before second value → text ≡ name → (after ≡ mid) ⊎ (after ≡ insert mid first text)
+    → (after ≡ before) ⊎ (after ≡ insert before second value) ⊎ (after ≡ insert (insert before second value) first name)
+name-cut before mid after first second text name value there same ends = elim ends [
+  | inl kept ↦ inr (inl (kept ∙ there))
+  | inr put ↦ inr (inr (put ∙ ap (λ (m : Items). insert m first text) there ∙ ap (insert (insert before second value) first) same))
+]
+
+-- neither of the two is too long
+pub both-fit : (cap value name : ℕ) → value ≤ cap → name ≤ cap → (cap < value) ⊎ (cap < name) → ⊥
+both-fit cap value name one two (inl over) = omega arith
+both-fit cap value name one two (inr over) = omega arith
 
 -- ---- a later call, in the geometry and on the area of the first one
 

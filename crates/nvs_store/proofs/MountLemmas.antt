@@ -1,5 +1,5 @@
 -- What the code reads from sector to sector is what the definitions on the area say.
-use Rattle.std.proofs.Common.{◌≡◌, ℕ, ◌+◌, ◌-◌, Bool, true, false, not, ◌&&◌, cond, eqb, List, length, Option, Some, None, sym, ap, zero-add, ◌∙◌}
+use Rattle.std.proofs.Common.{◌≡◌, ℕ, ◌+◌, ◌-◌, ◌≤◌, inl, inr, Bool, true, false, not, ◌&&◌, cond, eqb, List, length, Option, Some, None, sym, ap, zero-add, ◌∙◌}
 use Rattle.std.specs.List.{find, list_all, range_with_len, slice_get}
 use Rattle.std.specs.Option.{option_map, option_or}
 use Rattle.flash_map.specs.declared.faults.Damaged.{Damaged}
@@ -9,6 +9,8 @@ use Rattle.flash_map.specs.Area.{sector_at}
 -- these stand for any store; here for the crates above
 pub use Rattle.item_laws.proofs.AreaReads.{length-sectors, next_there, previous_there}
 use Rattle.item_laws.proofs.AreaReads as ring
+use Rattle.item_laws.proofs.Rings.{open-not_closed}
+use Rattle.item_laws.proofs.Undamaged.{form-of}
 use Rattle.item_laws.proofs.Searches.{second-filter, second-none, all-found, not_all-found}
 use Rattle.nvs_store.specs.declared.places.Lookup.{Lookup}
 use Rattle.nvs_store.specs.declared.places.Lookup.TheVariants as lookup
@@ -105,3 +107,15 @@ module _ (unit : ℕ) (sectors : List (List ℕ)) (count current : ℕ) (long : 
         full o fenced is =
             sym (after_dirty ∙ ap (λ (o : Option ℕ). option_or (option_map (λ (p : ℕ). record { sector = p; why = NoFence }) o) (overfull_row current)) (first_of unit sectors count (lookup.Unfenced current) None long fenced)
             ∙ ap (option_map (λ (p : ℕ). record { sector = p; why = Overfull })) (first_of unit sectors count (lookup.Full current) o long is))
+
+-- ---- the open sector
+
+-- In an area that is not damaged it is not closed.
+pub open_not_closed : (unit : ℕ) (sectors : List (List ℕ)) → 2 ≤ length sectors → damage_of unit sectors ≡ None → is_closed_at (reading unit) sectors (open_sector (reading unit) sectors) ≡ false
+open_not_closed unit sectors several none =
+    let place = open_sector (reading unit) sectors in
+    elim (form-of (reading unit) sectors several none) [
+      | inl rest ↦ open-not_closed (reading unit) sectors place rest.blanks rest.ring
+      | inr (inl collecting) ↦ open-not_closed (reading unit) sectors place 0 collecting.ring
+      | inr (inr collected) ↦ open-not_closed (reading unit) sectors place 0 collected.ring
+    ]

@@ -1,12 +1,12 @@
 // Which sector is open, and how an area is damaged.
-ghost use Rattle.std.specs.Prelude.{◌≡◌, ◌<◌, IfOk, IfErr, OnOk};
+ghost use Rattle.std.specs.Prelude.{◌≡◌, ◌<◌, false, IfOk, IfErr, OnOk};
 ghost use Rattle.flash_map.specs.declared.area.Role.TheVariants.{Nvs};
 ghost use Rattle.flash_map.specs.Area.{unit_of, sectors_of};
 ghost use Rattle.flash_map.specs.Lawful.{IsLawfulFor};
 ghost use Rattle.item_laws.specs.Area.{openings};
 ghost use Rattle.std.specs.List.{slice_get};
 ghost use Rattle.nvs_store.specs.Scans.{reading};
-ghost use Rattle.nvs_store.specs.On.{IsUndamaged, damage_on, open_on, redo_on, scan_on};
+ghost use Rattle.nvs_store.specs.On.{IsUndamaged, damage_on, is_closed_on, open_on, redo_on, scan_on};
 
 use crate::places::{Lookup, first, has_gc_done, is_closed};
 use crate::scan::{Redo, Scan};
@@ -102,7 +102,7 @@ fn redo<F: Flash, L: Ledger>(flash: &F, area: &Area, current: u32, steps: &mut S
     }
 }
 
-/// Scans the area, or says how it is damaged. It programs nothing.
+/// Scans the area, or says how it is damaged. It programs nothing. The open sector is not closed.
 ///
 /// # Errors
 /// `Damaged` exactly if the area is damaged: the first kind of damage, at the first sector that
@@ -117,6 +117,8 @@ pub fn mount_scan<F: Flash, L: Ledger>(
 
     ensures scan { IfOk result (λ scan. scan ≡ scan_on (F.device flash.now) area.now) }
     ensures undamaged { OnOk result (IsUndamaged (F.device flash.now) area.now) }
+    ensures not_closed { let d = F.device flash.now in
+        IfOk result (λ scan. is_closed_on d area.now scan.current ≡ false) }
     ensures damaged { IfErr result (λ e. damage_on (F.device flash.now) area.now ≡ Some e) }
 {
     let unit = geometry(flash, area).unit;

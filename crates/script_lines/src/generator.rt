@@ -2,8 +2,8 @@
 ghost use Rattle.std.specs.Prelude.{◌≡◌, ◌+◌, ◌/◌, ◌%◌, ◌^◌, ◌<◌, ◌≤◌, IfOk, IfSome};
 ghost use Rattle.script_lines.specs.Generator.{next_state, bytes_of, name_of, line_by, generated};
 
-use crate::lists::Bytes;
 use crate::line::Line;
+use crate::lists::Bytes;
 use flash_sim::NoMemory;
 use setting_name::Name;
 use std::alloc::{AllocError, Global};

@@ -4,7 +4,7 @@ ghost use Rattle.flash_map.specs.Area.{sector_size};
 ghost use Rattle.flash_map.specs.Faults.{mount_lost};
 ghost use Rattle.flash_map.specs.Spending.{SpendsBetween};
 ghost use Rattle.flash_map.specs.Touches.{Touches};
-ghost use Rattle.zms_store.specs.Ends.{MountEnds, RoundEnds, KeepsWritten, SameOrWritten, SameBytesOrWritten};
+ghost use Rattle.zms_store.specs.Ends.{MountEnds, MarksFirst, RoundEnds, KeepsWritten, SameOrWritten, SameBytesOrWritten};
 ghost use Rattle.zms_store.specs.Standing.{IsZmsArea, StandsOn, KeepsItems};
 
 use crate::sectors::ZmsOpen;
@@ -22,10 +22,11 @@ pub struct Zms {
 
 impl Zms {
     /// Reads the area and completes what a power loss left undone: the emptying of a collected
-    /// sector, which takes one to three units (one or two on an erasing bank), or a whole garbage
+    /// sector, which takes one to three units (two on an erasing bank), or a whole garbage
     /// collection. The items stay, and so do the newest versions of each, even if power is lost
     /// again. It never spends more than twice the units of a sector. An area at rest stays as it
-    /// is. If anything changed, a sector is in use afterwards, even if power was lost.
+    /// is. If anything changed, a sector is in use afterwards, even if power was lost. No byte of
+    /// the collected sector changes before gc-done stands.
     ///
     /// # Errors
     /// `Damaged` and `NoMemory`: nothing changed. `PowerLost`, only if the area was not at rest.
@@ -43,6 +44,7 @@ impl Zms {
             SpendsBetween d (F.device flash.new) 0 (2 * (sector_size d area / 16)) }
         ensures written { KeepsWritten (F.device flash.old) (F.device flash.new) area }
         ensures changed { SameOrWritten (F.device flash.old) (F.device flash.new) area }
+        ensures marks { MarksFirst (F.device flash.old) (F.device flash.new) area }
     {
         match Store::<ZmsOpen>::mount(alloc, flash, area, steps) {
             Ok(store) => Ok(Zms { store }),
@@ -79,7 +81,7 @@ impl Zms {
     ///
     /// # Errors
     /// `PowerLost`, only if the open sector is not clean: the list is as before or as after the
-    /// round, and the store is down.
+    /// round, and the store is down. Where a byte of the collected sector changed, gc-done stands.
     pub fn close_and_collect<F: Flash, L: Ledger>(
         &mut self,
         flash: &mut F,

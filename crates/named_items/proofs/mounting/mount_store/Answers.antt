@@ -1,4 +1,4 @@
-use Rattle.std.proofs.Common.{◌≡◌, ◌*◌, ◌∷◌, [], true, None, refl, sym, ap, subst, ◌∙◌, inr}
+use Rattle.std.proofs.Common.{◌≡◌, ◌*◌, ◌∷◌, [], false, true, None, refl, sym, ap, subst, ◌∙◌, inr}
 use Rattle.std.specs.FinMap.{get, len}
 use Rattle.flash_sim.specs.Device.{Device}
 use Rattle.flash_map.specs.declared.area.Area.{Area}
@@ -17,127 +17,122 @@ use Rattle.named_items.proofs.SpendSteps.{geometry-stays}
 use Rattle.named_items.specs.Pairs.{settings_in, HasNoOrphans}
 use Rattle.named_items.proofs.mounting.mount_store.Goals as goal
 
-pub returns-in-Ok-remove_orphans-clause-rests : goal.returns-in-Ok-remove_orphans-clause-rests
-returns-in-Ok-remove_orphans-clause-rests g c = λ rest none.
-    let d : Device = g.F.Flash.device c.args.flash.now in
-    let e : Device = g.F.Flash.device c.mount.new.flash in
-    let own : Area = c.args.area in
-    let on_it : g.S.ItemStore.mounted_on c.in-Ok.store ≡ own = c.in-Ok.ensures.on in
-    let idle : e ≡ d = c.in-Ok.ensures.rests rest in
-    c.remove_orphans.ensures.rests (subst (λ (x : Area). HasNoOrphans (g.N.IdLayout.numbering x) (on g.S.ItemStore.contents e x)) (sym on_it) (subst (λ (y : Device). HasNoOrphans (g.N.IdLayout.numbering own) (on g.S.ItemStore.contents y own)) (sym idle) none)) ∙ idle
-
-pub returns-in-Err-remove_orphans-clause-touches : goal.returns-in-Err-remove_orphans-clause-touches
-returns-in-Err-remove_orphans-clause-touches g c =
-    let d : Device = g.F.Flash.device c.args.flash.now in
-    let e : Device = g.F.Flash.device c.mount.new.flash in
-    let own : Area = c.args.area in
-    let on_it : g.S.ItemStore.mounted_on c.in-Ok.store ≡ own = c.in-Ok.ensures.on in
-    let f : Device = g.F.Flash.device c.remove_orphans.new.flash in
-    then c.in-Ok.ensures.touches (subst (λ (x : Area). Touches (x ∷ []) e f true) on_it c.in-Err-remove_orphans.ensures.touches)
-
-pub returns-in-Err-remove_orphans-clause-rests : goal.returns-in-Err-remove_orphans-clause-rests
-returns-in-Err-remove_orphans-clause-rests g c = λ rest none.
-    let d : Device = g.F.Flash.device c.args.flash.now in
-    let e : Device = g.F.Flash.device c.mount.new.flash in
-    let own : Area = c.args.area in
-    let on_it : g.S.ItemStore.mounted_on c.in-Ok.store ≡ own = c.in-Ok.ensures.on in
-    let idle : e ≡ d = c.in-Ok.ensures.rests rest in
-    c.remove_orphans.ensures.rests (subst (λ (x : Area). HasNoOrphans (g.N.IdLayout.numbering x) (on g.S.ItemStore.contents e x)) (sym on_it) (subst (λ (y : Device). HasNoOrphans (g.N.IdLayout.numbering own) (on g.S.ItemStore.contents y own)) (sym idle) none)) ∙ idle
-
-pub returns-in-Ok-remove_orphans-clause-at_most : goal.returns-in-Ok-remove_orphans-clause-at_most
-returns-in-Ok-remove_orphans-clause-at_most g c =
-    let d : Device = g.F.Flash.device c.args.flash.now in
-    let e : Device = g.F.Flash.device c.mount.new.flash in
-    let f : Device = g.F.Flash.device c.remove_orphans.new.flash in
-    let own : Area = c.args.area in
-    let on_it : g.S.ItemStore.mounted_on c.in-Ok.store ≡ own = c.in-Ok.ensures.on in
-    let none : on g.S.ItemStore.damage d own ≡ None = c.in-Ok.ensures.ends in
-    let keeps : on g.S.ItemStore.contents e own ≡ on g.S.ItemStore.contents d own = c.in-Ok.ensures.keeps none in
-    let few = g.met.S.ItemStore.few d own (g.met.F.Flash.is_lawful c.args.flash.now) c.requires.lawful c.requires.serves in
-    all-removed (geometry_of d own) d e f (len (on g.S.ItemStore.contents d own)) few c.in-Ok.ensures.at_most
-    (subst (λ (k : Geometry). SpendsAtMost e f (len (on g.S.ItemStore.contents d own) * removal_units k)) (geometry-stays d e own c.in-Ok.ensures.touches.banks)
-    (subst (λ (m : Items). SpendsAtMost e f (len m * removal_units (geometry_of e own))) keeps
-    (subst (λ (x : Area). SpendsAtMost e f (len (on g.S.ItemStore.contents e x) * removal_units (geometry_of e x))) on_it c.remove_orphans.ensures.at_most)))
-
-pub returns-in-Err-remove_orphans-clause-at_most : goal.returns-in-Err-remove_orphans-clause-at_most
-returns-in-Err-remove_orphans-clause-at_most g c =
-    let d : Device = g.F.Flash.device c.args.flash.now in
-    let e : Device = g.F.Flash.device c.mount.new.flash in
-    let f : Device = g.F.Flash.device c.remove_orphans.new.flash in
-    let own : Area = c.args.area in
-    let on_it : g.S.ItemStore.mounted_on c.in-Ok.store ≡ own = c.in-Ok.ensures.on in
-    let none : on g.S.ItemStore.damage d own ≡ None = c.in-Ok.ensures.ends in
-    let keeps : on g.S.ItemStore.contents e own ≡ on g.S.ItemStore.contents d own = c.in-Ok.ensures.keeps none in
-    let few = g.met.S.ItemStore.few d own (g.met.F.Flash.is_lawful c.args.flash.now) c.requires.lawful c.requires.serves in
-    all-removed (geometry_of d own) d e f (len (on g.S.ItemStore.contents d own)) few c.in-Ok.ensures.at_most
-    (subst (λ (k : Geometry). SpendsAtMost e f (len (on g.S.ItemStore.contents d own) * removal_units k)) (geometry-stays d e own c.in-Ok.ensures.touches.banks)
-    (subst (λ (m : Items). SpendsAtMost e f (len m * removal_units (geometry_of e own))) keeps
-    (subst (λ (x : Area). SpendsAtMost e f (len (on g.S.ItemStore.contents e x) * removal_units (geometry_of e x))) on_it c.remove_orphans.ensures.at_most)))
-
-pub returns-in-Err-clause-at_most : goal.returns-in-Err-clause-at_most
-returns-in-Err-clause-at_most g c = store-mounted (geometry_of (g.F.Flash.device c.args.flash.now) c.args.area) (g.F.Flash.device c.args.flash.now) (g.F.Flash.device c.mount.new.flash) c.in-Err.ensures.at_most
-
-pub returns-in-Ok-remove_orphans-clause-written : goal.returns-in-Ok-remove_orphans-clause-written
-returns-in-Ok-remove_orphans-clause-written g c = λ blank.
-    let e : Device = g.F.Flash.device c.mount.new.flash in
-    let f : Device = g.F.Flash.device c.remove_orphans.new.flash in
-    let on_it : g.S.ItemStore.mounted_on c.in-Ok.store ≡ c.args.area = c.in-Ok.ensures.on in
-    c.in-Ok.ensures.written (subst (λ (x : Area). StaysWritten e f x) on_it c.remove_orphans.ensures.written blank)
-
-pub returns-in-Err-remove_orphans-clause-written : goal.returns-in-Err-remove_orphans-clause-written
-returns-in-Err-remove_orphans-clause-written g c = λ blank.
-    let e : Device = g.F.Flash.device c.mount.new.flash in
-    let f : Device = g.F.Flash.device c.remove_orphans.new.flash in
-    let on_it : g.S.ItemStore.mounted_on c.in-Ok.store ≡ c.args.area = c.in-Ok.ensures.on in
-    c.in-Ok.ensures.written (subst (λ (x : Area). StaysWritten e f x) on_it c.remove_orphans.ensures.written blank)
-
-pub returns-in-Ok-remove_orphans-clause-keeps : goal.returns-in-Ok-remove_orphans-clause-keeps
-returns-in-Ok-remove_orphans-clause-keeps g c = λ none.
-    let d : Device = g.F.Flash.device c.args.flash.now in
-    let e : Device = g.F.Flash.device c.mount.new.flash in
-    let f : Device = g.F.Flash.device c.remove_orphans.new.flash in
-    let own : Area = c.args.area in
-    let on_it : g.S.ItemStore.mounted_on c.in-Ok.store ≡ own = c.in-Ok.ensures.on in
-    let keeps : on g.S.ItemStore.contents e own ≡ on g.S.ItemStore.contents d own = c.in-Ok.ensures.keeps none in
-    let step = subst (λ (x : Area). KeepsSettings (g.N.IdLayout.numbering x) (on g.S.ItemStore.contents e x) (on g.S.ItemStore.contents f x)) on_it c.remove_orphans.ensures.keeps in
-    subst (λ (m : Items). KeepsSettings (g.N.IdLayout.numbering own) m (on g.S.ItemStore.contents f own)) keeps step
-
-pub returns-in-Ok-remove_orphans-clause-sound : goal.returns-in-Ok-remove_orphans-clause-sound
-returns-in-Ok-remove_orphans-clause-sound g c = λ none.
-    let f : Device = g.F.Flash.device c.remove_orphans.new.flash in
-    subst (λ (x : Area). on g.S.ItemStore.damage f x ≡ None) c.in-Ok.ensures.on c.remove_orphans.ensures.store.sound
-
-pub returns-in-Err-remove_orphans-clause-keeps : goal.returns-in-Err-remove_orphans-clause-keeps
-returns-in-Err-remove_orphans-clause-keeps g c = λ none.
-    let d : Device = g.F.Flash.device c.args.flash.now in
-    let e : Device = g.F.Flash.device c.mount.new.flash in
-    let f : Device = g.F.Flash.device c.remove_orphans.new.flash in
-    let own : Area = c.args.area in
-    let on_it : g.S.ItemStore.mounted_on c.in-Ok.store ≡ own = c.in-Ok.ensures.on in
-    let keeps : on g.S.ItemStore.contents e own ≡ on g.S.ItemStore.contents d own = c.in-Ok.ensures.keeps none in
-    let step = subst (λ (x : Area). KeepsSettings (g.N.IdLayout.numbering x) (on g.S.ItemStore.contents e x) (on g.S.ItemStore.contents f x)) on_it c.remove_orphans.ensures.keeps in
-    subst (λ (m : Items). KeepsSettings (g.N.IdLayout.numbering own) m (on g.S.ItemStore.contents f own)) keeps step
-
-pub returns-in-Err-remove_orphans-clause-sound : goal.returns-in-Err-remove_orphans-clause-sound
-returns-in-Err-remove_orphans-clause-sound g c = λ none.
-    let f : Device = g.F.Flash.device c.remove_orphans.new.flash in
-    subst (λ (x : Area). on g.S.ItemStore.damage f x ≡ None) c.in-Ok.ensures.on c.remove_orphans.ensures.store.sound
-
-pub returns-in-Err-clause-keeps : goal.returns-in-Err-clause-keeps
-returns-in-Err-clause-keeps g c = λ none. record {
-  settings = ap (settings_in (g.N.IdLayout.numbering c.args.area)) (c.in-Err.ensures.keeps none);
-  kept = λ id is. ap (λ (m : Items). get m id) (c.in-Err.ensures.keeps none);
-  gone = λ id. inr (ap (λ (m : Items). get m id) (c.in-Err.ensures.keeps none));
+pub returns-in-Ok-remove_orphans : goal.returns-in-Ok-remove_orphans
+returns-in-Ok-remove_orphans g c = record {
+  rests = λ rest none.
+      let d : Device = g.F.Flash.device c.args.flash.now in
+      let e : Device = g.F.Flash.device c.mount.new.flash in
+      let own : Area = c.args.area in
+      let on_it : g.S.ItemStore.mounted_on c.in-Ok.store ≡ own = c.in-Ok.ensures.on in
+      let idle : e ≡ d = c.in-Ok.ensures.rests rest in
+      c.remove_orphans.ensures.rests (subst (λ (x : Area). HasNoOrphans (g.N.IdLayout.numbering x) (on g.S.ItemStore.contents e x)) (sym on_it) (subst (λ (y : Device). HasNoOrphans (g.N.IdLayout.numbering own) (on g.S.ItemStore.contents y own)) (sym idle) none)) ∙ idle;
+  at_most = let d : Device = g.F.Flash.device c.args.flash.now in
+      let e : Device = g.F.Flash.device c.mount.new.flash in
+      let f : Device = g.F.Flash.device c.remove_orphans.new.flash in
+      let own : Area = c.args.area in
+      let on_it : g.S.ItemStore.mounted_on c.in-Ok.store ≡ own = c.in-Ok.ensures.on in
+      let none : on g.S.ItemStore.damage d own ≡ None = c.in-Ok.ensures.ends in
+      let keeps : on g.S.ItemStore.contents e own ≡ on g.S.ItemStore.contents d own = c.in-Ok.ensures.keeps none in
+      let few = g.met.S.ItemStore.few d own (g.met.F.Flash.is_lawful c.args.flash.now) c.requires.lawful c.requires.serves in
+      all-removed (geometry_of d own) d e f (len (on g.S.ItemStore.contents d own)) few c.in-Ok.ensures.at_most
+      (subst (λ (k : Geometry). SpendsAtMost e f (len (on g.S.ItemStore.contents d own) * removal_units k)) (geometry-stays d e own c.in-Ok.ensures.touches.banks)
+      (subst (λ (m : Items). SpendsAtMost e f (len m * removal_units (geometry_of e own))) keeps
+      (subst (λ (x : Area). SpendsAtMost e f (len (on g.S.ItemStore.contents e x) * removal_units (geometry_of e x))) on_it c.remove_orphans.ensures.at_most)));
+  written = λ blank.
+      let e : Device = g.F.Flash.device c.mount.new.flash in
+      let f : Device = g.F.Flash.device c.remove_orphans.new.flash in
+      let on_it : g.S.ItemStore.mounted_on c.in-Ok.store ≡ c.args.area = c.in-Ok.ensures.on in
+      c.in-Ok.ensures.written (subst (λ (x : Area). StaysWritten e f x) on_it c.remove_orphans.ensures.written blank);
+  keeps = λ none.
+      let d : Device = g.F.Flash.device c.args.flash.now in
+      let e : Device = g.F.Flash.device c.mount.new.flash in
+      let f : Device = g.F.Flash.device c.remove_orphans.new.flash in
+      let own : Area = c.args.area in
+      let on_it : g.S.ItemStore.mounted_on c.in-Ok.store ≡ own = c.in-Ok.ensures.on in
+      let keeps : on g.S.ItemStore.contents e own ≡ on g.S.ItemStore.contents d own = c.in-Ok.ensures.keeps none in
+      let step = subst (λ (x : Area). KeepsSettings (g.N.IdLayout.numbering x) (on g.S.ItemStore.contents e x) (on g.S.ItemStore.contents f x)) on_it c.remove_orphans.ensures.keeps in
+      subst (λ (m : Items). KeepsSettings (g.N.IdLayout.numbering own) m (on g.S.ItemStore.contents f own)) keeps step;
+  sound = λ none.
+      let f : Device = g.F.Flash.device c.remove_orphans.new.flash in
+      subst (λ (x : Area). on g.S.ItemStore.damage f x ≡ None) c.in-Ok.ensures.on c.remove_orphans.ensures.store.sound;
+  store = let e : Device = g.F.Flash.device c.mount.new.flash in
+      let own : Area = c.args.area in
+      let on_it : g.S.ItemStore.mounted_on c.in-Ok.store ≡ own = c.in-Ok.ensures.on in
+      let f : Device = g.F.Flash.device c.remove_orphans.new.flash in
+      record {
+        on_it = c.remove_orphans.ensures.store.area ∙ on_it;
+        up = c.in-Ok-remove_orphans.ensures.store.up refl;
+        clean = subst (λ (x : Area). HasNoOrphans (g.N.IdLayout.numbering x) (on g.S.ItemStore.contents f x)) on_it c.in-Ok-remove_orphans.ensures.ends;
+      };
+  touches = let e : Device = g.F.Flash.device c.mount.new.flash in
+      let f : Device = g.F.Flash.device c.remove_orphans.new.flash in
+      then c.in-Ok.ensures.touches (subst (λ (x : Area). Touches (x ∷ []) e f false) c.in-Ok.ensures.on c.in-Ok-remove_orphans.ensures.touches);
+  ends = c.in-Ok.ensures.ends;
 }
 
-pub returns-in-Ok-remove_orphans-clause-store : goal.returns-in-Ok-remove_orphans-clause-store
-returns-in-Ok-remove_orphans-clause-store g c =
-    let e : Device = g.F.Flash.device c.mount.new.flash in
-    let own : Area = c.args.area in
-    let on_it : g.S.ItemStore.mounted_on c.in-Ok.store ≡ own = c.in-Ok.ensures.on in
-    let f : Device = g.F.Flash.device c.remove_orphans.new.flash in
-    record {
-      on_it = c.remove_orphans.ensures.store.area ∙ on_it;
-      up = c.in-Ok-remove_orphans.ensures.store.up refl;
-      clean = subst (λ (x : Area). HasNoOrphans (g.N.IdLayout.numbering x) (on g.S.ItemStore.contents f x)) on_it c.in-Ok-remove_orphans.ensures.ends;
-    }
+pub returns-in-Err-remove_orphans : goal.returns-in-Err-remove_orphans
+returns-in-Err-remove_orphans g c = record {
+  touches = let d : Device = g.F.Flash.device c.args.flash.now in
+      let e : Device = g.F.Flash.device c.mount.new.flash in
+      let own : Area = c.args.area in
+      let on_it : g.S.ItemStore.mounted_on c.in-Ok.store ≡ own = c.in-Ok.ensures.on in
+      let f : Device = g.F.Flash.device c.remove_orphans.new.flash in
+      then c.in-Ok.ensures.touches (subst (λ (x : Area). Touches (x ∷ []) e f true) on_it c.in-Err-remove_orphans.ensures.touches);
+  rests = λ rest none.
+      let d : Device = g.F.Flash.device c.args.flash.now in
+      let e : Device = g.F.Flash.device c.mount.new.flash in
+      let own : Area = c.args.area in
+      let on_it : g.S.ItemStore.mounted_on c.in-Ok.store ≡ own = c.in-Ok.ensures.on in
+      let idle : e ≡ d = c.in-Ok.ensures.rests rest in
+      c.remove_orphans.ensures.rests (subst (λ (x : Area). HasNoOrphans (g.N.IdLayout.numbering x) (on g.S.ItemStore.contents e x)) (sym on_it) (subst (λ (y : Device). HasNoOrphans (g.N.IdLayout.numbering own) (on g.S.ItemStore.contents y own)) (sym idle) none)) ∙ idle;
+  at_most = let d : Device = g.F.Flash.device c.args.flash.now in
+      let e : Device = g.F.Flash.device c.mount.new.flash in
+      let f : Device = g.F.Flash.device c.remove_orphans.new.flash in
+      let own : Area = c.args.area in
+      let on_it : g.S.ItemStore.mounted_on c.in-Ok.store ≡ own = c.in-Ok.ensures.on in
+      let none : on g.S.ItemStore.damage d own ≡ None = c.in-Ok.ensures.ends in
+      let keeps : on g.S.ItemStore.contents e own ≡ on g.S.ItemStore.contents d own = c.in-Ok.ensures.keeps none in
+      let few = g.met.S.ItemStore.few d own (g.met.F.Flash.is_lawful c.args.flash.now) c.requires.lawful c.requires.serves in
+      all-removed (geometry_of d own) d e f (len (on g.S.ItemStore.contents d own)) few c.in-Ok.ensures.at_most
+      (subst (λ (k : Geometry). SpendsAtMost e f (len (on g.S.ItemStore.contents d own) * removal_units k)) (geometry-stays d e own c.in-Ok.ensures.touches.banks)
+      (subst (λ (m : Items). SpendsAtMost e f (len m * removal_units (geometry_of e own))) keeps
+      (subst (λ (x : Area). SpendsAtMost e f (len (on g.S.ItemStore.contents e x) * removal_units (geometry_of e x))) on_it c.remove_orphans.ensures.at_most)));
+  written = λ blank.
+      let e : Device = g.F.Flash.device c.mount.new.flash in
+      let f : Device = g.F.Flash.device c.remove_orphans.new.flash in
+      let on_it : g.S.ItemStore.mounted_on c.in-Ok.store ≡ c.args.area = c.in-Ok.ensures.on in
+      c.in-Ok.ensures.written (subst (λ (x : Area). StaysWritten e f x) on_it c.remove_orphans.ensures.written blank);
+  keeps = λ none.
+      let d : Device = g.F.Flash.device c.args.flash.now in
+      let e : Device = g.F.Flash.device c.mount.new.flash in
+      let f : Device = g.F.Flash.device c.remove_orphans.new.flash in
+      let own : Area = c.args.area in
+      let on_it : g.S.ItemStore.mounted_on c.in-Ok.store ≡ own = c.in-Ok.ensures.on in
+      let keeps : on g.S.ItemStore.contents e own ≡ on g.S.ItemStore.contents d own = c.in-Ok.ensures.keeps none in
+      let step = subst (λ (x : Area). KeepsSettings (g.N.IdLayout.numbering x) (on g.S.ItemStore.contents e x) (on g.S.ItemStore.contents f x)) on_it c.remove_orphans.ensures.keeps in
+      subst (λ (m : Items). KeepsSettings (g.N.IdLayout.numbering own) m (on g.S.ItemStore.contents f own)) keeps step;
+  sound = λ none.
+      let f : Device = g.F.Flash.device c.remove_orphans.new.flash in
+      subst (λ (x : Area). on g.S.ItemStore.damage f x ≡ None) c.in-Ok.ensures.on c.remove_orphans.ensures.store.sound;
+  ends = c.in-Ok.ensures.ends;
+  store = tt;
+}
+
+pub returns-in-Err : goal.returns-in-Err
+returns-in-Err g c = record {
+  at_most = store-mounted (geometry_of (g.F.Flash.device c.args.flash.now) c.args.area) (g.F.Flash.device c.args.flash.now) (g.F.Flash.device c.mount.new.flash) c.in-Err.ensures.at_most;
+  keeps = λ none. record {
+    settings = ap (settings_in (g.N.IdLayout.numbering c.args.area)) (c.in-Err.ensures.keeps none);
+    kept = λ id is. ap (λ (m : Items). get m id) (c.in-Err.ensures.keeps none);
+    gone = λ id. inr (ap (λ (m : Items). get m id) (c.in-Err.ensures.keeps none));
+  };
+  touches = c.in-Err.ensures.touches;
+  ends = c.in-Err.ensures.ends;
+  sound = c.in-Err.ensures.sound;
+  rests = λ rest none. c.in-Err.ensures.rests rest;
+  written = c.in-Err.ensures.written;
+  store = tt;
+}
+
+pub mount-requires : goal.mount-requires
+mount-requires g c = record { lawful = c.requires.lawful; serves = c.requires.serves }

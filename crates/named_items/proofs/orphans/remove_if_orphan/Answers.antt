@@ -1,4 +1,4 @@
-use Rattle.std.proofs.Common.{refl, sym, ap, ◌∙◌, inr, arith}
+use Rattle.std.proofs.Common.{refl, sym, ap, ◌∙◌, inr, arith, Bool, subst, ◌∷◌, []}
 use Rattle.std.specs.Prelude.{is_err}
 use Rattle.std.proofs.lemmas.Bool.{false≢true}
 use Rattle.flash_sim.specs.Device.{Device}
@@ -13,156 +13,149 @@ use Rattle.named_items.specs.Pairs.{IsKept}
 use Rattle.named_items.proofs.RemovalUnits.{per-none, delete-per_item, delete-present}
 use Rattle.named_items.proofs.RemovedSteps.{delete-alters, delete-gone, delete-still}
 use Rattle.named_items.proofs.OrphanSteps.{removes-none, delete-keeps, delete-removes, delete-kept, delete-rests}
+use Rattle.flash_map.specs.Touches.{Touches}
+use Rattle.flash_map.proofs.Touches.{untouched}
 use Rattle.named_items.proofs.orphans.remove_if_orphan.Goals as goal
 
 -- ---- the item is kept
 
-pub returns-then-is_kept-clause-store : goal.returns-then-is_kept-clause-store
-returns-then-is_kept-clause-store g c =
-    let d : Device = g.F.Flash.device c.args.flash.now in
-    let area : Area = g.S.ItemStore.mounted_on c.args.store.now in
-    record {
-      area = refl;
-      sound = g.met.S.ItemStore.stands_reads c.args.store.now (geometry_of d area) (sectors_of d area) c.requires.stands;
-      up = λ kept. c.requires.stands;
-      down = λ lost. absurd (false≢true lost);
-    }
-
-pub returns-then-is_kept-clause-keeps : goal.returns-then-is_kept-clause-keeps
-returns-then-is_kept-clause-keeps g c =
-    record { settings = refl; kept = λ id is. refl; gone = λ id. inr refl }
-
-pub returns-then-is_kept-clause-ends : goal.returns-then-is_kept-clause-ends
-returns-then-is_kept-clause-ends g c =
-    let d : Device = g.F.Flash.device c.args.flash.now in
-    let area : Area = g.S.ItemStore.mounted_on c.args.store.now in
-    record {
-      others = λ other apart. refl;
-      still = λ id is. is;
-      idle = λ is. refl;
-      rests = λ clean. refl;
-      present = λ lost. absurd (false≢true lost);
-      removes = λ ok. removes-none (g.N.IdLayout.numbering area) (g.met.N.IdLayout.is_numbering area) (on g.S.ItemStore.contents d area) c.args.id (c.is_kept.ensures.yes_it c.if-is_kept.true);
-    }
-
-pub returns-then-is_kept-clause-units : goal.returns-then-is_kept-clause-units
-returns-then-is_kept-clause-units g c =
-    let d : Device = g.F.Flash.device c.args.flash.now in
-    let area : Area = g.S.ItemStore.mounted_on c.args.store.now in
-    record { at_most = (0, omega arith, spends_none d); per_item = λ ok. per-none (removal_units (geometry_of d area)) d (on g.S.ItemStore.contents d area) }
+pub returns-then-is_kept : goal.returns-then-is_kept
+returns-then-is_kept g c = record {
+  store = let d : Device = g.F.Flash.device c.args.flash.now in
+      let area : Area = g.S.ItemStore.mounted_on c.args.store.now in
+      record {
+        area = refl;
+        sound = g.met.S.ItemStore.stands_reads c.args.store.now (geometry_of d area) (sectors_of d area) c.requires.stands;
+        up = λ kept. c.requires.stands;
+        down = λ lost. absurd (false≢true lost);
+      };
+  keeps = record { settings = refl; kept = λ id is. refl; gone = λ id. inr refl };
+  ends = let d : Device = g.F.Flash.device c.args.flash.now in
+      let area : Area = g.S.ItemStore.mounted_on c.args.store.now in
+      record {
+        others = λ other apart. refl;
+        still = λ id is. is;
+        idle = λ is. refl;
+        rests = λ clean. refl;
+        present = λ lost. absurd (false≢true lost);
+        removes = λ ok. removes-none (g.N.IdLayout.numbering area) (g.met.N.IdLayout.is_numbering area) (on g.S.ItemStore.contents d area) c.args.id (c.is_kept.ensures.yes_it c.if-is_kept.true);
+      };
+  units = let d : Device = g.F.Flash.device c.args.flash.now in
+      let area : Area = g.S.ItemStore.mounted_on c.args.store.now in
+      record { at_most = (0, omega arith, spends_none d); per_item = λ ok. per-none (removal_units (geometry_of d area)) d (on g.S.ItemStore.contents d area) };
+  touches = untouched (g.S.ItemStore.mounted_on c.args.store.now ∷ []) (g.F.Flash.device c.args.flash.now);
+  written = λ blank. blank;
+  describes = λ kept. c.requires.describes;
+}
 
 -- ---- it was deleted
 
-pub returns-clause-store : goal.returns-clause-store
-returns-clause-store g c =
-    record {
-      area = c.delete.ensures.area;
-      sound = c.delete.ensures.sound;
-      up = λ kept. c.delete.ensures.stands (ap is_err c.in_ok-delete.was);
-      down = λ lost. absurd (false≢true lost);
-    }
-
-pub returns-clause-keeps : goal.returns-clause-keeps
-returns-clause-keeps g c =
-    let d : Device = g.F.Flash.device c.args.flash.now in
-    let e : Device = g.F.Flash.device c.delete.new.flash in
-    let area : Area = g.S.ItemStore.mounted_on c.args.store.now in
-    let n : Numbering = g.N.IdLayout.numbering area in
-    let before : Items = on g.S.ItemStore.contents d area in
-    let after : Items = on g.S.ItemStore.contents e area in
-    let orphan : ¬ IsKept n before c.args.id = c.is_kept.ensures.not_it c.if-is_kept.false in
-    record {
-      settings = delete-keeps n (g.met.N.IdLayout.is_numbering area) before c.args.id orphan d e after c.delete.result c.delete.ensures.ends;
-      kept = delete-kept n (g.met.N.IdLayout.is_numbering area) before c.args.id orphan d e after c.delete.result c.delete.ensures.ends;
-      gone = delete-gone before after c.args.id d e c.delete.result c.delete.ensures.ends;
-    }
-
-pub returns-clause-ends : goal.returns-clause-ends
-returns-clause-ends g c =
-    let d : Device = g.F.Flash.device c.args.flash.now in
-    let e : Device = g.F.Flash.device c.delete.new.flash in
-    let area : Area = g.S.ItemStore.mounted_on c.args.store.now in
-    let n : Numbering = g.N.IdLayout.numbering area in
-    let before : Items = on g.S.ItemStore.contents d area in
-    let after : Items = on g.S.ItemStore.contents e area in
-    let orphan : ¬ IsKept n before c.args.id = c.is_kept.ensures.not_it c.if-is_kept.false in
-    record {
-      others = delete-alters before after c.args.id d e c.delete.result c.delete.ensures.ends;
-      still = delete-still before after c.args.id n (g.met.N.IdLayout.is_numbering area) orphan d e c.delete.result c.delete.ensures.ends;
-      idle = λ kept. absurd (orphan kept);
-      rests = λ clean. delete-rests n (g.met.N.IdLayout.is_numbering area) before c.args.id orphan d e after c.delete.result c.delete.ensures.ends clean;
-      present = λ lost. absurd (false≢true lost);
-      removes = λ kept. delete-removes n (g.met.N.IdLayout.is_numbering area) before c.args.id orphan d e after c.delete.result (ap is_err c.in_ok-delete.was) c.delete.ensures.ends;
-    }
-
-pub returns-clause-units : goal.returns-clause-units
-returns-clause-units g c =
-    let d : Device = g.F.Flash.device c.args.flash.now in
-    let e : Device = g.F.Flash.device c.delete.new.flash in
-    let area : Area = g.S.ItemStore.mounted_on c.args.store.now in
-    let n : Numbering = g.N.IdLayout.numbering area in
-    let before : Items = on g.S.ItemStore.contents d area in
-    let after : Items = on g.S.ItemStore.contents e area in
-    let orphan : ¬ IsKept n before c.args.id = c.is_kept.ensures.not_it c.if-is_kept.false in
-    record {
-      at_most = c.delete.ensures.removal;
-      per_item = λ kept. delete-per_item (removal_units (geometry_of d area)) d e before after c.args.id c.delete.result (ap is_err c.in_ok-delete.was) c.delete.ensures.ends c.delete.ensures.removal;
-    }
+pub returns : goal.returns
+returns g c = record {
+  store = record {
+    area = c.delete.ensures.area;
+    sound = c.delete.ensures.sound;
+    up = λ kept. c.delete.ensures.stands (ap is_err c.in_ok-delete.was);
+    down = λ lost. absurd (false≢true lost);
+  };
+  keeps = let d : Device = g.F.Flash.device c.args.flash.now in
+      let e : Device = g.F.Flash.device c.delete.new.flash in
+      let area : Area = g.S.ItemStore.mounted_on c.args.store.now in
+      let n : Numbering = g.N.IdLayout.numbering area in
+      let before : Items = on g.S.ItemStore.contents d area in
+      let after : Items = on g.S.ItemStore.contents e area in
+      let orphan : ¬ IsKept n before c.args.id = c.is_kept.ensures.not_it c.if-is_kept.false in
+      record {
+        settings = delete-keeps n (g.met.N.IdLayout.is_numbering area) before c.args.id orphan d e after c.delete.result c.delete.ensures.ends;
+        kept = delete-kept n (g.met.N.IdLayout.is_numbering area) before c.args.id orphan d e after c.delete.result c.delete.ensures.ends;
+        gone = delete-gone before after c.args.id d e c.delete.result c.delete.ensures.ends;
+      };
+  ends = let d : Device = g.F.Flash.device c.args.flash.now in
+      let e : Device = g.F.Flash.device c.delete.new.flash in
+      let area : Area = g.S.ItemStore.mounted_on c.args.store.now in
+      let n : Numbering = g.N.IdLayout.numbering area in
+      let before : Items = on g.S.ItemStore.contents d area in
+      let after : Items = on g.S.ItemStore.contents e area in
+      let orphan : ¬ IsKept n before c.args.id = c.is_kept.ensures.not_it c.if-is_kept.false in
+      record {
+        others = delete-alters before after c.args.id d e c.delete.result c.delete.ensures.ends;
+        still = delete-still before after c.args.id n (g.met.N.IdLayout.is_numbering area) orphan d e c.delete.result c.delete.ensures.ends;
+        idle = λ kept. absurd (orphan kept);
+        rests = λ clean. delete-rests n (g.met.N.IdLayout.is_numbering area) before c.args.id orphan d e after c.delete.result c.delete.ensures.ends clean;
+        present = λ lost. absurd (false≢true lost);
+        removes = λ kept. delete-removes n (g.met.N.IdLayout.is_numbering area) before c.args.id orphan d e after c.delete.result (ap is_err c.in_ok-delete.was) c.delete.ensures.ends;
+      };
+  units = let d : Device = g.F.Flash.device c.args.flash.now in
+      let e : Device = g.F.Flash.device c.delete.new.flash in
+      let area : Area = g.S.ItemStore.mounted_on c.args.store.now in
+      let n : Numbering = g.N.IdLayout.numbering area in
+      let before : Items = on g.S.ItemStore.contents d area in
+      let after : Items = on g.S.ItemStore.contents e area in
+      let orphan : ¬ IsKept n before c.args.id = c.is_kept.ensures.not_it c.if-is_kept.false in
+      record {
+        at_most = c.delete.ensures.removal;
+        per_item = λ kept. delete-per_item (removal_units (geometry_of d area)) d e before after c.args.id c.delete.result (ap is_err c.in_ok-delete.was) c.delete.ensures.ends c.delete.ensures.removal;
+      };
+  touches = c.in_ok-delete.ensures.touches;
+  written = c.delete.ensures.written;
+  describes = λ kept. c.fill_index.ensures;
+}
 
 -- ---- where it was cut
 
-pub returns-in_err-delete-clause-store : goal.returns-in_err-delete-clause-store
-returns-in_err-delete-clause-store g c =
-    record {
-      area = c.delete.ensures.area;
-      sound = c.delete.ensures.sound;
-      up = λ kept. absurd (false≢true (sym kept ∙ c.from_residual.ensures.0));
-      down = λ lost. c.delete.ensures.down (ap is_err c.in_err-delete.was);
-    }
+pub returns-in_err-delete : goal.returns-in_err-delete
+returns-in_err-delete g c = record {
+  store = record {
+    area = c.delete.ensures.area;
+    sound = c.delete.ensures.sound;
+    up = λ kept. absurd (false≢true (sym kept ∙ c.from_residual.ensures.0));
+    down = λ lost. c.delete.ensures.down (ap is_err c.in_err-delete.was);
+  };
+  keeps = let d : Device = g.F.Flash.device c.args.flash.now in
+      let e : Device = g.F.Flash.device c.delete.new.flash in
+      let area : Area = g.S.ItemStore.mounted_on c.args.store.now in
+      let n : Numbering = g.N.IdLayout.numbering area in
+      let before : Items = on g.S.ItemStore.contents d area in
+      let after : Items = on g.S.ItemStore.contents e area in
+      let orphan : ¬ IsKept n before c.args.id = c.is_kept.ensures.not_it c.if-is_kept.false in
+      record {
+        settings = delete-keeps n (g.met.N.IdLayout.is_numbering area) before c.args.id orphan d e after c.delete.result c.delete.ensures.ends;
+        kept = delete-kept n (g.met.N.IdLayout.is_numbering area) before c.args.id orphan d e after c.delete.result c.delete.ensures.ends;
+        gone = delete-gone before after c.args.id d e c.delete.result c.delete.ensures.ends;
+      };
+  ends = let d : Device = g.F.Flash.device c.args.flash.now in
+      let e : Device = g.F.Flash.device c.delete.new.flash in
+      let area : Area = g.S.ItemStore.mounted_on c.args.store.now in
+      let n : Numbering = g.N.IdLayout.numbering area in
+      let before : Items = on g.S.ItemStore.contents d area in
+      let after : Items = on g.S.ItemStore.contents e area in
+      let orphan : ¬ IsKept n before c.args.id = c.is_kept.ensures.not_it c.if-is_kept.false in
+      record {
+        others = delete-alters before after c.args.id d e c.delete.result c.delete.ensures.ends;
+        still = delete-still before after c.args.id n (g.met.N.IdLayout.is_numbering area) orphan d e c.delete.result c.delete.ensures.ends;
+        idle = λ kept. absurd (orphan kept);
+        rests = λ clean. delete-rests n (g.met.N.IdLayout.is_numbering area) before c.args.id orphan d e after c.delete.result c.delete.ensures.ends clean;
+        present = λ lost. delete-present d e before after c.args.id c.delete.result (ap is_err c.in_err-delete.was) c.delete.ensures.ends;
+        removes = λ kept. absurd (false≢true (sym kept ∙ c.from_residual.ensures.0));
+      };
+  units = let d : Device = g.F.Flash.device c.args.flash.now in
+      let e : Device = g.F.Flash.device c.delete.new.flash in
+      let area : Area = g.S.ItemStore.mounted_on c.args.store.now in
+      let n : Numbering = g.N.IdLayout.numbering area in
+      let before : Items = on g.S.ItemStore.contents d area in
+      let after : Items = on g.S.ItemStore.contents e area in
+      let orphan : ¬ IsKept n before c.args.id = c.is_kept.ensures.not_it c.if-is_kept.false in
+      record {
+        at_most = c.delete.ensures.removal;
+        per_item = λ kept. absurd (false≢true (sym kept ∙ c.from_residual.ensures.0));
+      };
+  touches = subst (λ (lost : Bool). Touches (g.S.ItemStore.mounted_on c.args.store.now ∷ []) (g.F.Flash.device c.args.flash.now) (g.F.Flash.device c.delete.new.flash) lost) (sym c.from_residual.ensures.0) c.in_err-delete.ensures.touches;
+  written = c.delete.ensures.written;
+  describes = λ kept. absurd (false≢true (sym kept ∙ c.from_residual.ensures.0));
+}
 
-pub returns-in_err-delete-clause-keeps : goal.returns-in_err-delete-clause-keeps
-returns-in_err-delete-clause-keeps g c =
-    let d : Device = g.F.Flash.device c.args.flash.now in
-    let e : Device = g.F.Flash.device c.delete.new.flash in
-    let area : Area = g.S.ItemStore.mounted_on c.args.store.now in
-    let n : Numbering = g.N.IdLayout.numbering area in
-    let before : Items = on g.S.ItemStore.contents d area in
-    let after : Items = on g.S.ItemStore.contents e area in
-    let orphan : ¬ IsKept n before c.args.id = c.is_kept.ensures.not_it c.if-is_kept.false in
-    record {
-      settings = delete-keeps n (g.met.N.IdLayout.is_numbering area) before c.args.id orphan d e after c.delete.result c.delete.ensures.ends;
-      kept = delete-kept n (g.met.N.IdLayout.is_numbering area) before c.args.id orphan d e after c.delete.result c.delete.ensures.ends;
-      gone = delete-gone before after c.args.id d e c.delete.result c.delete.ensures.ends;
-    }
+pub is_kept-requires : goal.is_kept-requires
+is_kept-requires g c = record { ids = c.requires.ids; lawful = c.requires.lawful; stands = c.requires.stands; describes = c.requires.describes; known = c.requires.known }
 
-pub returns-in_err-delete-clause-ends : goal.returns-in_err-delete-clause-ends
-returns-in_err-delete-clause-ends g c =
-    let d : Device = g.F.Flash.device c.args.flash.now in
-    let e : Device = g.F.Flash.device c.delete.new.flash in
-    let area : Area = g.S.ItemStore.mounted_on c.args.store.now in
-    let n : Numbering = g.N.IdLayout.numbering area in
-    let before : Items = on g.S.ItemStore.contents d area in
-    let after : Items = on g.S.ItemStore.contents e area in
-    let orphan : ¬ IsKept n before c.args.id = c.is_kept.ensures.not_it c.if-is_kept.false in
-    record {
-      others = delete-alters before after c.args.id d e c.delete.result c.delete.ensures.ends;
-      still = delete-still before after c.args.id n (g.met.N.IdLayout.is_numbering area) orphan d e c.delete.result c.delete.ensures.ends;
-      idle = λ kept. absurd (orphan kept);
-      rests = λ clean. delete-rests n (g.met.N.IdLayout.is_numbering area) before c.args.id orphan d e after c.delete.result c.delete.ensures.ends clean;
-      present = λ lost. delete-present d e before after c.args.id c.delete.result (ap is_err c.in_err-delete.was) c.delete.ensures.ends;
-      removes = λ kept. absurd (false≢true (sym kept ∙ c.from_residual.ensures.0));
-    }
-
-pub returns-in_err-delete-clause-units : goal.returns-in_err-delete-clause-units
-returns-in_err-delete-clause-units g c =
-    let d : Device = g.F.Flash.device c.args.flash.now in
-    let e : Device = g.F.Flash.device c.delete.new.flash in
-    let area : Area = g.S.ItemStore.mounted_on c.args.store.now in
-    let n : Numbering = g.N.IdLayout.numbering area in
-    let before : Items = on g.S.ItemStore.contents d area in
-    let after : Items = on g.S.ItemStore.contents e area in
-    let orphan : ¬ IsKept n before c.args.id = c.is_kept.ensures.not_it c.if-is_kept.false in
-    record {
-      at_most = c.delete.ensures.removal;
-      per_item = λ kept. absurd (false≢true (sym kept ∙ c.from_residual.ensures.0));
-    }
+pub delete-requires : goal.delete-requires
+delete-requires g c = record { lawful = c.requires.lawful; stands = c.requires.stands; known = c.requires.ids.all c.args.id c.requires.known }

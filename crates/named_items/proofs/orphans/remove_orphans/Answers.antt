@@ -22,6 +22,7 @@ use Rattle.named_items.proofs.RemovedSteps.{StaysAhead, gone-then, ahead-start, 
 use Rattle.named_items.proofs.SpendSteps.{geometry-stays}
 use Rattle.named_items.proofs.SoFar.{HasNoneBefore, ids_left}
 use Rattle.named_items.proofs.OrphanSteps.{kept-more, stays-more, orphans-start, orphans-step, orphans-end, left-smaller}
+use Rattle.named_items.proofs.ChangeSteps.{moved-lawful}
 use Rattle.named_items.proofs.orphans.remove_orphans.Goals as goal
 
 pub loop-at-init : goal.loop-at-init
@@ -45,8 +46,14 @@ loop-at-init g c =
       known = IfSome_then c.next_by-at.result c.next_by-at.ensures.known (λ id is. c.requires.ids.only id is);
     }
 
-pub remove_if_orphan-requires-clause-known : goal.remove_if_orphan-requires-clause-known
-remove_if_orphan-requires-clause-known g c = subst (λ (o : Option ℕ). IfSome o (λ id. id < g.N.IdLayout.top)) c.in-Some.is c.loop-at.invariant.known
+pub remove_if_orphan-requires : goal.remove_if_orphan-requires
+remove_if_orphan-requires g c = record {
+  known = subst (λ (o : Option ℕ). IfSome o (λ id. id < g.N.IdLayout.top)) c.in-Some.is c.loop-at.invariant.known;
+  ids = c.requires.ids;
+  lawful = moved-lawful (g.S.ItemStore.mounted_on c.args.store.now) (g.S.ItemStore.mounted_on c.loop-at.store) c.loop-at.invariant.area (g.F.Flash.device c.args.flash.now) (g.F.Flash.device c.loop-at.flash) (c.loop-at.invariant.touches.banks) c.requires.lawful;
+  stands = c.loop-at.invariant.stands;
+  describes = c.loop-at.invariant.describes;
+}
 
 pub loop-at-preserved : goal.loop-at-preserved
 loop-at-preserved g c =
@@ -97,105 +104,103 @@ loop-at-smaller g c =
     (left-smaller g.N.IdLayout.top (on g.S.ItemStore.contents e (g.S.ItemStore.mounted_on c.remove_if_orphan.new.store)) c.in-Some.id c.next_by-at-in-Some.result g.met.N.IdLayout.top_small known
     (subst (λ (o : Option ℕ). IfSome o (λ id. id < g.N.IdLayout.top)) c.in-Some.is c.loop-at.invariant.known) c.next_by-at-in-Some.ensures.next)
 
-pub returns-in_err-remove_if_orphan-clause-touches : goal.returns-in_err-remove_if_orphan-clause-touches
-returns-in_err-remove_if_orphan-clause-touches g c =
-    let b : Device = g.F.Flash.device c.loop-at.flash in
-    let e : Device = g.F.Flash.device c.remove_if_orphan.new.flash in
-    let kept = c.loop-at.invariant in
-    subst (λ (lost : Bool). Touches (g.S.ItemStore.mounted_on c.args.store.now ∷ []) (g.F.Flash.device c.args.flash.now) e lost) (sym c.from_residual.ensures.0) (then kept.touches (subst (λ (x : Area). Touches (x ∷ []) b e true) kept.area c.in_err-remove_if_orphan.ensures.touches))
-
-pub returns-in_err-remove_if_orphan-clause-rests : goal.returns-in_err-remove_if_orphan-clause-rests
-returns-in_err-remove_if_orphan-clause-rests g c = λ clean.
-    let b : Device = g.F.Flash.device c.loop-at.flash in
-    let own : Area = g.S.ItemStore.mounted_on c.args.store.now in
-    let kept = c.loop-at.invariant in
-    let same = kept.same clean in
-    c.in_err-remove_if_orphan.ensures.ends.rests (subst (λ (x : Area). HasNoOrphans (g.N.IdLayout.numbering x) (on g.S.ItemStore.contents b x)) (sym kept.area) (subst (λ (d : Device). HasNoOrphans (g.N.IdLayout.numbering own) (on g.S.ItemStore.contents d own)) (sym same) clean)) ∙ same
-
-pub returns-clause-at_most : goal.returns-clause-at_most
-returns-clause-at_most g c =
-    let a : Device = g.F.Flash.device c.args.flash.now in
-    let b : Device = g.F.Flash.device c.loop-at.flash in
-    let own : Area = g.S.ItemStore.mounted_on c.args.store.now in
-    per-most (removal_units (geometry_of a own)) a b (on g.S.ItemStore.contents a own) (on g.S.ItemStore.contents b own) c.loop-at.invariant.per_item
-
-pub returns-in_err-remove_if_orphan-clause-at_most : goal.returns-in_err-remove_if_orphan-clause-at_most
-returns-in_err-remove_if_orphan-clause-at_most g c =
-    let a : Device = g.F.Flash.device c.args.flash.now in
-    let b : Device = g.F.Flash.device c.loop-at.flash in
-    let e : Device = g.F.Flash.device c.remove_if_orphan.new.flash in
-    let own : Area = g.S.ItemStore.mounted_on c.args.store.now in
-    let kept = c.loop-at.invariant in
-    per-cut (removal_units (geometry_of a own)) a b e (on g.S.ItemStore.contents a own) (on g.S.ItemStore.contents b own) kept.per_item c.in-Some.id
-    (subst (λ (x : Area). ¬ (get (on g.S.ItemStore.contents b x) c.in-Some.id ≡ None)) kept.area (c.in_err-remove_if_orphan.ensures.ends.present refl))
-    (subst (λ (k : Geometry). SpendsAtMost b e (removal_units k)) (geometry-stays a b own kept.touches.banks)
-    (subst (λ (x : Area). SpendsAtMost b e (removal_units (geometry_of b x))) kept.area c.in_err-remove_if_orphan.ensures.units.at_most))
-
-pub returns-in_err-remove_if_orphan-clause-written : goal.returns-in_err-remove_if_orphan-clause-written
-returns-in_err-remove_if_orphan-clause-written g c = λ blank.
-    let b : Device = g.F.Flash.device c.loop-at.flash in
-    let e : Device = g.F.Flash.device c.remove_if_orphan.new.flash in
-    c.loop-at.invariant.written (subst (λ (x : Area). StaysWritten b e x) c.loop-at.invariant.area c.in_err-remove_if_orphan.ensures.written blank)
-
-pub returns-in_err-remove_if_orphan-clause-store : goal.returns-in_err-remove_if_orphan-clause-store
-returns-in_err-remove_if_orphan-clause-store g c =
-    let e : Device = g.F.Flash.device c.remove_if_orphan.new.flash in
-    let step = c.in_err-remove_if_orphan.ensures in
-    record {
-      area = step.store.area ∙ c.loop-at.invariant.area;
-      sound = subst (λ (x : Area). on g.S.ItemStore.damage e x ≡ None) c.loop-at.invariant.area step.store.sound;
-      up = λ kept. absurd (false≢true (sym kept ∙ c.from_residual.ensures.0));
-      down = λ lost. step.store.down refl;
-    }
-
-pub returns-in_err-remove_if_orphan-clause-keeps : goal.returns-in_err-remove_if_orphan-clause-keeps
-returns-in_err-remove_if_orphan-clause-keeps g c =
-    let a : Device = g.F.Flash.device c.args.flash.now in
-    let b : Device = g.F.Flash.device c.loop-at.flash in
-    let e : Device = g.F.Flash.device c.remove_if_orphan.new.flash in
-    let own : Area = g.S.ItemStore.mounted_on c.args.store.now in
-    let kept = c.loop-at.invariant in
-    let step = c.in_err-remove_if_orphan.ensures in
-    record {
-      settings = subst (λ (x : Area). settings_in (g.N.IdLayout.numbering x) (on g.S.ItemStore.contents e x) ≡ settings_in (g.N.IdLayout.numbering x) (on g.S.ItemStore.contents b x)) kept.area step.keeps.settings ∙ kept.keeps;
-      kept = kept-more (g.N.IdLayout.numbering own) (on g.S.ItemStore.contents a own) (on g.S.ItemStore.contents b own) (on g.S.ItemStore.contents e own) kept.kept (subst (λ (x : Area). KeepsEach (g.N.IdLayout.numbering x) (on g.S.ItemStore.contents b x) (on g.S.ItemStore.contents e x)) kept.area c.in_err-remove_if_orphan.ensures.keeps.kept);
-      gone = gone-then (on g.S.ItemStore.contents a own) (on g.S.ItemStore.contents b own) (on g.S.ItemStore.contents e own) kept.gone (subst (λ (x : Area). OnlyRemoves (on g.S.ItemStore.contents b x) (on g.S.ItemStore.contents e x)) kept.area c.in_err-remove_if_orphan.ensures.keeps.gone);
-    }
-
-pub returns-in_err-remove_if_orphan-clause-ends : goal.returns-in_err-remove_if_orphan-clause-ends
-returns-in_err-remove_if_orphan-clause-ends g c =
-    let a : Device = g.F.Flash.device c.args.flash.now in
-    let b : Device = g.F.Flash.device c.loop-at.flash in
-    let e : Device = g.F.Flash.device c.remove_if_orphan.new.flash in
-    let own : Area = g.S.ItemStore.mounted_on c.args.store.now in
-    let kept = c.loop-at.invariant in
-    let n = g.N.IdLayout.numbering own in
-    let stops : StopsAt n (on g.S.ItemStore.contents a own) (on g.S.ItemStore.contents e own) c.in-Some.id =
-    stops-at (on g.S.ItemStore.contents a own) (on g.S.ItemStore.contents b own) (on g.S.ItemStore.contents e own) c.in-Some.id
-    (subst (λ (x : Area). AltersOnly (on g.S.ItemStore.contents b x) (on g.S.ItemStore.contents e x) c.in-Some.id) kept.area c.in_err-remove_if_orphan.ensures.ends.others)
-    (subst (λ (o : Option ℕ). StaysAhead (on g.S.ItemStore.contents a own) (on g.S.ItemStore.contents b own) o) c.in-Some.is kept.ahead)
-    n
-    (subst (λ (x : Area). StaysKept (g.N.IdLayout.numbering x) (on g.S.ItemStore.contents b x) (on g.S.ItemStore.contents e x)) kept.area c.in_err-remove_if_orphan.ensures.ends.still)
-    (subst (λ (o : Option ℕ). HasNoneBefore n (on g.S.ItemStore.contents b own) o) c.in-Some.is kept.so_far) in
-    removal-cut n (on g.S.ItemStore.contents a own) (on g.S.ItemStore.contents e own) c.from_residual.result c.from_residual.ensures.0 (c.in-Some.id, stops)
-
-pub returns-clause-store : goal.returns-clause-store
-returns-clause-store g c = record {
-  area = c.loop-at.invariant.area;
-  sound = c.loop-at.invariant.sound;
-  up = λ kept. c.loop-at.invariant.stands;
-  down = λ lost. absurd (false≢true lost);
+pub returns-in_err-remove_if_orphan : goal.returns-in_err-remove_if_orphan
+returns-in_err-remove_if_orphan g c = record {
+  touches = let b : Device = g.F.Flash.device c.loop-at.flash in
+      let e : Device = g.F.Flash.device c.remove_if_orphan.new.flash in
+      let kept = c.loop-at.invariant in
+      subst (λ (lost : Bool). Touches (g.S.ItemStore.mounted_on c.args.store.now ∷ []) (g.F.Flash.device c.args.flash.now) e lost) (sym c.from_residual.ensures.0) (then kept.touches (subst (λ (x : Area). Touches (x ∷ []) b e true) kept.area c.in_err-remove_if_orphan.ensures.touches));
+  rests = λ clean.
+      let b : Device = g.F.Flash.device c.loop-at.flash in
+      let own : Area = g.S.ItemStore.mounted_on c.args.store.now in
+      let kept = c.loop-at.invariant in
+      let same = kept.same clean in
+      c.in_err-remove_if_orphan.ensures.ends.rests (subst (λ (x : Area). HasNoOrphans (g.N.IdLayout.numbering x) (on g.S.ItemStore.contents b x)) (sym kept.area) (subst (λ (d : Device). HasNoOrphans (g.N.IdLayout.numbering own) (on g.S.ItemStore.contents d own)) (sym same) clean)) ∙ same;
+  at_most = let a : Device = g.F.Flash.device c.args.flash.now in
+      let b : Device = g.F.Flash.device c.loop-at.flash in
+      let e : Device = g.F.Flash.device c.remove_if_orphan.new.flash in
+      let own : Area = g.S.ItemStore.mounted_on c.args.store.now in
+      let kept = c.loop-at.invariant in
+      per-cut (removal_units (geometry_of a own)) a b e (on g.S.ItemStore.contents a own) (on g.S.ItemStore.contents b own) kept.per_item c.in-Some.id
+      (subst (λ (x : Area). ¬ (get (on g.S.ItemStore.contents b x) c.in-Some.id ≡ None)) kept.area (c.in_err-remove_if_orphan.ensures.ends.present refl))
+      (subst (λ (k : Geometry). SpendsAtMost b e (removal_units k)) (geometry-stays a b own kept.touches.banks)
+      (subst (λ (x : Area). SpendsAtMost b e (removal_units (geometry_of b x))) kept.area c.in_err-remove_if_orphan.ensures.units.at_most));
+  written = λ blank.
+      let b : Device = g.F.Flash.device c.loop-at.flash in
+      let e : Device = g.F.Flash.device c.remove_if_orphan.new.flash in
+      c.loop-at.invariant.written (subst (λ (x : Area). StaysWritten b e x) c.loop-at.invariant.area c.in_err-remove_if_orphan.ensures.written blank);
+  store = let e : Device = g.F.Flash.device c.remove_if_orphan.new.flash in
+      let step = c.in_err-remove_if_orphan.ensures in
+      record {
+        area = step.store.area ∙ c.loop-at.invariant.area;
+        sound = subst (λ (x : Area). on g.S.ItemStore.damage e x ≡ None) c.loop-at.invariant.area step.store.sound;
+        up = λ kept. absurd (false≢true (sym kept ∙ c.from_residual.ensures.0));
+        down = λ lost. step.store.down refl;
+      };
+  keeps = let a : Device = g.F.Flash.device c.args.flash.now in
+      let b : Device = g.F.Flash.device c.loop-at.flash in
+      let e : Device = g.F.Flash.device c.remove_if_orphan.new.flash in
+      let own : Area = g.S.ItemStore.mounted_on c.args.store.now in
+      let kept = c.loop-at.invariant in
+      let step = c.in_err-remove_if_orphan.ensures in
+      record {
+        settings = subst (λ (x : Area). settings_in (g.N.IdLayout.numbering x) (on g.S.ItemStore.contents e x) ≡ settings_in (g.N.IdLayout.numbering x) (on g.S.ItemStore.contents b x)) kept.area step.keeps.settings ∙ kept.keeps;
+        kept = kept-more (g.N.IdLayout.numbering own) (on g.S.ItemStore.contents a own) (on g.S.ItemStore.contents b own) (on g.S.ItemStore.contents e own) kept.kept (subst (λ (x : Area). KeepsEach (g.N.IdLayout.numbering x) (on g.S.ItemStore.contents b x) (on g.S.ItemStore.contents e x)) kept.area c.in_err-remove_if_orphan.ensures.keeps.kept);
+        gone = gone-then (on g.S.ItemStore.contents a own) (on g.S.ItemStore.contents b own) (on g.S.ItemStore.contents e own) kept.gone (subst (λ (x : Area). OnlyRemoves (on g.S.ItemStore.contents b x) (on g.S.ItemStore.contents e x)) kept.area c.in_err-remove_if_orphan.ensures.keeps.gone);
+      };
+  ends = let a : Device = g.F.Flash.device c.args.flash.now in
+      let b : Device = g.F.Flash.device c.loop-at.flash in
+      let e : Device = g.F.Flash.device c.remove_if_orphan.new.flash in
+      let own : Area = g.S.ItemStore.mounted_on c.args.store.now in
+      let kept = c.loop-at.invariant in
+      let n = g.N.IdLayout.numbering own in
+      let stops : StopsAt n (on g.S.ItemStore.contents a own) (on g.S.ItemStore.contents e own) c.in-Some.id =
+      stops-at (on g.S.ItemStore.contents a own) (on g.S.ItemStore.contents b own) (on g.S.ItemStore.contents e own) c.in-Some.id
+      (subst (λ (x : Area). AltersOnly (on g.S.ItemStore.contents b x) (on g.S.ItemStore.contents e x) c.in-Some.id) kept.area c.in_err-remove_if_orphan.ensures.ends.others)
+      (subst (λ (o : Option ℕ). StaysAhead (on g.S.ItemStore.contents a own) (on g.S.ItemStore.contents b own) o) c.in-Some.is kept.ahead)
+      n
+      (subst (λ (x : Area). StaysKept (g.N.IdLayout.numbering x) (on g.S.ItemStore.contents b x) (on g.S.ItemStore.contents e x)) kept.area c.in_err-remove_if_orphan.ensures.ends.still)
+      (subst (λ (o : Option ℕ). HasNoneBefore n (on g.S.ItemStore.contents b own) o) c.in-Some.is kept.so_far) in
+      removal-cut n (on g.S.ItemStore.contents a own) (on g.S.ItemStore.contents e own) c.from_residual.result c.from_residual.ensures.0 (c.in-Some.id, stops);
 }
 
-pub returns-clause-keeps : goal.returns-clause-keeps
-returns-clause-keeps g c = record {
-  settings = c.loop-at.invariant.keeps;
-  kept = λ id is. (c.loop-at.invariant.kept id is).1;
-  gone = c.loop-at.invariant.gone;
+pub returns : goal.returns
+returns g c = record {
+  at_most = let a : Device = g.F.Flash.device c.args.flash.now in
+      let b : Device = g.F.Flash.device c.loop-at.flash in
+      let own : Area = g.S.ItemStore.mounted_on c.args.store.now in
+      per-most (removal_units (geometry_of a own)) a b (on g.S.ItemStore.contents a own) (on g.S.ItemStore.contents b own) c.loop-at.invariant.per_item;
+  store = record {
+    area = c.loop-at.invariant.area;
+    sound = c.loop-at.invariant.sound;
+    up = λ kept. c.loop-at.invariant.stands;
+    down = λ lost. absurd (false≢true lost);
+  };
+  keeps = record {
+    settings = c.loop-at.invariant.keeps;
+    kept = λ id is. (c.loop-at.invariant.kept id is).1;
+    gone = c.loop-at.invariant.gone;
+  };
+  ends = let b : Device = g.F.Flash.device c.loop-at.flash in
+      let own : Area = g.S.ItemStore.mounted_on c.args.store.now in
+      orphans-end (g.N.IdLayout.numbering own) (on g.S.ItemStore.contents b own) (subst (λ (o : Option ℕ). HasNoneBefore (g.N.IdLayout.numbering own) (on g.S.ItemStore.contents b own) o) c.in_default.is c.loop-at.invariant.so_far);
+  touches = c.loop-at.invariant.touches;
+  written = c.loop-at.invariant.written;
+  rests = c.loop-at.invariant.same;
 }
 
-pub returns-clause-ends : goal.returns-clause-ends
-returns-clause-ends g c =
-    let b : Device = g.F.Flash.device c.loop-at.flash in
-    let own : Area = g.S.ItemStore.mounted_on c.args.store.now in
-    orphans-end (g.N.IdLayout.numbering own) (on g.S.ItemStore.contents b own) (subst (λ (o : Option ℕ). HasNoneBefore (g.N.IdLayout.numbering own) (on g.S.ItemStore.contents b own) o) c.in_default.is c.loop-at.invariant.so_far)
+pub fill_index-requires : goal.fill_index-requires
+fill_index-requires g c = record { lawful = c.requires.lawful; stands = c.requires.stands }
+
+pub next_by-at-requires : goal.next_by-at-requires
+next_by-at-requires g c = record { lawful = c.requires.lawful; stands = c.requires.stands; describes = c.fill_index.ensures }
+
+pub next_by-at-requires-in-Some : goal.next_by-at-requires-in-Some
+next_by-at-requires-in-Some g c =
+    let kept = c.loop-at.invariant in
+    let step = c.in_ok-remove_if_orphan.ensures in
+    record {
+      lawful = moved-lawful (g.S.ItemStore.mounted_on c.args.store.now) (g.S.ItemStore.mounted_on c.remove_if_orphan.new.store) (step.store.area ∙ kept.area) (g.F.Flash.device c.args.flash.now) (g.F.Flash.device c.remove_if_orphan.new.flash) (step.touches.banks ∙ kept.touches.banks) c.requires.lawful;
+      stands = step.store.up refl;
+      describes = step.describes refl;
+    }

@@ -1,15 +1,15 @@
-ghost use Rattle.std.specs.Prelude.{◌≡◌, ◌<◌, ◌∷◌, [], All, IfOk, OnOk, replicate};
+ghost use Rattle.std.specs.Prelude.{◌≡◌, ◌<◌, ◌∷◌, [], All, OnOk, replicate};
 ghost use Rattle.flash_sim.specs.Device.{loaded};
 ghost use Rattle.flash_map.specs.Map.{HasVersion};
 
+use crate::rows::{number, says, word};
 use arrayvec::ArrayString;
 use flash_map::*;
-use flash_sim::{Bank, Bench, FlatSim, Kind, Steps};
+use flash_sim::{Bank, Bench, FlatSim, Kind, NoMemory, Steps};
 use std::alloc::Global;
 use std::marker::Brand;
 use std::process::Abort;
 use std::sync::ledger::{Blank, Ledger};
-use std::test::Fail;
 
 const BANK: Bank = Bank {
     kind: Kind::Erasing,
@@ -18,13 +18,16 @@ const BANK: Bank = Bank {
     count: 6,
 };
 
-fn area(label: &str, bank: usize, first: u32, sectors: u32) -> Result<Area, Fail>
-    ensures { IfOk result (HasVersion 1) }
+fn area<R: Abort>(rt: &R, row: &str) -> Area
+    ensures { HasVersion 1 result }
 {
-    let label = ArrayString::from(label)
-        .ok()
-        .ok_or("a label has 8 bytes at most")?;
-    Ok(Area::new(label, Role::Nvs, bank, first, sectors, 1))
+    let bank = number(rt, row, 1) as usize;
+    let first = number(rt, row, 2);
+    let sectors = number(rt, row, 3);
+    match ArrayString::from(word(row, 0)) {
+        Ok(label) => Area::new(label, Role::Nvs, bank, first, sectors, 1),
+        Err(_) => panic!(rt; "no label in {row}"),
+    }
 }
 
 // Adds an area of version 1 to a map of such areas.
@@ -36,35 +39,42 @@ fn added(map: &mut FlashMap, area: Area) -> Result<(), AddFault>
     map.add(&[BANK], area)
 }
 
+fn ending(added: Result<(), AddFault>) -> &'static str {
+    match added {
+        Ok(()) => "added",
+        Err(AddFault::Exists) => "exists",
+        Err(AddFault::OutOfBank) => "out_of_bank",
+        Err(AddFault::Overlaps) => "overlaps",
+        Err(AddFault::NoMemory) => "no_memory",
+    }
+}
+
 // The label, the bank, the first sector and the count of sectors of each area that is added, and
 // how that ends.
-const ADDED: [(&str, usize, u32, u32, Result<(), AddFault>); 8] = [
-    ("n", 0, 0, 2, Ok(())),
-    ("f", 0, 2, 2, Ok(())),
-    ("n", 0, 4, 2, Err(AddFault::Exists)),
-    ("x", 1, 0, 2, Err(AddFault::OutOfBank)),
-    ("x", 0, 4, 1, Err(AddFault::OutOfBank)),
-    ("x", 0, 4, 3, Err(AddFault::OutOfBank)),
-    ("x", 0, 3, 2, Err(AddFault::Overlaps)),
-    ("s", 0, 4, 2, Ok(())),
+const ADDED: [&str; 8] = [
+    "n 0 0 2 added",
+    "f 0 2 2 added",
+    "n 0 4 2 exists",
+    "x 1 0 2 out_of_bank",
+    "x 0 4 1 out_of_bank",
+    "x 0 4 3 out_of_bank",
+    "x 0 3 2 overlaps",
+    "s 0 4 2 added",
 ];
 
 #[test]
-fn areas_side_by_side(rt: HostRuntime) -> Result<(), Fail> {
+fn areas_side_by_side(rt: HostRuntime) {
     let mut map = FlashMap::new(rt.alloc());
-    for (label, bank, first, sectors, answer) in ADDED {
-        let result = added(&mut map, area(label, bank, first, sectors)?);
-        assert_eq!(rt; result, answer);
+    for row in ADDED.iter() {
+        let result = added(&mut map, area(&rt, row));
+        says(&rt, row, 4, ending(result));
     }
-    let Some(second) = map.at(1) else {
-        return Err(Fail::new("three areas stand there"));
-    };
-    let places = (map.len(), map.index_of("s"), map.index_of("x"));
-    assert_eq!(rt;
-        (places, second.first, second.value_limit()),
-        ((3, Some(2), None), 2, 256)
-    );
-    Ok(())
+    let places = map.index_of("s") == Some(2) && map.index_of("x").is_none();
+    assert!(rt; places && map.len() == 3);
+    match map.at(1) {
+        Some(second) => assert!(rt; second.first == 2 && second.value_limit() == 256),
+        None => assert!(rt; false),
+    }
 }
 
 const BED: Bank = Bank {
@@ -74,7 +84,7 @@ const BED: Bank = Bank {
     count: 4,
 };
 
-fn load_blank<B: Bench>(alloc: Global, bench: &mut B) -> Result<(), Fail>
+fn load_blank<B: Bench>(alloc: Global, bench: &mut B) -> Result<(), NoMemory>
     ensures { OnOk result
         (B.device bench.new ≡ loaded (B.device bench.old) (BED ∷ []) (replicate 64 255 ∷ [])) }
 {
@@ -89,57 +99,47 @@ const COPIED: [u8; 16] = [
     255, 255, 255, 255, 1, 2, 3, 4, 5, 255, 255, 255, 255, 255, 255, 255,
 ];
 
+const SHAPE: Geometry = Geometry {
+    unit: 4,
+    sector: 16,
+    sectors: 2,
+    kind: Kind::Erasing,
+};
+
 // Programs two units of the second sector, copies five bytes of them after the first unit of the
 // first sector, and erases the second.
 #[tactic(auto, unfolding(flash_map::specs::Units::padded))]
-fn exercise<B: Bench, L: Ledger, R: Abort>(
-    rt: &R,
-    alloc: Global,
-    bench: &mut B,
-    blank: Blank,
-) -> Result<(), Fail>
+fn exercise<B: Bench, L: Ledger, R: Abort>(rt: &R, alloc: Global, bench: &mut B, blank: Blank)
     requires name { blank.name ≡ L.name }
     requires parts { blank.parts ≡ L.parts }
     requires some { 0 < L.parts }
 {
     let mut steps = Steps::<L>::new(blank);
     let area = Area::new(ArrayString::new(), Role::Fcb, 0, 2, 2, 1);
-    load_blank(alloc, bench)?;
-    let shape = Geometry {
-        unit: 4,
-        sector: 16,
-        sectors: 2,
-        kind: Kind::Erasing,
-    };
-    let on_bench = geometry(bench, &area);
-    program_all(bench, &area, 1, 0, &[1, 2, 3, 4, 5, 6, 7, 8])?;
+    load_blank(alloc, bench).expect(rt, "memory");
+    assert!(rt; geometry(bench, &area) == SHAPE);
+    program_all(bench, &area, 1, 0, &[1, 2, 3, 4, 5, 6, 7, 8]).expect(rt, "power");
     let from = Source {
         sector: 1,
         offset: 0,
         len: 5,
     };
-    copy_padded(bench, &area, from, 0, 4, &mut steps)?;
-    let laid = sector_view(bench, &area, 0, &mut steps) == COPIED.as_slice();
-    area_erase(bench, &area, 1)?;
-    let erased = is_erased(area_view(bench, &area, 1, 6, 4, &mut steps));
-    assert_eq!(rt;
-        (on_bench, laid, erased, bench.spent()),
-        (shape, true, true, 5)
-    );
-    Ok(())
+    copy_padded(bench, &area, from, 0, 4, &mut steps).expect(rt, "power");
+    assert!(rt; sector_view(bench, &area, 0, &mut steps) == COPIED.as_slice());
+    area_erase(bench, &area, 1).expect(rt, "power");
+    assert!(rt; is_erased(area_view(bench, &area, 1, 6, 4, &mut steps)) && bench.spent() == 5);
 }
 
 #[test]
-fn sectors_of_an_area(rt: HostRuntime) -> Result<(), Fail> {
+fn sectors_of_an_area(rt: HostRuntime) {
     let alloc = rt.alloc();
     let mut sim = FlatSim::new(alloc);
-    exercise::<FlatSim, Brand, HostRuntime>(&rt, alloc, &mut sim, Blank::new(1))
+    exercise::<FlatSim, Brand, HostRuntime>(&rt, alloc, &mut sim, Blank::new(1));
 }
 
 #[test]
 fn places_in_a_ring(rt: HostRuntime) {
     let area = Area::new(ArrayString::new(), Role::Fcb, 0, 2, 2, 1);
-    let next = (area.next(0), area.next(1));
-    let previous = (area.previous(0), area.previous(1));
-    assert_eq!(rt; (next, previous, padded(4, 409)), ((1, 0), (1, 0), 412));
+    assert!(rt; area.next(0) == 1 && area.next(1) == 0);
+    assert!(rt; area.previous(0) == 1 && area.previous(1) == 0 && padded(4, 409) == 412);
 }

@@ -1,12 +1,11 @@
 ghost use Rattle.std.specs.Prelude.{◌≡◌, ◌<◌, ◌∷◌, ◌++◌, [], OnOk, replicate};
 ghost use Rattle.flash_sim.specs.Device.{loaded};
 
-use flash_sim::{At, Bank, Bench, FlatSim, Kind, PowerLost, SparseSim, Steps};
+use flash_sim::{At, Bank, Bench, FlatSim, Kind, NoMemory, SparseSim, Steps};
 use std::alloc::Global;
 use std::marker::Brand;
 use std::process::Abort;
 use std::sync::ledger::{Blank, Ledger};
-use std::test::Fail;
 
 const SMALL: Bank = Bank {
     kind: Kind::Erasing,
@@ -16,7 +15,7 @@ const SMALL: Bank = Bank {
 };
 
 // Two sectors, the first of which is erased.
-fn load<B: Bench>(alloc: Global, bench: &mut B) -> Result<(), Fail>
+fn load<B: Bench>(alloc: Global, bench: &mut B) -> Result<(), NoMemory>
     ensures { OnOk result
         (B.device bench.new
         ≡ loaded (B.device bench.old) (SMALL ∷ []) ((replicate 16 255 ++ replicate 16 7) ∷ [])) }
@@ -24,8 +23,8 @@ fn load<B: Bench>(alloc: Global, bench: &mut B) -> Result<(), Fail>
     let banks = vec![in alloc; SMALL]?;
     let mut bank = vec![in alloc; 255u8; 16]?;
     bank.extend_from_slice(&[7; 16])?;
-    bench.load(alloc, banks, vec![in alloc; bank]?)?;
-    Ok(())
+    let bytes = vec![in alloc; bank]?;
+    bench.load(alloc, banks, bytes)
 }
 
 // The sectors once the first one is erased.
@@ -36,48 +35,38 @@ const ERASED: [u8; 32] = [
 
 // A cut program, power back, what stands there, and an erase: the sector is FF, and the other one
 // is as it was loaded.
-fn exercise<B: Bench, L: Ledger, R: Abort>(
-    rt: &R,
-    alloc: Global,
-    bench: &mut B,
-    blank: Blank,
-) -> Result<(), Fail>
+fn exercise<B: Bench, L: Ledger, R: Abort>(rt: &R, alloc: Global, bench: &mut B, blank: Blank)
     requires name { blank.name ≡ L.name }
     requires parts { blank.parts ≡ L.parts }
     requires some { 0 < L.parts }
 {
     let mut steps = Steps::<L>::new(blank);
-    load(alloc, bench)?;
+    load(alloc, bench).expect(rt, "memory");
     bench.arm(1);
     let at = At { bank: 0, offset: 4 };
-    let cut = bench.program(at, &[1, 2, 3, 4, 5, 6, 7, 8]);
-    let is_on = bench.is_on();
+    let cut = bench.program(at, &[1, 2, 3, 4, 5, 6, 7, 8]).is_err();
+    assert!(rt; cut && !bench.is_on());
     bench.restore();
-    let laid = bench.view(at, 8, &mut steps) == [1, 2, 3, 4, 255, 255, 255, 255].as_slice();
-    bench.erase(0, 0)?;
-    let counts = (bench.spent(), bench.losses(), bench.loads());
-    assert_eq!(rt;
-        (cut, is_on, laid, counts),
-        (Err(PowerLost), false, true, (2, 1, 1))
-    );
-    let bytes = bench.snapshot(alloc)?;
-    let Some(first) = bytes.first() else {
-        return Err(Fail::new("one bank was loaded"));
-    };
-    assert!(rt; first.as_slice() == ERASED.as_slice());
-    Ok(())
+    assert!(rt; bench.view(at, 8, &mut steps) == [1, 2, 3, 4, 255, 255, 255, 255].as_slice());
+    bench.erase(0, 0).expect(rt, "power");
+    assert!(rt; bench.spent() == 2 && bench.losses() == 1 && bench.loads() == 1);
+    let bytes = bench.snapshot(alloc).expect(rt, "memory");
+    match bytes.first() {
+        Some(first) => assert!(rt; first.as_slice() == ERASED.as_slice()),
+        None => panic!(rt; "one bank was loaded"),
+    }
 }
 
 #[test]
-fn loses_power(rt: HostRuntime) -> Result<(), Fail> {
+fn loses_power(rt: HostRuntime) {
     let alloc = rt.alloc();
     let mut sim = FlatSim::new(alloc);
-    exercise::<FlatSim, Brand, HostRuntime>(&rt, alloc, &mut sim, Blank::new(1))
+    exercise::<FlatSim, Brand, HostRuntime>(&rt, alloc, &mut sim, Blank::new(1));
 }
 
 #[test]
-fn sparse_loses_power(rt: HostRuntime) -> Result<(), Fail> {
+fn sparse_loses_power(rt: HostRuntime) {
     let alloc = rt.alloc();
     let mut sim = SparseSim::new(alloc);
-    exercise::<SparseSim, Brand, HostRuntime>(&rt, alloc, &mut sim, Blank::new(1))
+    exercise::<SparseSim, Brand, HostRuntime>(&rt, alloc, &mut sim, Blank::new(1));
 }

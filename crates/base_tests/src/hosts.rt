@@ -1,79 +1,107 @@
 // The two hosts, each called once for each of its answers.
+use crate::rows::{number, says, word};
 use std::alloc::Global;
 use std::fs;
 use std::os::unix::fs::symlink;
 use std::process::Abort;
-use std::test::Fail;
 use zs_host::{Host, HostFault, MemHost, RealHost};
 
-#[test]
-fn memory(rt: HostRuntime) -> Result<(), Fail> {
-    let alloc = rt.alloc();
-    let mut host = MemHost::new(alloc);
-    host.put_file("a", b"123")?;
-    host.write_whole(alloc, "b", b"67")?;
-    host.print(alloc, b"8")?;
-    host.print(alloc, b"9")?;
-    host.fail_call(2)?;
-    for (limit, fault) in [
-        (2, Some(HostFault::TooLong)),
-        (3, Some(HostFault::Failed)),
-        (3, None),
-    ] {
-        assert_eq!(rt; host.read_whole(alloc, "a", limit).err(), fault);
+// A file that is read: its name, the most bytes, and the bytes or why they were not read.
+fn read<H: Host, R: Abort>(rt: &R, alloc: Global, host: &mut H, row: &str) {
+    let limit = number(rt, row, 1) as usize;
+    match host.read_whole(alloc, word(row, 0), limit) {
+        Ok(bytes) => assert!(rt; bytes.as_slice() == word(row, 2).as_bytes()),
+        Err(HostFault::Missing) => says(rt, row, 2, "is_missing"),
+        Err(HostFault::TooLong) => says(rt, row, 2, "is_too_long"),
+        Err(HostFault::Failed) => says(rt, row, 2, "failed"),
+        Err(HostFault::NoMemory) => panic!(rt; "memory"),
     }
-    let written = host.file("b") == Some(b"67".as_slice());
-    let printed = host.printed() == b"89".as_slice();
-    assert_eq!(rt; (host.faults(), written, printed), (1, true, true));
-    Ok(())
 }
 
+fn written<H: Host>(alloc: Global, host: &mut H, name: &str, bytes: &[u8]) -> &'static str {
+    match host.write_whole(alloc, name, bytes) {
+        Ok(()) => "written",
+        Err(HostFault::Failed) => "failed",
+        Err(_) => "",
+    }
+}
+
+// A file that is written: its name, its bytes, and whether it was.
+fn write<H: Host, R: Abort>(rt: &R, alloc: Global, host: &mut H, row: &str) {
+    let bytes = word(row, 1).as_bytes();
+    says(rt, row, 2, written(alloc, host, word(row, 0), bytes));
+}
+
+#[test]
+fn memory(rt: HostRuntime) {
+    let alloc = rt.alloc();
+    let mut host = MemHost::new(alloc);
+    host.put_file("a", b"123").expect(&rt, "a");
+    write(&rt, alloc, &mut host, "b 67 written");
+    host.print(alloc, b"8").expect(&rt, "8");
+    host.print(alloc, b"9").expect(&rt, "9");
+    host.fail_call(2).expect(&rt, "2");
+    read(&rt, alloc, &mut host, "a 2 is_too_long");
+    read(&rt, alloc, &mut host, "a 3 failed");
+    read(&rt, alloc, &mut host, "a 3 123");
+    assert!(rt; host.faults() == 1 && host.printed() == b"89".as_slice());
+    assert!(rt; host.file("b") == Some(b"67".as_slice()));
+}
+
+// The long file, a link to it, and the first name that is tried for a new file.
 const NAME: &str = "zs_host_test.bin";
 
 const LINK: &str = "zs_host_test.link";
 
-// The first name that is tried for a new file.
 const TAKEN: &str = ".image_tool-0";
 
 // There is no such file, one is too long, and a folder can be opened but not read.
-fn refuses_to_read<H: Host, R: Abort>(rt: &R, alloc: Global, host: &mut H) {
-    for (name, limit, fault) in [
-        ("zs_host_none.bin", 9, HostFault::Missing),
-        (NAME, 2, HostFault::TooLong),
-        (".", 9, HostFault::Failed),
-    ] {
-        assert_eq!(rt; host.read_whole(alloc, name, limit).err(), Some(fault));
-    }
-}
+const READ: [&str; 5] = [
+    "zs_host_none.bin 9 is_missing",
+    "zs_host_test.bin 2 is_too_long",
+    ". 9 failed",
+    "zs_host_test.bin 3 abc",
+    ".image_tool-0 4 mine",
+];
 
 // Neither a file in a folder that does not exist nor a folder can be written.
-fn refuses_to_write<H: Host, R: Abort>(rt: &R, alloc: Global, host: &mut H) {
-    for name in ["no_folder/a", "."] {
-        let written = host.write_whole(alloc, name, b"def");
-        assert_eq!(rt; written.err(), Some(HostFault::Failed));
+const WRITTEN: [&str; 3] = [
+    "zs_host_test.link abc written",
+    "no_folder/a def failed",
+    ". def failed",
+];
+
+fn carry_out<H: Host, R: Abort>(rt: &R, alloc: Global, host: &mut H) {
+    for row in WRITTEN.iter() {
+        write(rt, alloc, host, row);
+    }
+    for row in READ.iter() {
+        read(rt, alloc, host, row);
+    }
+    assert!(rt; host.print(alloc, b"printed\n").is_ok() && host.faults() == 3);
+}
+
+fn writes_long<H: Host, R: Abort>(rt: &R, alloc: Global, host: &mut H) {
+    assert!(rt; written(alloc, host, NAME, &[7; 10000]) == "written");
+    match host.read_whole(alloc, NAME, 10000) {
+        Ok(bytes) => assert!(rt; bytes.len() == 10000),
+        Err(_) => panic!(rt; "not read"),
     }
 }
 
 #[test]
-fn real_files(rt: HostRuntime) -> Result<(), Fail> {
+fn real_files(rt: HostRuntime) {
     let alloc = rt.alloc();
     for name in [NAME, LINK] {
         let _ = fs::remove_file(&rt, name);
     }
-    fs::write(&rt, TAKEN, "mine")?;
+    let taken = fs::write(&rt, TAKEN, "mine");
     let mut host = RealHost::new(&rt);
-    host.write_whole(alloc, NAME, vec![in alloc; 7u8; 10000]?.as_slice())?;
-    let long = host.read_whole(alloc, NAME, 10000)?.len();
-    symlink(&rt, NAME, LINK)?;
-    host.write_whole(alloc, LINK, b"abc")?;
-    refuses_to_read(&rt, alloc, &mut host);
-    refuses_to_write(&rt, alloc, &mut host);
-    let short = host.read_whole(alloc, NAME, 3)?.as_slice() == b"abc".as_slice();
-    let kept = host.read_whole(alloc, TAKEN, 4)?.as_slice() == b"mine".as_slice();
-    host.print(alloc, b"printed\n")?;
-    assert_eq!(rt; (long, short, kept, host.faults()), (10000, true, true, 3));
+    writes_long(&rt, alloc, &mut host);
+    let linked = symlink(&rt, NAME, LINK);
+    assert!(rt; taken.is_ok() && linked.is_ok());
+    carry_out(&rt, alloc, &mut host);
     for name in [NAME, LINK, TAKEN] {
-        fs::remove_file(&rt, name)?;
+        assert!(rt; fs::remove_file(&rt, name).is_ok());
     }
-    Ok(())
 }

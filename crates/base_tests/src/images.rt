@@ -1,10 +1,12 @@
 ghost use Rattle.image_file.specs.Format.{plain};
 ghost use Rattle.image_file.specs.Lawful.{IsImage};
 
+use crate::rows::{byte, counts, number, says};
 use flash_sim::NoMemory;
 use image_file::*;
 use std::alloc::Global;
-use std::test::Fail;
+use std::fmt::Display;
+use std::process::Abort;
 
 // The file of this word's image, without the 2,048 bytes FF at its end.
 const FOUR: &str = "bank=erasing/4/512/4,area=nvs/main/0/0/4";
@@ -57,97 +59,115 @@ fn written(alloc: Global, image: &Image) -> Result<Vec<u8>, NoMemory>
     write_image(alloc, &image.banks, &image.map, &image.bytes)
 }
 
-// The file of the word's image; an empty one if the word is not lawful.
-fn file_of(alloc: Global, word: &str) -> Result<Vec<u8>, NoMemory> {
+// The file of the word's image.
+fn file_of<R: Abort>(rt: &R, alloc: Global, word: &str) -> Vec<u8> {
     match read_spec(alloc, word) {
-        Ok(image) => written(alloc, &image),
-        Err(SpecFault::BadSpec { item: _ }) => Ok(Vec::new(alloc)),
-        Err(SpecFault::NoMemory) => Err(NoMemory),
+        Ok(image) => written(alloc, &image).expect(rt, "memory"),
+        Err(_) => panic!(rt; "no image"),
     }
 }
 
-fn version_of(image: &Image) -> Option<u8> {
-    match image.map.at(0) {
-        Some(area) => Some(area.version),
-        None => None,
+// The image of a file has the version in the file, and its file has the same bytes.
+fn reads_back<R: Abort>(rt: &R, alloc: Global, file: &[u8]) {
+    match read_image(alloc, file) {
+        Ok(image) => {
+            let version = image.map.at(0).map(|area| area.version);
+            assert!(rt; version == file.get(4).copied());
+            let again = written(alloc, &image).expect(rt, "memory");
+            assert!(rt; again.as_slice() == file);
+        }
+        Err(_) => panic!(rt; "not read"),
     }
 }
 
 #[test]
-fn writes_and_reads(rt: HostRuntime) -> Result<(), Fail> {
+fn writes_and_reads(rt: HostRuntime) {
     let alloc = rt.alloc();
-    for (word, size, at, bytes) in FILES {
-        let file = file_of(alloc, word)?;
-        let has = file.get(at..at.saturating_add(bytes.len())) == Some(bytes);
-        assert!(rt; has && file.len() == size, "{word}");
-        let Ok(image) = read_image(alloc, &file) else {
-            return Err(Fail::new(word));
-        };
-        let again = written(alloc, &image)?;
-        let same = again.as_slice() == file.as_slice();
-        assert!(rt; same && version_of(&image) == Some(file[4]), "{word}");
+    for (word, size, at, bytes) in FILES.iter() {
+        let file = file_of(&rt, alloc, word);
+        let has = file.get(*at..at.saturating_add(bytes.len())) == Some(*bytes);
+        assert!(rt; has && file.len() == *size, "{word}");
+        reads_back(&rt, alloc, &file);
     }
-    Ok(())
 }
 
-// An offset, the byte put there, and where and why the file is then refused.
-const ROWS: [(usize, u8, u64, ImageWhy); 26] = [
-    (3, 0x4E, 0, ImageWhy::BadMagic),
-    (4, 0, 4, ImageWhy::BadVersion),
-    (4, 3, 4, ImageWhy::BadVersion),
+// An offset, the byte put there, and why and where the file is then refused.
+const ROWS: [&str; 26] = [
+    "3 4e BadMagic 0",
+    "4 00 BadVersion 4",
+    "4 03 BadVersion 4",
     // the second version, with sectors of 512 bytes
-    (4, 2, 8, ImageWhy::BadBank),
-    (5, 0, 5, ImageWhy::BadBank),
-    (5, 3, 5, ImageWhy::BadBank),
-    (6, 0, 6, ImageWhy::BadArea),
-    (6, 9, 6, ImageWhy::BadArea),
-    (7, 1, 7, ImageWhy::BadVersion),
-    (8, 2, 8, ImageWhy::BadBank),
-    (9, 5, 8, ImageWhy::BadBank),
-    (10, 1, 8, ImageWhy::BadBank),
-    (12, 32, 8, ImageWhy::BadBank),
-    (13, 1, 8, ImageWhy::BadBank),
-    (16, 1, 8, ImageWhy::BadBank),
-    (16, 65, 8, ImageWhy::BadBank),
-    (20, 5, 20, ImageWhy::BadArea),
-    (20, 2, 20, ImageWhy::BadArea),
-    (20, 4, 6, ImageWhy::BadArea),
-    (21, 1, 20, ImageWhy::BadArea),
-    (22, 1, 20, ImageWhy::BadArea),
-    (24, 1, 20, ImageWhy::BadArea),
-    (26, 5, 20, ImageWhy::BadArea),
-    (27, 1, 20, ImageWhy::BadArea),
-    (28, 0x4D, 20, ImageWhy::BadArea),
-    (35, 1, 20, ImageWhy::BadArea),
+    "4 02 BadBank 8",
+    "5 00 BadBank 5",
+    "5 03 BadBank 5",
+    "6 00 BadArea 6",
+    "6 09 BadArea 6",
+    "7 01 BadVersion 7",
+    "8 02 BadBank 8",
+    "9 05 BadBank 8",
+    "10 01 BadBank 8",
+    "12 20 BadBank 8",
+    "13 01 BadBank 8",
+    "16 01 BadBank 8",
+    "16 41 BadBank 8",
+    "20 05 BadArea 20",
+    "20 02 BadArea 20",
+    "20 04 BadArea 6",
+    "21 01 BadArea 20",
+    "22 01 BadArea 20",
+    "24 01 BadArea 20",
+    "26 05 BadArea 20",
+    "27 01 BadArea 20",
+    "28 4d BadArea 20",
+    "35 01 BadArea 20",
 ];
+
+fn name_of(why: ImageWhy) -> &'static str {
+    match why {
+        ImageWhy::BadMagic => "BadMagic",
+        ImageWhy::BadVersion => "BadVersion",
+        ImageWhy::BadBank => "BadBank",
+        ImageWhy::BadArea => "BadArea",
+        ImageWhy::Short => "Short",
+        ImageWhy::Long => "Long",
+    }
+}
+
+// Why and where the file is refused.
+fn fault_of(alloc: Global, file: &[u8]) -> (&'static str, u64) {
+    match read_image(alloc, file) {
+        Err(ImageFault::Bad { at, why }) => (name_of(why), at),
+        Err(ImageFault::NoMemory) => ("no memory", 0),
+        Ok(_) => ("read", 0),
+    }
+}
+
+// A file with one byte changed is refused.
+fn refuses<R: Abort>(rt: &R, alloc: Global, file: &mut [u8], row: &str) {
+    let place = number(rt, row, 0) as usize;
+    match file.get_mut(place) {
+        Some(there) => *there = byte(rt, row, 1),
+        None => panic!(rt; "no such byte"),
+    }
+    let (why, at) = fault_of(alloc, file);
+    says(rt, row, 2, why);
+    counts(rt, row, 3, &[at]);
+}
 
 // Each file that is shorter or longer, and each with one byte changed.
 #[test]
-fn first_faults(rt: HostRuntime) -> Result<(), Fail> {
+fn first_faults(rt: HostRuntime) {
     let alloc = rt.alloc();
-    let file = file_of(alloc, FOUR)?;
+    let mut file = file_of(&rt, alloc, FOUR);
     for len in 0..file.len() {
-        let fault = read_image(alloc, &file[..len]).err();
-        let (at, why) = (len as u64, ImageWhy::Short);
-        assert_eq!(rt; fault, Some(ImageFault::Bad { at, why }));
+        assert!(rt; fault_of(alloc, &file[..len]) == ("Short", len as u64));
     }
-    for (place, byte, at, why) in ROWS.iter() {
-        let mut other = file.clone()?;
-        if let Some(there) = other.get_mut(*place) {
-            *there = *byte;
-        }
-        let fault = read_image(alloc, &other).err();
-        let (at, why) = (*at, *why);
-        assert_eq!(rt; fault, Some(ImageFault::Bad { at, why }), "{place}");
+    for row in ROWS.iter() {
+        let mut other = file.clone().expect(&rt, "memory");
+        refuses(&rt, alloc, &mut other, row);
     }
-    let mut longer = file.clone()?;
-    longer.push(0)?;
-    let (at, why) = (2084, ImageWhy::Long);
-    assert_eq!(rt;
-        read_image(alloc, &longer).err(),
-        Some(ImageFault::Bad { at, why })
-    );
-    Ok(())
+    file.push(0).expect(&rt, "memory");
+    assert!(rt; fault_of(alloc, &file) == ("Long", 2084));
 }
 
 // A word, and the number of its first unlawful item.
@@ -192,33 +212,34 @@ const WORDS: [(&str, u32); 28] = [
 ];
 
 #[test]
-fn unlawful_words(rt: HostRuntime) -> Result<(), Fail> {
+fn unlawful_words(rt: HostRuntime) {
     for (word, item) in WORDS.iter() {
         let fault = read_spec(rt.alloc(), word).err();
-        assert_eq!(rt; fault, Some(SpecFault::BadSpec { item: *item }), "{word}");
+        assert!(rt; fault == Some(SpecFault::BadSpec { item: *item }), "{word}");
     }
-    Ok(())
+}
+
+fn prints<E: Display, R: Abort>(rt: &R, alloc: Global, fault: &E, message: &str) {
+    let text = fault.to_string(alloc).expect(rt, "memory");
+    assert!(rt; text.as_str() == message);
 }
 
 // Why an image was not read or made, and the message.
 #[test]
-fn messages(rt: HostRuntime) -> Result<(), Fail> {
+fn messages(rt: HostRuntime) {
     let alloc = rt.alloc();
     let bad = ImageFault::Bad {
         at: 4,
         why: ImageWhy::BadVersion,
     };
-    for (fault, message) in [
-        (bad, "no image file: byte 4 departs from the format"),
-        (ImageFault::NoMemory, "out of memory"),
-    ] {
-        assert!(rt; fault.to_string(alloc)?.as_str() == message);
-    }
-    for (fault, message) in [
-        (SpecFault::BadSpec { item: 2 }, "item 2 is refused"),
-        (SpecFault::NoMemory, "out of memory"),
-    ] {
-        assert!(rt; fault.to_string(alloc)?.as_str() == message);
-    }
-    Ok(())
+    let departs = "no image file: byte 4 departs from the format";
+    prints(&rt, alloc, &bad, departs);
+    prints(&rt, alloc, &ImageFault::NoMemory, "out of memory");
+    prints(
+        &rt,
+        alloc,
+        &SpecFault::BadSpec { item: 2 },
+        "item 2 is refused",
+    );
+    prints(&rt, alloc, &SpecFault::NoMemory, "out of memory");
 }

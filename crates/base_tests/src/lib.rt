@@ -19,4 +19,6 @@ mod logs;
 #[cfg(test)]
 mod rings;
 #[cfg(test)]
+mod rows;
+#[cfg(test)]
 mod texts;

@@ -1,182 +1,90 @@
 // Logs on three small sectors. Units, counts and bodies are those of an independent reading of
 // the same appends.
-ghost use Rattle.std.specs.Prelude.{◌≡◌, ◌<◌, ◌≤◌, ◌∷◌, [], true, false, IfOk, OnOk, length, vec_len};
-ghost use Rattle.fcb_ring.specs.Standing.{IsRingArea};
+ghost use Rattle.std.specs.Prelude.{◌≡◌, ◌<◌, ◌∷◌, []};
 ghost use Rattle.event_ring.specs.Standing.{IsOpen};
 
-use arrayvec::ArrayString;
+use crate::rings::{LARGE, SMALL, load, small};
+use crate::rows::{byte, counts, number, says, word};
 use event_ring::*;
 use fcb_ring::{RecordAt, chance};
-use flash_map::{Area, Role};
-use flash_sim::{Bank, Bench, Flash, FlatSim, Kind, Steps};
+use flash_sim::{Bench, Flash, FlatSim, Steps};
 use std::alloc::Global;
 use std::marker::Brand;
 use std::process::Abort;
 use std::sync::ledger::{Blank, Ledger};
-use std::test::Fail;
-
-const SMALL: Bank = Bank {
-    kind: Kind::Erasing,
-    unit: 4,
-    sector: 512,
-    count: 3,
-};
-
-// ---- the bed
-
-// Three sectors. The first begins with these bytes; all else is erased.
-fn image(alloc: Global, first: &[u8]) -> Result<Vec<u8>, Fail>
-    requires { length first.now ≤ 512 }
-    ensures { IfOk result (λ bytes. vec_len bytes ≡ 1536) }
-{
-    let mut bytes = vec![in alloc; 255u8; 1536]?;
-    bytes[..first.len()].copy_from_slice(first);
-    Ok(bytes)
-}
-
-// Loads the bed with these sectors.
-fn load<B: Bench>(alloc: Global, bench: &mut B, bytes: Vec<u8>) -> Result<(), Fail>
-    requires { vec_len bytes ≡ 1536 }
-    ensures { OnOk result ((B.device bench.new).banks ≡ SMALL ∷ []) }
-{
-    let banks = vec![in alloc; SMALL]?;
-    let all = vec![in alloc; bytes]?;
-    bench.load(alloc, banks, all)?;
-    Ok(())
-}
-
-fn area() -> Area
-    ensures { IsRingArea (SMALL ∷ []) result }
-{
-    Area::new(ArrayString::new(), Role::Fcb, 0, 0, 3, 1)
-}
-
-fn mounted<B: Bench, L: Ledger>(bench: &mut B, steps: &mut Steps<L>) -> Result<EventLog, Fail>
-    requires { (B.device bench.old).banks ≡ SMALL ∷ [] }
-    ensures banks { (B.device bench.new).banks ≡ SMALL ∷ [] }
-    ensures mounted { IfOk result (λ log. IsOpen (B.device bench.new) log.ring) }
-{
-    match EventLog::mount(bench, area(), steps) {
-        Ok(log) => Ok(log),
-        Err(fault) => Err(fault)?,
-    }
-}
-
-fn blank<B: Bench, L: Ledger>(
-    alloc: Global,
-    bench: &mut B,
-    steps: &mut Steps<L>,
-) -> Result<EventLog, Fail>
-    ensures banks { OnOk result ((B.device bench.new).banks ≡ SMALL ∷ []) }
-    ensures mounted { IfOk result (λ log. IsOpen (B.device bench.new) log.ring) }
-{
-    load(alloc, bench, image(alloc, &[])?)?;
-    mounted(bench, steps)
-}
-
-// The units of one append, and how many records it dropped.
-fn put<B: Bench, L: Ledger>(
-    log: &mut EventLog,
-    bench: &mut B,
-    body: &[u8],
-    steps: &mut Steps<L>,
-) -> Result<(u64, u32), LogFault>
-    requires { IsOpen (B.device bench.old) log.old.ring }
-    ensures banks { (B.device bench.new).banks ≡ (B.device bench.old).banks }
-    ensures mounted { OnOk result (IsOpen (B.device bench.new) log.new.ring) }
-{
-    let start = bench.spent();
-    let dropped = log.append(bench, body, steps)?;
-    Ok((bench.spent().wrapping_sub(start), dropped))
-}
-
-// How many records the log gives, and the first byte of each.
-fn firsts<F: Flash, L: Ledger>(log: &EventLog, flash: &F, steps: &mut Steps<L>) -> (usize, [u8; 8])
-    requires { IsOpen (F.device flash.now) log.now.ring }
-{
-    let mut after: Option<RecordAt> = None;
-    let mut first = [0; 8];
-    for count in 0..8 {
-        let Some(record) = log.next(flash, after, steps) else {
-            return (count, first);
-        };
-        let body = log.body(flash, &record, steps);
-        first[count] = if body.is_empty() { 0 } else { body[0] };
-        after = Some(record);
-    }
-    (8, first)
-}
 
 // ---- the rows
 
-// Nine records of 100 bytes each: their bytes, the units of each append, and how many
-// records it drops.
-const NINE: [(u8, u64, u32); 9] = [
-    (0x11, 29, 0),
-    (0x22, 27, 0),
-    (0x33, 27, 0),
-    (0x44, 27, 0),
-    (0x55, 29, 0),
-    (0x66, 27, 0),
-    (0x77, 27, 0),
-    (0x88, 27, 0),
-    (0x99, 30, 4),
+// Nine records of 100 bytes: the byte and the length of each, the units of its append, and how
+// many records it drops.
+const NINE: [&str; 9] = [
+    "11 100 29 0",
+    "22 100 27 0",
+    "33 100 27 0",
+    "44 100 27 0",
+    "55 100 29 0",
+    "66 100 27 0",
+    "77 100 27 0",
+    "88 100 27 0",
+    "99 100 30 4",
 ];
 
-const EIGHT: (usize, [u8; 8]) = (8, [0x11, 0x22, 0x33, 0x44, 0x55, 0x66, 0x77, 0x88]);
+// The first bytes of the records after that, from the third word on.
+const LEFT: &str = "- - 55 66 77 88 99";
 
-const FIVE: (usize, [u8; 8]) = (5, [0x55, 0x66, 0x77, 0x88, 0x99, 0, 0, 0]);
-
-const FOUR: (usize, [u8; 8]) = (4, [0x55, 0x66, 0x77, 0x88, 0, 0, 0, 0]);
-
-// The cut of the ninth append: after how many units, what the next mount spends, and the records
-// that it finds.
-const CUTS: [(u64, u64, (usize, [u8; 8])); 7] = [
-    (0, 0, EIGHT),
-    (1, 1, EIGHT),
-    (2, 1, EIGHT),
-    (3, 0, FOUR),
-    (4, 0, FOUR),
-    (16, 0, FOUR),
-    (29, 0, FOUR),
+// The cut of the ninth append: after how many units, what the next mount spends, and the first
+// bytes of the records that it finds.
+const CUTS: [&str; 7] = [
+    "0 0 11 22 33 44 55 66 77 88",
+    "1 1 11 22 33 44 55 66 77 88",
+    "2 1 11 22 33 44 55 66 77 88",
+    "3 0 55 66 77 88",
+    "4 0 55 66 77 88",
+    "16 0 55 66 77 88",
+    "29 0 55 66 77 88",
 ];
 
-// One append that is taken.
-fn takes<B: Bench, L: Ledger, R: Abort>(
-    rt: &R,
-    log: &mut EventLog,
-    bench: &mut B,
-    body: &[u8],
-    expected: (u64, u32),
-    steps: &mut Steps<L>,
-) -> Result<(), Fail>
-    requires { IsOpen (B.device bench.old) log.old.ring }
-    ensures banks { (B.device bench.new).banks ≡ (B.device bench.old).banks }
-    ensures mounted { OnOk result (IsOpen (B.device bench.new) log.new.ring) }
+// Bodies of all lengths: those that are refused spend nothing.
+const BODIES: [&str; 4] = [
+    "01 256 68 0",
+    "01 0 0 refused",
+    "01 257 0 refused",
+    "02 1 3 0",
+];
+
+// ---- the calls
+
+fn mounted<B: Bench, L: Ledger, R: Abort>(rt: &R, bench: &mut B, steps: &mut Steps<L>) -> EventLog
+    requires { (B.device bench.old).banks ≡ SMALL ∷ LARGE ∷ [] }
+    ensures banks { (B.device bench.new).banks ≡ SMALL ∷ LARGE ∷ [] }
+    ensures mounted { IsOpen (B.device bench.new) result.ring }
 {
-    match put(log, bench, body, steps) {
-        Ok(did) => {
-            assert_eq!(rt; did, expected);
-            Ok(())
-        }
-        Err(_) => Err(Fail::new("refused")),
+    match EventLog::mount(bench, small(3), steps) {
+        Ok(log) => log,
+        Err(_) => panic!(rt; "no log"),
     }
 }
 
-// One append that is refused.
-fn refuses<B: Bench, L: Ledger>(
+// One append, which is taken or refused.
+fn put<B: Bench, L: Ledger, R: Abort>(
+    rt: &R,
     log: &mut EventLog,
     bench: &mut B,
-    body: &[u8],
+    row: &str,
     steps: &mut Steps<L>,
-) -> Result<(), Fail>
+)
     requires { IsOpen (B.device bench.old) log.old.ring }
-    ensures mounted { OnOk result (IsOpen (B.device bench.new) log.new.ring) }
+    ensures banks { (B.device bench.new).banks ≡ (B.device bench.old).banks }
+    ensures mounted { IsOpen (B.device bench.new) log.new.ring }
 {
-    match log.append(bench, body, steps) {
-        Err(LogFault::TooLong) => Ok(()),
-        Err(LogFault::PowerLost) => Err(Fail::new("lost")),
-        Ok(_) => Err(Fail::new("taken")),
+    let len = (number(rt, row, 1) as usize).min(257);
+    let start = bench.spent();
+    let ended = log.append(bench, &[byte(rt, row, 0); 257][..len], steps);
+    let spent = bench.spent().wrapping_sub(start);
+    match ended {
+        Ok(dropped) => counts(rt, row, 2, &[spent, u64::from(dropped)]),
+        Err(LogFault::TooLong) => assert!(rt; spent == 0 && word(row, 3) == "refused"),
+        Err(LogFault::PowerLost) => panic!(rt; "power was lost"),
     }
 }
 
@@ -184,88 +92,105 @@ fn puts<B: Bench, L: Ledger, R: Abort>(
     rt: &R,
     log: &mut EventLog,
     bench: &mut B,
-    rows: &[(u8, u64, u32)],
+    rows: &[&str],
     steps: &mut Steps<L>,
-) -> Result<(), Fail>
+)
     requires { IsOpen (B.device bench.old) log.old.ring }
     ensures banks { (B.device bench.new).banks ≡ (B.device bench.old).banks }
-    ensures mounted { OnOk result (IsOpen (B.device bench.new) log.new.ring) }
+    ensures mounted { IsOpen (B.device bench.new) log.new.ring }
 {
-    for (byte, units, dropped) in rows {
-        takes(rt, log, bench, &[*byte; 100], (*units, *dropped), steps)?;
+    for row in rows {
+        put(rt, log, bench, row, steps);
     }
-    Ok(())
 }
 
-fn drops_the_oldest<B: Bench, L: Ledger, R: Abort>(
+// A log on the blank bed after these appends.
+fn after<B: Bench, L: Ledger, R: Abort>(
     rt: &R,
     alloc: Global,
     bench: &mut B,
+    rows: &[&str],
     steps: &mut Steps<L>,
-) -> Result<(), Fail> {
-    let mut log = blank(alloc, bench, steps)?;
-    let is_up = log.is_up();
-    puts(rt, &mut log, bench, &NINE, steps)?;
-    assert_eq!(rt; (is_up, firsts(&log, bench, steps)), (true, FIVE));
-    Ok(())
+) -> EventLog
+    ensures banks { (B.device bench.new).banks ≡ SMALL ∷ LARGE ∷ [] }
+    ensures mounted { IsOpen (B.device bench.new) result.ring }
+{
+    load(rt, alloc, bench, &[], &[], &[]);
+    let mut log = mounted(rt, bench, steps);
+    assert!(rt; log.is_up());
+    puts(rt, &mut log, bench, rows, steps);
+    log
 }
 
-// The ninth append is cut after so many units: what the next mount spends, and the records
-// that it finds.
-fn cut_ninth<B: Bench, L: Ledger, R: Abort>(
+// An append that is cut after so many units.
+fn cut<B: Bench, L: Ledger, R: Abort>(
     rt: &R,
-    alloc: Global,
+    log: &mut EventLog,
     bench: &mut B,
-    units: u64,
+    plan: u64,
+    body: &[u8],
     steps: &mut Steps<L>,
-) -> Result<(u64, (usize, [u8; 8])), Fail> {
-    let mut log = blank(alloc, bench, steps)?;
-    puts(rt, &mut log, bench, &NINE[..8], steps)?;
-    bench.arm(units);
-    let lost = put(&mut log, bench, &[0x99; 100], steps);
-    assert_eq!(rt; (lost, log.is_up()), (Err(LogFault::PowerLost), false));
-    bench.restore();
-    let start = bench.spent();
-    let log = mounted(bench, steps)?;
-    Ok((
-        bench.spent().wrapping_sub(start),
-        firsts(&log, bench, steps),
-    ))
+)
+    requires { IsOpen (B.device bench.old) log.old.ring }
+    ensures { (B.device bench.new).banks ≡ (B.device bench.old).banks }
+{
+    bench.arm(plan);
+    let lost = log.append(bench, body, steps);
+    assert!(rt; lost == Err(LogFault::PowerLost) && !log.is_up());
 }
+
+// Checks the first byte of each of at most eight records.
+fn holds<F: Flash, L: Ledger, R: Abort>(
+    rt: &R,
+    log: &EventLog,
+    flash: &F,
+    row: &str,
+    steps: &mut Steps<L>,
+)
+    requires { IsOpen (F.device flash.now) log.now.ring }
+{
+    let mut after: Option<RecordAt> = None;
+    for n in 2..10 {
+        let Some(record) = log.next(flash, after, steps) else {
+            return says(rt, row, n, "");
+        };
+        let body = log.body(flash, &record, steps);
+        assert!(rt; body.starts_with(&[byte(rt, row, n)]), "'{row}'");
+        after = Some(record);
+    }
+}
+
+// ---- the tests
 
 fn keeps_what_was_acknowledged<B: Bench, L: Ledger, R: Abort>(
     rt: &R,
     alloc: Global,
     bench: &mut B,
+    row: &str,
     steps: &mut Steps<L>,
-) -> Result<(), Fail> {
-    for (units, erases, records) in CUTS.iter() {
-        let found = cut_ninth(rt, alloc, bench, *units, steps)?;
-        assert_eq!(rt; found, (*erases, *records));
-    }
-    Ok(())
-}
-
-fn refuses_bodies<B: Bench, L: Ledger, R: Abort>(
-    rt: &R,
-    alloc: Global,
-    bench: &mut B,
-    steps: &mut Steps<L>,
-) -> Result<(), Fail> {
-    let mut log = blank(alloc, bench, steps)?;
-    takes(rt, &mut log, bench, &[1; 256], (68, 0), steps)?;
+) {
+    let mut log = after(rt, alloc, bench, &NINE[..8], steps);
+    cut(
+        rt,
+        &mut log,
+        bench,
+        u64::from(number(rt, row, 0)),
+        &[0x99; 100],
+        steps,
+    );
+    bench.restore();
     let start = bench.spent();
-    refuses(&mut log, bench, &[], steps)?;
-    refuses(&mut log, bench, &[1; 257], steps)?;
-    assert_eq!(rt; bench.spent().wrapping_sub(start), 0);
-    takes(rt, &mut log, bench, &[2], (3, 0), steps)
+    let log = mounted(rt, bench, steps);
+    let spent = bench.spent().wrapping_sub(start);
+    assert!(rt; spent == u64::from(number(rt, row, 1)), "'{row}'");
+    holds(rt, &log, bench, row, steps);
 }
 
 fn is_by_chance<B: Bench, L: Ledger>(bench: &B, steps: &mut Steps<L>) -> bool
-    requires { (B.device bench.now).banks ≡ SMALL ∷ [] }
+    requires { (B.device bench.now).banks ≡ SMALL ∷ LARGE ∷ [] }
 {
     match bench.last_loss() {
-        Some(loss) => chance(bench, &area(), loss, steps),
+        Some(loss) => chance(bench, &small(3), loss, steps),
         None => false,
     }
 }
@@ -278,46 +203,43 @@ fn torn_by_chance<B: Bench, L: Ledger, R: Abort>(
     alloc: Global,
     bench: &mut B,
     steps: &mut Steps<L>,
-) -> Result<(), Fail> {
-    let mut log = blank(alloc, bench, steps)?;
-    bench.arm(4);
-    let lost = put(&mut log, bench, &[0x61, 0x3D, 0, 0xA4, 1, 2, 3, 4], steps);
-    let by_chance = is_by_chance(bench, steps);
-    bench.restore();
-    let log = mounted(bench, steps)?;
-    let Some(record) = log.next(bench, None, steps) else {
-        return Err(Fail::new("no record"));
-    };
-    let torn = log.body(bench, &record, steps) == TORN.as_slice();
-    assert_eq!(rt;
-        (lost, by_chance, torn),
-        (Err(LogFault::PowerLost), true, true)
+) {
+    let mut log = after(rt, alloc, bench, &[], steps);
+    cut(
+        rt,
+        &mut log,
+        bench,
+        4,
+        &[0x61, 0x3D, 0, 0xA4, 1, 2, 3, 4],
+        steps,
     );
-    Ok(())
+    assert!(rt; is_by_chance(bench, steps));
+    bench.restore();
+    let log = mounted(rt, bench, steps);
+    match log.next(bench, None, steps) {
+        Some(record) => assert!(rt; log.body(bench, &record, steps) == TORN.as_slice()),
+        None => panic!(rt; "no record"),
+    }
 }
 
-// ---- the test
-
-fn logs<B: Bench, L: Ledger, R: Abort>(
-    rt: &R,
-    alloc: Global,
-    bench: &mut B,
-    blank: Blank,
-) -> Result<(), Fail>
+fn logs<B: Bench, L: Ledger, R: Abort>(rt: &R, alloc: Global, bench: &mut B, blank: Blank)
     requires name { blank.name ≡ L.name }
     requires parts { blank.parts ≡ L.parts }
     requires some { 0 < L.parts }
 {
     let mut steps = Steps::<L>::new(blank);
-    drops_the_oldest(rt, alloc, bench, &mut steps)?;
-    keeps_what_was_acknowledged(rt, alloc, bench, &mut steps)?;
-    refuses_bodies(rt, alloc, bench, &mut steps)?;
-    torn_by_chance(rt, alloc, bench, &mut steps)
+    let log = after(rt, alloc, bench, &NINE, &mut steps);
+    holds(rt, &log, bench, LEFT, &mut steps);
+    after(rt, alloc, bench, &BODIES, &mut steps);
+    for row in CUTS.iter() {
+        keeps_what_was_acknowledged(rt, alloc, bench, row, &mut steps);
+    }
+    torn_by_chance(rt, alloc, bench, &mut steps);
 }
 
 #[test]
-fn logs_on_one_bed(rt: HostRuntime) -> Result<(), Fail> {
+fn logs_on_one_bed(rt: HostRuntime) {
     let alloc = rt.alloc();
     let mut sim = FlatSim::new(alloc);
-    logs::<FlatSim, Brand, HostRuntime>(&rt, alloc, &mut sim, Blank::new(1))
+    logs::<FlatSim, Brand, HostRuntime>(&rt, alloc, &mut sim, Blank::new(1));
 }

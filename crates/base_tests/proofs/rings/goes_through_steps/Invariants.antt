@@ -3,8 +3,8 @@ use Rattle.fcb_ring.specs.Standing.{StandsOn}
 use Rattle.fcb_ring.specs.declared.ring.Stage.TheVariants.{Ready}
 use Rattle.base_tests.proofs.rings.goes_through_steps.Given as goal
 
-abbrev pub invariant-loop-step : goal.invariant-loop-step
-invariant-loop-step g l = record {
+abbrev pub invariant-loop-row : goal.invariant-loop-row
+invariant-loop-row g l = record {
   stands : StandsOn (g.B.Flash.device l.bench) l.ring;
   ready : l.ring.stage ≡ Ready;
 }

@@ -1,282 +1,302 @@
 // Commands on image files in memory: what they print, what they leave, and how they end.
 use super::*;
-use crate::loss_rows::{LOSSES, Loss, Losses};
-use crate::refused_rows::{REFUSED, Refused};
+use crate::loss_rows::{LOSSES, Losses};
+use crate::refused_rows::REFUSED;
 use crate::session_rows::SESSIONS;
 use crate::settings_rows::{GENERATED, MANY_MOUNTS, MANY_NAMES, SETTINGS};
 use crate::texts::{
-    ALL, FOUR, LOG, LONG, LONG_REPORTED, LONG_RUNS, MIRROR, NVS, RUN, RUN_ITEMS, RUN_LOG,
-    RUN_MIRROR, Row, long_script, spelled,
+    ALL, Case, FOUR, LOG, LONG, LONG_REPORTED, LONG_RUNS, MEMORY, MIRROR, NVS, RUN, RUN_ITEMS,
+    RUN_LOG, RUN_MIRROR, Row, long_script, many_sets, spelled, text_of, with_word,
 };
 use flash_sim::FlatSim;
 use image_jobs::USAGE;
 use std::process::Abort;
-use std::test::Fail;
-use text_parts::read_number;
 use zs_host::MemHost;
 
-// Carries out one command.
-fn ends<B: Bench>(
+// ---- commands
+
+// Carries out one command, and returns its exit code.
+fn code_of<R: Abort, B: Bench>(
+    rt: &R,
     alloc: Global,
     host: &mut MemHost,
     bench: &mut B,
     command: &str,
-) -> Result<u8, Fail> {
+) -> u8 {
     let mut words = Vec::new(alloc);
     for word in command.split(' ') {
-        words.push(String::from_str(alloc, word)?)?;
+        let word = String::from_str(alloc, word).expect(rt, MEMORY);
+        words.push(word).expect(rt, MEMORY);
     }
-    Ok(with_handlers(alloc, words.as_slice(), host, bench)?)
+    with_handlers(alloc, words.as_slice(), host, bench).expect(rt, MEMORY)
 }
 
-// A host with the blank image of the word in the file `x.img`, and the script in `s.txt`.
-fn host_with(alloc: Global, spec: &str, script: &str) -> Result<MemHost, Fail> {
+// Puts the bytes of a text AT=HEX into the file.
+fn put<R: Abort>(rt: &R, file: &mut [u8], place: &str) {
+    let (at, digits) = place.split_once('=').expect(rt, place);
+    let at = at.parse::<usize>().expect(rt, place);
+    let bytes = file
+        .get_mut(at..at.saturating_add(digits.len() / 2))
+        .expect(rt, place);
+    hex::decode_to_slice(digits, bytes).expect(rt, place);
+}
+
+// The file with the bytes of the places in it.
+fn patched<R: Abort>(rt: &R, alloc: Global, file: &[u8], places: &str) -> Vec<u8> {
+    let places = spelled(rt, alloc, places);
+    let mut file = Vec::from_slice(alloc, file).expect(rt, MEMORY);
+    for place in places.split_whitespace() {
+        put(rt, file.as_mut_slice(), place);
+    }
+    file
+}
+
+// ---- cases
+
+// Puts the image and the script of a case into the host.
+fn prepare<R: Abort>(rt: &R, alloc: Global, host: &mut MemHost, case: &Case<'_>) {
+    let script = spelled(rt, alloc, case.script);
+    host.put_file("s.txt", script.as_bytes()).expect(rt, MEMORY);
+    code_of(rt, alloc, host, &mut FlatSim::new(alloc), case.image);
+    let mut file = patched(rt, alloc, host.file("x.img").unwrap_or(&[]), case.put);
+    file.truncate(case.size);
+    host.put_file("x.img", file.as_slice()).expect(rt, MEMORY);
+}
+
+// Whether each of the commands ends with the status of the case.
+fn all_end<R: Abort, B: Bench>(
+    rt: &R,
+    alloc: Global,
+    host: &mut MemHost,
+    bench: &mut B,
+    case: &Case<'_>,
+) -> bool {
+    let mut all = true;
+    for command in case.commands.split(';') {
+        all &= code_of(rt, alloc, host, bench, command) == case.status;
+    }
+    all
+}
+
+// Whether the host shows what the case says. A status of 5 is that of the one call that failed.
+fn shows<R: Abort>(rt: &R, alloc: Global, host: &MemHost, case: &Case<'_>) -> bool {
+    let printed = spelled(rt, alloc, case.printed);
+    let writes = case.status == 0 && case.commands != "dump x.img";
+    host.printed() == printed.as_bytes()
+        && host.file("y.img").is_some() == writes
+        && host.faults() == u64::from(case.status == 5)
+}
+
+// Carries out a case, which must end as it says. The host is to fail at its `fails`-th call, if not
+// 0. Returns the file that is left, and whether it is still the image.
+fn left_by<R: Abort, B: Bench>(
+    rt: &R,
+    alloc: Global,
+    bench: &mut B,
+    case: &Case<'_>,
+    fails: u64,
+) -> (Vec<u8>, bool) {
     let mut host = MemHost::new(alloc);
-    host.put_file("s.txt", script.as_bytes())?;
-    let build = format!(in alloc; "build x.img {spec}")?;
-    ends(alloc, &mut host, &mut FlatSim::new(alloc), build.as_str())?;
-    Ok(host)
+    prepare(rt, alloc, &mut host, case);
+    host.fail_call(fails).expect(rt, MEMORY);
+    let all_end = all_end(rt, alloc, &mut host, bench, case);
+    assert!(rt; all_end && shows(rt, alloc, &host, case), "{}", case.shows);
+    let left = host.file("y.img").unwrap_or(&[]);
+    let same = host.file("x.img") == Some(left);
+    (Vec::from_slice(alloc, left).expect(rt, MEMORY), same)
 }
 
 // ---- rows
 
-// The host after the commands of a row.
-fn job_done<B: Bench>(alloc: Global, bench: &mut B, row: &Row) -> Result<MemHost, Fail> {
-    let script = spelled(alloc, row.script)?;
-    let mut host = host_with(alloc, row.spec, script.as_str())?;
-    for command in row.commands.split(',') {
-        if ends(alloc, &mut host, bench, command)? != 0 {
-            return Err(Fail::new(row.shows));
-        }
+fn case_of(row: &Row) -> Case<'static> {
+    Case {
+        shows: row.shows,
+        image: row.image,
+        script: row.script,
+        put: "",
+        size: usize::MAX,
+        commands: row.commands,
+        status: 0,
+        printed: row.printed,
     }
-    Ok(host)
 }
 
-// The file has each of these bytes at its place.
-fn has(file: &[u8], left: &[(usize, &[u8])]) -> bool {
-    left.iter().all(|(at, bytes)| match file.get(*at..) {
-        Some(rest) => rest.starts_with(bytes),
-        None => false,
-    })
+// A row holds on a bench that keeps all sectors, and on one that keeps only those that are not
+// erased, with the same file.
+fn agree<R: Abort>(rt: &R, alloc: Global, row: &Row) {
+    let case = case_of(row);
+    let (flat, same) = left_by(rt, alloc, &mut FlatSim::new(alloc), &case, 0);
+    let (sparse, _) = left_by(rt, alloc, &mut SparseSim::new(alloc), &case, 0);
+    let left = patched(rt, alloc, flat.as_slice(), row.left);
+    assert!(rt;
+        same == row.same && flat == sparse && flat == left,
+        "{}",
+        row.shows
+    );
 }
 
-// The commands of each row print its text and leave its bytes, on a bench that keeps all sectors
-// and on one that keeps only those that are not erased.
-fn agree<R: Abort>(rt: &R, alloc: Global, rows: &[Row]) -> Result<(), Fail> {
-    for row in rows {
-        let flat = job_done(alloc, &mut FlatSim::new(alloc), row)?;
-        let sparse = job_done(alloc, &mut SparseSim::new(alloc), row)?;
-        let printed = spelled(alloc, row.printed)?;
-        let on_flat = flat.printed() == printed.as_bytes();
-        let on_sparse = sparse.printed() == printed.as_bytes();
-        let alike = flat.file("y.img") == sparse.file("y.img");
-        let same = flat.file("y.img") == flat.file("x.img");
-        let left = has(flat.file("y.img").unwrap_or(&[]), row.left);
-        assert_eq!(rt;
-            (on_flat, on_sparse, alike, same, left),
-            (true, true, true, row.same, true),
-            "{}",
-            row.shows
-        );
+#[test]
+fn rows(rt: HostRuntime) {
+    for row in SETTINGS.iter() {
+        agree(&rt, rt.alloc(), row);
     }
-    Ok(())
 }
 
 #[test]
-fn rows(rt: HostRuntime) -> Result<(), Fail> {
-    agree(&rt, rt.alloc(), &SETTINGS)
-}
-
-#[test]
-fn rows_of_sessions(rt: HostRuntime) -> Result<(), Fail> {
-    agree(&rt, rt.alloc(), &SESSIONS)
-}
-
-// As many names as a store takes, and one more. Each new name is compared with all others, so one
-// bench must do.
-#[test]
-fn many_names(rt: HostRuntime) -> Result<(), Fail> {
-    let alloc = rt.alloc();
-    for row in &MANY_NAMES {
-        let host = job_done(alloc, &mut FlatSim::new(alloc), row)?;
-        let printed = spelled(alloc, row.printed)?;
-        let report_text = host.printed() == printed.as_bytes();
-        let same = host.file("y.img") == host.file("x.img");
-        assert_eq!(rt; (report_text, same), (true, row.same), "{}", row.shows);
+fn rows_of_sessions(rt: HostRuntime) {
+    for row in SESSIONS.iter() {
+        agree(&rt, rt.alloc(), row);
     }
-    Ok(())
 }
 
 #[test]
-fn many_mounts(rt: HostRuntime) -> Result<(), Fail> {
-    agree(&rt, rt.alloc(), &MANY_MOUNTS)
+fn long_rows(rt: HostRuntime) {
+    for row in MANY_MOUNTS.iter() {
+        agree(&rt, rt.alloc(), row);
+    }
+    for row in GENERATED.iter() {
+        agree(&rt, rt.alloc(), row);
+    }
 }
 
+// A row holds with sets of 512 names for what stands for them. Each new name is compared with all
+// others, so one bench must do.
+fn names<R: Abort>(rt: &R, alloc: Global, row: &Row, sets: &str) {
+    let script = with_word(rt, alloc, row.script, "(sets)", sets);
+    let case = Case {
+        script: script.as_str(),
+        ..case_of(row)
+    };
+    let (_, same) = left_by(rt, alloc, &mut FlatSim::new(alloc), &case, 0);
+    assert!(rt; same == row.same, "{}", row.shows);
+}
+
+// As many names as a store takes, and one more.
 #[test]
-fn generated_scripts(rt: HostRuntime) -> Result<(), Fail> {
-    agree(&rt, rt.alloc(), &GENERATED)
+fn many_names(rt: HostRuntime) {
+    let sets = many_sets(&rt, rt.alloc());
+    for row in MANY_NAMES.iter() {
+        names(&rt, rt.alloc(), row, sets.as_str());
+    }
 }
 
 // ---- losses
 
-// The blank image of a row, its script, and what is printed for this loss.
-#[derive(Drop)]
-struct Case {
-    image: Vec<u8>,
-    script: String,
-    printed: String,
-}
-
-fn case_of(alloc: Global, row: &Losses, loss: &Loss) -> Result<Case, Fail> {
-    let blank = host_with(alloc, row.spec, "")?;
-    let image = Vec::from_slice(alloc, blank.file("x.img").unwrap_or(&[]))?;
-    let script = spelled(alloc, row.script)?;
-    let printed = row.printed.replace(alloc, "MOUNT", loss.2)?;
-    let printed = printed.replace(alloc, "VALUE", loss.3)?;
-    let printed = spelled(alloc, printed.as_str())?;
-    Ok(Case {
-        image,
-        script,
-        printed,
-    })
-}
-
-// Power is lost after so many units of the line that the row cuts.
-fn loses<R: Abort>(
-    rt: &R,
-    alloc: Global,
-    row: &Losses,
-    case: &Case,
-    units: u64,
-) -> Result<(), Fail> {
-    let cut = format!(in alloc; "{}", row.before.saturating_add(units))?;
-    let lost = format!(in alloc; "{units}")?;
-    let script = case.script.replace(alloc, "CUT", cut.as_str())?;
-    let printed = case.printed.replace(alloc, "LOST", lost.as_str())?;
-    let mut host = MemHost::new(alloc);
-    host.put_file("s.txt", script.as_bytes())?;
-    host.put_file("x.img", case.image.as_slice())?;
-    let status = ends(alloc, &mut host, &mut FlatSim::new(alloc), row.command)?;
-    let report_text = host.printed() == printed.as_bytes();
-    assert_eq!(rt;
-        (status, report_text),
-        (0, true),
-        "{}, {units} units",
-        row.shows
-    );
-    Ok(())
+// A row holds where power is lost after so many units of the line that it cuts.
+fn loses<R: Abort>(rt: &R, alloc: Global, row: &Losses, mount: &str, value: &str, units: u64) {
+    let cut = text_of(rt, alloc, row.before.saturating_add(units));
+    let lost = text_of(rt, alloc, units);
+    let script = with_word(rt, alloc, row.script, "CUT", cut.as_str());
+    let printed = with_word(rt, alloc, row.printed, "LOST", lost.as_str());
+    let printed = with_word(rt, alloc, printed.as_str(), "MOUNT", mount);
+    let printed = with_word(rt, alloc, printed.as_str(), "VALUE", value);
+    let case = Case {
+        shows: row.shows,
+        image: row.image,
+        script: script.as_str(),
+        put: "",
+        size: usize::MAX,
+        commands: row.commands,
+        status: 0,
+        printed: printed.as_str(),
+    };
+    left_by(rt, alloc, &mut FlatSim::new(alloc), &case, 0);
 }
 
 #[test]
-fn losses(rt: HostRuntime) -> Result<(), Fail> {
-    let alloc = rt.alloc();
-    for row in &LOSSES {
-        for loss in row.losses {
-            let case = case_of(alloc, row, loss)?;
-            for units in loss.0..loss.1.saturating_add(1) {
-                loses(&rt, alloc, row, &case, units)?;
+fn losses(rt: HostRuntime) {
+    for row in LOSSES.iter() {
+        for (first, last, mount, value) in row.losses.iter() {
+            for units in *first..last.saturating_add(1) {
+                loses(&rt, rt.alloc(), row, mount, value, units);
             }
         }
     }
-    Ok(())
 }
 
-// The sum of the units that answers say, and all other lines.
-fn summed(alloc: Global, printed: &[u8]) -> Result<(u64, Vec<u8>), Fail> {
-    let mut units = 0u64;
-    let mut others = Vec::new(alloc);
-    for line in printed.split(|byte| *byte == b'\n') {
-        if line.is_empty() {
-            continue;
-        }
-        match line.strip_prefix(b"ok ") {
-            Some(count) => {
-                let count = read_number(alloc, count, 1_000_000)?.unwrap_or(0);
-                units = units.saturating_add(count);
-            }
-            None => {
-                others.extend_from_slice(line)?;
-                others.push(b'\n')?;
-            }
+// ---- long runs
+
+// Whether the answers say so many units in all, and the other lines are those of the long script.
+fn spend(printed: &str, units: u64) -> bool {
+    let mut spent = 0u64;
+    let mut others = LONG_REPORTED.lines();
+    let mut same = true;
+    for line in printed.lines() {
+        match line.strip_prefix("ok ") {
+            Some(count) => spent = spent.saturating_add(count.parse().unwrap_or(0)),
+            None => same &= others.next() == Some(line),
         }
     }
-    Ok((units, others))
+    same && others.next().is_none() && spent == units
+}
+
+// Whether a run of the long script on the image, and a dump of what it leaves, print what they are
+// to.
+fn runs_long<R: Abort>(rt: &R, alloc: Global, image: &str, script: &str, units: u64) -> bool {
+    let mut host = MemHost::new(alloc);
+    host.put_file("s.txt", script.as_bytes()).expect(rt, MEMORY);
+    let mut all = 0;
+    for command in [image, RUN, "dump y.img"] {
+        all |= code_of(rt, alloc, &mut host, &mut SparseSim::new(alloc), command);
+    }
+    all == 0 && spend(str::from_utf8(host.printed()).expect(rt, image), units)
 }
 
 // 500 sets on each store, with five losses: what was acknowledged is there at the end.
 #[test]
-fn long_runs(rt: HostRuntime) -> Result<(), Fail> {
-    let alloc = rt.alloc();
-    let script = long_script(alloc)?;
-    for (spec, units) in &LONG_RUNS {
-        let mut host = host_with(alloc, spec, script.as_str())?;
-        let run = ends(alloc, &mut host, &mut SparseSim::new(alloc), RUN)?;
-        let dump = ends(alloc, &mut host, &mut SparseSim::new(alloc), "dump y.img")?;
-        let (spent, others) = summed(alloc, host.printed())?;
-        let report_text = others.as_slice() == LONG_REPORTED.as_bytes();
-        assert_eq!(rt;
-            (run, dump, spent, report_text),
-            (0, 0, *units, true),
-            "{spec}"
+fn long_runs(rt: HostRuntime) {
+    let script = long_script(&rt, rt.alloc());
+    for (image, units) in LONG_RUNS.iter() {
+        assert!(rt;
+            runs_long(&rt, rt.alloc(), image, script.as_str(), *units),
+            "{}",
+            *image
         );
     }
-    Ok(())
 }
 
 // ---- refusals
 
-// Puts the bytes into the file `x.img`, and lets it end there.
-fn change(alloc: Global, host: &mut MemHost, case: &Refused) -> Result<(), Fail> {
-    let mut file = Vec::from_slice(alloc, host.file("x.img").unwrap_or(&[]))?;
-    for (at, bytes) in case.put {
-        for (place, byte) in file.iter_mut().skip(*at).zip(bytes.iter()) {
-            *place = *byte;
-        }
+#[test]
+fn refusals(rt: HostRuntime) {
+    for case in REFUSED.iter() {
+        left_by(&rt, rt.alloc(), &mut FlatSim::new(rt.alloc()), case, 0);
     }
-    file.truncate(case.size);
-    host.put_file("x.img", file.as_slice())?;
-    Ok(())
 }
 
-#[test]
-fn refusals(rt: HostRuntime) -> Result<(), Fail> {
-    let alloc = rt.alloc();
-    for case in &REFUSED {
-        let script = spelled(alloc, case.script)?;
-        let mut host = host_with(alloc, case.spec, script.as_str())?;
-        change(alloc, &mut host, case)?;
-        let status = ends(alloc, &mut host, &mut FlatSim::new(alloc), case.command)?;
-        let report_text = host.printed() == case.printed.as_bytes();
-        let written = host.file("y.img").is_some();
-        assert_eq!(rt;
-            (status, report_text, written, host.faults()),
-            (case.status, true, case.status == 0, 0),
-            "{}",
-            case.shows
-        );
-    }
-    Ok(())
+// The blank image that the command builds.
+fn blank<R: Abort>(rt: &R, alloc: Global, build: &str) -> Vec<u8> {
+    let mut host = MemHost::new(alloc);
+    code_of(rt, alloc, &mut host, &mut FlatSim::new(alloc), build);
+    Vec::from_slice(alloc, host.file("x.img").unwrap_or(&[])).expect(rt, MEMORY)
+}
+
+// Whether an image whose file ends too soon is refused.
+fn is_short<R: Abort>(rt: &R, alloc: Global, image: &[u8]) -> bool {
+    let mut host = MemHost::new(alloc);
+    host.put_file("x.img", image).expect(rt, MEMORY);
+    let code = code_of(rt, alloc, &mut host, &mut FlatSim::new(alloc), "dump x.img");
+    let at = text_of(rt, alloc, image.len() as u64);
+    let printed = with_word(
+        rt,
+        alloc,
+        "bad image: at SIZE: Short\n",
+        "SIZE",
+        at.as_str(),
+    );
+    code == 4 && host.printed() == printed.as_bytes()
 }
 
 // A file of each length below that of its image.
 #[test]
-fn short_files(rt: HostRuntime) -> Result<(), Fail> {
-    let alloc = rt.alloc();
-    let longer = host_with(alloc, LONG, "")?;
-    let host = host_with(alloc, FOUR, "")?;
-    let mut image = Vec::from_slice(alloc, host.file("x.img").unwrap_or(&[]))?;
-    let sizes = (image.len(), longer.file("x.img").unwrap_or(&[]).len());
-    assert_eq!(rt; sizes, (2084, 8228));
-    for len in (0..2084).rev() {
-        image.truncate(len);
-        let mut host = MemHost::new(alloc);
-        host.put_file("x.img", image.as_slice())?;
-        let status = ends(alloc, &mut host, &mut FlatSim::new(alloc), "dump x.img")?;
-        let printed = format!(in alloc; "bad image: at {len}: Short\n")?;
-        let report_text = host.printed() == printed.as_bytes();
-        assert_eq!(rt; (status, report_text), (4, true), "{len} bytes");
+fn short_files(rt: HostRuntime) {
+    let image = blank(&rt, rt.alloc(), FOUR);
+    let longer = blank(&rt, rt.alloc(), LONG);
+    assert!(rt; image.len() == 2084 && longer.len() == 8228);
+    for size in 0..2084 {
+        let short = image.as_slice().get(..size).unwrap_or(&[]);
+        assert!(rt; is_short(&rt, rt.alloc(), short), "{size} bytes");
     }
-    Ok(())
 }
 
 // ---- hosts that fail
@@ -363,35 +383,26 @@ static CALLS: [Calls; 10] = [
     ("run x.img", NVS, "", 1, 1, 2, USAGE),
 ];
 
-// If one call of the host fails, nothing is called after it; what was printed before stays.
-fn fails<R: Abort>(rt: &R, alloc: Global, row: &Calls, n: u64) -> Result<(), Fail> {
-    let (command, spec, script, calls, prints, status, text) = *row;
-    let mut host = host_with(alloc, spec, script)?;
-    host.fail_call(n)?;
-    let ended = ends(alloc, &mut host, &mut FlatSim::new(alloc), command)?;
-    let printed = if n > prints { text } else { "" };
-    let report_text = host.printed() == printed.as_bytes();
-    let failed = n <= calls;
-    let done = !failed && status == 0;
-    let written = host.file("y.img").is_some();
-    assert_eq!(rt;
-        (ended, report_text, host.faults()),
-        (if failed { 5 } else { status }, true, u64::from(failed)),
-        "{command}, call {n}"
-    );
-    assert!(rt;
-        written == (done && command != "dump x.img"),
-        "{command}, call {n}"
-    );
-    Ok(())
+// Nothing is called after a call of the host that fails; what was printed before stays.
+fn fails<R: Abort>(rt: &R, alloc: Global, row: &Calls, n: u64) {
+    let case = Case {
+        shows: row.0,
+        image: row.1,
+        script: row.2,
+        put: "",
+        size: usize::MAX,
+        commands: row.0,
+        status: if n <= row.3 { 5 } else { row.5 },
+        printed: if n > row.4 { row.6 } else { "" },
+    };
+    left_by(rt, alloc, &mut FlatSim::new(alloc), &case, n);
 }
 
 #[test]
-fn failing_hosts(rt: HostRuntime) -> Result<(), Fail> {
-    for row in &CALLS {
+fn failing_hosts(rt: HostRuntime) {
+    for row in CALLS.iter() {
         for n in 1..row.3.saturating_add(2) {
-            fails(&rt, rt.alloc(), row, n)?;
+            fails(&rt, rt.alloc(), row, n);
         }
     }
-    Ok(())
 }

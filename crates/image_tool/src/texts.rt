@@ -1,43 +1,48 @@
 // The words of blank images and of commands, and texts that stand for longer ones.
-use std::alloc::{AllocError, Global};
+use std::alloc::Global;
+use std::process::Abort;
+
+/// What a helper stops with.
+pub(crate) const MEMORY: &str = "out of memory";
 
 // Two sectors of 512 bytes. The file of such an image has a header of 36 bytes.
-pub(crate) const NVS: &str = "bank=erasing/4/512/2,area=nvs/main/0/0/2";
+pub(crate) const NVS: &str = "build x.img bank=erasing/4/512/2,area=nvs/main/0/0/2";
 
-pub(crate) const ZMS: &str = "bank=rewritable/16/512/2,area=zms/main/0/0/2";
+pub(crate) const ZMS: &str = "build x.img bank=rewritable/16/512/2,area=zms/main/0/0/2";
 
 // ZMS on an erasing bank.
-pub(crate) const ERASED: &str = "bank=erasing/16/512/2,area=zms/main/0/0/2";
+pub(crate) const ERASED: &str = "build x.img bank=erasing/16/512/2,area=zms/main/0/0/2";
 
-pub(crate) const FCB: &str = "bank=erasing/4/512/2,area=fcb/main/0/0/2";
+pub(crate) const FCB: &str = "build x.img bank=erasing/4/512/2,area=fcb/main/0/0/2";
 
 // An application log of three sectors.
-pub(crate) const LOG: &str = "bank=erasing/4/512/3,area=fcb/main/0/0/3";
+pub(crate) const LOG: &str = "build x.img bank=erasing/4/512/3,area=fcb/main/0/0/3";
 
-pub(crate) const FOUR: &str = "bank=erasing/4/512/4,area=nvs/main/0/0/4";
+pub(crate) const FOUR: &str = "build x.img bank=erasing/4/512/4,area=nvs/main/0/0/4";
 
 // An area of each store, and their selector.
 pub(crate) const ALL: &str =
-    "bank=erasing/4/512/6,bank=rewritable/16/512/2,area=nvs/n/0/0/2,area=fcb/f/0/2/2,area=zms/z/1/0/2,\
+    "build x.img bank=erasing/4/512/6,bank=rewritable/16/512/2,area=nvs/n/0/0/2,area=fcb/f/0/2/2,area=zms/z/1/0/2,\
     area=sel/s/0/4/2";
 
 // Two areas that hold one map between them, and their selector.
 pub(crate) const MIRROR: &str =
-    "bank=erasing/4/512/6,area=nvs/p/0/0/2,area=nvs/q/0/2/2,area=sel/s/0/4/2";
+    "build x.img bank=erasing/4/512/6,area=nvs/p/0/0/2,area=nvs/q/0/2/2,area=sel/s/0/4/2";
 
 // The second version, whose sectors have at least 4,096 bytes.
-pub(crate) const LONG: &str = "version=2,bank=erasing/4/4096/2,area=nvs/main/0/0/2";
+pub(crate) const LONG: &str = "build x.img version=2,bank=erasing/4/4096/2,area=nvs/main/0/0/2";
 
-pub(crate) const LONG_RING: &str = "version=2,bank=erasing/4/4096/2,area=fcb/main/0/0/2";
+pub(crate) const LONG_RING: &str =
+    "build x.img version=2,bank=erasing/4/4096/2,area=fcb/main/0/0/2";
 
 // Room for as many names as NVS has.
-pub(crate) const MANY: &str = "bank=erasing/4/4096/8,area=nvs/main/0/0/8";
+pub(crate) const MANY: &str = "build x.img bank=erasing/4/4096/8,area=nvs/main/0/0/8";
 
 // Room for as many names as ZMS has of one hash group.
-pub(crate) const GROUP: &str = "bank=rewritable/16/4096/2,area=zms/main/0/0/2";
+pub(crate) const GROUP: &str = "build x.img bank=rewritable/16/4096/2,area=zms/main/0/0/2";
 
 pub(crate) const ZMS_MIRROR: &str =
-    "bank=erasing/16/512/6,area=zms/p/0/0/2,area=zms/q/0/2/2,area=sel/s/0/4/2";
+    "build x.img bank=erasing/16/512/6,area=zms/p/0/0/2,area=zms/q/0/2/2,area=sel/s/0/4/2";
 
 pub(crate) const RUN: &str = "run x.img s.txt y.img";
 
@@ -47,16 +52,30 @@ pub(crate) const RUN_ITEMS: &str = "items x.img s.txt y.img";
 
 pub(crate) const RUN_MIRROR: &str = "mirror x.img s.txt y.img";
 
-/// What a row shows, the word of a blank image, a script on it, commands, all that they print,
-/// whether the image that they leave is the blank one, and bytes of its file.
+/// A blank image, a script, commands that are all done with them, all that they print, whether the
+/// image that they leave is the blank one, and bytes of its file, as `put` of a case has them.
 pub(crate) struct Row {
     pub(crate) shows: &'static str,
-    pub(crate) spec: &'static str,
+    pub(crate) image: &'static str,
     pub(crate) script: &'static str,
     pub(crate) commands: &'static str,
     pub(crate) printed: &'static str,
     pub(crate) same: bool,
-    pub(crate) left: &'static [(usize, &'static [u8])],
+    pub(crate) left: &'static str,
+}
+
+/// A blank image and a script; bytes that are put into the image, as hex digits behind an offset
+/// and `=`; how many bytes of its file stay; commands, the status of each, and what they print.
+#[derive(Drop)]
+pub(crate) struct Case<'a> {
+    pub(crate) shows: &'static str,
+    pub(crate) image: &'a str,
+    pub(crate) script: &'a str,
+    pub(crate) put: &'a str,
+    pub(crate) size: usize,
+    pub(crate) commands: &'a str,
+    pub(crate) status: u8,
+    pub(crate) printed: &'a str,
 }
 
 // The settings that a generated script of 500 lines leaves on each store.
@@ -81,7 +100,7 @@ const GENERATED: &str =
     pp/k8\":\"dbdcdddedfe0e1e2\",\"app/k9\":\"d7d8d9dadbdcdddedfe0e1e2e3e4\"}}";
 
 // A text, and what it stands for so many times.
-static REPEATED: [(&str, &str, usize); 7] = [
+static REPEATED: [(&str, &str, usize); 25] = [
     ("(cut 2, mount)*255\n", "cut 2\nmount\n", 255),
     ("(ok 0, lost 2)*255\n", "ok 0\nlost 2\n", 255),
     ("(ok 9)*112\n", "ok 9\n", 112),
@@ -89,58 +108,74 @@ static REPEATED: [(&str, &str, usize); 7] = [
     ("(ok 9)*60\n", "ok 9\n", 60),
     ("(ok 2)*15\n", "ok 2\n", 15),
     ("(generated)", GENERATED, 1),
+    ("00*512 ", "00", 512),
+    ("11*100 ", "11", 100),
+    ("11*253 ", "11", 253),
+    ("11*256 ", "11", 256),
+    ("11*257 ", "11", 257),
+    ("11*2048 ", "11", 2048),
+    ("11*2049 ", "11", 2049),
+    ("22*100 ", "22", 100),
+    ("22*160 ", "22", 160),
+    ("22*180 ", "22", 180),
+    ("22*256 ", "22", 256),
+    ("33*100 ", "33", 100),
+    ("44*100 ", "44", 100),
+    ("55*100 ", "55", 100),
+    ("66*100 ", "66", 100),
+    ("77*100 ", "77", 100),
+    ("88*100 ", "88", 100),
+    ("99*100 ", "99", 100),
 ];
 
-// Sets of so many names.
-fn many_sets(alloc: Global, count: u32) -> Result<String, AllocError> {
-    let mut all = String::new(alloc);
-    for k in 0..count {
-        let line = format!(in alloc; "set n{k} 01\n")?;
-        all.push_str(line.as_str())?;
-    }
-    Ok(all)
+/// The text, with what the word stands for in its place.
+pub(crate) fn with_word<R: Abort>(
+    rt: &R,
+    alloc: Global,
+    text: &str,
+    word: &str,
+    meaning: &str,
+) -> String {
+    text.replace(alloc, word, meaning).expect(rt, MEMORY)
 }
 
-// The text with each `BYTE*COUNT ` written out.
-fn with_values(alloc: Global, text: &str) -> Result<String, AllocError> {
-    let mut all = String::from_str(alloc, text)?;
-    for byte in ["11", "22", "33", "44", "55", "66", "77", "88", "99"] {
-        for count in [100, 160, 180, 253, 256, 257, 2048, 2049] {
-            let short = format!(in alloc; "{byte}*{count} ")?;
-            if all.contains(short.as_str()) {
-                let digits = byte.repeat(alloc, count)?;
-                all = all.replace(alloc, short.as_str(), digits.as_str())?;
-            }
+/// The text, with each of these words replaced by what it stands for so many times.
+pub(crate) fn with_each<R: Abort>(
+    rt: &R,
+    alloc: Global,
+    text: &str,
+    words: &[(&str, &str, usize)],
+) -> String {
+    let mut all = String::from_str(alloc, text).expect(rt, MEMORY);
+    for (word, unit, count) in words {
+        if all.contains(*word) {
+            let long = unit.repeat(alloc, *count).expect(rt, MEMORY);
+            all = with_word(rt, alloc, all.as_str(), word, long.as_str());
         }
     }
-    Ok(all)
-}
-
-// The text with each of the texts that are repeated written out.
-fn with_repeated(alloc: Global, text: &str) -> Result<String, AllocError> {
-    let mut all = String::from_str(alloc, text)?;
-    for (short, unit, count) in &REPEATED {
-        if all.contains(short) {
-            let long = unit.repeat(alloc, *count)?;
-            all = all.replace(alloc, short, long.as_str())?;
-        }
-    }
-    let short = "(set n0 01 to n511 01)\n";
-    if all.contains(short) {
-        let names = many_sets(alloc, 512)?;
-        all = all.replace(alloc, short, names.as_str())?;
-    }
-    Ok(all)
+    all
 }
 
 /// The text, with what stands for longer texts written out: `BYTE*COUNT ` for a value, and lines
 /// and answers that are repeated.
-pub(crate) fn spelled(alloc: Global, text: &str) -> Result<String, AllocError> {
-    if text.contains('*') || text.contains('(') {
-        let repeated = with_repeated(alloc, text)?;
-        return with_values(alloc, repeated.as_str());
+pub(crate) fn spelled<R: Abort>(rt: &R, alloc: Global, text: &str) -> String {
+    with_each(rt, alloc, text, &REPEATED)
+}
+
+/// The number in decimal.
+pub(crate) fn text_of<R: Abort>(rt: &R, alloc: Global, number: u64) -> String {
+    number.to_string(alloc).expect(rt, MEMORY)
+}
+
+/// Sets of 512 names.
+pub(crate) fn many_sets<R: Abort>(rt: &R, alloc: Global) -> String {
+    let mut all = String::new(alloc);
+    for k in 0..512 {
+        let number = text_of(rt, alloc, k);
+        let line = with_word(rt, alloc, "set nK 01\n", "K", number.as_str());
+        all.push_str(line.as_str()).expect(rt, MEMORY);
     }
-    String::from_str(alloc, text)
+    all
 }
 
 // ---- long scripts
@@ -148,10 +183,22 @@ pub(crate) fn spelled(alloc: Global, text: &str) -> Result<String, AllocError> {
 /// The image of an area of four sectors of 4,096 bytes, and the units that the script of 500 sets
 /// spends on it, without those of the lines that are cut.
 pub(crate) static LONG_RUNS: [(&str, u64); 4] = [
-    ("bank=erasing/4/4096/4,area=nvs/main/0/0/4", 3691),
-    ("bank=rewritable/16/4096/4,area=zms/main/0/0/4", 1237),
-    ("bank=erasing/16/4096/4,area=zms/main/0/0/4", 1225),
-    ("bank=erasing/4/4096/4,area=fcb/main/0/0/4", 4218),
+    (
+        "build x.img bank=erasing/4/4096/4,area=nvs/main/0/0/4",
+        3691,
+    ),
+    (
+        "build x.img bank=rewritable/16/4096/4,area=zms/main/0/0/4",
+        1237,
+    ),
+    (
+        "build x.img bank=erasing/16/4096/4,area=zms/main/0/0/4",
+        1225,
+    ),
+    (
+        "build x.img bank=erasing/4/4096/4,area=fcb/main/0/0/4",
+        4218,
+    ),
 ];
 
 /// What the script prints on each image other than units, and a dump of what it leaves: each name
@@ -185,32 +232,43 @@ pub(crate) const LONG_REPORTED: &str =
     k37\":\"9292929292929292929292\",\"wifi/k4\":\"888888888888888888888888888888888888\",\"wifi/k\
     7\":\"93939393939393939393939393939393939393\"}}\n";
 
-// A value of so many bytes, each of them two digits of the number.
-fn digits_of(alloc: Global, number: u32, len: u32) -> Result<String, AllocError> {
-    let digits = format!(in alloc; "{}{}", number / 10 % 10, number % 10)?;
-    digits.repeat(alloc, len as usize)
+// The lines of one set. TENS and ONES are the digits of its number.
+const SET: &str = "set NAME VALUE\n";
+
+const CUT_SET: &str = "cut CUT\nset NAME VALUE\nmount\nget NAME\n";
+
+// The set of this number: its lines, the number of its name, and how many bytes its value has.
+fn one_set<R: Abort>(rt: &R, alloc: Global, lines: &str, k: u64, name: u64, len: usize) -> String {
+    let cut = text_of(rt, alloc, k / 100 % 3);
+    let subtree = ["bt", "wifi", "app"][(name % 3) as usize];
+    let name = text_of(rt, alloc, name);
+    let tens = text_of(rt, alloc, k / 10 % 10);
+    let ones = text_of(rt, alloc, k % 10);
+    let words = [
+        ("CUT", cut.as_str(), 1),
+        ("NAME", "SUBTREE/kNUMBER", 1),
+        ("SUBTREE", subtree, 1),
+        ("NUMBER", name.as_str(), 1),
+        ("VALUE", "TENSONES", len),
+        ("TENS", tens.as_str(), 1),
+        ("ONES", ones.as_str(), 1),
+    ];
+    with_each(rt, alloc, lines, &words)
 }
 
 /// 500 sets of 40 names under three subtrees. Power is lost in one of each hundred; then come a
 /// mount and a look at the name.
-pub(crate) fn long_script(alloc: Global) -> Result<String, AllocError> {
+pub(crate) fn long_script<R: Abort>(rt: &R, alloc: Global) -> String {
     let mut script = String::new(alloc);
     let mut seed = 500u32;
-    for k in 0..500u32 {
+    for k in 0..500u64 {
         seed = seed.wrapping_mul(1_664_525).wrapping_add(1_013_904_223);
-        let number = (seed >> 8) % 40;
-        let subtree = ["bt", "wifi", "app"][(number % 3) as usize];
-        let name = format!(in alloc; "{subtree}/k{number}")?;
         let is_cut = k % 100 == 50;
+        let lines = if is_cut { CUT_SET } else { SET };
         let len = if is_cut { 32 } else { 1 + (seed >> 16) % 32 };
-        let value = digits_of(alloc, k, len)?;
-        let line = if is_cut {
-            let units = k / 100 % 3;
-            format!(in alloc; "cut {units}\nset {name} {value}\nmount\nget {name}\n")?
-        } else {
-            format!(in alloc; "set {name} {value}\n")?
-        };
-        script.push_str(line.as_str())?;
+        let name = u64::from((seed >> 8) % 40);
+        let set = one_set(rt, alloc, lines, k, name, len as usize);
+        script.push_str(set.as_str()).expect(rt, MEMORY);
     }
-    Ok(script)
+    script
 }

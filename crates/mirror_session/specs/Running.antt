@@ -95,7 +95,8 @@ LineStops m areas line old new (Unfit place) =
     (line ≡ Mount) × IsUnfit m.damage m.contents m.room m.prices areas (turned_on old) new place
     × FindsNoFit m areas old
 LineStops m areas line old new NoMemory =
-    (takes_memory line ≡ true) × (needs_power line ≡ true → old.is_on ≡ true) × BeginsLine m areas line old new
+    (takes_memory line ≡ true) × (needs_power line ≡ true → old.is_on ≡ true)
+    × BeginsLine m areas line old new
 
 -- ---- all lines
 

@@ -1,7 +1,6 @@
 // The rows of settings over each store.
 ghost use Rattle.std.specs.Prelude.{◌≡◌, ◌<◌};
 
-use crate::cuts::cuts_of_each_role;
 use crate::stores::{among_orphans, is_absent, of_each_role};
 use counted_sim::{CountedSim, Views};
 use flash_map::Role;
@@ -24,12 +23,21 @@ fn exercise<B: Views, L: Ledger, R: Abort>(
 {
     let mut steps = Steps::<L>::new(blank);
     of_each_role(rt, alloc, bench, &mut steps)?;
-    cuts_of_each_role(rt, alloc, bench, &mut steps)?;
     among_orphans(rt, alloc, bench, &mut steps)?;
     let (nvs, zms) = (Role::Nvs, Role::Zms);
     let (erasing, rewritable) = (Kind::Erasing, Kind::Rewritable);
-    is_absent(rt, alloc, bench, nvs, erasing, 4, 0, b"a", &mut steps)?;
-    is_absent(rt, alloc, bench, zms, rewritable, 16, 1, b"c", &mut steps)
+    is_absent(rt, alloc, bench, nvs, erasing, 4, b"", b"a", &mut steps)?;
+    is_absent(
+        rt,
+        alloc,
+        bench,
+        zms,
+        rewritable,
+        16,
+        &[0x11],
+        b"c",
+        &mut steps,
+    )
 }
 
 #[test]

@@ -1,3 +1,4 @@
+use crate::checks::{name_of, row};
 use handlers::{
     CounterHandler, Handler, HandlerKind, LevelHandler, RegisterFault, Registry, TableHandler,
     ValueView,
@@ -5,7 +6,6 @@ use handlers::{
 use setting_name::Name;
 use std::alloc::Global;
 use std::process::Abort;
-use std::test::Fail;
 
 // Delivers values with their rests, each of which is taken or not.
 fn takes<H: Handler, R: Abort>(
@@ -15,8 +15,8 @@ fn takes<H: Handler, R: Abort>(
     rows: &[(&[u8], &[u8], bool)],
 ) {
     for (rest, value, taken) in rows {
-        let set = handler.set(alloc, rest, ValueView::of(value));
-        assert_eq!(rt; set.is_ok(), *taken, "{value:?}");
+        let set = handler.set(alloc, rest, ValueView::of(value)).is_ok();
+        assert!(rt; set == *taken, "{value:?}");
     }
 }
 
@@ -27,13 +27,19 @@ fn holds<H: Handler, R: Abort>(
     kind: HandlerKind,
     rows: &[(&[u8], &[u8])],
 ) {
-    for (i, (rest, value)) in rows.iter().enumerate() {
+    let mut i = 0usize;
+    for (rest, value) in rows {
         let exported = handler.export_at(i) == Some((*rest, *value));
-        assert!(rt; exported && handler.get(rest) == Some(*value));
+        row(rt, "held", exported && handler.get(rest) == Some(*value));
+        i = i.wrapping_add(1);
     }
-    let end = handler.export_at(rows.len()).is_none();
+    let end = handler.export_at(i).is_none();
     handler.commit();
-    assert_eq!(rt; (end, handler.kind(), handler.commits()), (true, kind, 1));
+    row(
+        rt,
+        "end",
+        end && handler.kind() == kind && handler.commits() == 1,
+    );
 }
 
 // A rest, a value, and whether it is taken.
@@ -89,54 +95,59 @@ fn best_of<'a>(registry: &Registry, name: &'a Name) -> Option<(usize, &'a [u8])>
 }
 
 // A name, and the place of its best handler with the rest.
-const BEST: [(&[u8], Option<(usize, &[u8])>); 6] = [
-    (b"bt/mesh/iv", Some((1, b"iv"))),
-    (b"bt/x", Some((0, b"x"))),
-    (b"btx/y", None),
-    (b"bt", Some((0, b""))),
-    (b"lv", Some((2, b""))),
-    (b"lv/a", Some((2, b"a"))),
+const BEST: [(&str, Option<(usize, &[u8])>); 6] = [
+    ("bt/mesh/iv", Some((1, b"iv"))),
+    ("bt/x", Some((0, b"x"))),
+    ("btx/y", None),
+    ("bt", Some((0, b""))),
+    ("lv", Some((2, b""))),
+    ("lv/a", Some((2, b"a"))),
 ];
 
-#[test]
-fn registry(rt: HostRuntime) -> Result<(), Fail> {
-    let alloc = rt.alloc();
-    let mut registry = Registry::new(alloc);
-    for subtree in [b"bt".as_slice(), b"bt/mesh", b"lv", b"bt"] {
-        let held = registry.len();
-        let handler: Box<dyn Handler> = Box::new(alloc, LevelHandler::new(alloc))?;
-        let fault = registry
-            .register(Name::read(subtree)?, handler)
-            .err()
-            .map(|(fault, _)| fault);
-        let exists = (held == 3).then_some(RegisterFault::Exists);
-        assert_eq!(rt; fault, exists);
+// Whether the handler at a place holds this value, and was committed so often.
+fn is_held(registry: &Registry, place: usize, value: Option<&[u8]>, commits: u64) -> bool {
+    match registry.handler(place) {
+        Some(handler) => handler.get(b"x") == value && handler.commits() == commits,
+        None => false,
     }
-    for (text, answer) in BEST {
-        let name = Name::read(text)?;
-        assert!(rt; best_of(&registry, &name) == answer, "of {text:?}");
-    }
-    Ok(())
 }
 
 // The handler at a place takes a level, holds it and counts a commit; the one before it
 // holds nothing.
+fn serves_the_second<R: Abort>(rt: &R, alloc: Global, registry: &mut Registry) {
+    assert!(rt; registry.len() == 3);
+    let set = registry.set_at(alloc, 1, b"x", ValueView::of(&[100]));
+    row(rt, "set", set.is_ok());
+    registry.commit_at(1);
+    row(rt, "first", is_held(registry, 0, None, 0));
+    row(rt, "second", is_held(registry, 1, Some(&[100]), 1));
+}
+
+// A subtree, why no handler is registered for it, and how many there are then.
+const SUBTREES: [(&str, Option<RegisterFault>, usize); 4] = [
+    ("bt", None, 1),
+    ("bt/mesh", None, 2),
+    ("lv", None, 3),
+    ("bt", Some(RegisterFault::Exists), 3),
+];
+
 #[test]
-fn second_of_two(rt: HostRuntime) -> Result<(), Fail> {
+fn registry(rt: HostRuntime) {
     let alloc = rt.alloc();
     let mut registry = Registry::new(alloc);
-    for subtree in [b"a".as_slice(), b"b"] {
-        let handler: Box<dyn Handler> = Box::new(alloc, LevelHandler::new(alloc))?;
-        let _ = registry.register(Name::read(subtree)?, handler);
+    for (subtree, fault, count) in SUBTREES.iter() {
+        let name = name_of(&rt, subtree.as_bytes());
+        let level = Box::new(alloc, LevelHandler::new(alloc)).expect(&rt, "memory");
+        let handler: Box<dyn Handler> = level;
+        let refused = match registry.register(name, handler) {
+            Ok(()) => None,
+            Err((fault, _)) => Some(fault),
+        };
+        row(&rt, subtree, refused == *fault && registry.len() == *count);
     }
-    assert!(rt; registry.len() == 2);
-    let set = registry
-        .set_at(alloc, 1, b"x", ValueView::of(&[100]))
-        .is_ok();
-    registry.commit_at(1);
-    for (place, held, commits) in [(0, None, 0), (1, Some(&[100u8][..]), 1)] {
-        let handler = registry.handler(place).ok_or("two handlers")?;
-        assert!(rt; set && handler.get(b"x") == held && handler.commits() == commits);
+    for (text, answer) in BEST.iter() {
+        let name = name_of(&rt, text.as_bytes());
+        row(&rt, text, best_of(&registry, &name) == *answer);
     }
-    Ok(())
+    serves_the_second(&rt, alloc, &mut registry);
 }

@@ -1,77 +1,97 @@
+use crate::checks::{name_of, row};
 use backend_api::is_behind;
 use setting_name::{Name, NameFault};
-use std::test::Fail;
 
-// A text, and how it is read as a name.
-const TEXTS: [(&[u8], Result<(), NameFault>); 8] = [
+// How a text is read as a name: as itself, or not for this cause.
+const TEXTS: [(&str, Option<NameFault>); 8] = [
     (
-        b"a/b/c/d/e/f/g/90123456789012345678901234567890123456789012345678",
-        Ok(()),
+        "a/b/c/d/e/f/g/90123456789012345678901234567890123456789012345678",
+        None,
     ),
-    (b"!~", Ok(())),
-    (b"", Err(NameFault::Empty)),
+    ("!~", None),
+    ("", Some(NameFault::Empty)),
     (
-        b"a/b/c/d/e/f/g/901234567890123456789012345678901234567890123456789=",
-        Err(NameFault::TooLong),
+        "a/b/c/d/e/f/g/901234567890123456789012345678901234567890123456789=",
+        Some(NameFault::TooLong),
     ),
-    (b"a=b", Err(NameFault::BadByte(1))),
-    (b"a//b", Err(NameFault::EmptyPart(2))),
-    (b"a/", Err(NameFault::EmptyPart(2))),
-    (b"1/2/3/4/5/6/7/8/9", Err(NameFault::TooDeep)),
+    ("a=b", Some(NameFault::BadByte(1))),
+    ("a//b", Some(NameFault::EmptyPart(2))),
+    ("a/", Some(NameFault::EmptyPart(2))),
+    ("1/2/3/4/5/6/7/8/9", Some(NameFault::TooDeep)),
 ];
+
+fn is_read(text: &[u8], fault: Option<NameFault>) -> bool {
+    match Name::read(text) {
+        Ok(name) => fault.is_none() && name.bytes() == text,
+        Err(why) => fault == Some(why),
+    }
+}
 
 #[test]
 fn texts_that_are_names(rt: HostRuntime) {
-    for (text, answer) in TEXTS {
-        let read = Name::read(text);
-        let same = match &read {
-            Ok(name) => name.bytes() == text,
-            Err(_) => true,
-        };
-        assert_eq!(rt; (same, read.err()), (true, answer.err()), "of {text:?}");
+    for (text, fault) in TEXTS.iter() {
+        row(&rt, text, is_read(text.as_bytes(), *fault));
     }
 }
 
 // A name, and what is left of it after `bt`.
-const MATCHES: [(&[u8], Option<&[u8]>); 5] = [
-    (b"bt", Some(b"")),
-    (b"bt/x", Some(b"x")),
-    (b"bt/mesh/iv", Some(b"mesh/iv")),
-    (b"btx/y", None),
-    (b"b/t", None),
+const MATCHES: [(&str, Option<&[u8]>); 5] = [
+    ("bt", Some(b"")),
+    ("bt/x", Some(b"x")),
+    ("bt/mesh/iv", Some(b"mesh/iv")),
+    ("btx/y", None),
+    ("b/t", None),
 ];
 
-#[test]
-fn names_that_match(rt: HostRuntime) -> Result<(), Fail> {
-    let key = Name::read(b"bt")?;
-    for (text, rest) in MATCHES {
-        let name = Name::read(text)?;
-        assert!(rt; Name::matches(&name, &key) == rest, "of {text:?}");
-        if let Some(rest) = rest {
-            assert!(rt; Name::join(&key, rest)? == name);
-        }
+// Whether a name is what these two are joined to.
+fn is_joined(name: &Name, key: &Name, rest: &[u8]) -> bool {
+    match Name::join(key, rest) {
+        Ok(joined) => joined == *name,
+        Err(_) => false,
     }
-    let fault = Name::join(&key, b"a//b").err();
-    assert_eq!(rt; fault, Some(NameFault::EmptyPart(5)));
-    Ok(())
+}
+
+// Whether this is left of a name after another one, and the two are joined to the name again.
+fn is_left(name: &Name, key: &Name, rest: Option<&[u8]>) -> bool {
+    match rest {
+        Some(left) => Name::matches(name, key) == rest && is_joined(name, key, left),
+        None => Name::matches(name, key).is_none(),
+    }
 }
 
 #[test]
-fn names_in_order(rt: HostRuntime) -> Result<(), Fail> {
-    let dot = Name::read(b"a.b")?;
-    let slash = Name::read(b"a/b")?;
-    assert!(rt; dot < slash && slash.copy() == slash.clone()?);
-    let other = Name::read(b"b/c")?;
-    let rows: [(&[u8], Option<&Name>, bool); 6] = [
-        (b"!", None, true),
-        (b"b", Some(&other), false),
-        (b"b/b", Some(&other), false),
-        (b"b/c", Some(&other), false),
-        (b"b/c/a", Some(&other), true),
-        (b"c", Some(&other), true),
-    ];
-    for (name, after, answer) in rows {
-        assert_eq!(rt; is_behind(name, after), answer, "of {name:?}");
+fn names_that_match(rt: HostRuntime) {
+    let key = name_of(&rt, b"bt");
+    for (text, rest) in MATCHES.iter() {
+        let name = name_of(&rt, text.as_bytes());
+        row(&rt, text, is_left(&name, &key, *rest));
     }
-    Ok(())
+    let fault = Name::join(&key, b"a//b").err();
+    row(&rt, "a//b", fault == Some(NameFault::EmptyPart(5)));
+}
+
+// A name, and whether it is behind `b/c`.
+const BEHIND: [(&str, bool); 5] = [
+    ("b", false),
+    ("b/b", false),
+    ("b/c", false),
+    ("b/c/a", true),
+    ("c", true),
+];
+
+#[test]
+fn names_in_order(rt: HostRuntime) {
+    let dot = name_of(&rt, b"a.b");
+    let slash = name_of(&rt, b"a/b");
+    let again = slash.clone().expect(&rt, "memory");
+    row(&rt, "a.b", dot < slash && slash.copy() == again);
+    row(&rt, "!", is_behind(b"!", None));
+    let other = name_of(&rt, b"b/c");
+    for (text, answer) in BEHIND.iter() {
+        row(
+            &rt,
+            text,
+            is_behind(text.as_bytes(), Some(&other)) == *answer,
+        );
+    }
 }

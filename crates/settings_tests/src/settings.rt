@@ -7,6 +7,7 @@ ghost use Rattle.handlers.specs.Held.{fresh};
 ghost use Rattle.handlers.specs.Registry.{registered};
 ghost use Rattle.settings_core.specs.Saving.{AreLawful};
 
+use crate::checks::{name_of, row};
 use arrayvec::ArrayString;
 use backend_api::Backend;
 use backend_fcb::FcbBackend;
@@ -67,26 +68,27 @@ impl Each for Bytes {
 
 // ---- calls on settings, each of which keeps what the next one requires
 
-fn stores<K: Backend, B: Bench, L: Ledger>(
+fn stores<K: Backend, B: Bench, L: Ledger, R: Abort>(
+    rt: &R,
     settings: &mut Settings<K>,
     bench: &mut B,
     name: &[u8],
     value: &[u8],
     steps: &mut Steps<L>,
-) -> Result<(), Fail>
+)
     requires lawful { IsLawfulFor (B.device bench.old).banks (K.mounted_on settings.old.backend) }
     requires stands { K.runs settings.old.backend ≡ true
         → StandsOn K.mounted_on K.stands (B.device bench.old) settings.old.backend }
     requires short { length value.now ≤ 4 }
-    ensures lawful { OnOk result
-        (IsLawfulFor (B.device bench.new).banks (K.mounted_on settings.new.backend)) }
-    ensures stands { OnOk result
-        (K.runs settings.new.backend ≡ true
-        → StandsOn K.mounted_on K.stands (B.device bench.new) settings.new.backend) }
+    ensures lawful { IsLawfulFor (B.device bench.new).banks (K.mounted_on settings.new.backend) }
+    ensures stands { K.runs settings.new.backend ≡ true
+        → StandsOn K.mounted_on K.stands (B.device bench.new) settings.new.backend }
 {
-    let name = Name::read(name)?;
-    settings.save_one(bench, &name, value, steps)?;
-    Ok(())
+    let name = name_of(rt, name);
+    match settings.save_one(bench, &name, value, steps) {
+        Ok(()) => {}
+        Err(_) => rt.panic("not stored"),
+    }
 }
 
 fn deletes<K: Backend, B: Bench, L: Ledger>(
@@ -203,34 +205,40 @@ fn puts<K: Backend>(
 // ---- the rows
 
 // Six names. One is under no subtree, and one has a value that its handler rejects.
+const SIX: [(&[u8], &[u8]); 6] = [
+    (b"bt/mesh/iv", &[1, 2]),
+    (b"bt/x", &[3]),
+    (b"btx/y", &[4]),
+    (b"bt", &[5]),
+    (b"lv", &[100]),
+    (b"lv/a", &[101]),
+];
+
 fn fills<K: Backend, B: Bench, L: Ledger, R: Abort>(
     rt: &R,
     settings: &mut Settings<K>,
     bench: &mut B,
     steps: &mut Steps<L>,
-) -> Result<(), Fail>
+)
     requires lawful { IsLawfulFor (B.device bench.old).banks (K.mounted_on settings.old.backend) }
     requires stands { K.runs settings.old.backend ≡ true
         → StandsOn K.mounted_on K.stands (B.device bench.old) settings.old.backend }
-    ensures lawful { OnOk result
-        (IsLawfulFor (B.device bench.new).banks (K.mounted_on settings.new.backend)) }
-    ensures stands { OnOk result
-        (K.runs settings.new.backend ≡ true
-        → StandsOn K.mounted_on K.stands (B.device bench.new) settings.new.backend) }
+    ensures lawful { IsLawfulFor (B.device bench.new).banks (K.mounted_on settings.new.backend) }
+    ensures stands { K.runs settings.new.backend ≡ true
+        → StandsOn K.mounted_on K.stands (B.device bench.new) settings.new.backend }
 {
     let start = bench.spent();
-    for (name, first, len) in [
-        (b"bt/mesh/iv".as_slice(), 1, 2),
-        (b"bt/x", 3, 1),
-        (b"btx/y", 4, 1),
-        (b"bt", 5, 1),
-        (b"lv", 100, 1),
-        (b"lv/a", 101, 1),
-    ] {
-        stores(settings, bench, name, &[first, 2][..len.min(2)], steps)?;
+    for (name, value) in SIX.iter() {
+        stores(
+            rt,
+            settings,
+            bench,
+            name,
+            &value[..value.len().min(4)],
+            steps,
+        );
     }
-    assert_eq!(rt; bench.spent().wrapping_sub(start), 26);
-    Ok(())
+    row(rt, "spent", bench.spent().wrapping_sub(start) == 26);
 }
 
 // Memory runs out after two deliveries, and then nothing is committed; then a load of all.
@@ -241,15 +249,14 @@ fn fills_handlers<K: Backend, B: Bench, L: Ledger, R: Abort>(
     bench: &B,
     registry: &mut Registry,
     steps: &mut Steps<L>,
-) -> Result<(), Fail>
+)
     requires lawful { IsLawfulFor (B.device bench.now).banks (K.mounted_on settings.now.backend) }
     requires stands { K.runs settings.now.backend ≡ true
         → StandsOn K.mounted_on K.stands (B.device bench.now) settings.now.backend }
     requires settings { AreLawful (value_limit (K.mounted_on settings.now.backend))
         (registered state registry.old) }
-    ensures { OnOk result
-        (AreLawful (value_limit (K.mounted_on settings.now.backend))
-        (registered state registry.new)) }
+    ensures { AreLawful (value_limit (K.mounted_on settings.now.backend))
+        (registered state registry.new) }
 {
     let short = loads(alloc, settings, bench, registry, 2, steps);
     let none = commits_of(registry, 0);
@@ -259,11 +266,16 @@ fn fills_handlers<K: Backend, B: Bench, L: Ledger, R: Abort>(
         rejected: 1,
         passed: 1,
     };
-    assert_eq!(rt;
-        (short, none, ended, commits_of(registry, 0)),
-        (Err(LoadFault::NoMemory), 0, Ok(loaded), 1)
+    row(
+        rt,
+        "no memory",
+        short == Err(LoadFault::NoMemory) && none == 0,
     );
-    Ok(())
+    row(
+        rt,
+        "loaded",
+        ended == Ok(loaded) && commits_of(registry, 0) == 1,
+    );
 }
 
 // Values of handlers at run time.
@@ -272,26 +284,19 @@ fn runs<K: Backend, R: Abort>(
     alloc: Global,
     settings: &Settings<K>,
     registry: &mut Registry,
-) -> Result<(), Fail>
+)
     requires settings { AreLawful (value_limit (K.mounted_on settings.now.backend))
         (registered state registry.old) }
-    ensures { OnOk result
-        (AreLawful (value_limit (K.mounted_on settings.now.backend))
-        (registered state registry.new)) }
+    ensures { AreLawful (value_limit (K.mounted_on settings.now.backend))
+        (registered state registry.new) }
 {
-    let iv = Name::read(b"bt/mesh/iv")?;
-    let x = Name::read(b"bt/x")?;
-    let b = Name::read(b"lv/b")?;
-    let none = Name::read(b"zz")?;
-    let held = runtime_get(registry, &iv) == Ok(Some(&[1u8, 2][..]));
-    let unheld = runtime_get(registry, &none) == Err(NoHandler);
-    let refused = puts(alloc, settings, registry, &b, &[101]);
-    assert_eq!(rt;
-        (held, unheld, refused),
-        (true, true, Err(RuntimeFault::Rejected))
-    );
-    puts(alloc, settings, registry, &x, &[9])?;
-    Ok(())
+    let held = runtime_get(registry, &name_of(rt, b"bt/mesh/iv")) == Ok(Some(&[1u8, 2][..]));
+    let unheld = runtime_get(registry, &name_of(rt, b"zz")) == Err(NoHandler);
+    let refused = puts(alloc, settings, registry, &name_of(rt, b"lv/b"), &[101]);
+    row(rt, "gets", held && unheld);
+    row(rt, "rejected", refused == Err(RuntimeFault::Rejected));
+    let taken = puts(alloc, settings, registry, &name_of(rt, b"bt/x"), &[9]);
+    row(rt, "taken", taken == Ok(()));
 }
 
 // A save stores the one value that is new, a second one stores nothing, and a delete deletes it.
@@ -301,20 +306,18 @@ fn stores_what_is_new<K: Backend, B: Bench, L: Ledger, R: Abort>(
     bench: &mut B,
     registry: &Registry,
     steps: &mut Steps<L>,
-) -> Result<(), Fail>
+)
     requires lawful { IsLawfulFor (B.device bench.old).banks (K.mounted_on settings.old.backend) }
     requires stands { K.runs settings.old.backend ≡ true
         → StandsOn K.mounted_on K.stands (B.device bench.old) settings.old.backend }
     requires settings { AreLawful (value_limit (K.mounted_on settings.old.backend))
         (registered state registry.now) }
-    ensures lawful { OnOk result
-        (IsLawfulFor (B.device bench.new).banks (K.mounted_on settings.new.backend)) }
-    ensures stands { OnOk result
-        (K.runs settings.new.backend ≡ true
-        → StandsOn K.mounted_on K.stands (B.device bench.new) settings.new.backend) }
+    ensures lawful { IsLawfulFor (B.device bench.new).banks (K.mounted_on settings.new.backend) }
+    ensures stands { K.runs settings.new.backend ≡ true
+        → StandsOn K.mounted_on K.stands (B.device bench.new) settings.new.backend }
 {
-    let mesh = Name::read(b"bt/mesh")?;
-    let x = Name::read(b"bt/x")?;
+    let mesh = name_of(rt, b"bt/mesh");
+    let x = name_of(rt, b"bt/x");
     let start = bench.spent();
     let one = Saved {
         pairs: 1,
@@ -324,13 +327,10 @@ fn stores_what_is_new<K: Backend, B: Bench, L: Ledger, R: Abort>(
     let second = saves(settings, bench, registry, Some(&mesh), steps);
     let spent = bench.spent().wrapping_sub(start);
     let stored = matches!(settings.get(bench, &x, steps), Ok(Some([9])));
-    deletes(settings, bench, &x, steps)?;
+    let deleted = deletes(settings, bench, &x, steps).is_ok();
     let gone = matches!(settings.get(bench, &x, steps), Ok(None));
-    assert_eq!(rt;
-        ((first, second.pairs, spent), stored, gone),
-        ((one, 0, 4), true, true)
-    );
-    Ok(())
+    row(rt, "saves", first == one && second.pairs == 0 && spent == 4);
+    row(rt, "deletes", stored && deleted && gone);
 }
 
 fn rows<K: Backend, B: Bench, L: Ledger, R: Abort>(
@@ -340,26 +340,19 @@ fn rows<K: Backend, B: Bench, L: Ledger, R: Abort>(
     bench: &mut B,
     registry: &mut Registry,
     steps: &mut Steps<L>,
-) -> Result<(), Fail>
+)
     requires lawful { IsLawfulFor (B.device bench.old).banks (K.mounted_on settings.old.backend) }
     requires stands { K.runs settings.old.backend ≡ true
         → StandsOn K.mounted_on K.stands (B.device bench.old) settings.old.backend }
     requires settings { (limit : ℕ) → AreLawful limit (registered state registry.old) }
-    ensures lawful { OnOk result
-        (IsLawfulFor (B.device bench.new).banks (K.mounted_on settings.new.backend)) }
-    ensures stands { OnOk result
-        (K.runs settings.new.backend ≡ true
-        → StandsOn K.mounted_on K.stands (B.device bench.new) settings.new.backend) }
 {
-    let mesh = Name::read(b"bt/mesh")?;
-    fills(rt, settings, bench, steps)?;
-    assert_eq!(rt;
-        describes(alloc, settings, bench, Some(&mesh), steps),
-        Ok((1, 2))
-    );
-    fills_handlers(rt, alloc, settings, bench, registry, steps)?;
-    runs(rt, alloc, settings, registry)?;
-    stores_what_is_new(rt, settings, bench, registry, steps)
+    let mesh = name_of(rt, b"bt/mesh");
+    fills(rt, settings, bench, steps);
+    let described = describes(alloc, settings, bench, Some(&mesh), steps);
+    row(rt, "described", described == Ok((1, 2)));
+    fills_handlers(rt, alloc, settings, bench, registry, steps);
+    runs(rt, alloc, settings, registry);
+    stores_what_is_new(rt, settings, bench, registry, steps);
 }
 
 // The rows over a store with nothing in it, and then commits of all handlers, and of those
@@ -379,14 +372,12 @@ fn over_a_store<K: Backend, B: Bench, L: Ledger, R: Abort>(
     let mounted = Settings::<K>::mount(alloc, bench, area.copy(), steps)?;
     let is_off = mounted.is_off();
     let mut settings = Settings::<K>::of(K::mount(alloc, bench, area, steps)?);
-    rows(rt, alloc, &mut settings, bench, registry, steps)?;
-    let mesh = Name::read(b"bt/mesh")?;
+    rows(rt, alloc, &mut settings, bench, registry, steps);
+    let mesh = name_of(rt, b"bt/mesh");
     commit(registry, None);
     commit(registry, Some(&mesh));
-    assert_eq!(rt;
-        (is_off, commits_of(registry, 0), commits_of(registry, 1)),
-        (false, 2, 3)
-    );
+    let commits = (commits_of(registry, 0), commits_of(registry, 1));
+    row(rt, "commits", !is_off && commits == (2, 3));
     Ok(())
 }
 
@@ -404,21 +395,21 @@ fn exercise<K: Backend, B: Bench, L: Ledger, R: Abort>(
     requires parts { blank.parts ≡ L.parts }
     requires some { 0 < L.parts }
 {
-    let mut registry = Registry::new(alloc);
     let bt: Box<dyn Handler> = Box::new(alloc, TableHandler::new(alloc))?;
     is_new(&bt, HandlerKind::Table);
-    let Ok(()) = registry.register(Name::read(b"bt")?, bt) else {
-        return Err(Fail::new("bt"));
-    };
     let mesh: Box<dyn Handler> = Box::new(alloc, TableHandler::new(alloc))?;
     is_new(&mesh, HandlerKind::Table);
-    let Ok(()) = registry.register(Name::read(b"bt/mesh")?, mesh) else {
-        return Err(Fail::new("bt/mesh"));
-    };
     let lv: Box<dyn Handler> = Box::new(alloc, LevelHandler::new(alloc))?;
     is_new(&lv, HandlerKind::Level);
-    let Ok(()) = registry.register(Name::read(b"lv")?, lv) else {
-        return Err(Fail::new("lv"));
+    let mut registry = Registry::new(alloc);
+    let Ok(()) = registry.register(name_of(rt, b"bt"), bt) else {
+        rt.panic("bt")
+    };
+    let Ok(()) = registry.register(name_of(rt, b"bt/mesh"), mesh) else {
+        rt.panic("bt/mesh")
+    };
+    let Ok(()) = registry.register(name_of(rt, b"lv"), lv) else {
+        rt.panic("lv")
     };
     let mut steps = Steps::<L>::new(blank);
     over_a_store::<K, B, L, R>(rt, alloc, bench, area, &mut registry, &mut steps)

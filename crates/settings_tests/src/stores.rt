@@ -7,9 +7,11 @@ ghost use Rattle.any_backend.specs.ByRole.{any_serves, serves_as};
 ghost use Rattle.any_backend.specs.Standing.{IsReady};
 ghost use Rattle.named_items.specs.Looking.{HasIds};
 
+use crate::checks::{name_of, numbers, row};
+use crate::cuts::cuts_of_row;
 use crate::rows::{
-    Call, Case, FCB, FCB_LONG, FCB_LONGER, Item, Left, NVS, NVS_ORPHANS, NVS_REPORTED, Reported,
-    ZMS, ZMS_ERASING,
+    Case, Cut, FCB, FCB_CUTS, FCB_LONG, FCB_LONGER, Item, NVS, NVS_CUTS, NVS_ORPHANS, NVS_REPORTED,
+    Reported, ZMS, ZMS_CUTS, ZMS_ERASING, ZMS_ERASING_CUTS,
 };
 use any_backend::*;
 use arrayvec::ArrayString;
@@ -27,7 +29,7 @@ use std::sync::ledger::Ledger;
 use std::test::Fail;
 
 // Two sectors of 512 bytes that are erased except for these bytes from an offset on.
-pub(crate) fn image(alloc: Global, at: usize, bytes: &[u8]) -> Result<Vec<u8>, AllocError>
+fn image(alloc: Global, at: usize, bytes: &[u8]) -> Result<Vec<u8>, AllocError>
     ensures { IfOk result (λ image. vec_len image ≡ 1024) }
 {
     let mut image = vec![in alloc; 255u8; 1024]?;
@@ -62,41 +64,45 @@ fn load<B: Bench>(
     Ok(())
 }
 
-// An area for a store of this role on these bytes.
+// An area for a store of this role, erased except for these bytes from an offset on.
 pub(crate) fn bed<B: Bench>(
     alloc: Global,
     bench: &mut B,
     role: Role,
     kind: Kind,
     unit: u32,
-    image: Vec<u8>,
+    at: usize,
+    bytes: &[u8],
 ) -> Result<Area, Fail>
     requires kind { HasKind role kind }
     requires unit { HasUnit role unit }
     requires serves { serves_as role }
-    requires long { vec_len image ≡ 1024 }
     ensures lawful { IfOk result (λ area. IsLawfulFor (B.device bench.new).banks area) }
     ensures serves { IfOk result (λ area. any_serves area (geometry_of (B.device bench.new) area)) }
     ensures role { IfOk result (λ area. area.role ≡ role) }
 {
+    let image = image(alloc, at, bytes)?;
     load(alloc, bench, kind, unit, image)?;
     Ok(Area::new(ArrayString::new(), role, 0, 0, 2, 1))
 }
 
 // A backend on an area.
-pub(crate) fn mounted<B: Bench, L: Ledger>(
+pub(crate) fn mounted<B: Bench, L: Ledger, R: Abort>(
+    rt: &R,
     alloc: Global,
     bench: &mut B,
     area: &Area,
     steps: &mut Steps<L>,
-) -> Result<AnyBackend, Fail>
+) -> AnyBackend
     requires lawful { IsLawfulFor (B.device bench.old).banks area.now }
     requires serves { any_serves area.now (geometry_of (B.device bench.old) area.now) }
-    ensures ready { IfOk result (λ backend. IsReady (B.device bench.new) backend) }
-    ensures banks { OnOk result ((B.device bench.new).banks ≡ (B.device bench.old).banks) }
+    ensures ready { IsReady (B.device bench.new) result }
+    ensures banks { (B.device bench.new).banks ≡ (B.device bench.old).banks }
 {
-    let backend = AnyBackend::mount(alloc, bench, area.copy(), steps)?;
-    Ok(backend)
+    match AnyBackend::mount(alloc, bench, area.copy(), steps) {
+        Ok(backend) => backend,
+        Err(_) => rt.panic("no mount"),
+    }
 }
 
 pub(crate) fn put<B: Bench, L: Ledger>(
@@ -115,81 +121,95 @@ pub(crate) fn put<B: Bench, L: Ledger>(
     backend.set(bench, name, value, steps)
 }
 
-// Gives a name this value. Returns need and live if there is no space.
-fn set<B: Bench, L: Ledger>(
+// Deletes a name.
+fn delete<B: Bench, L: Ledger, R: Abort>(
+    rt: &R,
+    backend: &mut AnyBackend,
+    bench: &mut B,
+    name: &Name,
+    steps: &mut Steps<L>,
+)
+    requires { IsReady (B.device bench.old) backend.old }
+    ensures ready { IsReady (B.device bench.new) backend.new }
+    ensures banks { (B.device bench.new).banks ≡ (B.device bench.old).banks }
+{
+    match backend.delete(bench, name, steps) {
+        Ok(()) => {}
+        Err(_) => rt.panic("power is lost"),
+    }
+}
+
+// Gives a name this value, or deletes it if the value is empty. Returns need and live if there is no
+// space.
+fn carry_out<B: Bench, L: Ledger, R: Abort>(
+    rt: &R,
     backend: &mut AnyBackend,
     bench: &mut B,
     name: &Name,
     value: &[u8],
     steps: &mut Steps<L>,
-) -> Result<Option<(u64, u64)>, Fail>
+) -> Option<(u64, u64)>
     requires ready { IsReady (B.device bench.old) backend.old }
-    requires some { 0 < length value.now }
     requires short { length value.now ≤ 256 }
-    ensures ready { OnOk result (IsReady (B.device bench.new) backend.new) }
-    ensures banks { OnOk result ((B.device bench.new).banks ≡ (B.device bench.old).banks) }
+    ensures ready { IsReady (B.device bench.new) backend.new }
+    ensures banks { (B.device bench.new).banks ≡ (B.device bench.old).banks }
 {
+    if value.is_empty() {
+        delete(rt, backend, bench, name, steps);
+        return None;
+    }
     match put(backend, bench, name, value, steps) {
-        Ok(()) => Ok(None),
-        Err(SetFault::NoSpace { need, live }) => Ok(Some((need, live))),
-        Err(SetFault::TooManyNames) => Err(Fail::from(SetFault::TooManyNames)),
-        Err(SetFault::PowerLost) => Err(Fail::from(SetFault::PowerLost)),
+        Ok(()) => None,
+        Err(SetFault::NoSpace { need, live }) => Some((need, live)),
+        Err(SetFault::TooManyNames) => rt.panic("too many names"),
+        Err(SetFault::PowerLost) => rt.panic("power is lost"),
     }
 }
 
-// Deletes a name.
-fn delete<B: Bench, L: Ledger>(
-    backend: &mut AnyBackend,
-    bench: &mut B,
-    name: &Name,
-    steps: &mut Steps<L>,
-) -> Result<(), Fail>
-    requires { IsReady (B.device bench.old) backend.old }
-    ensures ready { OnOk result (IsReady (B.device bench.new) backend.new) }
-    ensures banks { OnOk result ((B.device bench.new).banks ≡ (B.device bench.old).banks) }
-{
-    backend.delete(bench, name, steps)?;
-    Ok(())
-}
-
-// Gives a name so many bytes, or deletes it if there are none.
-fn carry_out<B: Bench, L: Ledger>(
-    backend: &mut AnyBackend,
-    bench: &mut B,
-    name: &[u8],
-    byte: u8,
-    len: usize,
-    steps: &mut Steps<L>,
-) -> Result<Option<(u64, u64)>, Fail>
-    requires { IsReady (B.device bench.old) backend.old }
-    ensures ready { OnOk result (IsReady (B.device bench.new) backend.new) }
-    ensures banks { OnOk result ((B.device bench.new).banks ≡ (B.device bench.old).banks) }
-{
-    let name = Name::read(name)?;
-    if len == 0 {
-        delete(backend, bench, &name, steps)?;
-        return Ok(None);
-    }
-    set(backend, bench, &name, &[byte; 256][..len.min(256)], steps)
+// The name of a line, and its numbers; none of need and live if they are not there.
+fn pair_of<R: Abort>(rt: &R, line: &str) -> (Name, u8, usize, u64, Option<(u64, u64)>) {
+    let Some((name, rest)) = line.split_once(' ') else {
+        rt.panic("a name and numbers")
+    };
+    let all = numbers(rt, rest);
+    let no_space = if all[3] == 0 {
+        None
+    } else {
+        Some((all[3], all[4]))
+    };
+    let byte = all[0].min(255) as u8;
+    (
+        name_of(rt, name.as_bytes()),
+        byte,
+        all[1].min(256) as usize,
+        all[2],
+        no_space,
+    )
 }
 
 fn agrees<B: Bench, L: Ledger, R: Abort>(
     rt: &R,
     backend: &mut AnyBackend,
     bench: &mut B,
-    call: &Call,
+    line: &str,
     steps: &mut Steps<L>,
-) -> Result<(), Fail>
+)
     requires { IsReady (B.device bench.old) backend.old }
-    ensures ready { OnOk result (IsReady (B.device bench.new) backend.new) }
-    ensures banks { OnOk result ((B.device bench.new).banks ≡ (B.device bench.old).banks) }
+    ensures ready { IsReady (B.device bench.new) backend.new }
+    ensures banks { (B.device bench.new).banks ≡ (B.device bench.old).banks }
 {
-    let (name, byte, len, units, no_space) = *call;
+    let (name, byte, len, units, no_space) = pair_of(rt, line);
     let start = bench.spent();
-    let answer = carry_out(backend, bench, name, byte, len, steps)?;
+    let answer = carry_out(
+        rt,
+        backend,
+        bench,
+        &name,
+        &[byte; 256][..len.min(256)],
+        steps,
+    );
     let spent = bench.spent().saturating_sub(start);
-    assert_eq!(rt; (answer, spent), (no_space, units));
-    Ok(())
+    row(rt, line, answer == no_space && spent == units);
 }
 
 // These are all names, in order, with their values.
@@ -197,25 +217,25 @@ fn shows<B: Bench, L: Ledger, R: Abort>(
     rt: &R,
     backend: &AnyBackend,
     bench: &B,
-    left: &[Left],
+    left: &str,
     steps: &mut Steps<L>,
-) -> Result<(), Fail>
+)
     requires { IsReady (B.device bench.now) backend.now }
 {
     let mut after = None;
-    for (name, byte, len) in left {
-        let wanted = Name::read(name)?;
-        let Some(found) = backend.next_name(bench, after.as_ref(), steps) else {
-            return Err(Fail::new("a name is wanting"));
-        };
-        let named = found.bytes() == *name;
-        let value = [*byte; 256];
-        let got = backend.get(bench, &wanted, steps) == Some(&value[..(*len).min(256)]);
-        assert!(rt; named && got);
+    for line in left.lines() {
+        let (wanted, byte, len, _, _) = pair_of(rt, line);
+        let found = backend.next_name(bench, after.as_ref(), steps);
+        let value = backend.get(bench, &wanted, steps);
+        let got = is_value(value, byte, len);
         after = Some(wanted);
+        row(rt, line, found == after && got);
     }
-    assert!(rt; backend.next_name(bench, after.as_ref(), steps).is_none());
-    Ok(())
+    row(
+        rt,
+        left,
+        backend.next_name(bench, after.as_ref(), steps).is_none(),
+    );
 }
 
 // A backend on an area, after these calls.
@@ -224,19 +244,19 @@ pub(crate) fn carried<B: Bench, L: Ledger, R: Abort>(
     alloc: Global,
     bench: &mut B,
     area: &Area,
-    calls: &[Call],
+    calls: &str,
     steps: &mut Steps<L>,
-) -> Result<AnyBackend, Fail>
+) -> AnyBackend
     requires lawful { IsLawfulFor (B.device bench.old).banks area.now }
     requires serves { any_serves area.now (geometry_of (B.device bench.old) area.now) }
-    ensures ready { IfOk result (λ backend. IsReady (B.device bench.new) backend) }
-    ensures banks { OnOk result ((B.device bench.new).banks ≡ (B.device bench.old).banks) }
+    ensures ready { IsReady (B.device bench.new) result }
+    ensures banks { (B.device bench.new).banks ≡ (B.device bench.old).banks }
 {
-    let mut backend = mounted(alloc, bench, area, steps)?;
-    for call in calls {
-        agrees(rt, &mut backend, bench, call, steps)?;
+    let mut backend = mounted(rt, alloc, bench, area, steps);
+    for line in calls.lines() {
+        agrees(rt, &mut backend, bench, line, steps);
     }
-    Ok(backend)
+    backend
 }
 
 // The calls one after another, a mount of what is left, and a format of it.
@@ -251,12 +271,14 @@ fn carries_out<B: Bench, L: Ledger, R: Abort>(
     requires lawful { IsLawfulFor (B.device bench.old).banks area.now }
     requires serves { any_serves area.now (geometry_of (B.device bench.old) area.now) }
 {
-    carried(rt, alloc, bench, area, case.calls, steps)?;
-    let backend = mounted(alloc, bench, area, steps)?;
-    shows(rt, &backend, bench, case.left, steps)?;
+    carried(rt, alloc, bench, area, case.calls, steps);
+    let backend = mounted(rt, alloc, bench, area, steps);
+    shows(rt, &backend, bench, case.left, steps);
+    drop(backend);
     AnyBackend::format(bench, area, steps)?;
-    let backend = mounted(alloc, bench, area, steps)?;
-    shows(rt, &backend, bench, &[], steps)
+    let backend = mounted(rt, alloc, bench, area, steps);
+    shows(rt, &backend, bench, "", steps);
+    Ok(())
 }
 
 // The rows of a store of this role on such a bank.
@@ -267,23 +289,26 @@ fn of_role<B: Bench, L: Ledger, R: Abort>(
     role: Role,
     kind: Kind,
     unit: u32,
-    rows: &[Case],
+    cases: &[Case],
+    cuts: &[Cut],
     steps: &mut Steps<L>,
 ) -> Result<(), Fail>
     requires kind { HasKind role kind }
     requires unit { HasUnit role unit }
     requires serves { serves_as role }
 {
-    for case in rows {
-        let image = image(alloc, case.at, case.bytes)?;
-        let area = bed(alloc, bench, role, kind, unit, image)?;
+    for case in cases {
+        let area = bed(alloc, bench, role, kind, unit, case.at, case.bytes)?;
         carries_out(rt, alloc, bench, &area, case, steps)?;
+    }
+    for cut in cuts {
+        cuts_of_row(rt, alloc, bench, role, kind, unit, cut, steps)?;
     }
     Ok(())
 }
 
-// A name that was never set, on an area where `a` has so many bytes, is reported absent with no
-// view of the flash.
+// A name that was never set, on an area where `a` has this value, is reported absent with no view of
+// the flash.
 pub(crate) fn is_absent<B: Views, L: Ledger, R: Abort>(
     rt: &R,
     alloc: Global,
@@ -291,22 +316,22 @@ pub(crate) fn is_absent<B: Views, L: Ledger, R: Abort>(
     role: Role,
     kind: Kind,
     unit: u32,
-    held: usize,
+    held: &[u8],
     name: &[u8],
     steps: &mut Steps<L>,
 ) -> Result<(), Fail>
     requires kind { HasKind role kind }
     requires unit { HasUnit role unit }
     requires serves { serves_as role }
+    requires short { length held.now ≤ 256 }
 {
-    let image = image(alloc, 0, b"")?;
-    let area = bed(alloc, bench, role, kind, unit, image)?;
-    let mut backend = mounted(alloc, bench, &area, steps)?;
-    carry_out(&mut backend, bench, b"a", 0x11, held, steps)?;
-    let name = Name::read(name)?;
+    let area = bed(alloc, bench, role, kind, unit, 0, b"")?;
+    let mut backend = mounted(rt, alloc, bench, &area, steps);
+    carry_out(rt, &mut backend, bench, &name_of(rt, b"a"), held, steps);
+    let name = name_of(rt, name);
     let start = bench.views();
     let absent = backend.get(bench, &name, steps).is_none();
-    assert_eq!(rt; (absent, bench.views()), (true, start));
+    row(rt, "absent", absent && bench.views() == start);
     Ok(())
 }
 
@@ -351,9 +376,9 @@ fn describes<N: IdLayout, S: ItemStore, B: Bench, L: Ledger, R: Abort>(
 {
     let store = S::mount(alloc, bench, area.copy(), steps)?;
     for (name, value) in reported {
-        let name = Name::read(name)?;
+        let name = name_of(rt, name);
         let found = value_of::<N, S, B, L>(&store, bench, &name, steps);
-        assert!(rt; found.unwrap_or(b"") == *value);
+        row(rt, "reported", found.unwrap_or(b"") == *value);
     }
     Ok(())
 }
@@ -364,8 +389,7 @@ pub(crate) fn among_orphans<B: Bench, L: Ledger, R: Abort>(
     bench: &mut B,
     steps: &mut Steps<L>,
 ) -> Result<(), Fail> {
-    let image = image(alloc, 0, b"")?;
-    let area = bed(alloc, bench, Role::Nvs, Kind::Erasing, 4, image)?;
+    let area = bed(alloc, bench, Role::Nvs, Kind::Erasing, 4, 0, b"")?;
     put_items::<Nvs, B, L>(alloc, bench, &area, &NVS_ORPHANS, steps)?;
     describes::<NvsIdLayout, Nvs, B, L, R>(rt, alloc, bench, &area, &NVS_REPORTED, steps)
 }
@@ -379,10 +403,27 @@ pub(crate) fn of_each_role<B: Bench, L: Ledger, R: Abort>(
 ) -> Result<(), Fail> {
     let (nvs, zms, fcb) = (Role::Nvs, Role::Zms, Role::Fcb);
     let (erasing, rewritable) = (Kind::Erasing, Kind::Rewritable);
-    of_role(rt, alloc, bench, nvs, erasing, 4, &NVS, steps)?;
-    of_role(rt, alloc, bench, zms, rewritable, 16, &ZMS, steps)?;
-    of_role(rt, alloc, bench, zms, erasing, 16, &ZMS_ERASING, steps)?;
-    of_role(rt, alloc, bench, fcb, erasing, 4, &FCB, steps)?;
-    of_role(rt, alloc, bench, fcb, erasing, 8, &FCB_LONG, steps)?;
-    of_role(rt, alloc, bench, fcb, erasing, 16, &FCB_LONGER, steps)
+    of_role(rt, alloc, bench, nvs, erasing, 4, &NVS, &NVS_CUTS, steps)?;
+    of_role(
+        rt, alloc, bench, zms, rewritable, 16, &ZMS, &ZMS_CUTS, steps,
+    )?;
+    of_role(
+        rt,
+        alloc,
+        bench,
+        zms,
+        erasing,
+        16,
+        &ZMS_ERASING,
+        &ZMS_ERASING_CUTS,
+        steps,
+    )?;
+    of_role(rt, alloc, bench, fcb, erasing, 4, &FCB, &FCB_CUTS, steps)?;
+    of_role(rt, alloc, bench, fcb, erasing, 8, &FCB_LONG, &[], steps)?;
+    of_role(rt, alloc, bench, fcb, erasing, 16, &FCB_LONGER, &[], steps)
+}
+
+// Whether this is a value of so many of these bytes.
+fn is_value(value: Option<&[u8]>, byte: u8, len: usize) -> bool {
+    value == Some(&[byte; 256][..len.min(256)])
 }

@@ -5,4 +5,4 @@ use Rattle.settings_tests.proofs.stores.delete.Goals as goal
 
 pub returns-clause-ready : goal.returns-clause-ready
 returns-clause-ready g c =
-    ready-after (g.B.Flash.device c.args.bench.now) (g.B.Flash.device c.delete.new.flash) (area_of c.args.backend.now) c.delete.new.self c.in_ok-delete.ensures.touches.banks c.requires.lawful c.in_ok-delete.ensures.area (c.in_ok-delete.ensures.stands refl)
+    ready-after (g.B.Flash.device c.args.bench.now) (g.B.Flash.device c.delete.new.flash) (area_of c.args.backend.now) c.delete.new.self c.in-Ok.ensures.touches.banks c.requires.lawful c.in-Ok.ensures.area (c.in-Ok.ensures.stands refl)

@@ -44,6 +44,9 @@ is_fine (Value value) = true
 is_fine Absent = true
 is_fine answer = false
 
+abbrev pub is_refused : Answer → Bool
+is_refused answer = not (is_fine answer)
+
 -- the settings in an answer to `names`; none in another answer
 abbrev pub pairs_in : Answer → List Pair
 pairs_in (Names active pairs) = pairs
@@ -70,5 +73,5 @@ summary backend n lines answers pairs =
     ++ counted (codes "get") (count_by is_get lines)
     ++ counted (codes "names") (length pairs)
     ++ counted (codes "bytes") (sum_by (λ pair. length pair.value) pairs)
-    ++ counted (codes "refused") (count_by (λ answer. not (is_fine answer)) answers)
+    ++ counted (codes "refused") (count_by is_refused answers)
     ++ codes "\n"

@@ -1,5 +1,5 @@
 // What is printed of the answers.
-ghost use Rattle.std.specs.Prelude.{◌≡◌, ◌∷◌, ◌++◌, [], true, All, List, codes, length, count_by, sum_by, not, IfOk, OnOk};
+ghost use Rattle.std.specs.Prelude.{◌≡◌, ◌∷◌, ◌++◌, [], true, All, List, codes, length, count_by, sum_by, IfOk, OnOk};
 ghost use Rattle.std.specs.Fmt.{decimal};
 ghost use Rattle.std.specs.String.{string_bytes};
 ghost use Rattle.command_words.specs.Commands.{store_word};
@@ -14,7 +14,7 @@ ghost use Rattle.image_jobs.specs.Inputs.{counts_settings, reported_by};
 ghost use Rattle.image_jobs.specs.Jobs.{SaysDamage};
 ghost use Rattle.image_jobs.specs.Reading.{MakesOr};
 ghost use Rattle.image_jobs.specs.Stages.{stores};
-ghost use Rattle.image_jobs.specs.Texts.{texts, last_text, last_pairs, counted, summary, is_set, is_del, is_get, is_fine};
+ghost use Rattle.image_jobs.specs.Texts.{texts, last_text, last_pairs, counted, summary, is_set, is_del, is_get, is_fine, is_refused};
 
 use crate::counting::names_left;
 use crate::jobs::Report;
@@ -87,6 +87,12 @@ fn is_fine(answer: &Answer) -> bool
     )
 }
 
+fn is_refused(answer: &Answer) -> bool
+    ensures { result ≡ is_refused answer.now }
+{
+    !is_fine(answer)
+}
+
 // The settings in the last answer.
 fn last_pairs(answers: &[Answer]) -> &[Pair]
     ensures { result.now ≡ last_pairs answers.now }
@@ -113,9 +119,9 @@ fn bytes_in(pairs: &[Pair]) -> Result<u64, NoMemory>
 
 // How many answers are not fine.
 fn refused(answers: &[Answer]) -> usize
-    ensures { result ≡ count_by (λ answer. not (is_fine answer)) answers.now }
+    ensures { result ≡ count_by is_refused answers.now }
 {
-    answers.iter().filter(|answer| !is_fine(answer)).count()
+    answers.iter().filter(|answer| is_refused(answer)).count()
 }
 
 // Appends a word and a number.

@@ -2,13 +2,13 @@
 //! from before is there, and the next save succeeds.
 #![tactic(auto)]
 
-ghost use Rattle.std.specs.Prelude.{◌≡◌};
+ghost use Rattle.std.specs.Prelude.{◌≡◌, IfOk};
 ghost use Rattle.std.specs.FinMap.{empty};
 ghost use Rattle.flash_sim.specs.SparseSim.{device_of};
 ghost use Rattle.handlers.specs.Held.{fresh};
 ghost use Rattle.handlers.specs.Registry.{registered};
 ghost use Rattle.handlers.specs.declared.handler.HandlerKind.TheVariants.{Table};
-ghost use Rattle.petaqwen.specs.Ready.{IsReady};
+ghost use Rattle.petaqwen.specs.Ready.{AreServed, IsReady};
 
 use petaqwen::{Board, Error, Handler, Name, SaveFault, SparseSim, Subsystem, TableHandler};
 use std::alloc::Global;
@@ -32,19 +32,6 @@ fn is_empty(_table: &Box<dyn Handler>)
     ensures { (state _table.now).held ≡ empty }
 {}
 
-// Registers a table for the names below `bt`.
-fn register_table(alloc: Global, settings: &mut Subsystem<SparseSim>) -> Result<(), Error>
-    requires ready { IsReady (device_of settings.old.board.flash) settings.old.board.map
-        settings.old.settings.backend (registered state settings.old.registry) }
-    ensures ready { IsReady (device_of settings.new.board.flash) settings.new.board.map
-        settings.new.settings.backend (registered state settings.new.registry) }
-{
-    let table: Box<dyn Handler> = Box::new(alloc, TableHandler::new(alloc))?;
-    is_empty(&table);
-    settings.register(Name::read(b"bt")?, table)?;
-    Ok(())
-}
-
 // Gives the table a key of one byte, and saves it.
 #[tactic(auto, using(petaqwen::proofs::Values::short_value))]
 fn save_key(
@@ -54,9 +41,13 @@ fn save_key(
     byte: u8,
 ) -> Result<(), Error>
     requires ready { IsReady (device_of settings.old.board.flash) settings.old.board.map
-        settings.old.settings.backend (registered state settings.old.registry) }
+        settings.old.settings.backend
+        (registered (λ b. (⟦<dyn Handler as Handler>⟧ b.vtable).state b.value)
+        settings.old.registry) }
     ensures ready { IsReady (device_of settings.new.board.flash) settings.new.board.map
-        settings.new.settings.backend (registered state settings.new.registry) }
+        settings.new.settings.backend
+        (registered (λ b. (⟦<dyn Handler as Handler>⟧ b.vtable).state b.value)
+        settings.new.registry) }
 {
     settings.set(alloc, key, &[byte])?;
     settings.save(None).end?;
@@ -75,13 +66,15 @@ fn save_and_lose(
     alloc: Global,
     settings: &mut Subsystem<SparseSim>,
     key: &Name,
+    table: Box<dyn Handler>,
 ) -> Result<Seen, Error>
     requires ready { IsReady (device_of settings.old.board.flash) settings.old.board.map
         settings.old.settings.backend (registered state settings.old.registry) }
+    requires empty { (state table).held ≡ empty }
     ensures ready { IsReady (device_of settings.new.board.flash) settings.new.board.map
         settings.new.settings.backend (registered state settings.new.registry) }
 {
-    register_table(alloc, settings)?;
+    settings.register(Name::read(b"bt")?, table)?;
     save_key(alloc, settings, key, 1)?;
     let before = held(settings, key)?;
 
@@ -99,18 +92,57 @@ fn load_and_save(
     alloc: Global,
     settings: &mut Subsystem<SparseSim>,
     key: &Name,
+    table: Box<dyn Handler>,
 ) -> Result<(Option<u8>, Option<u8>), Error>
     requires ready { IsReady (device_of settings.old.board.flash) settings.old.board.map
         settings.old.settings.backend (registered state settings.old.registry) }
+    requires empty { (state table).held ≡ empty }
     ensures ready { IsReady (device_of settings.new.board.flash) settings.new.board.map
         settings.new.settings.backend (registered state settings.new.registry) }
 {
-    register_table(alloc, settings)?;
+    settings.register(Name::read(b"bt")?, table)?;
     settings.load(alloc, None)?;
     let loaded = held(settings, key)?;
     save_key(alloc, settings, key, 2)?;
     let saved = held(settings, key)?;
     Ok((loaded, saved))
+}
+
+// A board after a power loss, and what was seen before it.
+#[derive(Drop)]
+struct Brownout {
+    board: Board<SparseSim>,
+    seen: Seen,
+}
+
+// Saves a key on a blank board, and loses power while the next one is saved.
+fn first_life(alloc: Global, key: &Name) -> Result<Brownout, Error>
+    ensures { IfOk result (λ b. AreServed (device_of b.board.flash).banks b.board.map) }
+{
+    let table: Box<dyn Handler> = Box::new(alloc, TableHandler::new(alloc))?;
+    is_empty(&table);
+    let mut settings = Subsystem::open(alloc, Board::blank(alloc, LAYOUT)?, "settings")?;
+    let seen = save_and_lose(alloc, &mut settings, key, table);
+    let board = settings.close();
+    Ok(Brownout { board, seen: seen? })
+}
+
+// Starts again with power: the key that was loaded, and the one that another save leaves.
+fn second_life(
+    alloc: Global,
+    key: &Name,
+    board: Board<SparseSim>,
+) -> Result<(Option<u8>, Option<u8>), Error>
+    requires { AreServed (device_of board.flash).banks board.map }
+{
+    let mut board = board;
+    board.restore_power();
+    let table: Box<dyn Handler> = Box::new(alloc, TableHandler::new(alloc))?;
+    is_empty(&table);
+    let mut settings = Subsystem::open(alloc, board, "settings")?;
+    let found = load_and_save(alloc, &mut settings, key, table);
+    let _board = settings.close();
+    found
 }
 
 // The answers of a whole story.
@@ -124,18 +156,8 @@ struct Story {
 
 fn live_through(alloc: Global) -> Result<Story, Error> {
     let key = Name::read(b"bt/key")?;
-
-    let mut settings = Subsystem::open(alloc, Board::blank(alloc, LAYOUT)?, "settings")?;
-    let seen = save_and_lose(alloc, &mut settings, &key);
-    let mut board = settings.close();
-    let seen = seen?;
-
-    board.restore_power();
-    let mut settings = Subsystem::open(alloc, board, "settings")?;
-    let found = load_and_save(alloc, &mut settings, &key);
-    let _board = settings.close();
-    let (after, in_the_end) = found?;
-
+    let Brownout { board, seen } = first_life(alloc, &key)?;
+    let (after, in_the_end) = second_life(alloc, &key, board)?;
     Ok(Story {
         before: seen.key,
         lost: seen.lost,

@@ -2,15 +2,17 @@
 #![tactic(auto)]
 
 #[cfg(test)]
-mod calls;
+mod lives;
 #[cfg(test)]
-mod history;
+mod looking;
 #[cfg(test)]
 mod nvs;
 #[cfg(test)]
 mod nvs_entries;
 #[cfg(test)]
 mod nvs_stores;
+#[cfg(test)]
+mod rows;
 #[cfg(test)]
 mod zms;
 #[cfg(test)]

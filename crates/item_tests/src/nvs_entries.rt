@@ -29,26 +29,21 @@ fn entry_bytes(rt: HostRuntime) {
         ),
         (entry(1, 0, 1), [1, 0, 0, 0, 1, 0, 0xFF, 0x03]),
     ];
-    for (entry, bytes) in rows {
-        assert!(rt; encode_entry(&entry) == bytes);
-        assert_eq!(rt; decode_entry(&bytes), Some(entry));
+    for (entry, bytes) in rows.iter() {
+        assert!(rt; encode_entry(entry) == *bytes);
+        assert!(rt; decode_entry(bytes) == Some(*entry));
     }
     let wrong = [0xFF, 0xFF, 0xE0, 1, 0, 0, 0xFF, 0x70];
-    assert_eq!(rt; decode_entry(&wrong), None);
+    assert!(rt; decode_entry(&wrong).is_none());
 }
 
 #[test]
 fn room(rt: HostRuntime) {
-    let room = (cost(4, 256), cost(16, 1), capacity(4, 512));
+    assert!(rt; cost(4, 256) == 264 && cost(16, 1) == 32 && capacity(4, 512) == 480);
     let blank = scan_sector(&[0xFFu8; 512], 4, 0);
-    let fitting = (
-        fits(&SMALL_AREA, &blank, 472),
-        fits(&SMALL_AREA, &blank, 473),
-    );
+    assert!(rt; blank.low == 504);
+    assert!(rt; fits(&SMALL_AREA, &blank, 472) && !fits(&SMALL_AREA, &blank, 473));
     let mut sector = [0xFFu8; 512];
     sector[496..504].copy_from_slice(&[1, 0, 0, 0, 0xEC, 1, 0xFF, 0x49]);
-    assert_eq!(rt;
-        (room, blank.low, fitting, used_count(&sector, 4)),
-        ((264, 32, 480), 504, (true, false), 1)
-    );
+    assert!(rt; used_count(&sector, 4) == 1);
 }

@@ -1,22 +1,18 @@
-// Calls on three sectors of ZMS, on banks of either kind. What each spends, answers and leaves was
-// written by another reading of the same rules.
-ghost use Rattle.std.specs.Prelude.{◌≡◌, ◌+◌, ◌<◌, ◌≤◌, ◌∷◌, [], length, IfOk, OnOk};
+// Lives of a store on three sectors of ZMS, on banks of either kind. What each call spends, answers
+// and leaves was written by another reading of the same rules.
+ghost use Rattle.std.specs.Prelude.{◌≡◌, ◌+◌, ◌<◌, ◌≤◌, ◌∷◌, [], length};
 ghost use Rattle.flash_map.specs.declared.area.Role.TheVariants.{Zms as zms_role};
 ghost use Rattle.item_store.specs.Standing.{IsStoreArea};
 
-use crate::calls::{
-    Call, asks, carries_out, close_is_cut, closes, mounted, shows, walks, write_is_cut,
-};
-use crate::history::{Reported, reports};
+use crate::lives::lives;
 use arrayvec::ArrayString;
+use counted_sim::{CountedSim, Views};
 use flash_map::{Area, Role, sector_view};
-use flash_sim::{Bank, Bench, FlatSim, Kind, Steps};
-use item_history::Space;
+use flash_sim::{Bank, Bench, Kind, Steps};
 use std::alloc::Global;
 use std::marker::Brand;
 use std::process::Abort;
 use std::sync::ledger::{Blank, Ledger};
-use std::test::Fail;
 use zms_store::ZmsOpen;
 
 // A unit, and where it stands in the bank, in bytes.
@@ -45,60 +41,37 @@ pub(crate) const CUT: [Put; 13] = [
     (1488, [223, 1, 1, 0, 3, 0, 0, 0, 81, 0, 0, 0, 0, 0, 0, 0]),
 ];
 
-// What is reported once that collection is done: its copy, a delete, and what is gone.
-const AFTER_CUT: [Reported; 4] = [
-    (9, 0, Some((1, 9))),
-    (9, 1, None),
-    (8, 0, Some((0, 0))),
-    (7, 0, Some((33, 1))),
+// Values, deletes, and rounds that make room.
+pub(crate) const ON_BLANK: &str =
+    "put 1 07 1 2 | put 1 07 1 0 | put 1 00 0 1 | put 1 00 0 0 | put 5 09 9 2 | \
+     put 2 00 417 0 0 0 | put 8 45 195 14 | put 2 3b 147 25 | put 3 1b 187 13 | put 8 00 0 1 | \
+     put 4 ae 95 18 | put 3 fa 167 12 | put 8 06 24 3 | put 2 fd 187 32 | put 3 00 0 1 | \
+     put 6 01 416 44 432 400 | put 7 03 8 1";
+
+// The first thirteen of these calls.
+const THIRTEEN: &str = "put 1 07 1 2 | put 1 07 1 0 | put 1 00 0 1 | put 1 00 0 0 | put 5 09 9 2 | \
+     put 2 00 417 0 0 0 | put 8 45 195 14 | put 2 3b 147 25 | put 3 1b 187 13 | put 8 00 0 1 | \
+     put 4 ae 95 18 | put 3 fa 167 12 | put 8 06 24 3";
+
+// How the area reads then.
+const ROUNDS: [&str; 3] = [
+    "mount 0 | shows 416 2 4 5 7 8 | walks 2 4 7 8 2 2 2 187 1 4 8 24 1 3 4 95 1 2 5 9",
+    "",
+    "",
 ];
 
-const AFTER_CUT_SPACE: Space = Space {
-    live: 64,
-    stale: 16,
-    free: 800,
-};
-
-pub(crate) const ON_BLANK: [Call; 17] = [
-    (1, (7, 1), 2, None, (7, 1)),
-    (1, (7, 1), 0, None, (7, 1)),
-    (1, (0, 0), 1, None, (0, 0)),
-    (1, (0, 0), 0, None, (0, 0)),
-    (5, (9, 9), 2, None, (9, 9)),
-    (2, (0, 417), 0, Some((0, 0)), (0, 0)),
-    (8, (69, 195), 14, None, (69, 195)),
-    (2, (59, 147), 25, None, (59, 147)),
-    (3, (27, 187), 13, None, (27, 187)),
-    (8, (0, 0), 1, None, (0, 0)),
-    (4, (174, 95), 18, None, (174, 95)),
-    (3, (250, 167), 12, None, (250, 167)),
-    (8, (6, 24), 3, None, (6, 24)),
-    (2, (253, 187), 32, None, (253, 187)),
-    (3, (0, 0), 1, None, (0, 0)),
-    (6, (1, 416), 44, Some((432, 400)), (0, 0)),
-    (7, (3, 8), 1, None, (3, 8)),
-];
+// The mount copies a value with its entry, marks the copy and empties two sectors, which costs more
+// on an erasing bank. Its copy is reported, a delete, and what is gone.
+const AFTER_CUT: &str = "shows 64 3 7 9 | asks 3 41 1 31 1 | \
+     walks 2 2 9 9 1 4 8 0 1 3 3 1 1 2 7 1 | \
+     older 9 0 01 9 | older 9 1 gone | older 8 0 deleted | older 7 0 21 1 | space 64 16 800";
 
 // The same on an erasing bank, where a close fills nothing.
-const ON_ERASED: [Call; 17] = [
-    (1, (7, 1), 2, None, (7, 1)),
-    (1, (7, 1), 0, None, (7, 1)),
-    (1, (0, 0), 1, None, (0, 0)),
-    (1, (0, 0), 0, None, (0, 0)),
-    (5, (9, 9), 2, None, (9, 9)),
-    (2, (0, 417), 0, Some((0, 0)), (0, 0)),
-    (8, (69, 195), 14, None, (69, 195)),
-    (2, (59, 147), 13, None, (59, 147)),
-    (3, (27, 187), 13, None, (27, 187)),
-    (8, (0, 0), 1, None, (0, 0)),
-    (4, (174, 95), 14, None, (174, 95)),
-    (3, (250, 167), 12, None, (250, 167)),
-    (8, (6, 24), 3, None, (6, 24)),
-    (2, (253, 187), 28, None, (253, 187)),
-    (3, (0, 0), 1, None, (0, 0)),
-    (6, (1, 416), 33, Some((432, 400)), (0, 0)),
-    (7, (3, 8), 1, None, (3, 8)),
-];
+const ON_ERASED: &str =
+    "put 1 07 1 2 | put 1 07 1 0 | put 1 00 0 1 | put 1 00 0 0 | put 5 09 9 2 | \
+     put 2 00 417 0 0 0 | put 8 45 195 14 | put 2 3b 147 13 | put 3 1b 187 13 | put 8 00 0 1 | \
+     put 4 ae 95 14 | put 3 fa 167 12 | put 8 06 24 3 | put 2 fd 187 28 | put 3 00 0 1 | \
+     put 6 01 416 33 432 400 | put 7 03 8 1";
 
 // Two sectors with no entry and a unit that was put. The next one is erased as it opens, with
 // nothing to collect: the last write.
@@ -109,25 +82,21 @@ const USED: [Put; 4] = [
     (1472, [0; 16]),
 ];
 
-const INTO_USED: [Call; 4] = [
-    (1, (17, 100), 9, None, (17, 100)),
-    (2, (34, 100), 8, None, (34, 100)),
-    (1, (51, 100), 8, None, (51, 100)),
-    (3, (68, 150), 14, None, (68, 150)),
-];
+// Values behind these units.
+const INTO_USED: &str = "put 1 11 100 9 | put 2 22 100 8 | put 1 33 100 8 | put 3 44 150 14";
 
 // The open sector has no entry, and two units of a value that was cut; the next value
 // stands after them.
 const LEFT: [Put; 3] = [(496, EMPTY), (0, [17; 16]), (16, [17; 16])];
 
-const BEHIND_LEFT: [Call; 4] = [
-    (1, (17, 100), 8, None, (17, 100)),
-    (1, (34, 100), 8, None, (34, 100)),
-    (1, (51, 100), 8, None, (51, 100)),
-    (1, (68, 100), 10, None, (68, 100)),
-];
+// Values behind those units.
+const BEHIND_LEFT: &str = "put 1 11 100 8 | put 1 22 100 8 | put 1 33 100 8 | put 1 44 100 10";
 
-pub(crate) const ONE: [Call; 1] = [(7, (5, 9), 3, None, (5, 9))];
+// One value.
+pub(crate) const ONE: &str = "put 7 05 9 3";
+
+// A close after it that is cut, and one after the next mount.
+const CLOSED: [&str; 3] = ["mount 0", "close 3", "mount 0 | close 26 | shows 32 7"];
 
 // The end of that sector: a unit under its entries, the entry, the close entry and the empty entry.
 pub(crate) const ENDS: [u8; 64] = [
@@ -135,6 +104,22 @@ pub(crate) const ENDS: [u8; 64] = [
     0, 0, 0x1E, 1, 0, 0, 0xFF, 0xFF, 0xFF, 0xFF, 0xD0, 1, 0, 0, 1, 0, 0, 0, 0x61, 1, 0xFF, 0xFF,
     0xFF, 0xFF, 0xFF, 0xFF, 0, 0, 0, 0, 0, 0, 0, 0,
 ];
+
+// After thirteen calls: a write with a collection that is cut after so many units, and what the
+// mount after it spends.
+const LOSSES: [[&str; 3]; 5] = [
+    ["mount 0", "write 2 fd 187 5", "mount 0 | get 2 3b 147"],
+    ["mount 0", "write 2 fd 187 6", "mount 13 | get 2 3b 147"],
+    ["mount 0", "write 2 fd 187 17", "mount 14 | get 2 3b 147"],
+    ["mount 0", "write 2 fd 187 18", "mount 1 | get 2 3b 147"],
+    ["mount 0", "write 2 fd 187 31", "mount 0 | get 2 3b 147"],
+];
+
+const FROM_0: [&str; 3] = ["mount 0", "", ""];
+
+const FROM_5: [&str; 3] = ["mount 5", "", ""];
+
+const FROM_7: [&str; 3] = ["mount 7", "", ""];
 
 fn put_unit(image: &mut [u8], at: usize, unit: &[u8; 16])
     requires { at + 16 ≤ length image.old }
@@ -154,24 +139,10 @@ fn put_units<R: Abort>(rt: &R, image: &mut [u8], puts: &[Put])
     }
 }
 
-// Three sectors that are erased but for these units.
-fn image_of<R: Abort>(rt: &R, alloc: Global, puts: &[Put]) -> Result<Vec<u8>, Fail>
-    ensures { IfOk result (λ image. length image.items ≡ 1536) }
-{
-    let mut image = vec![in alloc; 255u8; 1536]?;
-    put_units(rt, &mut image, puts);
-    Ok(image)
-}
-
-fn load_image<B: Bench>(
-    alloc: Global,
-    bench: &mut B,
-    kind: Kind,
-    image: Vec<u8>,
-) -> Result<(), Fail>
+fn load_image<B: Bench, R: Abort>(rt: &R, alloc: Global, bench: &mut B, kind: Kind, image: Vec<u8>)
     requires { length image.items ≡ 1536 }
-    ensures { OnOk result ((B.device bench.new).banks ≡
-        (record { kind = kind; unit = 16; sector = 512; count = 3 }) ∷ []) }
+    ensures { (B.device bench.new).banks ≡
+        (record { kind = kind; unit = 16; sector = 512; count = 3 }) ∷ [] }
 {
     let bank = Bank {
         kind,
@@ -179,23 +150,25 @@ fn load_image<B: Bench>(
         sector: 512,
         count: 3,
     };
-    let banks = vec![in alloc; bank]?;
-    let bytes = vec![in alloc; image]?;
-    bench.load(alloc, banks, bytes)?;
-    Ok(())
+    let banks = vec![in alloc; bank].expect(rt, "memory");
+    let bytes = vec![in alloc; image].expect(rt, "memory");
+    bench.load(alloc, banks, bytes).expect(rt, "memory");
 }
 
+// Loads three sectors that are erased but for these units.
 pub(crate) fn load<B: Bench, R: Abort>(
     rt: &R,
     alloc: Global,
     bench: &mut B,
     kind: Kind,
     puts: &[Put],
-) -> Result<(), Fail>
-    ensures { OnOk result ((B.device bench.new).banks ≡
-        (record { kind = kind; unit = 16; sector = 512; count = 3 }) ∷ []) }
+)
+    ensures { (B.device bench.new).banks ≡
+        (record { kind = kind; unit = 16; sector = 512; count = 3 }) ∷ [] }
 {
-    load_image(alloc, bench, kind, image_of(rt, alloc, puts)?)
+    let mut image = vec![in alloc; 255u8; 1536].expect(rt, "memory");
+    put_units(rt, &mut image, puts);
+    load_image(rt, alloc, bench, kind, image);
 }
 
 // The area of all sectors of such a bank.
@@ -208,136 +181,83 @@ fn all<B: Bench>(_bench: &B, _kind: Kind) -> Area
     Area::new(ArrayString::new(), Role::Zms, 0, 0, 3, 1)
 }
 
-// Values, deletes, and rounds that make room; and how the area reads then.
-fn rounds<B: Bench, L: Ledger, R: Abort>(
+// A life on such sectors.
+fn on<B: Views, L: Ledger, R: Abort>(
     rt: &R,
     alloc: Global,
     bench: &mut B,
+    bank: (Kind, &[Put]),
+    first: &str,
+    row: &[&str; 3],
     steps: &mut Steps<L>,
-) -> Result<(), Fail> {
-    load(rt, alloc, bench, Kind::Rewritable, &[])?;
-    let area = all(bench, Kind::Rewritable);
-    let mut store = mounted::<ZmsOpen, B, L, R>(rt, alloc, bench, area, 0, steps)?;
-    carries_out(rt, alloc, bench, &mut store, &ON_BLANK, steps)?;
-    shows(rt, bench, &store, &[2, 4, 5, 7, 8], 416, steps);
-    let rows = [
-        (2, 4, 7, 8),
-        (2, 2, 2, 187),
-        (1, 4, 8, 24),
-        (1, 3, 4, 95),
-        (1, 2, 5, 9),
-    ];
-    walks(rt, bench, &store, 3, &rows, steps);
-    Ok(())
+)
+    ensures { (B.device bench.new).banks ≡
+        (record { kind = bank.0; unit = 16; sector = 512; count = 3 }) ∷ [] }
+{
+    let (kind, puts) = bank;
+    load(rt, alloc, bench, kind, puts);
+    let areas = (all(bench, kind), all(bench, kind));
+    lives::<ZmsOpen, B, L, R>(rt, alloc, bench, areas, first, row, steps);
 }
 
-// Mounting copies a value with its entry, marks the copy and empties two sectors.
-fn after_a_cut<B: Bench, L: Ledger, R: Abort>(
-    rt: &R,
-    alloc: Global,
-    bench: &mut B,
-    steps: &mut Steps<L>,
-) -> Result<(), Fail> {
-    for (kind, units) in [(Kind::Rewritable, 5), (Kind::Erasing, 7)] {
-        load(rt, alloc, bench, kind, &CUT)?;
-        let area = all(bench, kind);
-        let store = mounted::<ZmsOpen, B, L, R>(rt, alloc, bench, area, units, steps)?;
-        shows(rt, bench, &store, &[3, 7, 9], 64, steps);
-        asks(rt, bench, &store, 3, &[65], &[49], steps);
-        let rows = [(2, 2, 9, 9), (1, 4, 8, 0), (1, 3, 3, 1), (1, 2, 7, 1)];
-        walks(rt, bench, &store, 3, &rows, steps);
-        reports(rt, bench, &store, &AFTER_CUT, AFTER_CUT_SPACE, steps);
-    }
-    Ok(())
-}
-
-// The same calls and others on an erasing bank.
-fn erases<B: Bench, L: Ledger, R: Abort>(
-    rt: &R,
-    alloc: Global,
-    bench: &mut B,
-    steps: &mut Steps<L>,
-) -> Result<(), Fail> {
-    let rows: [(&[Put], &[Call]); 3] = [
-        (&[], &ON_ERASED),
-        (&USED, &INTO_USED),
-        (&LEFT, &BEHIND_LEFT),
-    ];
-    for (puts, calls) in rows {
-        load(rt, alloc, bench, Kind::Erasing, puts)?;
-        let area = all(bench, Kind::Erasing);
-        let mut store = mounted::<ZmsOpen, B, L, R>(rt, alloc, bench, area, 0, steps)?;
-        carries_out(rt, alloc, bench, &mut store, calls, steps)?;
-    }
-    Ok(())
-}
-
-// What is on the flash after one write and the close of its sector; and a close that is cut, with
-// the mount after it.
-fn lays<B: Bench, L: Ledger, R: Abort>(
-    rt: &R,
-    alloc: Global,
-    bench: &mut B,
-    steps: &mut Steps<L>,
-) -> Result<(), Fail> {
-    load(rt, alloc, bench, Kind::Rewritable, &[])?;
-    let area = all(bench, Kind::Rewritable);
-    let mut store = mounted::<ZmsOpen, B, L, R>(rt, alloc, bench, area, 0, steps)?;
-    carries_out(rt, alloc, bench, &mut store, &ONE, steps)?;
-    close_is_cut(rt, bench, &mut store, 3, steps);
-    let area = all(bench, Kind::Rewritable);
-    let mut store = mounted::<ZmsOpen, B, L, R>(rt, alloc, bench, area, 0, steps)?;
-    closes(rt, bench, &mut store, 26, steps)?;
-    shows(rt, bench, &store, &[7], 32, steps);
-    let area = all(bench, Kind::Rewritable);
-    let sector = sector_view(bench, &area, 0, steps);
-    let starts = sector.starts_with(&[5, 5, 5, 5, 5, 5, 5, 5, 5, 0xFF]);
-    assert!(rt; starts && sector.ends_with(&ENDS));
-    Ok(())
-}
-
-// A write with a collection that is cut after so many units, and what the mount after it spends.
-fn losses<B: Bench, L: Ledger, R: Abort>(
-    rt: &R,
-    alloc: Global,
-    bench: &mut B,
-    steps: &mut Steps<L>,
-) -> Result<(), Fail> {
-    for (plan, units) in [(5, 0), (6, 13), (17, 14), (18, 1), (31, 0)] {
-        load(rt, alloc, bench, Kind::Rewritable, &[])?;
-        let area = all(bench, Kind::Rewritable);
-        let mut store = mounted::<ZmsOpen, B, L, R>(rt, alloc, bench, area, 0, steps)?;
-        carries_out(rt, alloc, bench, &mut store, &ON_BLANK[..13], steps)?;
-        write_is_cut(rt, bench, &mut store, 2, &[253; 187], plan, steps);
-        let area = all(bench, Kind::Rewritable);
-        let store = mounted::<ZmsOpen, B, L, R>(rt, alloc, bench, area, units, steps)?;
-        assert!(rt; store.get(bench, 2, steps).unwrap_or(b"") == [59; 147].as_slice());
-    }
-    Ok(())
-}
-
-// With a counter of steps.
-fn exercise<B: Bench, L: Ledger, R: Abort>(
-    rt: &R,
-    alloc: Global,
-    bench: &mut B,
-    blank: Blank,
-) -> Result<(), Fail>
+fn exercise<B: Views, L: Ledger, R: Abort>(rt: &R, alloc: Global, bench: &mut B, blank: Blank)
     requires name { blank.name ≡ L.name }
     requires parts { blank.parts ≡ L.parts }
     requires some { 0 < L.parts }
 {
     let mut steps = Steps::<L>::new(blank);
-    rounds(rt, alloc, bench, &mut steps)?;
-    after_a_cut(rt, alloc, bench, &mut steps)?;
-    erases(rt, alloc, bench, &mut steps)?;
-    lays(rt, alloc, bench, &mut steps)?;
-    losses(rt, alloc, bench, &mut steps)
+    let erased: (Kind, &[Put]) = (Kind::Erasing, &[]);
+    let blank: (Kind, &[Put]) = (Kind::Rewritable, &[]);
+    on(rt, alloc, bench, erased, ON_ERASED, &FROM_0, &mut steps);
+    on(
+        rt,
+        alloc,
+        bench,
+        (Kind::Erasing, &USED),
+        INTO_USED,
+        &FROM_0,
+        &mut steps,
+    );
+    on(
+        rt,
+        alloc,
+        bench,
+        (Kind::Erasing, &LEFT),
+        BEHIND_LEFT,
+        &FROM_0,
+        &mut steps,
+    );
+    on(
+        rt,
+        alloc,
+        bench,
+        (Kind::Rewritable, &CUT),
+        AFTER_CUT,
+        &FROM_5,
+        &mut steps,
+    );
+    on(
+        rt,
+        alloc,
+        bench,
+        (Kind::Erasing, &CUT),
+        AFTER_CUT,
+        &FROM_7,
+        &mut steps,
+    );
+    on(rt, alloc, bench, blank, ON_BLANK, &ROUNDS, &mut steps);
+    for row in LOSSES.iter() {
+        on(rt, alloc, bench, blank, THIRTEEN, row, &mut steps);
+    }
+    on(rt, alloc, bench, blank, ONE, &CLOSED, &mut steps);
+    let area = all(bench, Kind::Rewritable);
+    let sector = sector_view(bench, &area, 0, &mut steps);
+    assert!(rt; sector.starts_with(&[5, 5, 5, 5, 5, 5, 5, 5, 5, 0xFF]) && sector.ends_with(&ENDS));
 }
 
 #[test]
-fn three_sectors_of_zms(rt: HostRuntime) -> Result<(), Fail> {
+fn three_sectors_of_zms(rt: HostRuntime) {
     let alloc = rt.alloc();
-    let mut sim = FlatSim::new(alloc);
-    exercise::<FlatSim, Brand, HostRuntime>(&rt, alloc, &mut sim, Blank::new(1))
+    let mut sim = CountedSim::new(alloc);
+    exercise::<CountedSim, Brand, HostRuntime>(&rt, alloc, &mut sim, Blank::new(1));
 }

@@ -28,17 +28,17 @@ fn entry_bytes(rt: HostRuntime) {
         id: 0xFFFF_FFFF,
         tail: [0; 8],
     };
-    for (entry, bytes) in [
+    let rows = [
         (value, value_bytes),
         (name, name_bytes),
         (empty_entry, empty),
-    ] {
-        assert!(rt; encode_zentry(&entry) == bytes);
-        assert_eq!(rt; decode_zentry(&bytes), Some(entry));
+    ];
+    for (entry, bytes) in rows.iter() {
+        assert!(rt; encode_zentry(entry) == *bytes);
+        assert!(rt; decode_zentry(bytes) == Some(*entry));
     }
-    for bytes in [fill_unit(), [0xFF; 16]] {
-        assert_eq!(rt; decode_zentry(&bytes), None);
-    }
+    assert!(rt; decode_zentry(&fill_unit()).is_none());
+    assert!(rt; decode_zentry(&[0xFF; 16]).is_none());
 }
 
 // A sector of six units: the empty entry, an entry in slot 2, and the same under an erased unit,
@@ -64,21 +64,15 @@ fn one_sector_read(rt: HostRuntime) {
         data_end: 32,
         gc_done: false,
     };
-    let found = (entry_in(&sector, 2), entry_in(&sector, 0));
-    assert_eq!(rt;
-        (
-            read_sector(&sector, Kind::Rewritable),
-            found,
-            offset_of(&entry)
-        ),
-        (state, (Some(SlotEntry { slot: 2, entry }), None), 16)
-    );
+    assert!(rt; read_sector(&sector, Kind::Rewritable) == state);
+    assert!(rt; entry_in(&sector, 2) == Some(SlotEntry { slot: 2, entry }));
+    assert!(rt; entry_in(&sector, 0).is_none() && offset_of(&entry) == 16);
 }
 
 #[test]
 fn room(rt: HostRuntime) {
-    for (len, data) in [(0, 0), (8, 0), (9, 16), (16, 16), (17, 32)] {
-        assert_eq!(rt; (data_len(len), cost(len)), (data, data + 16));
+    for (len, data) in [(0, 0), (8, 0), (9, 16), (16, 16), (17, 32)].iter() {
+        assert!(rt; data_len(*len) == *data && cost(*len) == *data + 16);
     }
-    assert_eq!(rt; (capacity(512), capacity(64)), (432, 0));
+    assert!(rt; capacity(512) == 432 && capacity(64) == 0);
 }

@@ -8,12 +8,11 @@ ghost use Rattle.item_tests.specs.Steps.{BeginsWith};
 use crate::zms::load;
 use arrayvec::ArrayString;
 use flash_map::{Area, Role, sector_view};
-use flash_sim::{Bench, Flash, FlatSim, Kind, Steps};
+use flash_sim::{Bench, Flash, FlatSim, Kind, PowerLost, Steps};
 use std::alloc::Global;
 use std::marker::Brand;
 use std::process::Abort;
 use std::sync::ledger::{Blank, Ledger};
-use std::test::Fail;
 use zms_cycle::{SectorState, close, copy_entry, empty_sector, put_done, put_entry, state};
 
 const NINE: [u8; 9] = [1, 2, 3, 4, 5, 6, 7, 8, 9];
@@ -42,7 +41,11 @@ fn two<B: Bench>(_bench: &B) -> Area
 }
 
 // Two values in the first sector, which is closed then.
-fn fills<F: Flash, L: Ledger>(flash: &mut F, area: &Area, steps: &mut Steps<L>) -> Result<(), Fail>
+fn fills<F: Flash, L: Ledger>(
+    flash: &mut F,
+    area: &Area,
+    steps: &mut Steps<L>,
+) -> Result<(), PowerLost>
     requires { IsZmsSector (F.device flash.old) area.now 1 }
     ensures second { OnOk result (IsZmsSector (F.device flash.new) area.now 1) }
     ensures first { OnOk result (BeginsWith (F.device flash.new) area.now 0 7 NINE) }
@@ -55,7 +58,11 @@ fn fills<F: Flash, L: Ledger>(flash: &mut F, area: &Area, steps: &mut Steps<L>) 
 }
 
 // The first of them in the second sector, followed by gc-done.
-fn copies<F: Flash, L: Ledger>(flash: &mut F, area: &Area, steps: &mut Steps<L>) -> Result<(), Fail>
+fn copies<F: Flash, L: Ledger>(
+    flash: &mut F,
+    area: &Area,
+    steps: &mut Steps<L>,
+) -> Result<(), PowerLost>
     requires second { IsZmsSector (F.device flash.old) area.now 1 }
     requires first { BeginsWith (F.device flash.old) area.now 0 7 NINE }
     ensures { OnOk result (IsZmsSector (F.device flash.new) area.now 1) }
@@ -76,36 +83,26 @@ fn used(closed: bool, gc_done: bool) -> SectorState {
     }
 }
 
-fn exercise<B: Bench, L: Ledger, R: Abort>(
-    rt: &R,
-    alloc: Global,
-    bench: &mut B,
-    blank: Blank,
-) -> Result<(), Fail>
+fn exercise<B: Bench, L: Ledger, R: Abort>(rt: &R, alloc: Global, bench: &mut B, blank: Blank)
     requires name { blank.name ≡ L.name }
     requires parts { blank.parts ≡ L.parts }
     requires some { 0 < L.parts }
 {
     let mut steps = Steps::<L>::new(blank);
-    load(rt, alloc, bench, Kind::Rewritable, &[])?;
+    load(rt, alloc, bench, Kind::Rewritable, &[]);
     let area = two(bench);
-    fills(bench, &area, &mut steps)?;
-    copies(bench, &area, &mut steps)?;
-    let first = state(bench, &area, 0, &mut steps);
-    let second = state(bench, &area, 1, &mut steps);
-    let closed = sector_view(bench, &area, 0, &mut steps).ends_with(&CLOSED);
+    fills(bench, &area, &mut steps).expect(rt, "power");
+    copies(bench, &area, &mut steps).expect(rt, "power");
+    assert!(rt; state(bench, &area, 0, &mut steps) == used(true, false));
+    assert!(rt; state(bench, &area, 1, &mut steps) == used(false, true));
+    assert!(rt; sector_view(bench, &area, 0, &mut steps).ends_with(&CLOSED));
     let copied = sector_view(bench, &area, 1, &mut steps);
-    let copied = copied.starts_with(&NINE) && copied.ends_with(&COPIED);
-    assert_eq!(rt;
-        (first, second, closed, copied, bench.spent()),
-        (used(true, false), used(false, true), true, true, 36)
-    );
-    Ok(())
+    assert!(rt; copied.starts_with(&NINE) && copied.ends_with(&COPIED) && bench.spent() == 36);
 }
 
 #[test]
-fn two_sectors_in_turn(rt: HostRuntime) -> Result<(), Fail> {
+fn two_sectors_in_turn(rt: HostRuntime) {
     let alloc = rt.alloc();
     let mut sim = FlatSim::new(alloc);
-    exercise::<FlatSim, Brand, HostRuntime>(&rt, alloc, &mut sim, Blank::new(1))
+    exercise::<FlatSim, Brand, HostRuntime>(&rt, alloc, &mut sim, Blank::new(1));
 }

@@ -192,7 +192,7 @@ fn on<B: Views, L: Ledger, R: Abort>(
     steps: &mut Steps<L>,
 )
     ensures { (B.device bench.new).banks ≡
-        (record { kind = bank.0; unit = 16; sector = 512; count = 3 }) ∷ [] }
+        (record { kind = bank.entry.0; unit = 16; sector = 512; count = 3 }) ∷ [] }
 {
     let (kind, puts) = bank;
     load(rt, alloc, bench, kind, puts);

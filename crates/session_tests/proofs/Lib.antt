@@ -1,4 +1,4 @@
-mod LogBed
+mod OneBank
 mod PairLemmas
 mod TestBeds
 mod TestLemmas

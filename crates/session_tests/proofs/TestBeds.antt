@@ -5,25 +5,14 @@ use Rattle.std.proofs.lemmas.Bool.{false≢true}
 use Rattle.std.proofs.lemmas.Option.{none-some}
 use Rattle.flash_sim.specs.Bank.{IsLawful, IsLawfulBank, bank_at, capacity}
 use Rattle.flash_sim.specs.Device.{Device}
-use Rattle.flash_sim.specs.declared.flash.Bank.{Bank}
 use Rattle.flash_sim.specs.declared.flash.Kind.TheVariants.{Erasing, Rewritable}
-use Rattle.flash_map.specs.Area.{AreApart, geometry_of, sectors_of}
-use Rattle.flash_map.specs.Touches.{Touches}
-use Rattle.flash_map.specs.On.{StandsOn}
-use Rattle.flash_map.proofs.Apart.{same_apart}
+use Rattle.flash_map.specs.Area.{AreApart, geometry_of}
 use Rattle.fcb_ring.specs.Standing.{IsRingArea}
 use Rattle.flash_map.specs.Lawful.{IsLawfulFor}
 use Rattle.flash_map.specs.declared.area.Area.{Area}
 use Rattle.flash_map.specs.declared.area.Role.TheVariants.{Nvs, Zms, Fcb, Sel}
-use Rattle.any_backend.specs.declared.backend.AnyBackend.{AnyBackend}
 use Rattle.any_backend.specs.ByRole.{any_serves}
-use Rattle.any_backend.specs.Standing.{area_of, Stands, IsReady}
-use Rattle.migrator.specs.declared.selecting.Selector.{Selector}
-use Rattle.session_tests.specs.Beds.{bed_banks, placed, IsBed, Serves}
-use Rattle.migrator.specs.Choosing.{IsOpen}
-use Rattle.migrator.specs.Active.{active_in}
-use Rattle.migrator.proofs.Moving.{open-still, active-still}
-use Rattle.migrator.proofs.Migration.{selector-apart, active-on, active-store, store-of}
+use Rattle.session_tests.specs.Beds.{bed_banks, placed, IsBed}
 use Rattle.migrator.specs.Areas.{IsLawfulMap, is_store, is_store_at, selector_of}
 
 some-same : {X : Type 0} (x y : X) → Some x ≡ Some y → x ≡ y
@@ -166,14 +155,14 @@ module _ (n f z s : Area) where
   pub areas-selector : selector_of the_areas ≡ Some (placed s Sel 0 4)
   areas-selector = refl
 
--- ---- the store of the active area
-
-pub ready-of : (areas : List Area) (d : Device) (selector : Selector) (backend : AnyBackend) (active : ℕ) → Serves areas d selector backend active → IsReady d backend
-ready-of areas d selector backend active served = record { lawful = served.lawful.each active (area_of backend) served.there; stands = served.up }
+-- ---- the areas of a bed
 
 module _ (areas : List Area) (bed : IsBed areas) where
   pub third-store : is_store_at areas 2 ≡ true
   third-store = ap (λ (l : List Area). is_store_at l 2) bed.are
+
+  pub some-areas : 0 < length areas
+  some-areas = subst (λ (l : List Area). 0 < length l) (sym bed.are) (omega arith)
 
   pub bed-lawful : IsLawfulMap bed_banks areas
   bed-lawful = subst (IsLawfulMap bed_banks) (sym bed.are) (areas-lawful bed.n bed.f bed.z bed.s)
@@ -181,50 +170,8 @@ module _ (areas : List Area) (bed : IsBed areas) where
   pub bed-served : (d : Device) → d.banks ≡ bed_banks → (i : ℕ) (area : Area) → slice_get areas i ≡ Some area → is_store area ≡ true → any_serves area (geometry_of d area)
   bed-served d banks i area at store = areas-served bed.n bed.f bed.z bed.s d banks i area (sym (ap (λ (l : List Area). slice_get l i) bed.are) ∙ at) store
 
-  pub bed-version : (i : ℕ) (area : Area) → slice_get areas i ≡ Some area → area.version ≡ 1
-  bed-version i area at = each-version bed.n bed.f bed.z bed.s i area (sym (ap (λ (l : List Area). slice_get l i) bed.are) ∙ at)
-
-  pub bed-selector : (area : Area) → slice_get areas 3 ≡ Some area → selector_of areas ≡ Some area
-  bed-selector area at = ap selector_of bed.are ∙ (sym (ap (λ (l : List Area). slice_get l 3) bed.are) ∙ at)
-
-  -- the devices with banks of the tests
-  pub map-lawful : (d : Device) → d.banks ≡ bed_banks → IsLawfulMap d.banks areas
-  map-lawful d banks = subst (λ (all : List Bank). IsLawfulMap all areas) (sym banks) bed-lawful
-
-  pub ring-area : (d : Device) (named : Area) → d.banks ≡ bed_banks → slice_get areas 3 ≡ Some named → IsRingArea d.banks named
-  ring-area d named banks at = record { lawful = (map-lawful d banks).each 3 named at; role = inr role }
+  pub ring-area : (d : Device) (named : Area) → IsLawfulMap d.banks areas → slice_get areas 3 ≡ Some named → IsRingArea d.banks named
+  ring-area d named lawful at = record { lawful = lawful.each 3 named at; role = inr role }
     where
       role : named.role ≡ Sel
       role = sym (ap (λ (a : Area). a.role) (some-same (placed bed.s Sel 0 4) named (sym (ap (λ (l : List Area). slice_get l 3) bed.are) ∙ at)))
-
-  pub active-is-store : (d : Device) (selector : Area) (active : ℕ) → active ≡ active_in areas d selector → is_store_at areas active ≡ true
-  active-is-store d selector active is =
-      subst (λ (i : ℕ). is_store_at areas i ≡ true) (sym is) (active-store areas d selector 0 (subst (λ (l : List Area). is_store_at l 0 ≡ true) (sym bed.are) refl))
-
-  pub active-serves : (d : Device) (selector area : Area) (active : ℕ) → d.banks ≡ bed_banks → active ≡ active_in areas d selector → slice_get areas active ≡ Some area → any_serves area (geometry_of d area)
-  active-serves d selector area active banks is at = bed-served d banks active area at (store-of areas active area at (active-is-store d selector active is))
-
-  -- the selector is mounted, and then the store of the active area
-  pub mounted-serves : (b e : Device) (selector : Selector) (backend : AnyBackend) (active : ℕ) (named area : Area)
-      → IsLawful b.banks b.bytes → IsLawful e.banks e.bytes → b.banks ≡ bed_banks
-      → slice_get areas 3 ≡ Some named → IsOpen b selector.ring → selector.ring.area ≡ named
-      → active ≡ active_in areas b selector.ring.area → slice_get areas active ≡ Some area
-      → Touches (area ∷ []) b e false → area_of backend ≡ area → StandsOn area_of Stands e backend → Serves areas e selector backend active
-  mounted-serves b e selector backend active named area lawful lawful_new banks at is_open on is at_area touches mounted stands = record {
-    lawful = map-lawful e (touches.banks ∙ banks);
-    served = bed-served e (touches.banks ∙ banks);
-    selected = selected;
-    open_ring = open-still b e selector.ring touches.banks same is_open;
-    there = at_area ∙ ap (λ (a : Area). Some a) (sym mounted);
-    up = stands;
-    is_active = is ∙ sym (active-still areas b e selector.ring.area touches.banks same) ∙ sym (active-on areas e selector.ring.area selected);
-  }
-    where
-      selected : selector_of areas ≡ Some selector.ring.area
-      selected = bed-selector named at ∙ ap (λ (a : Area). Some a) (sym on)
-
-      apart : AreApart area selector.ring.area
-      apart = (selector-apart b.banks areas selector.ring.area area active (map-lawful b banks) selected at_area (active-is-store b selector.ring.area active is)).1
-
-      same : sectors_of e selector.ring.area ≡ sectors_of b selector.ring.area
-      same = same_apart lawful lawful_new is_open.stands.area.lawful.in_bank apart touches

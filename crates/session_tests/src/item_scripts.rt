@@ -1,18 +1,17 @@
 // Scripts on the items of two small sectors, of NVS and of ZMS. Answers are those of an independent
 // reading of the same scripts.
-ghost use Rattle.std.specs.Prelude.{◌≡◌, ◌<◌, ◌∷◌, [], OnOk};
+ghost use Rattle.std.specs.Prelude.{◌≡◌, ◌<◌, ◌∷◌, []};
 ghost use Rattle.flash_map.specs.declared.area.Role.TheVariants.{Nvs as nvs_role, Zms as zms_role};
 ghost use Rattle.flash_map.specs.Area.{geometry_of};
 ghost use Rattle.item_session.specs.Line.{ids_end};
 ghost use Rattle.item_session.specs.Device.{TakesValues};
 ghost use Rattle.item_store.specs.Standing.{IsStoreArea};
 
+use crate::checks::{load_one, row, spelled};
 use arrayvec::ArrayString;
 use flash_map::{Area, Role};
 use flash_sim::{Bank, Bench, FlatSim, Kind, Steps};
-use item_session::{
-    Answer, Ids, SessionFault, answer_text, areas_take_values, read_script, run_lines,
-};
+use item_session::{Answer, Ids, answer_text, areas_take_values, read_script, run_lines};
 use item_store::SlotSectors;
 use nvs_gc::NvsOpen;
 use std::alloc::Global;
@@ -50,46 +49,29 @@ fn zms_area<B: Bench>(_bench: &B) -> Area
     Area::new(ArrayString::new(), Role::Zms, 0, 0, 2, 1)
 }
 
-fn load_nvs<B: Bench>(alloc: Global, bench: &mut B, size: usize) -> Result<(), Fail>
-    requires { size ≡ 1024 }
-    ensures { OnOk result ((B.device bench.new).banks ≡ NVS ∷ []) }
-{
-    let banks = vec![in alloc; NVS]?;
-    let bytes = vec![in alloc; vec![in alloc; 255u8; size]?]?;
-    bench.load(alloc, banks, bytes)?;
-    Ok(())
-}
-
-fn load_zms<B: Bench>(alloc: Global, bench: &mut B, size: usize) -> Result<(), Fail>
-    requires { size ≡ 1024 }
-    ensures { OnOk result ((B.device bench.new).banks ≡ ZMS ∷ []) }
-{
-    let banks = vec![in alloc; ZMS]?;
-    let bytes = vec![in alloc; vec![in alloc; 255u8; size]?]?;
-    bench.load(alloc, banks, bytes)?;
-    Ok(())
-}
-
 // ---- runs
 
-fn reported(alloc: Global, answers: &[Answer]) -> Result<String, Fail> {
+// The texts of all these answers.
+fn texts<R: Abort>(rt: &R, alloc: Global, answers: &[Answer]) -> Vec<u8> {
     let mut all = Vec::new(alloc);
     for answer in answers {
-        let text = answer_text(alloc, answer).map_err(|_| "no memory")?;
-        all.extend_from_slice(text.as_slice())?;
+        let text = answer_text(alloc, answer).expect(rt, "memory");
+        all.extend_from_slice(text.as_slice()).expect(rt, "memory");
     }
-    Ok(String::from_utf8_lossy(alloc, all.as_slice())?)
+    all
 }
 
-// The texts of all answers to a script on an area.
-fn transcript<T: SlotSectors, B: Bench, L: Ledger>(
+// A script on an area has answers with these texts.
+fn answers_to<T: SlotSectors, B: Bench, L: Ledger, R: Abort>(
+    rt: &R,
     alloc: Global,
     bench: &mut B,
     area: &Area,
     ids: Ids,
     script: &str,
+    expected: &str,
     steps: &mut Steps<L>,
-) -> Result<String, Fail>
+)
     requires area { IsStoreArea T.role (B.device bench.old).banks area.now }
     requires values { TakesValues T.format_of (B.device bench.old) area.now }
     requires ids { ids_end ids ≡ (T.format_of (geometry_of (B.device bench.old) area.now)).ids }
@@ -97,43 +79,23 @@ fn transcript<T: SlotSectors, B: Bench, L: Ledger>(
     let limit = area.value_limit() as usize;
     let lines = match read_script(alloc, script.as_bytes(), ids, limit) {
         Ok(lines) => lines,
-        Err(_) => return Err("refused")?,
+        Err(_) => rt.panic("a line is refused"),
     };
     match run_lines::<T, B, L>(alloc, lines.as_slice(), bench, area, steps) {
-        Ok(answers) => reported(alloc, answers.as_slice()),
-        Err(SessionFault::Damaged(_)) => Err("damaged")?,
-        Err(SessionFault::NoMemory) => Err("no memory")?,
+        Ok(answers) => {
+            let text = texts(rt, alloc, answers.as_slice());
+            row(rt, script, text.as_slice() == expected.as_bytes());
+        }
+        Err(_) => rt.panic("the run ends early"),
     }
-}
-
-fn nvs_transcript<B: Bench, L: Ledger>(
-    alloc: Global,
-    bench: &mut B,
-    script: &str,
-    steps: &mut Steps<L>,
-) -> Result<String, Fail> {
-    load_nvs(alloc, bench, 1024)?;
-    let area = nvs_area(bench);
-    areas_take_values();
-    transcript::<NvsOpen, B, L>(alloc, bench, &area, Ids::Short, script, steps)
-}
-
-fn zms_transcript<B: Bench, L: Ledger>(
-    alloc: Global,
-    bench: &mut B,
-    script: &str,
-    steps: &mut Steps<L>,
-) -> Result<String, Fail> {
-    load_zms(alloc, bench, 1024)?;
-    let area = zms_area(bench);
-    areas_take_values();
-    transcript::<ZmsOpen, B, L>(alloc, bench, &area, Ids::Long, script, steps)
 }
 
 // ---- the rows
 
-// What a script on NVS reports of one id; losses in a set and in a delete.
-const ON_NVS: [(&str, &str); 3] = [
+// What a script on NVS reports of one id; losses in a set and in a delete; values that take a
+// collection, and what is kept of them; a value for which another one leaves no room until that one
+// is deleted.
+const ON_NVS: [(&str, &str); 5] = [
     (
         "set 1 01\nset 1 02\ndel 1\nolder 1 0\nolder 1 1\nolder 1 2\nolder 1 3\nspace\n",
         "ok 0\nok 3\nok 3\nok 2\ndeleted\nvalue 02\nvalue 01\ngone\nspace 0 32 480\n",
@@ -146,6 +108,14 @@ const ON_NVS: [(&str, &str); 3] = [
         "cut 0\nuncut\nset 1 01\ncut 1\ndel 1\nmount\nget 1\nolder 1 0\ncut 2\ndel 1\nget 1\nolder 1 0\nmount\n",
         "ok 0\nok 0\nok 0\nok 3\nok 0\nlost 1\nok 0\nvalue 01\nvalue 01\nok 0\nok 2\nnone\ndeleted\nok 0\n",
     ),
+    (
+        "set 1 11*100\nset 1 22*100\nset 1 33*100\nset 1 44*100\nset 1 55*100\nolder 1 1\nolder 1 2\nspace\n",
+        "ok 0\nok 27\nok 27\nok 27\nok 27\nok 59\nvalue 44*100\ngone\nspace 108 108 372\n",
+    ),
+    (
+        "set 1 11*256\nset 2 22*256\ndel 1\nset 2 22*256\nget 1\nolder 1 0\nspace\n",
+        "ok 0\nok 66\nnospace 71\nok 2\nok 71\nnone\ngone\nspace 264 0 216\n",
+    ),
 ];
 
 const ON_ZMS: (&str, &str) = (
@@ -153,52 +123,35 @@ const ON_ZMS: (&str, &str) = (
     "ok 0\nok 2\nspace 16 0 416\nok 0\nok 1\nok 2\nvalue 01\nok 1\ndeleted\nvalue 01\nspace 32 48 400\nvalue 0102030405060708090a\nok 0\nlost 1\nok 0\nnone\nspace 32 48 400\n",
 );
 
-// These words, then a value of so many times two digits, and LF.
-fn add_value(text: &mut String, words: &str, digits: &str, count: u32) -> Result<(), Fail> {
-    text.push_str(words)?;
-    for _ in 0..count {
-        text.push_str(digits)?;
-    }
-    text.push_str("\n")?;
-    Ok(())
-}
-
-// Values of one id that take a collection, and what is kept of them.
-fn collects<B: Bench, L: Ledger, R: Abort>(
+fn on_nvs<B: Bench, L: Ledger, R: Abort>(
     rt: &R,
     alloc: Global,
     bench: &mut B,
+    script: &str,
+    expected: &str,
     steps: &mut Steps<L>,
 ) -> Result<(), Fail> {
-    let mut script = String::new(alloc);
-    for digits in ["11", "22", "33", "44", "55"] {
-        add_value(&mut script, "set 1 ", digits, 100)?;
-    }
-    script.push_str("older 1 1\nolder 1 2\nspace\n")?;
-    let mut expected = String::from_str(alloc, "ok 0\nok 27\nok 27\nok 27\nok 27\nok 59\n")?;
-    add_value(&mut expected, "value ", "44", 100)?;
-    expected.push_str("gone\nspace 108 108 372\n")?;
-    let text = nvs_transcript(alloc, bench, script.as_str(), steps)?;
-    assert_eq!(rt; text.as_str(), expected.as_str());
+    load_one(alloc, bench, NVS, 1024)?;
+    let area = nvs_area(bench);
+    areas_take_values();
+    let ids = Ids::Short;
+    answers_to::<NvsOpen, B, L, R>(rt, alloc, bench, &area, ids, script, expected, steps);
     Ok(())
 }
 
-// A value for which another one leaves no room until that one is deleted.
-fn finds_no_room<B: Bench, L: Ledger, R: Abort>(
+fn on_zms<B: Bench, L: Ledger, R: Abort>(
     rt: &R,
     alloc: Global,
     bench: &mut B,
+    script: &str,
+    expected: &str,
     steps: &mut Steps<L>,
 ) -> Result<(), Fail> {
-    let mut script = String::new(alloc);
-    add_value(&mut script, "set 1 ", "11", 256)?;
-    add_value(&mut script, "set 2 ", "22", 256)?;
-    script.push_str("del 1\n")?;
-    add_value(&mut script, "set 2 ", "22", 256)?;
-    script.push_str("get 1\nolder 1 0\nspace\n")?;
-    let text = nvs_transcript(alloc, bench, script.as_str(), steps)?;
-    let expected = "ok 0\nok 66\nnospace 71\nok 2\nok 71\nnone\ngone\nspace 264 0 216\n";
-    assert_eq!(rt; text.as_str(), expected);
+    load_one(alloc, bench, ZMS, 1024)?;
+    let area = zms_area(bench);
+    areas_take_values();
+    let ids = Ids::Long;
+    answers_to::<ZmsOpen, B, L, R>(rt, alloc, bench, &area, ids, script, expected, steps);
     Ok(())
 }
 
@@ -214,14 +167,19 @@ fn sessions<B: Bench, L: Ledger, R: Abort>(
     requires some { 0 < L.parts }
 {
     let mut steps = Steps::<L>::new(blank);
-    for (script, expected) in ON_NVS {
-        let text = nvs_transcript(alloc, bench, script, &mut steps)?;
-        assert_eq!(rt; text.as_str(), expected);
+    for (script, expected) in ON_NVS.iter() {
+        let script = spelled(rt, alloc, script);
+        let expected = spelled(rt, alloc, expected);
+        on_nvs(
+            rt,
+            alloc,
+            bench,
+            script.as_str(),
+            expected.as_str(),
+            &mut steps,
+        )?;
     }
-    let text = zms_transcript(alloc, bench, ON_ZMS.0, &mut steps)?;
-    assert_eq!(rt; text.as_str(), ON_ZMS.1);
-    collects(rt, alloc, bench, &mut steps)?;
-    finds_no_room(rt, alloc, bench, &mut steps)
+    on_zms(rt, alloc, bench, ON_ZMS.0, ON_ZMS.1, &mut steps)
 }
 
 #[test]

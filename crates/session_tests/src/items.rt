@@ -1,8 +1,10 @@
 // Lines on numbered items and texts of their answers, against the grammar's table.
+use crate::checks::row;
 use item_session::{
     Answer, Bytes, Ids, Line, LineWhy, ScriptFault, answer_text, is_lost, read_script, units_of,
 };
-use std::test::Fail;
+use std::alloc::Global;
+use std::process::Abort;
 
 // A line's word, its numbers, and its value.
 fn parts(line: &Line) -> (&str, u64, u64, &[u8]) {
@@ -18,26 +20,27 @@ fn parts(line: &Line) -> (&str, u64, u64, &[u8]) {
     }
 }
 
+const FORMS: &[u8] =
+    b"set 1 0aFf\nget 65534\n#\n\ndel 3\nolder 4294967294 4294967295\nspace\ncut 4294967295\nuncut\nmount";
+
+const LINES: [(&str, u64, u64, &[u8]); 8] = [
+    ("set", 1, 0, b"\x0A\xFF"),
+    ("get", 65534, 0, b""),
+    ("del", 3, 0, b""),
+    ("older", 4_294_967_294, 4_294_967_295, b""),
+    ("space", 0, 0, b""),
+    ("cut", 4_294_967_295, 0, b""),
+    ("uncut", 0, 0, b""),
+    ("mount", 0, 0, b""),
+];
+
 #[test]
-fn each_form(rt: HostRuntime) -> Result<(), Fail> {
-    let text =
-        b"set 1 0aFf\nget 65534\n#\n\ndel 3\nolder 4294967294 4294967295\nspace\ncut 4294967295\nuncut\nmount";
-    let lines = read_script(rt.alloc(), text, Ids::Long, 2)?;
-    let rows: [(&str, u64, u64, &[u8]); 8] = [
-        ("set", 1, 0, b"\x0A\xFF"),
-        ("get", 65534, 0, b""),
-        ("del", 3, 0, b""),
-        ("older", 4_294_967_294, 4_294_967_295, b""),
-        ("space", 0, 0, b""),
-        ("cut", 4_294_967_295, 0, b""),
-        ("uncut", 0, 0, b""),
-        ("mount", 0, 0, b""),
-    ];
-    assert_eq!(rt; lines.len(), rows.len());
-    for (line, row) in lines.iter().zip(rows) {
-        assert!(rt; parts(line) == row);
+fn each_form(rt: HostRuntime) {
+    let lines = read_script(rt.alloc(), FORMS, Ids::Long, 2).expect(&rt, "lines");
+    row(&rt, "lines", lines.len() == LINES.len());
+    for (line, expected) in lines.iter().zip(LINES.iter()) {
+        row(&rt, expected.0, parts(line) == *expected);
     }
-    Ok(())
 }
 
 // A text, and the number of its first refused line, with the cause; values have at most 2 bytes.
@@ -80,52 +83,69 @@ const REFUSED: [(&[u8], Ids, u64, LineWhy); 33] = [
 #[test]
 fn refused_lines(rt: HostRuntime) {
     for (text, ids, line, why) in REFUSED.iter() {
-        let fault = read_script(rt.alloc(), text, *ids, 2).err();
         let (line, why) = (*line, *why);
-        assert_eq!(rt; fault, Some(ScriptFault::BadLine { line, why }), "{text:?}");
+        let fault = read_script(rt.alloc(), text, *ids, 2).err();
+        assert!(rt;
+            fault == Some(ScriptFault::BadLine { line, why }),
+            "{text:?}"
+        );
     }
 }
 
+// An answer has this text, and says so many units and whether power was lost.
+fn reports<R: Abort>(
+    rt: &R,
+    alloc: Global,
+    answer: Answer,
+    expected: &str,
+    units: u64,
+    lost: bool,
+) {
+    let text = answer_text(alloc, &answer).expect(rt, "memory");
+    let same = text.as_slice() == expected.as_bytes();
+    row(
+        rt,
+        expected,
+        same && units_of(&answer) == units && is_lost(&answer) == lost,
+    );
+}
+
 #[test]
-fn texts(rt: HostRuntime) -> Result<(), Fail> {
+fn texts(rt: HostRuntime) {
     let alloc = rt.alloc();
-    let value = Bytes::from_vec(vec![in alloc; 0x0au8, 0xff]?);
-    let rows = [
-        (Answer::Done { units: 3 }, "ok 3\n", 3, false),
-        (Answer::Value { value }, "value 0aff\n", 0, false),
-        (Answer::Absent, "none\n", 0, false),
-        (Answer::Deleted, "deleted\n", 0, false),
-        (Answer::Gone, "gone\n", 0, false),
-        (
-            Answer::Space {
-                live: 12,
-                stale: 0,
-                free: 468,
-            },
-            "space 12 0 468\n",
-            0,
-            false,
-        ),
-        (
-            Answer::NoSpace {
-                units: 71,
-                need: 264,
-                live: 264,
-            },
-            "nospace 71\n",
-            71,
-            false,
-        ),
-        (Answer::Lost { units: 66 }, "lost 66\n", 66, true),
-        (Answer::Off, "off\n", 0, false),
-    ];
-    for (answer, expected, units, lost) in &rows {
-        let text = answer_text(alloc, answer).map_err(|_| "no memory")?;
-        let same = text.as_slice() == expected.as_bytes();
-        assert_eq!(rt;
-            (same, units_of(answer), is_lost(answer)),
-            (true, *units, *lost)
-        );
-    }
-    Ok(())
+    let bytes = Vec::from_slice(alloc, b"\x0A\xFF").expect(&rt, "memory");
+    let value = Bytes::from_vec(bytes);
+    let space = Answer::Space {
+        live: 12,
+        stale: 0,
+        free: 468,
+    };
+    let no_space = Answer::NoSpace {
+        units: 71,
+        need: 264,
+        live: 264,
+    };
+    reports(&rt, alloc, Answer::Done { units: 3 }, "ok 3\n", 3, false);
+    reports(
+        &rt,
+        alloc,
+        Answer::Value { value },
+        "value 0aff\n",
+        0,
+        false,
+    );
+    reports(&rt, alloc, Answer::Absent, "none\n", 0, false);
+    reports(&rt, alloc, Answer::Deleted, "deleted\n", 0, false);
+    reports(&rt, alloc, Answer::Gone, "gone\n", 0, false);
+    reports(&rt, alloc, space, "space 12 0 468\n", 0, false);
+    reports(&rt, alloc, no_space, "nospace 71\n", 71, false);
+    reports(
+        &rt,
+        alloc,
+        Answer::Lost { units: 66 },
+        "lost 66\n",
+        66,
+        true,
+    );
+    reports(&rt, alloc, Answer::Off, "off\n", 0, false);
 }

@@ -1,30 +1,21 @@
-ghost use Rattle.std.specs.Prelude.{◌≡◌, ◌<◌, ◌++◌, ◌∷◌, [], IfOk, OnOk, All, Some};
+// The banks and the areas of the tests of sessions, and the selector on them.
+ghost use Rattle.std.specs.Prelude.{◌≡◌, ◌++◌, ◌∷◌, [], IfOk, OnOk, All, Some};
 ghost use Rattle.std.specs.List.{slice_get};
 ghost use Rattle.flash_map.specs.Map.{HasVersion};
 ghost use Rattle.flash_map.specs.declared.area.Area.{Area as area_type};
-ghost use Rattle.any_backend.specs.Standing.{IsReady};
-ghost use Rattle.session_tests.specs.Beds.{IsBed, Serves, bed_banks, placed};
+ghost use Rattle.any_backend.specs.ByRole.{any_serves};
+ghost use Rattle.session.specs.OnMap.{IsServedMap};
+ghost use Rattle.session_tests.specs.Beds.{IsBed, bed_banks, placed};
 
-use any_backend::AnyBackend;
+use crate::checks::row;
 use arrayvec::ArrayString;
-use backend_api::Backend;
 use flash_map::{Area, FlashMap, Role};
-use flash_sim::{Bank, Bench, FlatSim, Kind, Steps};
-use migrator::{Selector, migrate, target};
-use setting_name::Name;
+use flash_sim::{Bank, Bench, Kind, Steps};
+use migrator::{Selector, target};
 use std::alloc::Global;
-use std::marker::Brand;
 use std::process::Abort;
-use std::sync::ledger::{Blank, Ledger};
+use std::sync::ledger::Ledger;
 use std::test::Fail;
-
-// The selector, and the store of the active area.
-#[derive(Drop)]
-struct Mounted {
-    selector: Selector,
-    backend: AnyBackend,
-    active: usize,
-}
 
 fn erasing() -> Bank
     ensures { result ≡ record { kind = Kind.Erasing; unit = 4; sector = 512; count = 6 } }
@@ -99,147 +90,23 @@ fn area_at(map: &FlashMap, index: usize) -> Result<Area, Fail>
     }
 }
 
-// The selector and the active store of these areas.
-fn mounts<B: Bench, L: Ledger>(
-    alloc: Global,
+// The first area is the active one. Chooses the last store area, with no setting moved.
+pub(crate) fn chooses<B: Bench, L: Ledger, R: Abort>(
+    rt: &R,
     bench: &mut B,
     map: &FlashMap,
     steps: &mut Steps<L>,
-) -> Result<Mounted, Fail>
+) -> Result<(), Fail>
     requires bed { IsBed map.now }
-    requires banks { (B.device bench.old).banks ≡ bed_banks }
-    ensures served { let d = B.device bench.new in
-        IfOk result (λ now. Serves map.now d now.selector now.backend now.active) }
-    ensures banks { OnOk result ((B.device bench.new).banks ≡ bed_banks) }
+    requires served { IsServedMap any_serves map.now (B.device bench.old) }
 {
     let named = area_at(map, 3)?;
-    let selector = Selector::mount(bench, named, steps)?;
+    let mut selector = Selector::mount(bench, named, steps)?;
+    let before = selector.active(bench, map, steps);
+    let next = target(map, 0);
+    selector.choose(bench, map, 2, steps)?;
     let active = selector.active(bench, map, steps);
-    let area = area_at(map, active)?;
-    let backend = AnyBackend::mount(alloc, bench, area, steps)?;
-    Ok(Mounted {
-        selector,
-        backend,
-        active,
-    })
-}
-
-// Gives the name `a` the value 01.
-fn sets<B: Bench, L: Ledger>(
-    alloc: Global,
-    bench: &mut B,
-    map: &FlashMap,
-    steps: &mut Steps<L>,
-) -> Result<(), Fail>
-    requires bed { IsBed map.now }
-    requires banks { (B.device bench.old).banks ≡ bed_banks }
-    ensures { OnOk result ((B.device bench.new).banks ≡ bed_banks) }
-{
-    let mut now = mounts(alloc, bench, map, steps)?;
-    let name = Name::read(b"a")?;
-    now.backend.set(bench, &name, &[1], steps)?;
+    row(rt, "moves", before == 0 && next == Some(1));
+    row(rt, "chooses", active == 2 && selector.is_up());
     Ok(())
-}
-
-// Whether the name `a` has that value.
-fn has<B: Bench, L: Ledger>(
-    backend: &AnyBackend,
-    bench: &B,
-    steps: &mut Steps<L>,
-) -> Result<bool, Fail>
-    requires { IsReady (B.device bench.now) backend.now }
-{
-    let name = Name::read(b"a")?;
-    Ok(backend.get(bench, &name, steps) == Some(&[1]))
-}
-
-// Moves the setting, which spends so many units. The area at this index is then active, and has it.
-fn moves<B: Bench, L: Ledger, R: Abort>(
-    rt: &R,
-    alloc: Global,
-    bench: &mut B,
-    map: &FlashMap,
-    now: &mut Mounted,
-    units: u64,
-    index: usize,
-    steps: &mut Steps<L>,
-) -> Result<(), Fail>
-    requires { let d = B.device bench.old in
-        Serves map.now d now.old.selector now.old.backend now.old.active }
-    ensures { let d = B.device bench.new in
-        OnOk result (Serves map.now d now.new.selector now.new.backend now.new.active) }
-{
-    let start = bench.spent();
-    let (backend, active) = migrate(
-        alloc,
-        bench,
-        map,
-        &mut now.selector,
-        &now.backend,
-        now.active,
-        steps,
-    )?;
-    now.backend = backend;
-    now.active = active;
-    let spent = bench.spent().saturating_sub(start);
-    let found = has(&now.backend, bench, steps)?;
-    assert_eq!(rt; (spent, active, found), (units, index, true));
-    Ok(())
-}
-
-// Chooses the last store area, with no setting moved.
-fn chooses<B: Bench, L: Ledger, R: Abort>(
-    rt: &R,
-    bench: &mut B,
-    map: &FlashMap,
-    now: &mut Mounted,
-    steps: &mut Steps<L>,
-) -> Result<(), Fail>
-    requires bed { IsBed map.now }
-    requires served { let d = B.device bench.old in
-        Serves map.now d now.old.selector now.old.backend now.old.active }
-{
-    let next = target(map, now.active);
-    now.selector.choose(bench, map, 2, steps)?;
-    let active = now.selector.active(bench, map, steps);
-    assert_eq!(rt; (next, active, now.selector.is_up()), (Some(1), 2, true));
-    Ok(())
-}
-
-// One migration after another, and then a choice.
-fn in_turn<B: Bench, L: Ledger, R: Abort>(
-    rt: &R,
-    alloc: Global,
-    bench: &mut B,
-    steps: &mut Steps<L>,
-) -> Result<(), Fail> {
-    let map = areas(alloc)?;
-    load(alloc, bench)?;
-    sets(alloc, bench, &map, steps)?;
-    let mut now = mounts(alloc, bench, &map, steps)?;
-    moves(rt, alloc, bench, &map, &mut now, 10, 1, steps)?;
-    moves(rt, alloc, bench, &map, &mut now, 6, 2, steps)?;
-    moves(rt, alloc, bench, &map, &mut now, 13, 0, steps)?;
-    chooses(rt, bench, &map, &mut now, steps)
-}
-
-fn exercise<B: Bench, L: Ledger, R: Abort>(
-    rt: &R,
-    alloc: Global,
-    bench: &mut B,
-    blank: Blank,
-) -> Result<(), Fail>
-    requires name { blank.name ≡ L.name }
-    requires parts { blank.parts ≡ L.parts }
-    requires some { 0 < L.parts }
-{
-    let mut steps = Steps::<L>::new(blank);
-    in_turn(rt, alloc, bench, &mut steps)
-}
-
-#[test]
-fn migrations_over_any_store(rt: HostRuntime) -> Result<(), Fail> {
-    let alloc = rt.alloc();
-    let mut sim = FlatSim::new(alloc);
-    exercise::<FlatSim, Brand, HostRuntime>(&rt, alloc, &mut sim, Blank::new(1))
 }

@@ -1,10 +1,12 @@
 // Rows of lines with the texts of all their answers. The tests of commands run such lines at once.
 ghost use Rattle.std.specs.Prelude.{◌≡◌, ◌<◌, IfOk, OnOk, All};
 ghost use Rattle.flash_map.specs.declared.area.TheConstants.{VALUE_LIMIT as ValueLimit};
+ghost use Rattle.any_backend.specs.ByRole.{any_serves};
 ghost use Rattle.session.specs.OnMap.{IsReady, IsServed, IsServedMap, limit_of};
 ghost use Rattle.session_tests.specs.Beds.{IsBed};
 
-use crate::migrations::{areas, load};
+use crate::checks::row;
+use crate::migrations::{areas, chooses, load};
 use any_backend::AnyBackend;
 use backend_api::Backend;
 use flash_map::{FlashMap, VALUE_LIMIT};
@@ -29,24 +31,28 @@ fn read(alloc: Global, script: &[u8]) -> Result<Vec<Line>, Fail>
 }
 
 // The label of the active area, and each name with the bytes of its value.
-fn report_names(text: &mut Vec<u8>, active: &[u8], pairs: &[Pair]) -> Result<(), Fail> {
-    text.extend_from_slice(b"names ")?;
-    text.extend_from_slice(active)?;
+fn report_names<R: Abort>(rt: &R, text: &mut Vec<u8>, active: &[u8], pairs: &[Pair]) {
+    text.extend_from_slice(b"names ").expect(rt, "memory");
+    text.extend_from_slice(active).expect(rt, "memory");
     for pair in pairs {
-        text.push(b' ')?;
-        text.extend_from_slice(pair.name.bytes())?;
-        text.push(b'=')?;
-        text.extend_from_slice(pair.value.as_slice())?;
+        text.push(b' ').expect(rt, "memory");
+        text.extend_from_slice(pair.name.bytes())
+            .expect(rt, "memory");
+        text.push(b'=').expect(rt, "memory");
+        text.extend_from_slice(pair.value.as_slice())
+            .expect(rt, "memory");
     }
-    Ok(text.push(b'\n')?)
+    text.push(b'\n').expect(rt, "memory");
 }
 
-fn report(alloc: Global, text: &mut Vec<u8>, answer: &Answer) -> Result<(), Fail> {
+fn report<R: Abort>(rt: &R, alloc: Global, text: &mut Vec<u8>, answer: &Answer) {
     match answer {
-        Answer::Names { active, pairs } => report_names(text, active.as_slice(), pairs.as_slice()),
+        Answer::Names { active, pairs } => {
+            report_names(rt, text, active.as_slice(), pairs.as_slice());
+        }
         other => {
-            let more = answer_text(alloc, other)?;
-            Ok(text.extend_from_slice(more.as_slice())?)
+            let more = answer_text(alloc, other).expect(rt, "memory");
+            text.extend_from_slice(more.as_slice()).expect(rt, "memory");
         }
     }
 }
@@ -77,7 +83,8 @@ fn answer_to<K: Backend, B: Bench, L: Ledger>(
 }
 
 // One line after the other.
-fn reported_in_turn<K: Backend, B: Bench, L: Ledger>(
+fn reported_in_turn<K: Backend, B: Bench, L: Ledger, R: Abort>(
+    rt: &R,
     alloc: Global,
     lines: &[Line],
     bench: &mut B,
@@ -86,13 +93,14 @@ fn reported_in_turn<K: Backend, B: Bench, L: Ledger>(
 ) -> Result<Vec<u8>, Fail>
     requires map { IsServedMap K.serves map.now (B.device bench.old) }
     requires lines { All (IsServed (limit_of map.now)) lines.now }
+    ensures { OnOk result (IsServedMap K.serves map.now (B.device bench.new)) }
 {
     let mut text = Vec::new(alloc);
     let (mut session, opened) = Session::<K>::open(alloc, bench, map, steps)?;
-    report(alloc, &mut text, &opened)?;
+    report(rt, alloc, &mut text, &opened);
     for line in lines {
         let answer = answer_to(alloc, &mut session, line, bench, map, steps)?;
-        report(alloc, &mut text, &answer)?;
+        report(rt, alloc, &mut text, &answer);
     }
     Ok(text)
 }
@@ -102,39 +110,49 @@ fn reported_in_turn<K: Backend, B: Bench, L: Ledger>(
 fn answers_in_turn<B: Bench, L: Ledger, R: Abort>(
     rt: &R,
     alloc: Global,
-    script: &[u8],
-    expected: &[u8],
+    script: &str,
+    expected: &str,
     bench: &mut B,
     map: &FlashMap,
     steps: &mut Steps<L>,
 ) -> Result<(), Fail>
     requires { IsBed map.now }
+    ensures { OnOk result (IsServedMap any_serves map.now (B.device bench.new)) }
 {
-    let lines = read(alloc, script)?;
+    let lines = read(alloc, script.as_bytes())?;
     load(alloc, bench)?;
-    let text = reported_in_turn::<AnyBackend, B, L>(alloc, lines.as_slice(), bench, map, steps)?;
-    assert!(rt; text.as_slice() == expected);
+    let text = reported_in_turn::<AnyBackend, B, L, R>(
+        rt,
+        alloc,
+        lines.as_slice(),
+        bench,
+        map,
+        steps,
+    )?;
+    row(rt, script, text.as_slice() == expected.as_bytes());
     Ok(())
 }
 
 // ---- rows
 
 // Power is lost in the first set, and is off until a mount; a plan that was dropped loses nothing.
-const LOSES: &[u8] =
-    b"cut 4\nset a 01\nget a\nset a 02\nmount\nget a\ncut 0\nuncut\nset a 01\nget a\ndel a\nget a\n";
+const LOSES: &str =
+    "cut 4\nset a 01\nget a\nset a 02\nmount\nget a\ncut 0\nuncut\nset a 01\nget a\ndel a\nget a\n";
 
-const LOST: &[u8] =
-    b"ok 0\nok 0\nlost 4\noff\noff\nok 0\nnone\nok 0\nok 0\nok 6\nvalue 01\nok 4\nnone\n";
+const LOST: &str =
+    "ok 0\nok 0\nlost 4\noff\noff\nok 0\nnone\nok 0\nok 0\nok 6\nvalue 01\nok 4\nnone\n";
 
 // A setting moves round the map.
-const MOVES: &[u8] = b"set a 01\nmigrate\nnames\nmigrate\nmigrate\nnames\n";
+const MOVES: &str =
+    "set a 01\nmigrate\nnames\nget a\nmigrate\nnames\nget a\nmigrate\nnames\nget a\n";
 
-const MOVED: &[u8] = b"ok 0\nok 9\nok 10\nnames f a=\x01\nok 6\nok 13\nnames n a=\x01\n";
+const MOVED: &str = "ok 0\nok 9\nok 10\nnames f a=\x01\nvalue 01\n\
+    ok 6\nnames z a=\x01\nvalue 01\nok 13\nnames n a=\x01\nvalue 01\n";
 
 // Power is lost before the record that names the target.
-const STAYS: &[u8] = b"set a 01\ncut 9\nmigrate\nmount\nnames\n";
+const STAYS: &str = "set a 01\ncut 9\nmigrate\nmount\nnames\n";
 
-const STAYED: &[u8] = b"ok 0\nok 9\nok 0\nlost 9\nok 0\nnames n a=\x01\n";
+const STAYED: &str = "ok 0\nok 9\nok 0\nlost 9\nok 0\nnames n a=\x01\n";
 
 fn exercise<B: Bench, L: Ledger, R: Abort>(
     rt: &R,
@@ -149,8 +167,9 @@ fn exercise<B: Bench, L: Ledger, R: Abort>(
     let mut steps = Steps::<L>::new(blank);
     let map = areas(alloc)?;
     answers_in_turn(rt, alloc, LOSES, LOST, bench, &map, &mut steps)?;
+    answers_in_turn(rt, alloc, STAYS, STAYED, bench, &map, &mut steps)?;
     answers_in_turn(rt, alloc, MOVES, MOVED, bench, &map, &mut steps)?;
-    answers_in_turn(rt, alloc, STAYS, STAYED, bench, &map, &mut steps)
+    chooses(rt, bench, &map, &mut steps)
 }
 
 #[test]

@@ -2,10 +2,11 @@
 ghost use Rattle.std.specs.Prelude.{IfOk};
 ghost use Rattle.script_lines.specs.Answer.{CanReport};
 
+use crate::checks::row;
 use handlers::HandlerKind;
 use script_lines::LineWhy::{Hex, Kind, Long, Number, Unknown, Words};
 use script_lines::{
-    Answer, Bytes, Line, LineFault, LineWhy, Pair, Pairs, SaveEnd, ScriptFault, answer_text,
+    Answer, Bytes, Label, Line, LineFault, LineWhy, Pair, Pairs, SaveEnd, ScriptFault, answer_text,
     gen_script, is_lost, read_label, read_script, units_of,
 };
 use setting_name::Name;
@@ -77,13 +78,12 @@ const LINES: [Parts<'static>; 22] = [
 ];
 
 #[test]
-fn each_form(rt: HostRuntime) -> Result<(), Fail> {
-    let lines = read_script(rt.alloc(), FORMS, 3)?;
-    assert_eq!(rt; lines.len(), LINES.len());
-    for (line, row) in lines.iter().zip(LINES.iter()) {
-        assert!(rt; parts(line) == *row);
+fn each_form(rt: HostRuntime) {
+    let lines = read_script(rt.alloc(), FORMS, 3).expect(&rt, "lines");
+    row(&rt, "lines", lines.len() == LINES.len());
+    for (line, expected) in lines.iter().zip(LINES.iter()) {
+        row(&rt, expected.0, parts(line) == *expected);
     }
-    Ok(())
 }
 
 // A text, and why and where it is refused; values have at most three bytes.
@@ -145,19 +145,21 @@ const REFUSED: [(&[u8], LineWhy, u64); 52] = [
 #[test]
 fn refused_lines(rt: HostRuntime) {
     for (text, why, line) in REFUSED.iter() {
-        let fault = read_script(rt.alloc(), text, 3).err();
         let (line, why) = (*line, *why);
-        assert_eq!(rt; fault, Some(ScriptFault::BadLine { line, why }), "{text:?}");
+        let fault = read_script(rt.alloc(), text, 3).err();
+        assert!(rt;
+            fault == Some(ScriptFault::BadLine { line, why }),
+            "{text:?}"
+        );
     }
 }
 
 // The text of an answer is this.
-fn reports<R: Abort>(rt: &R, alloc: Global, answer: Answer, expected: &str) -> Result<(), Fail>
+fn reports<R: Abort>(rt: &R, alloc: Global, answer: Answer, expected: &str)
     requires { CanReport answer }
 {
-    let text = answer_text(alloc, &answer).map_err(|_| "no memory")?;
-    assert!(rt; text.as_slice() == expected.as_bytes());
-    Ok(())
+    let text = answer_text(alloc, &answer).expect(rt, "memory");
+    row(rt, expected, text.as_slice() == expected.as_bytes());
 }
 
 fn bytes_of(alloc: Global, items: &[u8]) -> Result<Bytes, AllocError> {
@@ -185,21 +187,17 @@ fn names_of(alloc: Global, name: &[u8]) -> Result<Answer, Fail>
 #[test]
 fn texts(rt: HostRuntime) -> Result<(), Fail> {
     let alloc = rt.alloc();
-    let saved = |end| Answer::Saved {
-        pairs: 2,
-        units: 7,
-        end,
-    };
-    let full = SaveEnd::NoSpace { need: 1, live: 2 };
-    reports(&rt, alloc, saved(full), "saved 2 nospace 7\n")?;
-    reports(&rt, alloc, saved(SaveEnd::TooMany), "saved 2 toomany 7\n")?;
-    reports(&rt, alloc, Answer::TooMany { units: 3 }, "toomany 3\n")?;
-    reports(
-        &rt,
-        alloc,
-        names_of(alloc, b"a\"b/c\\d")?,
-        "{\"active\":\"main\",\"names\":{\"a\\\"b/c\\\\d\":\"ab\"}}\n",
-    )?;
+    let named = names_of(alloc, b"a\"b/c\\d")?;
+    let text = "{\"active\":\"main\",\"names\":{\"a\\\"b/c\\\\d\":\"ab\"}}\n";
+    reports(&rt, alloc, named, text);
+    let (pairs, units) = (2, 7);
+    let end = SaveEnd::NoSpace { need: 1, live: 2 };
+    let full = Answer::Saved { pairs, units, end };
+    reports(&rt, alloc, full, "saved 2 nospace 7\n");
+    let end = SaveEnd::TooMany;
+    let many = Answer::Saved { pairs, units, end };
+    reports(&rt, alloc, many, "saved 2 toomany 7\n");
+    reports(&rt, alloc, Answer::TooMany { units: 3 }, "toomany 3\n");
     Ok(())
 }
 
@@ -210,11 +208,8 @@ fn units_and_losses(rt: HostRuntime) {
         chance: true,
     };
     let absent = Answer::Absent;
-    let units = (units_of(&lost), units_of(&absent));
-    assert_eq!(rt;
-        (units, is_lost(&lost), is_lost(&absent)),
-        ((66, 0), true, false)
-    );
+    row(&rt, "lost", units_of(&lost) == 66 && is_lost(&lost));
+    row(&rt, "absent", units_of(&absent) == 0 && !is_lost(&absent));
 }
 
 // The word, the name, and the first byte and the length of the value of each generated line.
@@ -234,34 +229,42 @@ const GENERATED: [(&str, &[u8], Option<u8>, usize); 12] = [
 ];
 
 #[test]
-fn generated_script(rt: HostRuntime) -> Result<(), Fail> {
-    let lines = gen_script(rt.alloc(), 12).map_err(|_| "no memory")?;
-    assert_eq!(rt; lines.len(), GENERATED.len());
-    for (line, row) in lines.iter().zip(GENERATED.iter()) {
+fn generated_script(rt: HostRuntime) {
+    let lines = gen_script(rt.alloc(), 12).expect(&rt, "lines");
+    row(&rt, "lines", lines.len() == GENERATED.len());
+    for (line, expected) in lines.iter().zip(GENERATED.iter()) {
         let (word, name, value, _) = parts(line);
-        assert!(rt; (word, name, value.first().copied(), value.len()) == *row);
+        row(
+            &rt,
+            expected.0,
+            (word, name, value.first().copied(), value.len()) == *expected,
+        );
     }
-    Ok(())
+}
+
+// A word, and whether it is a label.
+const LABELS: [(&[u8], bool); 7] = [
+    (b"main", true),
+    (b"abcdefg9", true),
+    (b"0", true),
+    (b"", false),
+    (b"abcdefghi", false),
+    (b"Main", false),
+    (b"a-", false),
+];
+
+// Whether a word is read as a label, or is refused.
+fn is_read(read: &Result<Label, LineFault>, word: &[u8], lawful: bool) -> bool {
+    match read {
+        Ok(label) => lawful && label.as_slice() == word,
+        Err(fault) => !lawful && *fault == LineFault::Refused(LineWhy::Name),
+    }
 }
 
 #[test]
 fn labels(rt: HostRuntime) {
-    let rows: [(&[u8], bool); 7] = [
-        (b"main", true),
-        (b"abcdefg9", true),
-        (b"0", true),
-        (b"", false),
-        (b"abcdefghi", false),
-        (b"Main", false),
-        (b"a-", false),
-    ];
-    for (word, lawful) in rows {
+    for (word, lawful) in LABELS.iter() {
         let read = read_label(rt.alloc(), word);
-        let refused = (!lawful).then_some(LineFault::Refused(LineWhy::Name));
-        let same = match &read {
-            Ok(label) => label.as_slice() == word,
-            Err(_) => false,
-        };
-        assert_eq!(rt; (same, read.err()), (lawful, refused), "{word:?}");
+        assert!(rt; is_read(&read, word, *lawful), "{word:?}");
     }
 }

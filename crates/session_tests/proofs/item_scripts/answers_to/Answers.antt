@@ -4,7 +4,7 @@ use Rattle.item_session.specs.Line.{ids_end}
 use Rattle.item_session.specs.declared.line.Line.{Line}
 use Rattle.item_session.specs.Device.{IsServed, IsServedOn}
 use Rattle.item_session.proofs.ServedLemmas.{lines_are_served}
-use Rattle.session_tests.proofs.item_scripts.transcript.Goals as goal
+use Rattle.session_tests.proofs.item_scripts.answers_to.Goals as goal
 
 pub run_lines-requires-clause-lines : goal.run_lines-requires-clause-lines
 run_lines-requires-clause-lines g c =

@@ -154,7 +154,8 @@ impl Backend for FcbBackend {
     }
 
     // As the trait says. If the record fits, exactly its units are spent, and no more up to a power
-    // loss. Otherwise it collects fewer times than the area has sectors.
+    // loss. In any case it spends at most what an append and a collection of each sector but one
+    // take.
     fn set<F: Flash, L: Ledger>(
         &mut self,
         flash: &mut F,
@@ -208,7 +209,7 @@ impl Backend for FcbBackend {
     }
 
     // As the trait says. If the record fits, exactly its units are spent, and no more up to a power
-    // loss. Otherwise it collects at most once.
+    // loss. In any case it spends at most what an append and one collection take.
     fn delete<F: Flash, L: Ledger>(
         &mut self,
         flash: &mut F,

@@ -69,9 +69,11 @@ AreLast limit bodies None = ⊤
 AreLast limit bodies (Some (name, value)) = IsLast limit bodies name value
 
 taken-last : (limit : ℕ) (done : List (List ℕ)) (body name value : List ℕ) → setting_of limit body ≡ Some (name, value) → IsLast limit (done ++ body ∷ []) name value
-taken-last limit done body name value is =
-    ((setting-says limit body name value is).lawful, last_value-push limit name done body ∙ ap (found_by name (last_value limit name done)) is
-    ∙ ap (λ (t : Bool). cond t (Some value) (last_value limit name done)) ((bytes_eq-Decides name name).1 refl))
+taken-last limit done body name value is = (
+  (setting-says limit body name value is).lawful,
+  last_value-push limit name done body ∙ ap (found_by name (last_value limit name done)) is
+      ∙ ap (λ (t : Bool). cond t (Some value) (last_value limit name done)) ((bytes_eq-Decides name name).1 refl),
+)
 
 kept-last : (limit : ℕ) (done : List (List ℕ)) (body name value : List ℕ) → has_name name (setting_of limit body) ≡ false → IsLast limit done name value → IsLast limit (done ++ body ∷ []) name value
 kept-last limit done body name value other last =

@@ -1,4 +1,4 @@
-use Rattle.std.proofs.Common.{◌≡◌, ℕ, List, Bool, true, false, not, Some, None, sym, ap, subst, ◌∙◌}
+use Rattle.std.proofs.Common.{◌≡◌, ℕ, List, true, false, not, Some, None, sym, ap, subst, ◌∙◌}
 use Rattle.flash_map.specs.Area.{value_limit}
 use Rattle.flash_map.specs.declared.area.Area.{Area}
 use Rattle.flash_sim.specs.Device.{Device}

@@ -17,6 +17,6 @@ setting_between after most None = None
 setting_between after most (Some (name, value)) =
     if is_behind after name && is_up_to name most then Some (name, value) else None
 
--- the last record of the name gives it this value
+-- the name is lawful, and its last record gives it this value
 abbrev pub IsLast : ℕ → List (List ℕ) → List ℕ → List ℕ → Type 0
 IsLast limit bodies name value = IsName name × (last_value limit name bodies ≡ Some value)

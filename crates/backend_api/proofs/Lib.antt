@@ -1,4 +1,5 @@
 pub mod CommandLemmas
 pub mod KeyLemmas
 pub mod LeastLemmas
+pub mod ListedPairs
 pub mod MapLemmas

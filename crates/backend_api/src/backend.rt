@@ -1,5 +1,5 @@
 // The trait of a backend.
-ghost use Rattle.std.specs.Prelude.{◌≡◌, ◌<◌, ◌≤◌, ◌∷◌, [], ℕ, Bool, List, length, replicate, true, false, is_err, Option, None, option_map, count_by, IfOk, OnOk, OnErr};
+ghost use Rattle.std.specs.Prelude.{◌≡◌, ◌<◌, ◌≤◌, ◌∷◌, [], ℕ, Bool, List, length, replicate, true, false, is_err, Option, None, option_map, count_by, map, IfOk, OnOk, OnErr};
 ghost use Rattle.std.specs.FinMap as finite;
 ghost use Rattle.flash_sim.specs.Bank.{IsLawful};
 ghost use Rattle.flash_sim.specs.Device.{Device};
@@ -24,9 +24,10 @@ ghost use Rattle.backend_api.specs.Room.{Room, command_units, mount_units};
 ghost use Rattle.backend_api.specs.Written.{StaysWritten};
 
 use flash_map::{Area, MountFault};
-use flash_sim::{Flash, Loss, PowerLost, Steps};
+use flash_sim::{Flash, Loss, NoMemory, PowerLost, Steps};
 use setting_name::Name;
 use std::alloc::Global;
+use std::collections::BTreeMap;
 use std::sync::ledger::Ledger;
 
 /// Why a setting was not stored.
@@ -202,6 +203,22 @@ pub trait Backend: Drop {
         requires stands { StandsOn mounted_on stands (F.device flash.now) self.now }
         ensures { let settings = on contents (F.device flash.now) (mounted_on self.now) in
             result ≡ next_name settings (option_map (λ name. name.now) after.entry) };
+
+    /// All settings, in the byte order of their names. This takes memory for each name.
+    ///
+    /// # Errors
+    /// `NoMemory`.
+    fn settings<'a, F: Flash, L: Ledger>(
+        &self,
+        alloc: Global,
+        flash: &'a F,
+        steps: &mut Steps<L>,
+    ) -> Result<BTreeMap<Name, &'a [u8], Global>, NoMemory>
+        requires lawful { IsLawfulFor (F.device flash.now).banks (mounted_on self.now) }
+        requires stands { StandsOn mounted_on stands (F.device flash.now) self.now }
+        ensures { let settings = on contents (F.device flash.now) (mounted_on self.now) in
+            IfOk result (λ found.
+            map (λ pair. (pair.0, pair.1.now)) found.entries ≡ finite.entries settings) };
 
     /// Erases each sector that is not all FF. The area then reads as the empty map.
     ///

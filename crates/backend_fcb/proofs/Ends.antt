@@ -99,9 +99,6 @@ pub get-some : (d : Device) (area : Area) (name value : List ℕ) → last_value
 get-some d area name value last some = get-on d area name ∙ ap stored last ∙ ap (λ (b : Bool). cond b None (Some value)) some
 
 -- whether it has one
-pub has-none : (d : Device) (area : Area) (name : List ℕ) → last_value (value_limit area) name (bodies_on d area) ≡ None → finite.contains_key (settings_on d area) name ≡ false
-has-none d area name last = ap is_some (get-none d area name last)
-
 pub has-some : (d : Device) (area : Area) (name value : List ℕ) → last_value (value_limit area) name (bodies_on d area) ≡ Some value → finite.contains_key (settings_on d area) name ≡ not (eqb (length value) 0)
 has-some d area name value last = ap is_some (get-on d area name ∙ ap stored last) ∙ there (eqb (length value) 0)
   where

@@ -1,4 +1,5 @@
 pub mod Blank
+mod AllSteps
 mod BodyAt
 mod BodyOf
 mod Collected

@@ -34,7 +34,7 @@ other-name limit name body other = by (setting_of limit body) refl
       | inr apart ↦ apart
     ]
 
-found-same : (name : List ℕ) (found : Option (List ℕ)) (setting : Option (List ℕ × List ℕ)) → has_name name setting ≡ false → found_by name found setting ≡ found
+pub found-same : (name : List ℕ) (found : Option (List ℕ)) (setting : Option (List ℕ × List ℕ)) → has_name name setting ≡ false → found_by name found setting ≡ found
 found-same name found None other = refl
 found-same name found (Some (own, value)) other = ap (λ (b : Bool). cond b (Some value) found) other
 

@@ -23,6 +23,7 @@ ghost use Rattle.backend_fcb.specs.Members.{damage_by, settings_by, room_by, Tea
 ghost use Rattle.backend_fcb.specs.Standing.{settings_on};
 ghost use Rattle.backend_fcb.specs.Laws.{reads_settings};
 
+use crate::all::all_settings;
 use crate::lookup::{last_value, live_cost};
 use crate::mounting::first_overfull;
 use crate::names::next_name;
@@ -31,9 +32,10 @@ use crate::writing::put;
 use backend_api::{Backend, SetFault};
 use fcb_ring::{AppendFault, Ring, record_cost};
 use flash_map::{Area, MountFault, geometry};
-use flash_sim::{Flash, Loss, PowerLost, Steps};
+use flash_sim::{Flash, Loss, NoMemory, PowerLost, Steps};
 use setting_name::Name;
 use std::alloc::Global;
+use std::collections::BTreeMap;
 use std::sync::ledger::Ledger;
 
 /// A store of settings over a ring of FCB records. Each sector keeps room for a delete.
@@ -152,7 +154,8 @@ impl Backend for FcbBackend {
     }
 
     // As the trait says. If the record fits, exactly its units are spent, and no more up to a power
-    // loss. Otherwise it collects fewer times than the area has sectors.
+    // loss. In any case it spends at most what an append and a collection of each sector but one
+    // take.
     fn set<F: Flash, L: Ledger>(
         &mut self,
         flash: &mut F,
@@ -206,7 +209,7 @@ impl Backend for FcbBackend {
     }
 
     // As the trait says. If the record fits, exactly its units are spent, and no more up to a power
-    // loss. Otherwise it collects at most once.
+    // loss. In any case it spends at most what an append and one collection take.
     fn delete<F: Flash, L: Ledger>(
         &mut self,
         flash: &mut F,
@@ -250,6 +253,15 @@ impl Backend for FcbBackend {
         steps: &mut Steps<L>,
     ) -> Option<Name> {
         next_name(&self.ring, flash, after, steps)
+    }
+
+    fn settings<'a, F: Flash, L: Ledger>(
+        &self,
+        alloc: Global,
+        flash: &'a F,
+        steps: &mut Steps<L>,
+    ) -> Result<BTreeMap<Name, &'a [u8], Global>, NoMemory> {
+        all_settings(&self.ring, alloc, flash, steps)
     }
 
     fn format<F: Flash, L: Ledger>(

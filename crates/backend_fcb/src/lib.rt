@@ -2,6 +2,7 @@
 //! a name decides.
 #![tactic(auto)]
 
+mod all;
 mod backend;
 mod collecting;
 mod compaction;

@@ -1,6 +1,5 @@
 // Looking records up.
 ghost use Rattle.std.specs.Prelude.{◌≡◌, ◌*◌, ◌≤◌, ℕ, List, [], length, sum_by, All, option_map};
-ghost use Rattle.std.specs.FinMap.{contains_key};
 ghost use Rattle.flash_sim.specs.declared.flash.TheConstants.{PROGRAM_LIMIT};
 ghost use Rattle.flash_map.specs.Area.{value_limit, unit_of, sector_size};
 ghost use Rattle.fcb_ring.specs.Standing.{StandsOn as RingStandsOn};
@@ -54,22 +53,6 @@ pub(crate) fn last_value<'a, F: Flash, L: Ledger>(
         at = ring.next_with(flash, Some(entry), prefix, steps);
     }
     found
-}
-
-// Whether a name has a value.
-pub(crate) fn has_value<F: Flash, L: Ledger>(
-    ring: &Ring,
-    flash: &F,
-    name: &Name,
-    steps: &mut Steps<L>,
-) -> bool
-    requires { RingStandsOn (F.device flash.now) ring.now }
-    ensures { result ≡ contains_key (settings_on (F.device flash.now) ring.now.area) name.now }
-{
-    match last_value(ring, flash, name, steps) {
-        Some(value) => !value.is_empty(),
-        None => false,
-    }
 }
 
 // What the records of a table cost, in bytes.

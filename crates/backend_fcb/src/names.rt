@@ -1,85 +1,80 @@
 // Names in order.
-ghost use Rattle.std.specs.Prelude.{◌≡◌, ◌&&◌, option_map};
+ghost use Rattle.std.specs.Prelude.{◌≡◌, option_map, IfSome};
 ghost use Rattle.flash_map.specs.Area.{value_limit};
 ghost use Rattle.fcb_ring.specs.Standing.{StandsOn as RingStandsOn};
-ghost use Rattle.backend_api.specs.Map.{is_behind, next_name as next_name_of};
-ghost use Rattle.backend_api.specs.Least.{is_before, IsLeast};
+ghost use Rattle.backend_api.specs.Map.{next_name as next_name_of};
+ghost use Rattle.backend_api.specs.Least.{IsLeast};
 ghost use Rattle.record_settings.specs.Live.{names};
 ghost use Rattle.record_settings.specs.Settings.{setting_of};
 ghost use Rattle.backend_fcb.specs.Standing.{bodies_on, settings_on};
-ghost use Rattle.backend_fcb.specs.Walking.{name_between};
+ghost use Rattle.backend_fcb.specs.Walking.{is_up_to, setting_between, IsLast};
 
-use crate::lookup::has_value;
-use crate::record::setting_in;
+use crate::record::{Setting, setting_in};
 use backend_api::is_behind;
 use fcb_ring::Ring;
 use flash_sim::{Flash, Steps};
 use setting_name::Name;
 use std::sync::ledger::Ledger;
 
-// Whether a name is less than the other, if there is one.
-fn is_before(name: &[u8], before: Option<&Name>) -> bool
-    ensures { result ≡ is_before name.now (option_map (λ other. other.now) before.entry) }
+// Whether a name is no greater than that of the setting, if there is one.
+fn is_up_to(name: &[u8], most: Option<Setting<'_>>) -> bool
+    ensures { result ≡ is_up_to name.now (option_map (λ setting. setting.name.now) most.entry) }
 {
-    match before {
-        Some(before) => name.cmp(before.bytes()).is_lt(),
+    match most {
+        Some(setting) => name.cmp(setting.name).is_le(),
         None => true,
     }
 }
 
-// Whether a name is greater than `after` and less than `before`.
-fn is_between(name: &[u8], after: Option<&Name>, before: Option<&Name>) -> bool
-    ensures { result
-        ≡ (is_behind (option_map (λ other. other.now) after.entry) name.now
-        && is_before name.now (option_map (λ other. other.now) before.entry)) }
-{
-    is_behind(name, after) && is_before(name, before)
-}
-
-// The name of a record, if it is between these two.
-fn name_between(
+// What a record says, if its name is greater than `after` and no greater than that of `most`.
+fn setting_between<'a>(
     ring: &Ring,
-    body: &[u8],
+    body: &'a [u8],
     after: Option<&Name>,
-    before: Option<&Name>,
-) -> Option<Name>
-    ensures { result
-        ≡ name_between (option_map (λ other. other.now) after.entry)
-        (option_map (λ other. other.now) before.entry)
+    most: Option<Setting<'a>>,
+) -> Option<Setting<'a>>
+    ensures { option_map (λ setting. (setting.name.now, setting.value.now)) result
+        ≡ setting_between (option_map (λ other. other.now) after.entry)
+        (option_map (λ setting. setting.name.now) most.entry)
         (setting_of (value_limit ring.now.area) body.now) }
 {
     let setting = setting_in(ring, body)?;
-    if !is_between(setting.name, after, before) {
-        return None;
+    if is_behind(setting.name, after) && is_up_to(setting.name, most) {
+        Some(setting)
+    } else {
+        None
     }
-    Name::read(setting.name).ok()
 }
 
-// The least name of a record that is greater than this one, or the least of all. It may have no
-// value any more.
-fn least_name<F: Flash, L: Ledger>(
+// The least name of a record that is greater than this one, or the least of all, and what the last
+// record of the name says.
+fn least_setting<'a, F: Flash, L: Ledger>(
     ring: &Ring,
-    flash: &F,
+    flash: &'a F,
     after: Option<&Name>,
     steps: &mut Steps<L>,
-) -> Option<Name>
+) -> Option<Setting<'a>>
     requires { RingStandsOn (F.device flash.now) ring.now }
-    ensures { IsLeast (option_map (λ other. other.now) after.entry)
+    ensures least { IsLeast (option_map (λ other. other.now) after.entry)
         (λ name. names (value_limit ring.now.area) name
-        (bodies_on (F.device flash.now) ring.now.area)) result }
+        (bodies_on (F.device flash.now) ring.now.area))
+        (option_map (λ setting. setting.name.now) result) }
+    ensures last { IfSome result
+        (λ setting. IsLast (value_limit ring.now.area)
+        (bodies_on (F.device flash.now) ring.now.area) setting.name.now setting.value.now) }
 {
     let mut least = None;
     let mut at = ring.next(flash, None, steps);
     while let Some(entry) = at {
-        let name = name_between(ring, ring.body(flash, &entry, steps), after, least.as_ref());
-        least = name.or(least);
+        let setting = setting_between(ring, ring.body(flash, &entry, steps), after, least);
+        least = setting.or(least);
         at = ring.next(flash, Some(entry), steps);
     }
     least
 }
 
 // The least name with a value that is greater than this one, or the least of all. It walks over the
-// records twice for each name that it tries.
+// records once for each name that it tries.
 pub(crate) fn next_name<F: Flash, L: Ledger>(
     ring: &Ring,
     flash: &F,
@@ -91,9 +86,10 @@ pub(crate) fn next_name<F: Flash, L: Ledger>(
         ≡ next_name_of (settings_on (F.device flash.now) ring.now.area)
         (option_map (λ name. name.now) after.entry) }
 {
-    let mut name = least_name(ring, flash, after, steps)?;
-    while !has_value(ring, flash, &name, steps) {
-        name = least_name(ring, flash, Some(&name), steps)?;
+    let mut setting = least_setting(ring, flash, after, steps)?;
+    while setting.value.is_empty() {
+        let name = Name::read(setting.name).ok()?;
+        setting = least_setting(ring, flash, Some(&name), steps)?;
     }
-    Some(name)
+    Name::read(setting.name).ok()
 }

@@ -50,7 +50,7 @@ last_value-scan limit name bodies = last-scan limit name None bodies
 pub tie : (x y : List ℕ) → eq_by_cmp (slice_cmp nat_cmp) x y ≡ bytes_eq y x
 tie x y = is_eq-slice_cmp x y ∙ nat_list_eq_equiv.symm x y
 
-get-with : (settings : Map) (name other value : List ℕ) → map.get (with_setting settings (Some (other, value))) name ≡ cond (bytes_eq other name) (stored (Some value)) (map.get settings name)
+pub get-with : (settings : Map) (name other value : List ℕ) → map.get (with_setting settings (Some (other, value))) name ≡ cond (bytes_eq other name) (stored (Some value)) (map.get settings name)
 get-with settings name other value =
     elim (cases_Bool (length value == 0)) [
       | inl gone ↦

@@ -1,19 +1,20 @@
 -- Walks over the names of a map, one behind the other.
-use Rattle.std.proofs.Common.{◌≡◌, ℕ, zero, suc, ◌+◌, ◌*◌, ◌<◌, ◌≤◌, ◌^◌, Bool, true, false, cond, List, [], ◌∷◌, ◌++◌, length, take, get_or, Option, Some, None, is_some, refl, sym, ap, subst, ◌∙◌, inl, inr, arith}
+use Rattle.std.proofs.Common.{◌≡◌, ℕ, ◌+◌, ◌*◌, ◌<◌, ◌≤◌, ◌^◌, Bool, true, false, cond, List, [], ◌∷◌, ◌++◌, length, take, get_or, Option, Some, None, is_some, refl, sym, ap, ◌∙◌, inl, inr, arith, append_assoc}
 use Rattle.std.specs.Prelude.{map, sum_by, count_by, option_map}
+use Rattle.std.specs.Borrow.{Bor}
 use Rattle.std.specs.List.{slice_get}
+use Rattle.std.specs.Map.{keys_of}
 use Rattle.std.specs.FinMap as maps
 use Rattle.std.proofs.lemmas.Bool.{cases_Bool}
-use Rattle.std.proofs.lemmas.List.{length-map, take_all}
-use Rattle.std.proofs.lemmas.List.Sums.{sum_by_more, count_by_more_yes, count_by_more_no, count_by-le-length}
+use Rattle.std.proofs.lemmas.List.{append-nil, length-map, take_all}
+use Rattle.std.proofs.lemmas.List.Sums.{sum_by_more, count_by_more_yes, count_by_more_no}
 use Rattle.std.proofs.lemmas.Option.{none-some, slice_get_within, get_or_from_slice_get, slice_get_cases, slice_get-map}
-use Rattle.backend_api.specs.Laws.{WalksKeys}
 use Rattle.backend_api.specs.Map.{Map, IsStored, next_name}
 use Rattle.backend_api.proofs.CommandLemmas.{walks-keys}
 use Rattle.named_items.specs.Cost.{pair_cost}
 use Rattle.migrator.proofs.Names.{left, left-smaller}
 use Rattle.migrator.proofs.Puts.{find-at}
-use Rattle.mirror.specs.Room.{Prices, alike, room_by}
+use Rattle.mirror.specs.Room.{Prices, room_by}
 
 abbrev Pair : Type 0
 Pair = List ℕ × List ℕ
@@ -166,36 +167,20 @@ count-fits test m name count so_far few =
 pub count-end : (test : List ℕ → Bool) (m : Map) (count : ℕ) → IsCounted test m None count → count ≡ count_by test (maps.keys m)
 count-end test m count so_far = so_far.sum ∙ ap (count_by test) (ended-keys m so_far.i so_far.here)
 
--- ---- the classes of the names so far
+-- ---- the classes of names
 
-pub record AreClasses (class : List ℕ → ℕ) (m : Map) (at : Option (List ℕ)) (found : List ℕ) : Type 0 where
-  pub i : ℕ
-  pub here : IsAt m at i
-  pub are : found ≡ map class (take i (maps.keys m))
+-- the names of a map in memory are those of the settings that it lists
+pub names-listed : (pairs : List (List ℕ × Bor (List ℕ))) → keys_of pairs ≡ map (λ (e : List ℕ × List ℕ). e.0) (map (λ pair. (pair.0, pair.1.now)) pairs)
+names-listed [] = refl
+names-listed (pair ∷ pairs) = ap (λ names. pair.0 ∷ names) (names-listed pairs)
 
-pub class-start : (class : List ℕ → ℕ) (m : Map) (at : Option (List ℕ)) → at ≡ next_name m None → AreClasses class m at []
-class-start class m at is = record { i = 0; here = started m at is; are = refl }
+-- `found` has the classes of the names but those that are left
+abbrev pub AreClasses : (List ℕ → ℕ) → List (List ℕ) → List (List ℕ) → List ℕ → Type 0
+AreClasses class all left found = found ++ map class left ≡ map class all
 
-take-more : {X : Type 0} (xs : List X) (i : ℕ) (x : X) → slice_get xs i ≡ Some x → take (i + 1) xs ≡ take i xs ++ x ∷ []
-take-more xs i x is = let e : i + 1 ≡ suc i = omega arith in ap (λ (n : ℕ). take n xs) e ∙ by xs i x is
-  where
-    by : {X : Type 0} (xs : List X) (i : ℕ) (x : X) → slice_get xs i ≡ Some x → take (suc i) xs ≡ take i xs ++ x ∷ []
-    by [] i x is = absurd (none-some x is)
-    by (y ∷ xs) zero x is = ap (λ z. z ∷ []) (some-same y x is)
-    by (y ∷ xs) (suc i) x is = ap (λ zs. y ∷ zs) (by xs i x is)
+pub class-step : (class : List ℕ → ℕ) (all left after : List (List ℕ)) (name : List ℕ) (found more : List ℕ) (one : ℕ) → left ≡ name ∷ after → one ≡ class name → more ≡ found ++ one ∷ [] → AreClasses class all left found → AreClasses class all after more
+class-step class all left after name found more one step is pushed so_far =
+    ap (λ l. l ++ map class after) pushed ∙ append_assoc found (one ∷ []) (map class after) ∙ ap (λ x. found ++ x ∷ map class after) is ∙ ap (λ l. found ++ map class l) (sym step) ∙ so_far
 
-map-more : (class : List ℕ → ℕ) (xs : List (List ℕ)) (x : List ℕ) → map class (xs ++ x ∷ []) ≡ map class xs ++ class x ∷ []
-map-more class [] x = refl
-map-more class (y ∷ xs) x = ap (λ zs. class y ∷ zs) (map-more class xs x)
-
-pub class-step : (class : List ℕ → ℕ) (m : Map) (name : List ℕ) (next : Option (List ℕ)) (found more : List ℕ) (one : ℕ) → AreClasses class m (Some name) found → one ≡ class name → more ≡ found ++ one ∷ [] → next ≡ next_name m (Some name) → AreClasses class m next more
-class-step class m name next found more one so_far is pushed next-is = record {
-  i = so_far.i + 1;
-  here = stepped m name next so_far.i so_far.here next-is;
-  are =
-      pushed ∙ ap (λ (x : ℕ). found ++ x ∷ []) is ∙ ap (λ (xs : List ℕ). xs ++ class name ∷ []) so_far.are
-      ∙ sym (ap (map class) (take-more (maps.keys m) so_far.i name (sym so_far.here.there)) ∙ map-more class (take so_far.i (maps.keys m)) name);
-}
-
-pub class-end : (class : List ℕ → ℕ) (m : Map) (found : List ℕ) → AreClasses class m None found → found ≡ map class (maps.keys m)
-class-end class m found so_far = so_far.are ∙ ap (map class) (ended-keys m so_far.i so_far.here)
+pub class-end : (class : List ℕ → ℕ) (all left : List (List ℕ)) (found : List ℕ) → left ≡ [] → AreClasses class all left found → found ≡ map class all
+class-end class all left found none so_far = sym (append-nil found) ∙ ap (λ l. found ++ map class l) (sym none) ∙ so_far

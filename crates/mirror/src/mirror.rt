@@ -1,12 +1,12 @@
 // A mirror: its two stores, and the commands on them.
-ghost use Rattle.std.specs.Prelude.{◌≡◌, ◌+◌, ◌<◌, ◌≤◌, ◌∷◌, ◌&&◌, ◌||◌, [], nat_lt, true, false, is_err, length, option_map, OnOk};
+ghost use Rattle.std.specs.Prelude.{◌≡◌, ◌+◌, ◌<◌, ◌≤◌, ◌∷◌, ◌&&◌, ◌||◌, [], nat_lt, true, false, is_err, length, map, option_map, IfOk, OnOk};
 ghost use Rattle.std.specs.FinMap as finite;
 ghost use Rattle.flash_map.specs.Area.{geometry_of, value_limit};
 ghost use Rattle.flash_map.specs.On.{on};
 ghost use Rattle.flash_map.specs.Spending.{SpendsAtMost};
 ghost use Rattle.flash_map.specs.Touches.{Touches};
 ghost use Rattle.backend_api.specs.Ends.{set_lost};
-ghost use Rattle.backend_api.specs.Map.{IsStored, next_name};
+ghost use Rattle.backend_api.specs.Map.{IsStored};
 ghost use Rattle.setting_name.specs.Name.{IsName};
 ghost use Rattle.backend_api.specs.Room.{command_units};
 ghost use Rattle.mirror.specs.Mirrored.{HasRoom, IsMirror, LooksForBoth, MirrorDeletes, MirrorSets, SameSide, higher, lower};
@@ -17,8 +17,10 @@ use crate::priced::Priced;
 use crate::sides::{Side, put, take};
 use backend_api::{Backend, SetFault};
 use flash_map::Area;
-use flash_sim::{Flash, PowerLost, Steps};
+use flash_sim::{Flash, NoMemory, PowerLost, Steps};
 use setting_name::Name;
+use std::alloc::Global;
+use std::collections::BTreeMap;
 use std::sync::ledger::Ledger;
 
 /// A mirror: two areas that hold one map of settings. Reads go to the trusted area.
@@ -181,21 +183,25 @@ impl<K: Priced> Mirror<K> {
         self.trusted.store.get(flash, name, steps)
     }
 
-    /// The least name in byte order that is greater than `after`, or the least of all if `after` is
-    /// `None`; `None` if there is none.
-    pub fn next_name<F: Flash, L: Ledger>(
+    /// All settings, in the byte order of their names, read from the trusted area. This takes
+    /// memory for each name.
+    ///
+    /// # Errors
+    /// `NoMemory`.
+    pub fn settings<'a, F: Flash, L: Ledger>(
         &self,
-        flash: &F,
-        after: Option<&Name>,
+        alloc: Global,
+        flash: &'a F,
         steps: &mut Steps<L>,
-    ) -> Option<Name>
+    ) -> Result<BTreeMap<Name, &'a [u8], Global>, NoMemory>
         requires mirrors { let d = F.device flash.now in
             IsMirror K.mounted_on K.stands K.contents K.room K.prices d self.now.trusted
             self.now.other }
         ensures { let settings = on K.contents (F.device flash.now) self.now.trusted.area in
-            result ≡ next_name settings (option_map (λ name. name.now) after.entry) }
+            IfOk result (λ found.
+            map (λ pair. (pair.0, pair.1.now)) found.entries ≡ finite.entries settings) }
     {
-        self.trusted.store.next_name(flash, after, steps)
+        self.trusted.store.settings(alloc, flash, steps)
     }
 
     /// Gives a name a value that is not empty and no longer than the areas allow, in the trusted

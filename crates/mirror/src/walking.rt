@@ -132,14 +132,13 @@ pub(crate) fn classes<K: Priced, F: Flash, L: Ledger>(
         ≡ map (prices_on K.prices d area.now).class
         (finite.keys (on K.contents d (K.mounted_on store.now)))) }
 {
+    let settings = store.settings(alloc, flash, steps)?;
     let mut found = Vec::new(alloc);
-    let mut at = store.next_name(flash, None, steps);
-    while let Some(name) = at {
-        match found.push(K::class(flash, area, &name)) {
+    for name in settings.keys() {
+        match found.push(K::class(flash, area, name)) {
             Ok(()) => {}
             Err(_) => return Err(NoMemory),
         }
-        at = store.next_name(flash, Some(&name), steps);
     }
     Ok(found)
 }

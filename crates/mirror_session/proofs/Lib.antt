@@ -21,4 +21,3 @@ pub mod SoundLemmas
 mod TableFacts
 mod TableLaws
 mod TextLemmas
-mod ReportLemmas

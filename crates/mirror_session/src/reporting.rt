@@ -1,6 +1,6 @@
 // Lines that ask for settings, with power on.
-ghost use Rattle.std.specs.Prelude.{◌≡◌, [], true, map, unwrap_or, IfOk};
-ghost use Rattle.std.specs.FinMap.{entries, get};
+ghost use Rattle.std.specs.Prelude.{◌≡◌, true, map, IfOk};
+ghost use Rattle.std.specs.FinMap.{entries};
 ghost use Rattle.flash_map.specs.On.{on};
 ghost use Rattle.mirror.specs.Mirrored.{IsMirror};
 ghost use Rattle.mirror.specs.Trusted.{IsMirrorMap};
@@ -61,24 +61,11 @@ pub fn get_setting<K: Priced, B: Bench, L: Ledger>(
     }
 }
 
-// A setting that the mirror has, by its name.
-fn pair_of<K: Priced, B: Bench, L: Ledger>(
-    alloc: Global,
-    bench: &B,
-    mirror: &Mirror<K>,
-    name: &Name,
-    steps: &mut Steps<L>,
-) -> Result<Pair, NoMemory>
-    requires mirrors { let d = B.device bench.now in
-        IsMirror K.mounted_on K.stands K.contents K.room K.prices d mirror.now.trusted
-        mirror.now.other }
-    ensures { let settings = on K.contents (B.device bench.now) mirror.now.trusted.area in
-        IfOk result (λ pair. pair ≡ as_pair (name.now, unwrap_or (get settings name.now) [])) }
+// A copy of a setting.
+fn pair_of(alloc: Global, name: &Name, value: &[u8]) -> Result<Pair, NoMemory>
+    ensures { IfOk result (λ pair. pair ≡ as_pair (name.now, value.now)) }
 {
-    let value = match mirror.get(bench, name, steps) {
-        Some(bytes) => copied(alloc, bytes)?,
-        None => Bytes::new(alloc),
-    };
+    let value = copied(alloc, value)?;
     Ok(Pair {
         name: name.copy(),
         value,
@@ -98,12 +85,11 @@ fn all_settings<K: Priced, B: Bench, L: Ledger>(
     ensures { let settings = on K.contents (B.device bench.now) mirror.now.trusted.area in
         IfOk result (λ pairs. pairs ≡ map as_pair (entries settings)) }
 {
+    let settings = mirror.settings(alloc, bench, steps)?;
     let mut pairs = Pairs::new(alloc);
-    let mut after = None;
-    while let Some(name) = mirror.next_name(bench, after.as_ref(), steps) {
-        let pair = pair_of(alloc, bench, mirror, &name, steps)?;
+    for (name, value) in &settings {
+        let pair = pair_of(alloc, name, value)?;
         pairs.push(pair)?;
-        after = Some(name);
     }
     Ok(pairs)
 }

@@ -33,7 +33,7 @@ use Rattle.settings_core.specs.declared.runtime.RuntimeFault.{RuntimeFault}
 use Rattle.settings_core.specs.declared.runtime.RuntimeFault.TheVariants.{NoHandler, Rejected, NoMemory as RuntimeNoMemory}
 use Rattle.settings_core.specs.Laws.{StaysLawful}
 use Rattle.settings_core.proofs.SeatLemmas.{deliver_all-seats, subtrees-same}
-use Rattle.settings_core.proofs.WalkLemmas.{Setting}
+use Rattle.settings_core.proofs.ListedLemmas.{Setting}
 
 -- a pair may be stored under the subtree
 abbrev MayStore : ℕ → List ℕ → Setting → Type 0

@@ -3,7 +3,7 @@ mod CarryLemmas
 mod UnitLemmas
 mod CommitLemmas
 mod OfferLemmas
-pub mod WalkLemmas
+pub mod ListedLemmas
 mod SeatLemmas
 mod GiveLemmas
 mod LoadLemmas

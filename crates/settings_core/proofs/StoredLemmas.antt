@@ -20,7 +20,7 @@ use Rattle.settings_core.specs.Laws.{HoldsStored, IsFor, deliveries_at}
 use Rattle.settings_core.proofs.LawLemmas.{is_delivered}
 use Rattle.settings_core.proofs.LawfulLemmas.{head_of, tail_of, goes_to, good_settings}
 use Rattle.settings_core.proofs.OfferLemmas.{delivery-best}
-use Rattle.settings_core.proofs.WalkLemmas.{Setting, value_there}
+use Rattle.settings_core.proofs.ListedLemmas.{Setting, value_there}
 
 -- ---- what stands in a list
 

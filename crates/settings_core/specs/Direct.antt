@@ -1,6 +1,5 @@
 -- How a load without handlers ends.
-use Rattle.std.specs.Prelude.{◌≡◌, ℕ, ◌+◌, ◌≤◌, Bool, true, false, List, [], ◌∷◌, length, take, Option, Result, Ok, Err}
-use Rattle.flash_sim.specs.declared.flash.NoMemory.{NoMemory as Lack}
+use Rattle.std.specs.Prelude.{◌≡◌, ℕ, ◌≤◌, Bool, true, false, List, length, take, Option, Result, Ok, Err}
 use Rattle.settings_core.specs.declared.loading.LoadFault.{LoadFault}
 use Rattle.settings_core.specs.declared.loading.LoadFault.TheVariants.{Off, NoMemory}
 use Rattle.settings_core.specs.Deliveries.{settings_under}
@@ -21,11 +20,3 @@ DirectEnds up old new subtree settings (Ok count) =
     × (new ≡ reported_more old (settings_under subtree settings))
 DirectEnds up old new subtree settings (Err Off) = (up ≡ false) × (new ≡ old)
 DirectEnds up old new subtree settings (Err NoMemory) = (up ≡ true) × ReportsSome old new subtree settings
-
--- one setting
-abbrev pub ReportEnds : Option (List (List ℕ × List ℕ)) → Option (List (List ℕ × List ℕ)) → Option (List ℕ)
-    → List ℕ × List ℕ → ℕ → ℕ → Result (Unit {0}) Lack → Type 0
-ReportEnds old new subtree setting was count (Ok x) =
-    (new ≡ reported_more old (settings_under subtree (setting ∷ [])))
-    × (count ≡ was + length (settings_under subtree (setting ∷ [])))
-ReportEnds old new subtree setting was count (Err lack) = new ≡ old

@@ -7,7 +7,7 @@ use Rattle.settings_core.specs.declared.offering.Offered.TheVariants.{Taken, Rej
 use Rattle.settings_core.specs.declared.loading.Loaded.{Loaded}
 use Rattle.settings_core.specs.declared.loading.LoadFault.{LoadFault}
 use Rattle.settings_core.specs.declared.loading.LoadFault.TheVariants.{Off, NoMemory}
-use Rattle.settings_core.specs.Committing.{is_under, commit_all}
+use Rattle.settings_core.specs.Committing.{commit_all}
 use Rattle.settings_core.specs.Reported.{reported_more}
 use Rattle.settings_core.specs.Deliveries.{Give, give, delivered, deliver_all, is_taken, settings_under, OfferEnds}
 
@@ -59,12 +59,3 @@ LoadOneEnds before after old new setting was loaded (Ok x) =
     (o : Offered) × OfferEnds before after old new setting (Ok o) × (loaded ≡ counted was o)
 LoadOneEnds before after old new setting was loaded (Err lack) =
     OfferEnds before after old new setting (Err lack)
-
--- how the load of any setting ends
-pub data LoadNameEnds (before after : List Registered) (old new : Option (List Give))
-    (subtree : Option (List ℕ)) (setting : List ℕ × List ℕ) (was loaded : Loaded)
-    (result : Result (Unit {0}) Lack) : Type 0 where
-  beside : is_under subtree setting.0 ≡ false → after ≡ before → new ≡ old → loaded ≡ was → result ≡ Ok tt
-      → LoadNameEnds before after old new subtree setting was loaded result
-  under : is_under subtree setting.0 ≡ true → LoadOneEnds before after old new setting was loaded result
-      → LoadNameEnds before after old new subtree setting was loaded result

@@ -1,10 +1,10 @@
 // Loads.
-ghost use Rattle.std.specs.Prelude.{◌≡◌, ℕ, ◌+◌, ◌-◌, ◌^◌, ◌<◌, true, List, [], option_map, unwrap_or};
+ghost use Rattle.std.specs.Prelude.{◌≡◌, ◌+◌, ◌-◌, ◌^◌, ◌<◌, true, option_map};
 ghost use Rattle.std.specs.FinMap as finite;
 ghost use Rattle.flash_map.specs.Lawful.{IsLawfulFor};
 ghost use Rattle.flash_map.specs.On.{on, StandsOn};
 ghost use Rattle.handlers.specs.Registry.{registered};
-ghost use Rattle.settings_core.specs.Loading.{LoadOneEnds, LoadNameEnds, LoadEnds, counted};
+ghost use Rattle.settings_core.specs.Loading.{LoadOneEnds, LoadEnds, counted};
 
 use crate::committing::{commit, is_under};
 use crate::offering::{Offered, offer};
@@ -40,11 +40,11 @@ pub enum LoadFault {
 impl<K: Backend> Settings<K> {
     /// Gives each stored value whose name matches the subtree to the best handler for it, in byte
     /// order of the names. Then it commits the handlers under the subtree. With no subtree given,
-    /// every name and handler matches.
+    /// every name and handler matches. A load takes memory for each stored name.
     ///
     /// # Errors
     /// `Off` exactly if the backend is down; nothing changes then. `NoMemory`: the handlers have
-    /// taken the values up to some name, and none was committed.
+    /// taken the values up to some name, or no value, and no handler was committed.
     pub fn load<F: Flash, L: Ledger, R: Report>(
         &self,
         alloc: Global,
@@ -66,79 +66,30 @@ impl<K: Backend> Settings<K> {
         if !self.backend.is_up() {
             return Err(LoadFault::Off);
         }
+        let settings = match self.backend.settings(alloc, flash, steps) {
+            Ok(settings) => settings,
+            Err(_) => return Err(LoadFault::NoMemory),
+        };
         let mut loaded = Loaded {
             taken: 0,
             rejected: 0,
             passed: 0,
         };
-        let mut after: Option<Name> = None;
-        while let Some(name) = self.backend.next_name(flash, after.as_ref(), steps) {
-            let ended = self.load_name(
-                alloc,
-                flash,
-                registry,
-                subtree,
-                report,
-                &mut loaded,
-                &name,
-                steps,
-            );
-            match ended {
-                Ok(()) => after = Some(name),
+        for (name, value) in &settings {
+            if !is_under(name, subtree) {
+                continue;
+            }
+            match load_one(alloc, registry, report, &mut loaded, name, value) {
+                Ok(()) => {}
                 Err(_) => return Err(LoadFault::NoMemory),
             }
         }
         commit(registry, subtree);
         Ok(loaded)
     }
-
-    // Loads one name, if it matches.
-    fn load_name<F: Flash, L: Ledger, R: Report>(
-        &self,
-        alloc: Global,
-        flash: &F,
-        registry: &mut Registry,
-        subtree: Option<&Name>,
-        report: &mut R,
-        loaded: &mut Loaded,
-        name: &Name,
-        steps: &mut Steps<L>,
-    ) -> Result<(), NoMemory>
-        requires lawful { IsLawfulFor (F.device flash.now).banks (K.mounted_on self.now.backend) }
-        requires stands { StandsOn K.mounted_on K.stands (F.device flash.now) self.now.backend }
-        requires room { loaded.old.taken + loaded.old.rejected + loaded.old.passed < 2 ^ 32 - 1 }
-        ensures { let area = K.mounted_on self.now.backend in let d = F.device flash.now in
-            LoadNameEnds (registered state registry.old) (registered state registry.new)
-            (R.gives report.old) (R.gives report.new) (option_map (λ name. name.now) subtree.entry)
-            (name.now, unwrap_or (finite.get (on K.contents d area) name.now) []) loaded.old
-            loaded.new result }
-    {
-        if is_under(name, subtree) {
-            let value = stored(&self.backend, flash, name, steps);
-            load_one(alloc, registry, report, loaded, name, value)
-        } else {
-            Ok(())
-        }
-    }
 }
 
-pub(crate) fn stored<'a, K: Backend, F: Flash, L: Ledger>(
-    backend: &K,
-    flash: &'a F,
-    name: &Name,
-    steps: &mut Steps<L>,
-) -> &'a [u8]
-    requires lawful { IsLawfulFor (F.device flash.now).banks (K.mounted_on backend.now) }
-    requires stands { StandsOn K.mounted_on K.stands (F.device flash.now) backend.now }
-    ensures { let area = K.mounted_on backend.now in let d = F.device flash.now in
-        result.now ≡ unwrap_or (finite.get (on K.contents d area) name.now) [] }
-{
-    match backend.get(flash, name, steps) {
-        Some(value) => value,
-        None => &[],
-    }
-}
-
+// Gives one setting to its handler, and counts it.
 fn load_one<R: Report>(
     alloc: Global,
     registry: &mut Registry,

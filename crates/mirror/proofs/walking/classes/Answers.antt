@@ -1,38 +1,32 @@
-use Rattle.std.proofs.Common.{◌≡◌, ◌++◌, ◌∷◌, [], ℕ, List, Option, Some, None, cond, is_ok, refl, sym, ap, subst, ◌∙◌}
-use Rattle.flash_sim.specs.Device.{Device}
+use Rattle.std.proofs.Common.{◌≡◌, ◌++◌, ◌∷◌, [], List, ℕ, cond, is_ok, map, ap, ◌∙◌}
+use Rattle.std.specs.FinMap.{keys}
+use Rattle.std.specs.Map.Iter.{deref}
+use Rattle.std.proofs.lemmas.Map.Iter.{rest_all, rest_more}
 use Rattle.flash_map.specs.On.{on}
 use Rattle.mirror.specs.Room.{prices_on}
-use Rattle.mirror.proofs.Walks.{AreClasses, smaller, class-end, class-start, class-step}
+use Rattle.mirror.proofs.Walks.{names-listed, class-step, class-end}
 use Rattle.mirror.proofs.walking.classes.Goals as goal
 
-pub loop-at-init : goal.loop-at-init
-loop-at-init g c =
-    let d : Device = g.F.Flash.device c.args.flash.now in
+pub loop-name-init : goal.loop-name-init
+loop-name-init g c =
+    let d = g.F.Flash.device c.args.flash.now in
     let class = (prices_on g.K.Priced.prices d c.args.area.now).class in
-    let settings = on g.K.Backend.contents d (g.K.Backend.mounted_on c.args.store.now) in
-    subst (λ (found : List ℕ). AreClasses class settings c.next_name-at.result found) (sym c.new-found.ensures.items) (class-start class settings c.next_name-at.result c.next_name-at.ensures)
+    let listed : c.into_iter-name-iterator.result ≡ keys (on g.K.Backend.contents d (g.K.Backend.mounted_on c.args.store.now)) =
+    c.into_iter-name-iterator.ensures.into_iter_gives ∙ c.keys-name-items.ensures.rest ∙ names-listed c.in_ok-settings.settings.entries ∙ ap (map (λ (e : List ℕ × List ℕ). e.0)) c.in_ok-settings.ensures in
+    ap (λ l. l ++ map class c.into_iter-name-iterator.result) c.new-found.ensures.items ∙ ap (map class) listed
 
-pub loop-at-smaller : goal.loop-at-smaller
-loop-at-smaller g c =
-    let d : Device = g.F.Flash.device c.args.flash.now in
+pub loop-name-preserved : goal.loop-name-preserved
+loop-name-preserved g c =
+    let d = g.F.Flash.device c.args.flash.now in
     let class = (prices_on g.K.Priced.prices d c.args.area.now).class in
-    let settings = on g.K.Backend.contents d (g.K.Backend.mounted_on c.args.store.now) in
-    let so_far : AreClasses class settings (Some c.in-Some.name) c.loop-at.found.items = subst (λ (o : Option (List ℕ)). AreClasses class settings o c.loop-at.found.items) c.in-Some.is c.loop-at.invariant in
-    smaller settings c.loop-at.at c.in-Some.name c.next_name-at-in-Some.result so_far.i c.in-Some.is so_far.here c.next_name-at-in-Some.ensures
-
-pub loop-at-preserved : goal.loop-at-preserved
-loop-at-preserved g c =
-    let d : Device = g.F.Flash.device c.args.flash.now in
-    let class = (prices_on g.K.Priced.prices d c.args.area.now).class in
-    let settings = on g.K.Backend.contents d (g.K.Backend.mounted_on c.args.store.now) in
-    let so_far : AreClasses class settings (Some c.in-Some.name) c.loop-at.found.items = subst (λ (o : Option (List ℕ)). AreClasses class settings o c.loop-at.found.items) c.in-Some.is c.loop-at.invariant in
-    let pushed : c.push.new.self.items ≡ c.loop-at.found.items ++ c.class.result ∷ [] =
-    c.push.ensures.items ∙ ap (λ r. cond (is_ok r) (c.loop-at.found.items ++ c.class.result ∷ []) c.loop-at.found.items) c.in-Ok.is in
-    class-step class settings c.in-Some.name c.next_name-at-in-Some.result c.loop-at.found.items c.push.new.self.items c.class.result so_far c.class.ensures pushed c.next_name-at-in-Some.ensures
+    let pushed : c.push.new.self.items ≡ c.loop-name.found.items ++ c.class.result ∷ [] =
+    c.push.ensures.items ∙ ap (λ r. cond (is_ok r) (c.loop-name.found.items ++ c.class.result ∷ []) c.loop-name.found.items) c.in-Ok.is in
+    class-step class (keys (on g.K.Backend.contents d (g.K.Backend.mounted_on c.args.store.now))) c.loop-name.name-iterator c.next.new.self c.in-Some.name.now c.loop-name.found.items c.push.new.self.items c.class.result
+    (rest_more deref c.loop-name.name-iterator c.next.new.self c.next.result c.in-Some.name c.in-Some.is c.next.ensures.steps) c.class.ensures pushed c.loop-name.invariant
 
 pub returns : goal.returns
 returns g c =
-    let d : Device = g.F.Flash.device c.args.flash.now in
+    let d = g.F.Flash.device c.args.flash.now in
     let class = (prices_on g.K.Priced.prices d c.args.area.now).class in
-    let settings = on g.K.Backend.contents d (g.K.Backend.mounted_on c.args.store.now) in
-    class-end class settings c.loop-at.found.items (subst (λ (o : Option (List ℕ)). AreClasses class settings o c.loop-at.found.items) c.in_default.is c.loop-at.invariant)
+    class-end class (keys (on g.K.Backend.contents d (g.K.Backend.mounted_on c.args.store.now))) c.loop-name.name-iterator c.loop-name.found.items
+    (rest_all deref c.loop-name.name-iterator c.next.new.self c.next.result c.in-None.is c.next.ensures.steps) c.loop-name.invariant

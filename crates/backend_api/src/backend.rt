@@ -161,7 +161,8 @@ pub trait Backend: Drop {
         ensures down { set_lost result ≡ true → runs self.new ≡ false };
 
     /// Deletes a name with its value. If the name has no value, nothing is programmed. A delete
-    /// always finds room. It spends at most `command_units` units and erases.
+    /// always finds room. It spends at most `command_units` units and erases. An NVS or ZMS area is
+    /// all FF afterwards only if it was all FF before.
     ///
     /// # Errors
     /// `PowerLost`: the state is down. The map is as before or without the name, unless the units
@@ -180,6 +181,8 @@ pub trait Backend: Drop {
         ensures area { mounted_on self.new ≡ mounted_on self.old }
         ensures ends { let d = F.device flash.old in let e = F.device flash.new in
             DeleteEndsOn contents d e (mounted_on self.old) name.now result }
+        ensures written { let d = F.device flash.old in let area = mounted_on self.old in
+            (area.role ≡ FcbRole → ⊥) → StaysWritten d (F.device flash.new) area }
         ensures at_most { let d = F.device flash.old in
             SpendsAtMost d (F.device flash.new)
             (command_units (geometry_of d (mounted_on self.old))) }

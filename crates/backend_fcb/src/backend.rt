@@ -224,6 +224,8 @@ impl Backend for FcbBackend {
         ensures area { area_of self.new ≡ area_of self.old }
         ensures ends { let d = F.device flash.old in let e = F.device flash.new in
             DeleteEndsOn settings_by d e (area_of self.old) name.now result }
+        ensures written { let d = F.device flash.old in let area = area_of self.old in
+            (area.role ≡ FcbRole → ⊥) → StaysWritten d (F.device flash.new) area }
         ensures sound { on damage_by (F.device flash.new) (area_of self.old) ≡ None }
         ensures cut { let d = F.device flash.old in let e = F.device flash.new in
             d.is_on ≡ true → is_err result ≡ true

@@ -9,6 +9,7 @@ ghost use Rattle.backend_api.specs.Ends.{set_lost};
 ghost use Rattle.backend_api.specs.Map.{IsStored};
 ghost use Rattle.setting_name.specs.Name.{IsName};
 ghost use Rattle.backend_api.specs.Room.{command_units};
+ghost use Rattle.backend_api.specs.Written.{StaysWritten};
 ghost use Rattle.mirror.specs.Mirrored.{HasRoom, IsMirror, LooksForBoth, MirrorDeletes, MirrorSets, SameSide, higher, lower};
 ghost use Rattle.mirror.specs.Room.{too_many_on};
 
@@ -256,7 +257,8 @@ impl<K: Priced> Mirror<K> {
 
     /// Deletes a name, in the trusted area first and then in the other one. If the name has no
     /// value, nothing is programmed. It is never refused for want of room, takes no memory, and
-    /// spends at most the units and erases of one command in each area (`command_units`).
+    /// spends at most the units and erases of one command in each area (`command_units`). The
+    /// trusted area is all FF afterwards only if it was so before.
     ///
     /// # Errors
     /// `PowerLost`: the mirror is down. Each area is as before or without the name; the other
@@ -279,6 +281,8 @@ impl<K: Priced> Mirror<K> {
         ensures ends { let d = F.device flash.old in let e = F.device flash.new in
             MirrorDeletes K.damage K.contents K.room K.prices d e self.old.trusted self.old.other
             name.now result }
+        ensures written { StaysWritten (F.device flash.old) (F.device flash.new)
+            self.old.trusted.area }
         ensures at_most { let d = F.device flash.old in
             SpendsAtMost d (F.device flash.new)
             (command_units (geometry_of d self.old.trusted.area)

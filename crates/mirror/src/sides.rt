@@ -7,6 +7,7 @@ ghost use Rattle.flash_map.specs.Spending.{SpendsAtMost};
 ghost use Rattle.flash_map.specs.Touches.{Touches};
 ghost use Rattle.backend_api.specs.Map.{IsAbsent, IsStored};
 ghost use Rattle.backend_api.specs.Room.{HasNoRoom, command_units};
+ghost use Rattle.backend_api.specs.Written.{StaysWritten};
 ghost use Rattle.migrator.specs.Migrating.{room_on};
 ghost use Rattle.mirror.specs.Mirrored.{SameSide, SideCommand, SideStands};
 ghost use Rattle.mirror.specs.Room.{too_many_on};
@@ -66,7 +67,7 @@ pub(crate) fn put<K: Priced, F: Flash, L: Ledger>(
     }
 }
 
-// Deletes a name on one side.
+// Deletes a name on one side. The area is all FF afterwards only if it was so before.
 pub(crate) fn take<K: Priced, F: Flash, L: Ledger>(
     side: &mut Side<K>,
     flash: &mut F,
@@ -81,6 +82,7 @@ pub(crate) fn take<K: Priced, F: Flash, L: Ledger>(
     ensures ends { let d = F.device flash.old in let settings = on K.contents d side.old.area in
         SideCommand K.contents d (F.device flash.new) side.old.area
         (IsAbsent settings name.now) (finite.remove settings name.now) result }
+    ensures written { StaysWritten (F.device flash.old) (F.device flash.new) side.old.area }
     ensures at_most { let d = F.device flash.old in
         SpendsAtMost d (F.device flash.new) (command_units (geometry_of d side.old.area)) }
     ensures sound { on K.damage (F.device flash.new) side.old.area ≡ None }

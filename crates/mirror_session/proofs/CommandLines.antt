@@ -1,7 +1,10 @@
 -- Lines that carry out a command on a mirror that is held.
 use Rattle.std.proofs.Common.{◌≡◌, ◌⊎◌, inl, inr, ℕ, ◌+◌, ◌-◌, ◌<◌, ◌≤◌, ◌&&◌, Bool, true, false, cond, List, [], ◌∷◌, length, Some, None, Ok, Err, refl, sym, ap, subst, ◌∙◌}
 use Rattle.std.specs.Prelude.{Result}
+use Rattle.std.specs.Cmp.Lexicographic.{slice_cmp}
+use Rattle.std.specs.FinMap.{get, get-empty, insert}
 use Rattle.std.specs.List.{slice_get}
+use Rattle.std.specs.Ordering.{nat_cmp}
 use Rattle.std.proofs.lemmas.Bool.{false≢true}
 use Rattle.flash_sim.specs.Bank.{IsLawful}
 use Rattle.flash_sim.specs.Device.{Device}
@@ -14,8 +17,10 @@ use Rattle.flash_map.specs.Spending.{SpendsAtMost}
 use Rattle.flash_map.specs.Touches.{Touches}
 use Rattle.backend_api.specs.Commands.{Command, applied, all_applied}
 use Rattle.backend_api.specs.Commands.Command.{Put, Del as Delete}
-use Rattle.backend_api.specs.Map.{Map}
+use Rattle.backend_api.specs.Map.{Map, IsAbsent}
 use Rattle.backend_api.specs.Room.{command_units}
+use Rattle.backend_api.specs.Written.{StaysWritten}
+use Rattle.backend_api.proofs.MapLemmas.{get-insert_same}
 use Rattle.backend_api.specs.declared.backend.SetFault.{SetFault}
 use Rattle.backend_api.specs.declared.backend.SetFault.TheVariants.{NoSpace, TooManyNames, PowerLost}
 use Rattle.migrator.specs.Active.{active_on, selector_damage_on}
@@ -44,12 +49,15 @@ use Rattle.mirror_session.specs.Step.{Changes, HasOrNot, HasRoom, IsCut, IsDone,
 use Rattle.mirror_session.proofs.AccountLemmas.{kept, kept_beside}
 use Rattle.mirror_session.proofs.AccountLemmas as counts
 use Rattle.mirror_session.proofs.ChangeLemmas.{alike, busy_other, busy_present, delete_after, few_is, full_is, idle_absent, idle_stored, made, many_is, most_is, most_spent, none_spent, other_busy, present_busy, put_is, room_is, set_after, some_spent}
-use Rattle.mirror_session.proofs.HeldLemmas.{at_here, at_there, differs, fit_both, named_area, others_are, reads_both, reads_on, settings_are}
+use Rattle.mirror_session.proofs.HeldLemmas.{EmptyWhereBlank, at_here, at_there, differs, fit_both, named_area, others_are, read_if, reads_both, reads_on, settings_are}
 use Rattle.mirror_session.proofs.PlaceLemmas.{beside_is, map_kept, trusted_of_is}
 use Rattle.mirror_session.proofs.MountLemmas.{trusted_there}
 use Rattle.mirror_session.proofs.SoundLemmas.{none_shown}
 use Rattle.mirror_session.proofs.SelectorLemmas.{named_still, rests_still, sound_still, wide}
 use Rattle.session.proofs.ActiveAreas.{area_there}
+
+some_none : (x : List ℕ) → Some x ≡ None → ⊥
+some_none x e = cc
 
 module _ {S : Type 0} (mounted_on : S → Area) (stands : S → Geometry → List (List ℕ) → Type 0) (m : Meanings) (serves : Area → Geometry → Type 0)
     (areas : List Area) (old new : Device) (mirror after : Mirror S) (map : IsMirrorMap serves areas old) (held : IsHeld mounted_on stands m areas old mirror) (power : old.is_on ≡ true)
@@ -104,8 +112,8 @@ module _ {S : Type 0} (mounted_on : S → Area) (stands : S → Geometry → Lis
         (reads_on mounted_on stands m serves areas old mirror map held new still (λ a. on m.damage new a) (λ x y. x ≡ None) one two)
 
     pub held_again : SameSide mirror.trusted after.trusted → SameSide mirror.other after.other → on m.damage new mirror.trusted.area ≡ None → on m.damage new mirror.other.area ≡ None
-        → (new.is_on ≡ true → IsMirror mounted_on stands m.contents m.room m.prices new after.trusted after.other) → IsHeld mounted_on stands m areas new after
-    held_again same same_other sound other_sound up = record {
+        → (new.is_on ≡ true → IsMirror mounted_on stands m.contents m.room m.prices new after.trusted after.other) → (new.is_on ≡ true → is_gone areas new ≡ false) → IsHeld mounted_on stands m areas new after
+    held_again same same_other sound other_sound up read = record {
       trusted = record {
         there = ap (slice_get areas) same.place ∙ held.trusted.there ∙ ap (λ (a : Area). Some a) (sym same.area);
         stores = ap is_store same.area ∙ held.trusted.stores;
@@ -121,7 +129,26 @@ module _ {S : Type 0} (mounted_on : S → Area) (stands : S → Geometry → Lis
       sound = sound_again;
       rests = rests_again;
       up = up;
+      read = read;
     }
+
+    -- the selector names the area that is read, where nothing changed
+    pub read_same : new ≡ old → is_gone areas new ≡ false
+    read_same same = ap (is_gone areas) same ∙ held.read power
+
+    module _ (empties : EmptyWhereBlank serves m) where
+      -- or the area has a setting
+      pub read_with : (name value : List ℕ) → on m.contents new mirror.trusted.area ≡ insert before name value → is_gone areas new ≡ false
+      read_with name value has = read_if mounted_on stands m serves areas old mirror map held new still (λ blank.
+          let now = map_kept serves areas old new touches.banks map in
+          let none = empties new mirror.trusted.area lawful_new (now.lawful.each mirror.trusted.place mirror.trusted.area held.trusted.there) (now.served mirror.trusted.place mirror.trusted.area held.trusted.there held.trusted.stores) blank in
+          absurd (some_none value (sym (get-insert_same before name value) ∙ ap (λ (s : Map). get s name) (sym has ∙ none) ∙ get-empty (slice_cmp nat_cmp) name)))
+
+      -- or a name without a value was deleted, if the area is all FF
+      pub read_without : (name : List ℕ) → StaysWritten old new mirror.trusted.area → (IsAbsent before name → new ≡ old) → is_gone areas new ≡ false
+      read_without name written absent = read_if mounted_on stands m serves areas old mirror map held new still (λ blank.
+          let none = empties old mirror.trusted.area lawful (map.lawful.each mirror.trusted.place mirror.trusted.area held.trusted.there) (map.served mirror.trusted.place mirror.trusted.area held.trusted.there held.trusted.stores) (written blank) in
+          read_same (absent (ap (λ (s : Map). get s name) none ∙ get-empty (slice_cmp nat_cmp) name)))
 
     -- what both areas read as then
     both_read : (x : Map) → on m.contents new mirror.trusted.area ≡ x → on m.contents new mirror.other.area ≡ x
@@ -129,12 +156,13 @@ module _ {S : Type 0} (mounted_on : S → Area) (stands : S → Geometry → Lis
     both_read x one two =
         reads_on mounted_on stands m serves areas old mirror map held new still (λ a. on m.contents new a) (λ a b. (a ≡ x) × (b ≡ x)) (one, two) (two, one)
 
-    new_is : (x : Map) → new.is_on ≡ old.is_on → on m.contents new mirror.trusted.area ≡ x → on m.contents new mirror.other.area ≡ x
-        → state_of m areas (moment new true) ≡ made x x (active_on areas old) (is_gone areas new) (old.is_on && true)
-    new_is x stays one two =
+    new_is : (x : Map) → is_gone areas new ≡ false → new.is_on ≡ old.is_on → on m.contents new mirror.trusted.area ≡ x → on m.contents new mirror.other.area ≡ x
+        → state_of m areas (moment new true) ≡ made x x (active_on areas old) (is_gone areas old) (old.is_on && true)
+    new_is x read stays one two =
         let both = both_read x one two in
         alike (on m.contents new (area_at areas (trusted_on areas new))) x (on m.contents new (area_at areas (beside_in areas (trusted_on areas new)))) x
         (active_on areas new) (active_on areas old) (is_gone areas new) (new.is_on && true) (old.is_on && true) both.0 both.1 still (ap (λ (b : Bool). b && true) stays)
+        ∙ ap (λ (b : Bool). made x x (active_on areas old) b (old.is_on && true)) (read ∙ sym (held.read power))
 
   -- ---- lines in which power lasted
 
@@ -183,17 +211,17 @@ module _ {S : Type 0} (mounted_on : S → Area) (stands : S → Geometry → Lis
     same_fits same is = subst (λ (d : Device). FitNow m areas (moment d true)) (sym same) is
 
     -- a command was carried out in both
-    carried_out : (command : Command) (r : Rules) → (is_idle before command ≡ true → new ≡ old) → (is_idle before command ≡ false → IsCounted r.last → 0 < new.spent - old.spent)
+    carried_out : (command : Command) (r : Rules) → is_gone areas new ≡ false → (is_idle before command ≡ true → new ≡ old) → (is_idle before command ≡ false → IsCounted r.last → 0 < new.spent - old.spent)
         → IsFree r before command → (is_idle before command ≡ false → HasRoom r before command) → new.spent - old.spent ≤ r.most
         → on m.contents new mirror.trusted.area ≡ all_applied before (changing before command) → on m.contents new mirror.other.area ≡ all_applied before (changing before command)
         → IsDone r command (new.spent - old.spent) was (state_of m areas (moment new true))
-    carried_out command r idle some free room most one two = record {
+    carried_out command r read idle some free room most one two = record {
       free = free;
       room = room;
       none = λ is. none_spent old new (idle is);
       some = λ busy counts. some busy counts;
       at_most = most;
-      state = new_is false touches (all_applied before (changing before command)) touches.ends.on one two;
+      state = new_is false touches (all_applied before (changing before command)) read touches.ends.on one two;
     }
 
     -- nothing changed
@@ -336,15 +364,24 @@ module _ {S : Type 0} (mounted_on : S → Area) (stands : S → Geometry → Lis
           room_is m serves areas old map mirror.trusted.place mirror.other.place mirror.trusted.area mirror.other.area held.trusted.there held.other.there (at_here mounted_on stands m serves areas old mirror map held) (at_there mounted_on stands m serves areas old mirror map held)
           (differs mounted_on stands m serves areas old mirror map held) before name value last (has.trusted_room (busy_other before name value busy)) (has.other_room (busy_other before name value busy))
 
-      pub set_done : (x : T) → result ≡ Ok x → Touches (mirror.trusted.area ∷ mirror.other.area ∷ []) old new false → on m.damage new mirror.trusted.area ≡ None → on m.damage new mirror.other.area ≡ None
+      pub set_done : (x : T) → result ≡ Ok x → EmptyWhereBlank serves m → Touches (mirror.trusted.area ∷ mirror.other.area ∷ []) old new false → on m.damage new mirror.trusted.area ≡ None → on m.damage new mirror.other.area ≡ None
           → FitBoth m.room m.prices new mirror.trusted.area mirror.other.area (on m.contents new mirror.trusted.area) → LineDone m areas (Set name value) (done units) (moment old true) (moment new true)
-      set_done x is touches one two fits = let end = ended (Ok x) is in
+      set_done x is empties touches one two fits = let end = ended (Ok x) is in
           whole touches (Set name value) (done units) refl refl refl refl refl refl tt (λ shown. sound_then false touches one two) (λ was_fit. done_fits touches fits (end.1.settings.other_has ∙ sym end.1.settings.trusted_has)) (λ was_both. done_both touches one two (end.1.settings.other_has ∙ sym end.1.settings.trusted_has)) units_are tt tt tt tt
           (λ last within.
           let both = seen last (λ n. settings.Done n)
-          (carried_out touches (Put name value) (rules_of m areas old.banks last) (λ idle. end.1.same (idle_stored before name value idle)) (λ busy counts. some_spent old new last within (end.1.spends (busy_other before name value busy)) counts)
+          (carried_out touches (Put name value) (rules_of m areas old.banks last) (read_with false touches empties name value end.1.settings.trusted_has) (λ idle. end.1.same (idle_stored before name value idle)) (λ busy counts. some_spent old new last within (end.1.spends (busy_other before name value busy)) counts)
           (free_by last end.0.few) (room_by last end.0) (within_most last) (end.1.settings.trusted_has ∙ sym (set_after before name value)) (end.1.settings.other_has ∙ sym (set_after before name value))) in
           (λ needs. both.0, both.1))
+
+      pub set_done_read : (x : T) → result ≡ Ok x → EmptyWhereBlank serves m → Touches (mirror.trusted.area ∷ mirror.other.area ∷ []) old new false → is_gone areas new ≡ false
+      set_done_read x is empties touches = read_with false touches empties name value (ended (Ok x) is).1.settings.trusted_has
+
+      pub set_many_read : result ≡ Err TooManyNames → Touches (mirror.trusted.area ∷ mirror.other.area ∷ []) old new false → is_gone areas new ≡ false
+      set_many_read is touches = read_same false touches (ended (Err TooManyNames) is).1
+
+      pub set_full_read : (need live : ℕ) → result ≡ Err (NoSpace need live) → Touches (mirror.trusted.area ∷ mirror.other.area ∷ []) old new false → is_gone areas new ≡ false
+      set_full_read need live is touches = read_same false touches (ended (Err (NoSpace need live)) is).2
 
       pub set_many : result ≡ Err TooManyNames → Touches (mirror.trusted.area ∷ mirror.other.area ∷ []) old new false → LineDone m areas (Set name value) (Plain (settings.TooMany units)) (moment old true) (moment new true)
       set_many is touches = let end = ended (Err TooManyNames) is in
@@ -404,15 +441,18 @@ module _ {S : Type 0} (mounted_on : S → Area) (stands : S → Geometry → Lis
         subst (λ (s : State). (s.is_on ≡ true) × Changes (rules_of m areas old.banks last) (Delete name) (answer units) s (state_of m areas (moment new true))) (sym old_is)
         (on_before, subst (λ (n : ℕ). Changes (rules_of m areas old.banks last) (Delete name) (answer n) was (state_of m areas (moment new true))) (sym units_are) is)
 
-    pub delete_done : (x : T) → result ≡ Ok x → Touches (mirror.trusted.area ∷ mirror.other.area ∷ []) old new false → on m.damage new mirror.trusted.area ≡ None → on m.damage new mirror.other.area ≡ None
+    pub delete_done : (x : T) → result ≡ Ok x → EmptyWhereBlank serves m → StaysWritten old new mirror.trusted.area → Touches (mirror.trusted.area ∷ mirror.other.area ∷ []) old new false → on m.damage new mirror.trusted.area ≡ None → on m.damage new mirror.other.area ≡ None
         → FitBoth m.room m.prices new mirror.trusted.area mirror.other.area (on m.contents new mirror.trusted.area) → LineDone m areas (Del name) (done units) (moment old true) (moment new true)
-    delete_done x is touches one two fits = let end = delete_ended (Ok x) is in
+    delete_done x is empties written touches one two fits = let end = delete_ended (Ok x) is in
         whole touches (Del name) (done units) refl refl refl refl refl refl tt (λ shown. sound_then false touches one two) (λ was_fit. done_fits touches fits (end.settings.other_has ∙ sym end.settings.trusted_has)) (λ was_both. done_both touches one two (end.settings.other_has ∙ sym end.settings.trusted_has)) units_are tt tt tt tt
         (λ last within.
         let both = delete_seen last (λ n. settings.Done n)
-        (carried_out touches (Delete name) (rules_of m areas old.banks last) (λ idle. end.absent (idle_absent before name idle)) (λ busy counts. some_spent old new last within (end.spends (busy_present before name busy)) counts)
+        (carried_out touches (Delete name) (rules_of m areas old.banks last) (read_without false touches empties name written end.absent) (λ idle. end.absent (idle_absent before name idle)) (λ busy counts. some_spent old new last within (end.spends (busy_present before name busy)) counts)
         tt (λ busy. tt) (delete_within last) (end.settings.trusted_has ∙ sym (delete_after before name)) (end.settings.other_has ∙ sym (delete_after before name))) in
         (λ needs. both.0, both.1))
+
+    pub delete_done_read : (x : T) → result ≡ Ok x → EmptyWhereBlank serves m → StaysWritten old new mirror.trusted.area → Touches (mirror.trusted.area ∷ mirror.other.area ∷ []) old new false → is_gone areas new ≡ false
+    delete_done_read x is empties written touches = read_without false touches empties name written (delete_ended (Ok x) is).absent
 
     pub delete_lost : (fault : Lost) → result ≡ Err fault → Touches (mirror.trusted.area ∷ mirror.other.area ∷ []) old new true → LineDone m areas (Del name) (lost units) (moment old true) (moment new true)
     delete_lost fault is touches = let end = delete_ended (Err fault) is in

@@ -1,11 +1,11 @@
 -- A mirror that is held: the areas that it is on, and what they read as.
-use Rattle.std.proofs.Common.{◌≡◌, ◌≢◌, ◌⊎◌, ◌==◌, not, inl, inr, ℕ, cond, ◌&&◌, Bool, true, false, List, Option, Some, None, refl, sym, ap, subst, ◌∙◌}
+use Rattle.std.proofs.Common.{◌≡◌, ◌≢◌, ◌==◌, not, inl, inr, ℕ, cond, ◌&&◌, Bool, true, false, List, Option, Some, None, refl, sym, ap, subst, ◌∙◌}
 use Rattle.std.specs.FinMap.{empty}
 use Rattle.std.specs.List.{slice_get}
 use Rattle.std.specs.Option.{option_map_or}
 use Rattle.flash_sim.specs.Bank.{IsLawful}
 use Rattle.flash_map.specs.Lawful.{IsLawfulFor}
-use Rattle.std.proofs.lemmas.Bool.{and_parts, cases_eq}
+use Rattle.std.proofs.lemmas.Bool.{and_parts, cases_Bool, cases_eq}
 use Rattle.flash_sim.specs.Device.{Device}
 use Rattle.flash_map.specs.declared.area.Area.{Area}
 use Rattle.flash_map.specs.declared.area.Geometry.{Geometry}
@@ -104,12 +104,22 @@ module _ {S : Type 0} (mounted_on : S → Area) (stands : S → Geometry → Lis
       let have = reads_on e still (λ a. on m.contents e a) (λ x y. FitsBoth m areas e.banks x × FitsBoth m areas e.banks y) (first, second) (second, first) in
       record { settings = have.0; other = λ now. have.1 }
 
+  -- the selector names the area that is read, where it does so once that area is all FF
+  pub read_if : (e : Device) → active_on areas e ≡ active_on areas d → (is_blank_on e mirror.trusted.area ≡ true → is_gone areas e ≡ false) → is_gone areas e ≡ false
+  read_if e still blank = elim (cases_Bool (is_gone areas e)) [
+    | inl gone ↦
+        let parts = and_parts (is_blank_at areas e (active_on areas e)) (not (is_blank_at areas e (beside_in areas (active_on areas e)))) gone in
+        let there : slice_get areas (active_on areas e) ≡ Some mirror.trusted.area = ap (slice_get areas) (still ∙ sym held.named) ∙ held.trusted.there in
+        blank (sym (ap (λ (o : Option Area). option_map_or (is_blank_on e) o false) there) ∙ parts.0)
+    | inr named ↦ named
+  ]
+
   -- a mount has nothing to do
   pub at_rest : ((state : S) (geometry : Geometry) (sectors : List (List ℕ)) → stands state geometry sectors → m.rests (mounted_on state) geometry sectors)
-      → d.is_on ≡ true → is_gone areas d ≡ false → AtRest m areas d
-  at_rest law power named =
+      → d.is_on ≡ true → AtRest m areas d
+  at_rest law power =
       let up = held.up power in
-      let active : active_on areas d ≡ trusted_on areas d = sym (trusted_of_is areas d ∙ ap (λ (b : Bool). cond b (beside_in areas (active_on areas d)) (active_on areas d)) named) in
+      let active : active_on areas d ≡ trusted_on areas d = sym (trusted_of_is areas d ∙ ap (λ (b : Bool). cond b (beside_in areas (active_on areas d)) (active_on areas d)) (held.read power)) in
       let trusted : trusted_on areas d ≡ mirror.trusted.place = sym active ∙ sym held.named in
       let other : other_place areas (trusted_on areas d) ≡ mirror.other.place = ap (other_place areas) trusted ∙ ap (λ (o : Option ℕ). unwrap_or o mirror.trusted.place) beside_here in
       record {
@@ -129,23 +139,14 @@ module _ {S : Type 0} (mounted_on : S → Area) (stands : S → Geometry → Lis
       ap (λ (n : ℕ). cond (n == 2) LONG_VALUE_LIMIT VALUE_LIMIT)
       (map.lawful.versions mirror.trusted.place (first_store areas) mirror.trusted.area (area_at areas (first_store areas)) held.trusted.there (store_there areas (first_store areas) (first_stores serves areas d map)))
 
-module _ {S : Type 0} (mounted_on : S → Area) (stands : S → Geometry → List (List ℕ) → Type 0) (m : Meanings) (serves : Area → Geometry → Type 0) (areas : List Area) (d : Device) (map : IsMirrorMap serves areas d)
-    (lawful : IsLawful d.banks d.bytes)
-    (empties : (x : Device) (area : Area) → IsLawful x.banks x.bytes → IsLawfulFor x.banks area → serves area (geometry_of x area) → is_blank_on x area ≡ true → on m.contents x area ≡ empty) where
-  -- where the area that is named is all FF, and the other one is not, there are no settings
-  pub gone_empty : (mirror : Mirror S) → IsHeld mounted_on stands m areas d mirror → d.is_on ≡ true → is_gone areas d ≡ true → on m.contents d (area_at areas (trusted_on areas d)) ≡ empty
-  gone_empty mirror ready power gone =
-      let parts = and_parts (is_blank_at areas d (active_on areas d)) (not (is_blank_at areas d (beside_in areas (active_on areas d)))) gone in
-      let there : slice_get areas (active_on areas d) ≡ Some mirror.trusted.area = ap (slice_get areas) (sym ready.named) ∙ ready.trusted.there in
-      let blank : is_blank_on d mirror.trusted.area ≡ true = sym (ap (λ (o : Option Area). option_map_or (is_blank_on d) o false) there) ∙ parts.0 in
-      settings_are mounted_on stands m serves areas d mirror map ready power
-      ∙ empties d mirror.trusted.area lawful (map.lawful.each mirror.trusted.place mirror.trusted.area ready.trusted.there) (map.served mirror.trusted.place mirror.trusted.area ready.trusted.there ready.trusted.stores) blank
+-- where an area that is all FF has no settings
+abbrev pub EmptyWhereBlank : (Area → Geometry → Type 0) → Meanings → Type 0
+EmptyWhereBlank serves m =
+    (x : Device) (area : Area) → IsLawful x.banks x.bytes → IsLawfulFor x.banks area → serves area (geometry_of x area) → is_blank_on x area ≡ true → on m.contents x area ≡ empty
 
 -- the same, where the session says whether its mirror is up
 module _ {S : Type 0} (mounted_on : S → Area) (stands : S → Geometry → List (List ℕ) → Type 0) (m : Meanings) (serves : Area → Geometry → Type 0) (areas : List Area) (d : Device) (map : IsMirrorMap serves areas d)
-    (law : (state : S) (geometry : Geometry) (sectors : List (List ℕ)) → stands state geometry sectors → m.rests (mounted_on state) geometry sectors)
-    (lawful : IsLawful d.banks d.bytes)
-    (empties : (x : Device) (area : Area) → IsLawful x.banks x.bytes → IsLawfulFor x.banks area → serves area (geometry_of x area) → is_blank_on x area ≡ true → on m.contents x area ≡ empty) where
+    (law : (state : S) (geometry : Geometry) (sectors : List (List ℕ)) → stands state geometry sectors → m.rests (mounted_on state) geometry sectors) where
   never_up : (b : Bool) → (b && false) ≡ true → ⊥
   never_up true is = false≢true is
   never_up false is = false≢true is
@@ -155,10 +156,5 @@ module _ {S : Type 0} (mounted_on : S → Area) (stands : S → Geometry → Lis
   is_up false is = is
 
   pub rests_now : (o : Option (Mirror S)) → IsReady mounted_on stands m areas d o → RestsNow m areas (moment d (is_some o))
-  rests_now None ready power named = absurd (never_up d.is_on power)
-  rests_now (Some mirror) ready power named = at_rest mounted_on stands m serves areas d mirror map ready law (is_up d.is_on power) (by (is_gone areas d) refl named)
-    where
-      by : (b : Bool) → is_gone areas d ≡ b → (is_gone areas d ≡ false) ⊎ (on m.contents d (area_at areas (trusted_on areas d)) ≢ empty) → is_gone areas d ≡ false
-      by b is (inl named_so) = named_so
-      by true is (inr some) = absurd (some (gone_empty mounted_on stands m serves areas d map lawful empties mirror ready (is_up d.is_on power) is))
-      by false is (inr some) = is
+  rests_now None ready power = absurd (never_up d.is_on power)
+  rests_now (Some mirror) ready power = at_rest mounted_on stands m serves areas d mirror map ready law (is_up d.is_on power)

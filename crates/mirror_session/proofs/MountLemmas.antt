@@ -174,7 +174,28 @@ module _ {S : Type 0} (mounted_on : S → Area) (stands : S → Geometry → Lis
 
   -- ---- it was whole
 
-  module _ (mirror : Mirror S) (whole : result ≡ Ok mirror) (reads : (state : S) (geometry : Geometry) (sectors : List (List ℕ)) → stands state geometry sectors → m.damage (mounted_on state) geometry sectors ≡ None) where
+  module _ (mirror : Mirror S) (whole : result ≡ Ok mirror) (reads : (state : S) (geometry : Geometry) (sectors : List (List ℕ)) → stands state geometry sectors → m.damage (mounted_on state) geometry sectors ≡ None)
+      (same : trusted_on areas new ≡ trusted_on areas mid) where
+    on_now : new.is_on ≡ true
+    on_now = (touched (Ok mirror) whole).ends.on
+
+    map_now : IsMirrorMap serves areas new
+    map_now = map_kept serves areas old new banks_stay map
+
+    -- the selector names the area that is read
+    not_gone : is_gone areas new ≡ false
+    not_gone = by (is_gone areas new) refl
+      where
+        active : active_on areas new ≡ trusted_on areas new
+        active = (ended (Ok mirror) whole).kept.active ∙ sym (same ∙ ap (λ (d : Device). trusted_on areas d) on_first)
+
+        by : (b : Bool) → is_gone areas new ≡ b → is_gone areas new ≡ false
+        by true is =
+            let beside : beside_in areas (active_on areas new) ≡ active_on areas new =
+            sym (trusted_of_is areas new ∙ ap (λ (b : Bool). cond b (beside_in areas (active_on areas new)) (active_on areas new)) is) ∙ sym active in
+            absurd (other_apart serves areas new map_now (ap (other_place areas) (sym active) ∙ beside ∙ active))
+        by false is = is
+
     pub held_now : IsHeld mounted_on stands m areas new mirror
     held_now = let e = ended (Ok mirror) whole in record {
       trusted = record {
@@ -192,13 +213,8 @@ module _ {S : Type 0} (mounted_on : S → Area) (stands : S → Geometry → Lis
       sound = e.kept.sound;
       rests = e.rests;
       up = λ power. e.mirrors;
+      read = λ power. not_gone;
     }
-
-    on_now : new.is_on ≡ true
-    on_now = (touched (Ok mirror) whole).ends.on
-
-    map_now : IsMirrorMap serves areas new
-    map_now = map_kept serves areas old new banks_stay map
 
     abbrev settings_before : Map
     settings_before = on m.contents old (area_at areas (trusted_on areas old))
@@ -207,29 +223,15 @@ module _ {S : Type 0} (mounted_on : S → Area) (stands : S → Geometry → Lis
     trusted_same = let e = ended (Ok mirror) whole in
         e.kept.kept.reads ∙ ap (λ (a : Area). on m.contents before a) (sym (area_there areas (trusted_on areas before) mirror.trusted.area e.placed.trusted_there))
 
-    -- the selector names the area that is read
-    not_gone : trusted_on areas new ≡ trusted_on areas mid → is_gone areas new ≡ false
-    not_gone same = by (is_gone areas new) refl
-      where
-        active : active_on areas new ≡ trusted_on areas new
-        active = (ended (Ok mirror) whole).kept.active ∙ sym (same ∙ ap (λ (d : Device). trusted_on areas d) on_first)
-
-        by : (b : Bool) → is_gone areas new ≡ b → is_gone areas new ≡ false
-        by true is =
-            let beside : beside_in areas (active_on areas new) ≡ active_on areas new =
-            sym (trusted_of_is areas new ∙ ap (λ (b : Bool). cond b (beside_in areas (active_on areas new)) (active_on areas new)) is) ∙ sym active in
-            absurd (other_apart serves areas new map_now (ap (other_place areas) (sym active) ∙ beside ∙ active))
-        by false is = is
-
     abbrev made : Map → Map → ℕ → Bool → Bool → State
     made settings other named gone power = record { settings = settings; other = other; named = named; gone = gone; is_on = power; is_whole = true }
 
-    remounts : trusted_on areas new ≡ trusted_on areas mid → (last : ℕ) (was : Bool) → Remounts (rules_of m areas old.banks last) (state_of m areas (moment old was)) (state_of m areas (moment new true))
-    remounts same last was = let e = ended (Ok mirror) whole in
+    remounts : (last : ℕ) (was : Bool) → Remounts (rules_of m areas old.banks last) (state_of m areas (moment old was)) (state_of m areas (moment new true))
+    remounts last was = let e = ended (Ok mirror) whole in
         ap (λ (x : Map). made x (on m.contents new (area_at areas (beside_in areas (trusted_on areas new)))) (active_on areas new) (is_gone areas new) (new.is_on && true)) (settings_are mounted_on stands m serves areas new mirror map_now held_now on_now ∙ trusted_same)
         ∙ ap (λ (x : Map). made settings_before x (active_on areas new) (is_gone areas new) (new.is_on && true)) (others_are mounted_on stands m serves areas new mirror map_now held_now on_now ∙ trusted_same)
         ∙ ap (λ (n : ℕ). made settings_before settings_before n (is_gone areas new) (new.is_on && true)) (e.kept.active ∙ trusted_of_is areas old)
-        ∙ ap (λ (b : Bool). made settings_before settings_before (trusted_of (rules_of m areas old.banks last) (state_of m areas (moment old was))) b (new.is_on && true)) (not_gone same)
+        ∙ ap (λ (b : Bool). made settings_before settings_before (trusted_of (rules_of m areas old.banks last) (state_of m areas (moment old was))) b (new.is_on && true)) not_gone
         ∙ ap (λ (b : Bool). made settings_before settings_before (trusted_of (rules_of m areas old.banks last) (state_of m areas (moment old was))) false (b && true)) on_now
 
     -- what both read as fits both
@@ -255,13 +257,13 @@ module _ {S : Type 0} (mounted_on : S → Area) (stands : S → Geometry → Lis
       rests = λ is. (none_spent units are (unchanged idle is), unchanged idle is);
     }
 
-    pub whole_line : (units : ℕ) (was : Bool) → units ≡ new.spent - mid.spent → SpendsOnMount → IdleOnMount → CopyOnMount → trusted_on areas new ≡ trusted_on areas mid → LineDone m areas Mount (done units) (moment old was) (moment new true)
-    whole_line units was are most idle copy same =
+    pub whole_line : (units : ℕ) (was : Bool) → units ≡ new.spent - mid.spent → SpendsOnMount → IdleOnMount → CopyOnMount → LineDone m areas Mount (done units) (moment old was) (moment new true)
+    whole_line units was are most idle copy =
         let touch = touched (Ok mirror) whole in
         let accounts = kept areas Mount (done units) before new touch refl refl (are ∙ ap (λ (d : Device). new.spent - d.spent) on_first) in
         let beside_it = kept_beside areas before new false touch in
         record {
-          step = λ last within. (λ needs. absurd (false≢true needs), remounts same last was);
+          step = λ last within. (λ needs. absurd (false≢true needs), remounts last was);
           accounts = record { spent = accounts.spent; losses = accounts.losses; allows = accounts.allows; plan = accounts.plan; unplanned = accounts.unplanned };
           keeps = record { banks = beside_it.banks; loaded = beside_it.loaded; outside = beside_it.outside };
           touches = λ plain. touch;

@@ -1,4 +1,4 @@
--- When power is off, and when both areas read as the settings.
+-- When power is off; when both areas read as the settings, and the named one is read.
 use Rattle.std.proofs.Common.{◌≡◌, ◌⊎◌, inl, inr, ℕ, Bool, true, false, cond, List, refl, sym, ap, subst, ◌∙◌}
 use Rattle.std.proofs.lemmas.Bool.{false≢true}
 use Rattle.script_lines.specs.declared.answer.Answer.{Answer as settings_answer}
@@ -6,16 +6,17 @@ use Rattle.script_lines.specs.declared.answer.Answer.TheVariants as settings
 use Rattle.backend_api.specs.Commands.{Command}
 use Rattle.backend_api.specs.Commands.Command.{Del as Delete}
 use Rattle.settings_core.specs.Carrying.{command_of}
+use Rattle.session_table.specs.Follows.{Follows}
 use Rattle.session_table.proofs.FollowsLemmas.{kept, seen, then}
 use Rattle.mirror_session.specs.declared.line.Line.{Line}
 use Rattle.mirror_session.specs.declared.line.Line.TheVariants.{Set, Get, Del, Names, Mount, Cut, Uncut, Blank}
 use Rattle.mirror_session.specs.declared.answer.Answer.{Answer}
 use Rattle.mirror_session.specs.declared.answer.Answer.TheVariants.{Plain, On, NoArea, NotYet}
 use Rattle.mirror_session.specs.Plan.{is_lost}
-use Rattle.mirror_session.specs.History.{IsMirrored, PowerStep}
-use Rattle.mirror_session.specs.Laws.{KeepsNamed, LosesPower, RunsInRow, StaysMirrored}
+use Rattle.mirror_session.specs.History.{IsMirrored, NamesRead, PowerStep}
+use Rattle.mirror_session.specs.Laws.{KeepsNamed, KeepsNamesRead, LosesPower, RunsInRow, StaysMirrored}
 use Rattle.mirror_session.specs.State.{State, Rules}
-use Rattle.mirror_session.specs.Step.{Arms, Blanks, Changes, Gets, Mounts, Step, Reports, ReportsAll}
+use Rattle.mirror_session.specs.Step.{Arms, Blanks, Changes, Gets, IsDone, Mounts, Remounts, Step, Reports, ReportsAll}
 
 -- power stays but for a loss
 abbrev StaysOn : Answer → State → State → Type 0
@@ -74,61 +75,98 @@ module _ (r : Rules) where
   step_power (Blank label) answer old new is = blank_power label answer old new is
   step_power line answer old new none = absurd none
 
-  -- ---- both areas
+-- ---- what holds with power on
 
-  same_mirrored : (old new : State) → new ≡ old → IsMirrored old → IsMirrored new
-  same_mirrored old new same was = subst IsMirrored (sym same) was
+-- What holds of any state with power off, stays where a command is done, and holds after a mount, stays in every line.
+module _ (r : Rules) (P : State → Type 0) (off : (s : State) → s.is_on ≡ false → P s) (done : (command : Command) (units : ℕ) (old new : State) → P old → IsDone r command units old new → P new)
+    (mounted : (old new : State) → Remounts r old new → P new) where
+  same_kept : (old new : State) → new ≡ old → P old → P new
+  same_kept old new same was = subst P (sym same) was
 
-  pub off_mirrored : (new : State) → new.is_on ≡ false → IsMirrored new
-  off_mirrored new off on = absurd (false≢true (sym off ∙ on))
+  change_kept : (command : Command) (answer : settings_answer) (old new : State) → P old → Changes r command answer old new → P new
+  change_kept command (settings.Done units) old new was is = done command units old new was is
+  change_kept command (settings.TooMany units) old new was is = same_kept old new is.2 was
+  change_kept command (settings.NoSpace units need live) old new was is = same_kept old new is.2 was
+  change_kept command (settings.Lost units false) old new was is = off new (ap (λ (s : State). s.is_on) is.state)
+  change_kept command answer old new was none = absurd none
 
-  change_mirrored : (command : Command) (answer : settings_answer) (old new : State) → IsMirrored old → Changes r command answer old new → IsMirrored new
-  change_mirrored command (settings.Done units) old new was is = λ on. ap (λ (s : State). s.other) is.state ∙ sym (ap (λ (s : State). s.settings) is.state)
-  change_mirrored command (settings.TooMany units) old new was is = same_mirrored old new is.2 was
-  change_mirrored command (settings.NoSpace units need live) old new was is = same_mirrored old new is.2 was
-  change_mirrored command (settings.Lost units false) old new was is = off_mirrored new (ap (λ (s : State). s.is_on) is.state)
-  change_mirrored command answer old new was none = absurd none
+  get_kept : (name : List ℕ) (answer : settings_answer) (old new : State) → P old → Gets name answer old new → P new
+  get_kept name (settings.Value value) old new was is = same_kept old new is.1 was
+  get_kept name settings.Absent old new was is = same_kept old new is.1 was
+  get_kept name answer old new was none = absurd none
 
-  get_mirrored : (name : List ℕ) (answer : settings_answer) (old new : State) → IsMirrored old → Gets name answer old new → IsMirrored new
-  get_mirrored name (settings.Value value) old new was is = same_mirrored old new is.1 was
-  get_mirrored name settings.Absent old new was is = same_mirrored old new is.1 was
-  get_mirrored name answer old new was none = absurd none
+  names_kept : (answer : settings_answer) (old new : State) → P old → ReportsAll r answer old new → P new
+  names_kept (settings.Names active pairs) old new was is = same_kept old new is.3 was
+  names_kept answer old new was none = absurd none
 
-  names_mirrored : (answer : settings_answer) (old new : State) → IsMirrored old → ReportsAll r answer old new → IsMirrored new
-  names_mirrored (settings.Names active pairs) old new was is = same_mirrored old new is.3 was
-  names_mirrored answer old new was none = absurd none
+  mount_kept : (answer : settings_answer) (old new : State) → Mounts r answer old new → P new
+  mount_kept (settings.Done units) old new is = mounted old new is
+  mount_kept (settings.Lost units false) old new is = off new is.off
+  mount_kept answer old new none = absurd none
 
-  mount_mirrored : (answer : settings_answer) (old new : State) → Mounts r answer old new → IsMirrored new
-  mount_mirrored (settings.Done units) old new is = λ on. ap (λ (s : State). s.other) is ∙ sym (ap (λ (s : State). s.settings) is)
-  mount_mirrored (settings.Lost units false) old new is = off_mirrored new is.off
-  mount_mirrored answer old new none = absurd none
+  arm_kept : (answer : settings_answer) (old new : State) → P old → Arms answer old new → P new
+  arm_kept (settings.Done units) old new was is = same_kept old new is.1 was
+  arm_kept answer old new was none = absurd none
 
-  arm_mirrored : (answer : settings_answer) (old new : State) → IsMirrored old → Arms answer old new → IsMirrored new
-  arm_mirrored (settings.Done units) old new was is = same_mirrored old new is.1 was
-  arm_mirrored answer old new was none = absurd none
+  blank_kept : (label : List ℕ) (answer : Answer) (old new : State) → P old → Blanks r label answer old new → P new
+  blank_kept label On old new was is = same_kept old new is.1 was
+  blank_kept label NoArea old new was is = same_kept old new is.2 was
+  blank_kept label NotYet old new was is = same_kept old new is.3 was
+  blank_kept label (Plain (settings.Done units)) old new was is = off new (ap (λ (s : State). s.is_on) is.3.2 ∙ is.1)
+  blank_kept label answer old new was none = absurd none
 
-  blank_mirrored : (label : List ℕ) (answer : Answer) (old new : State) → IsMirrored old → Blanks r label answer old new → IsMirrored new
-  blank_mirrored label On old new was is = same_mirrored old new is.1 was
-  blank_mirrored label NoArea old new was is = same_mirrored old new is.2 was
-  blank_mirrored label NotYet old new was is = same_mirrored old new is.3 was
-  blank_mirrored label (Plain (settings.Done units)) old new was is = off_mirrored new (ap (λ (s : State). s.is_on) is.3.2 ∙ is.1)
-  blank_mirrored label answer old new was none = absurd none
+  line_kept : (line : Line) (answer : settings_answer) (old new : State) → P old → Reports r line answer old new → P new
+  line_kept (Set name value) answer old new was is = change_kept (command_of name value) answer old new was is
+  line_kept (Del name) answer old new was is = change_kept (Delete name) answer old new was is
+  line_kept (Get name) answer old new was is = get_kept name answer old new was is
+  line_kept Names answer old new was is = names_kept answer old new was is
+  line_kept Mount answer old new was is = mount_kept answer old new is
+  line_kept (Cut units) answer old new was is = arm_kept answer old new was is
+  line_kept Uncut answer old new was is = arm_kept answer old new was is
+  line_kept (Blank label) answer old new was is = blank_kept label (Plain answer) old new was is
 
-  line_mirrored : (line : Line) (answer : settings_answer) (old new : State) → IsMirrored old → Reports r line answer old new → IsMirrored new
-  line_mirrored (Set name value) answer old new was is = change_mirrored (command_of name value) answer old new was is
-  line_mirrored (Del name) answer old new was is = change_mirrored (Delete name) answer old new was is
-  line_mirrored (Get name) answer old new was is = get_mirrored name answer old new was is
-  line_mirrored Names answer old new was is = names_mirrored answer old new was is
-  line_mirrored Mount answer old new was is = mount_mirrored answer old new is
-  line_mirrored (Cut units) answer old new was is = arm_mirrored answer old new was is
-  line_mirrored Uncut answer old new was is = arm_mirrored answer old new was is
-  line_mirrored (Blank label) answer old new was is = blank_mirrored label (Plain answer) old new was is
+  step_kept : (line : Line) (answer : Answer) (old new : State) → Step r line answer old new → P old → P new
+  step_kept line (Plain settings.Off) old new is was = same_kept old new is.2 was
+  step_kept line (Plain answer) old new is was = line_kept line answer old new was is.1
+  step_kept (Blank label) answer old new is was = blank_kept label answer old new was is
+  step_kept line answer old new none was = absurd none
+
+  run_kept : (lines : List Line) (answers : List Answer) (old new : State) → P old → Follows (Step r) lines answers old new → P new
+  run_kept lines answers old new was runs =
+      kept (Step r) (λ a b. P a → P b) (λ s is. is) (λ a b c one two is. two (one is)) step_kept lines answers old new runs was
+
+-- both areas read as the settings
+
+pub off_mirrored : (s : State) → s.is_on ≡ false → IsMirrored s
+off_mirrored s off on = absurd (false≢true (sym off ∙ on))
+
+module _ (r : Rules) where
+  done_mirrored : (command : Command) (units : ℕ) (old new : State) → IsMirrored old → IsDone r command units old new → IsMirrored new
+  done_mirrored command units old new was is on = ap (λ (s : State). s.other) is.state ∙ sym (ap (λ (s : State). s.settings) is.state)
+
+  mount_mirrored : (old new : State) → Remounts r old new → IsMirrored new
+  mount_mirrored old new is on = ap (λ (s : State). s.other) is ∙ sym (ap (λ (s : State). s.settings) is)
 
   pub step_mirrored : (line : Line) (answer : Answer) (old new : State) → Step r line answer old new → IsMirrored old → IsMirrored new
-  step_mirrored line (Plain settings.Off) old new is was = same_mirrored old new is.2 was
-  step_mirrored line (Plain answer) old new is was = line_mirrored line answer old new was is.1
-  step_mirrored (Blank label) answer old new is was = blank_mirrored label answer old new was is
-  step_mirrored line answer old new none was = absurd none
+  step_mirrored = step_kept r IsMirrored off_mirrored done_mirrored mount_mirrored
+
+pub stays_mirrored : StaysMirrored
+stays_mirrored r = run_kept r IsMirrored off_mirrored (done_mirrored r) (mount_mirrored r)
+
+-- the named area is read
+
+off_read : (s : State) → s.is_on ≡ false → NamesRead s
+off_read s off on = absurd (false≢true (sym off ∙ on))
+
+module _ (r : Rules) where
+  done_read : (command : Command) (units : ℕ) (old new : State) → NamesRead old → IsDone r command units old new → NamesRead new
+  done_read command units old new was is on = ap (λ (s : State). s.gone) is.state ∙ was (sym (ap (λ (s : State). s.is_on) is.state) ∙ on)
+
+  mount_read : (old new : State) → Remounts r old new → NamesRead new
+  mount_read old new is on = ap (λ (s : State). s.gone) is
+
+pub keeps_names_read : KeepsNamesRead
+keeps_names_read r = run_kept r NamesRead off_read (done_read r) (mount_read r)
 
 -- ---- the named area
 
@@ -203,7 +241,3 @@ loses_power r lines answers old new runs = seen (Step r) PowerStep (λ s. s.is_o
 
 pub runs_in_row : RunsInRow
 runs_in_row r lines more answers others old mid new runs rest = then (Step r) lines more answers others old mid new runs rest
-
-pub stays_mirrored : StaysMirrored
-stays_mirrored r lines answers old new was runs =
-    kept (Step r) (λ a b. IsMirrored a → IsMirrored b) (λ s is. is) (λ a b c one two is. two (one is)) (step_mirrored r) lines answers old new runs was

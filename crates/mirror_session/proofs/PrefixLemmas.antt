@@ -263,7 +263,7 @@ module _ (r : Rules) (start : Map) where
       one_more line lines answer answers old runs.0 new first second runs.1 both_then head (continues lines answers runs.0 new head.one head.two head.holds both_then runs.2)
 
 pub holds_acknowledged : HoldsAcknowledged
-holds_acknowledged r lines answers old new not off runs = by (continues r old.settings lines answers old new [] [] start (off_mirrored r old off) runs)
+holds_acknowledged r lines answers old new not off runs = by (continues r old.settings lines answers old new [] [] start (off_mirrored old off) runs)
   where
     start : Holds r old.settings old [] []
     start = record { settings = sym (none_applied old.settings); other = λ now. on_or_off old.is_whole now not; same = λ now. refl }

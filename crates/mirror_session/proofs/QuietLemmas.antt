@@ -1,6 +1,6 @@
 -- Lines that leave the bench, and lines on the plan of losses.
 use Rattle.std.proofs.Common.{◌≡◌, ℕ, ◌+◌, ◌-◌, ◌&&◌, Bool, true, false, cond, List, [], map, Some, None, refl, sym, ap, subst, ◌∙◌, arith}
-use Rattle.std.specs.FinMap.{empty, entries}
+use Rattle.std.specs.FinMap.{entries}
 use Rattle.std.proofs.lemmas.Bool.{false≢true}
 use Rattle.flash_sim.specs.Device.{Device, Plan, After, replanned, dropped}
 use Rattle.flash_map.specs.declared.area.Area.{Area}
@@ -23,7 +23,7 @@ use Rattle.mirror_session.specs.declared.answer.Answer.{Answer}
 use Rattle.mirror_session.specs.declared.answer.Answer.TheVariants.{Plain, On, NoArea, NotYet}
 use Rattle.mirror_session.specs.Answer.{done, off}
 use Rattle.mirror_session.specs.Plan.{units_of, is_lost, replan}
-use Rattle.mirror_session.specs.Bench.{Meanings, is_gone, labelled, moment, rules_of, state_of}
+use Rattle.mirror_session.specs.Bench.{Meanings, beside_in, is_gone, labelled, moment, rules_of, state_of}
 use Rattle.mirror_session.specs.LineDone.{BothNow, Cuts, Finds, FitsThen, Keeps, LineDone, Replaced, Spares, StaysSound, powered_for, replaces, worked_on}
 use Rattle.mirror_session.specs.Step.{Step, needs_power}
 use Rattle.mirror_session.proofs.AccountLemmas.{counted_none, kept, kept_beside}
@@ -91,8 +91,11 @@ module _ (m : Meanings) (areas : List Area) (d : Device) where
   missing name power is = quiet true (Get name) (Plain settings.Absent) (λ last. (λ needs. powered power, (is, refl))) refl refl refl refl refl tt tt tt tt (λ shown. shown) tt
 
   pub names : (active : List ℕ) (pairs : List Pair) → d.is_on ≡ true → active ≡ (area_at areas (active_on areas d)).label.bytes → pairs ≡ map as_pair (entries (on m.contents d (area_at areas (trusted_on areas d))))
-      → (is_gone areas d ≡ true → on m.contents d (area_at areas (trusted_on areas d)) ≡ empty) → LineDone m areas Names (Plain (settings.Names active pairs)) (moment d true) (moment d true)
-  names active pairs power label are bare = quiet true Names (Plain (settings.Names active pairs)) (λ last. (λ needs. powered power, (label, are, bare, refl))) refl refl refl refl refl tt tt tt tt (λ shown. shown) tt
+      → is_gone areas d ≡ false → LineDone m areas Names (Plain (settings.Names active pairs)) (moment d true) (moment d true)
+  names active pairs power label are read =
+      let at : active ≡ (area_at areas (cond (is_gone areas d) (beside_in areas (active_on areas d)) (active_on areas d))).label.bytes =
+      label ∙ sym (ap (λ (b : Bool). (area_at areas (cond b (beside_in areas (active_on areas d)) (active_on areas d))).label.bytes) read) in
+      quiet true Names (Plain (settings.Names active pairs)) (λ last. (λ needs. powered power, (at, are, read, refl))) refl refl refl refl refl tt tt tt tt (λ shown. shown) tt
 
   -- ---- an area that is not replaced
 

@@ -1,13 +1,14 @@
 -- A session that is ready stays so where the plan of losses alone changed.
-use Rattle.std.proofs.Common.{ℕ, List, Option, Some, None, refl, sym, subst, ◌∙◌}
+use Rattle.std.proofs.Common.{ℕ, ◌&&◌, not, List, Option, Some, None, refl, sym, ap, subst, ◌∙◌}
 use Rattle.flash_sim.specs.Device.{Device, Plan}
 use Rattle.flash_map.specs.declared.area.Area.{Area}
 use Rattle.flash_map.specs.declared.area.Geometry.{Geometry}
 use Rattle.mirror.specs.declared.mirror.Mirror.{Mirror}
 use Rattle.mirror.specs.declared.sides.Side.{Side}
 use Rattle.mirror.specs.Mirrored.{IsMirror, SideStands}
+use Rattle.mirror.specs.Trusted.{is_blank_at}
 use Rattle.session.proofs.ActiveAreas.{active_still, selector_still}
-use Rattle.mirror_session.specs.Bench.{Meanings}
+use Rattle.mirror_session.specs.Bench.{Meanings, beside_in}
 use Rattle.mirror_session.specs.LineDone.{SameButPlan}
 use Rattle.mirror_session.specs.Standing.{IsHeld, IsReady, IsSide}
 
@@ -43,6 +44,7 @@ module _ {S : Type 0} (mounted_on : S → Area) (stands : S → Geometry → Lis
     sound = selector_still areas d other refl (λ s at. refl) ∙ is.sound;
     rests = λ s at. is.rests s at;
     up = λ power. mirror_other mirror.trusted mirror.other (is.up power);
+    read = λ power. ap (λ (p : ℕ). is_blank_at areas d p && not (is_blank_at areas d (beside_in areas p))) (active_still areas d other refl (λ s at. refl)) ∙ is.read power;
   }
 
   ready_other : (o : Option (Mirror S)) → IsReady mounted_on stands m areas d o → IsReady mounted_on stands m areas other o

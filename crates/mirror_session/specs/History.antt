@@ -16,6 +16,10 @@ use Rattle.mirror_session.specs.Step.{Step, commands_of}
 abbrev pub IsMirrored : State → Type 0
 IsMirrored s = IsOn s → s.other ≡ s.settings
 
+-- with power on, the selector names the area that is read
+abbrev pub NamesRead : State → Type 0
+NamesRead s = IsOn s → s.gone ≡ false
+
 -- a state, and the commands that stand so far
 pub record Logged : Type 0 where
   pub state : State

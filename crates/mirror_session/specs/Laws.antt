@@ -10,7 +10,7 @@ use Rattle.mirror_session.specs.declared.answer.Answer.{Answer}
 use Rattle.mirror_session.specs.Bench.{Meanings, Moment}
 use Rattle.mirror_session.specs.LineDone.{IsServed, LineDone}
 use Rattle.mirror_session.specs.Running.{Ran}
-use Rattle.mirror_session.specs.History.{IsAfterPrefix, IsMirrored, PowerStep}
+use Rattle.mirror_session.specs.History.{IsAfterPrefix, IsMirrored, NamesRead, PowerStep}
 use Rattle.mirror_session.specs.State.{State, Rules}
 use Rattle.mirror_session.specs.Step.{Step}
 
@@ -28,6 +28,12 @@ abbrev pub StaysMirrored : Type 0
 StaysMirrored =
     (r : Rules) (lines : List Line) (answers : List Answer) (old new : State)
     → IsMirrored old → Follows (Step r) lines answers old new → IsMirrored new
+
+-- With power on, the selector names the area that is read.
+abbrev pub KeepsNamesRead : Type 0
+KeepsNamesRead =
+    (r : Rules) (lines : List Line) (answers : List Answer) (old new : State)
+    → NamesRead old → Follows (Step r) lines answers old new → NamesRead new
 
 -- Power is off from a line in which it was lost until a mount answers `ok`.
 abbrev pub LosesPower : Type 0

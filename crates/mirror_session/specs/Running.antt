@@ -140,8 +140,7 @@ pub record RunStops (m : Meanings) (areas : List Area) (lines : List Line) (old 
   pub fitting : ReportsUnfit fault → ¬ FitNow m areas old
 
 -- How lines end: all were carried out, with these answers, or one stopped. After the last line
--- a mount has nothing to do, if power is on and the selector names the area that is read or
--- there are settings.
+-- a mount has nothing to do, if power is on.
 abbrev pub RunEnds : Meanings → List Area → List Line → Moment → Device → Result (List Answer) SessionFault
     → Type 0
 RunEnds m areas lines old new (Ok answers) =

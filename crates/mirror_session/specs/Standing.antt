@@ -1,6 +1,5 @@
 -- What holds between two lines.
-use Rattle.std.specs.Prelude.{◌≡◌, ◌≢◌, ◌⊎◌, ℕ, ⊤, true, false, Option, Some, None, List}
-use Rattle.std.specs.FinMap.{empty}
+use Rattle.std.specs.Prelude.{◌≡◌, ◌≢◌, ℕ, ⊤, true, false, Option, Some, None, List}
 use Rattle.std.specs.List.{slice_get}
 use Rattle.flash_sim.specs.Device.{Device}
 use Rattle.flash_map.specs.declared.area.Area.{Area}
@@ -12,8 +11,8 @@ use Rattle.mirror.specs.declared.mirror.Mirror.{Mirror}
 use Rattle.mirror.specs.declared.sides.Side.{Side}
 use Rattle.mirror.specs.Mirrored.{IsMirror}
 use Rattle.mirror.specs.Mounting.{IsAtRest, SelectorRests}
-use Rattle.mirror_session.specs.Bench.{Meanings, Moment, state_of}
-use Rattle.mirror_session.specs.State.{State, IsOn}
+use Rattle.mirror_session.specs.Bench.{Meanings, Moment, is_gone, state_of}
+use Rattle.mirror_session.specs.State.{IsOn}
 
 module _ {S : Type 0} (mounted_on : S → Area) (stands : S → Geometry → List (List ℕ) → Type 0)
     (m : Meanings) where
@@ -25,7 +24,7 @@ module _ {S : Type 0} (mounted_on : S → Area) (stands : S → Geometry → Lis
 
   -- The mirror is on the two store areas of the map, and the selector names the trusted one. None
   -- of the three is damaged. A mount of the selector has nothing to do. With power on, both stores
-  -- are up and hold the same settings.
+  -- are up and hold the same settings, and the area that the selector names is the one that is read.
   pub record IsHeld (areas : List Area) (d : Device) (mirror : Mirror S) : Type 0 where
     pub trusted : IsSide areas d mirror.trusted
     pub other : IsSide areas d mirror.other
@@ -35,15 +34,12 @@ module _ {S : Type 0} (mounted_on : S → Area) (stands : S → Geometry → Lis
     pub rests : SelectorRests areas d
     pub up : d.is_on ≡ true
         → IsMirror mounted_on stands m.contents m.room m.prices d mirror.trusted mirror.other
+    pub read : d.is_on ≡ true → is_gone areas d ≡ false
 
   -- the session is ready, if the last mount was whole and no area was replaced after it
   abbrev pub IsReady : List Area → Device → Option (Mirror S) → Type 0
   IsReady areas d None = ⊤
   IsReady areas d (Some mirror) = IsHeld areas d mirror
-
--- The selector names the area that is read, or there are settings, which implies it with power on.
-abbrev pub NamesRead : State → Type 0
-NamesRead s = (s.gone ≡ false) ⊎ (s.settings ≢ empty)
 
 -- a mount has nothing to do
 abbrev pub AtRest : Meanings → List Area → Device → Type 0
@@ -51,5 +47,4 @@ AtRest m areas d = IsAtRest m.damage m.contents m.rests areas d
 
 -- this holds then, with power on
 abbrev pub RestsNow : Meanings → List Area → Moment → Type 0
-RestsNow m areas now =
-    IsOn (state_of m areas now) → NamesRead (state_of m areas now) → AtRest m areas now.device
+RestsNow m areas now = IsOn (state_of m areas now) → AtRest m areas now.device

@@ -2,7 +2,7 @@
 -- open whether power is lost in a line, which of the two areas a command that was cut has
 -- reached, and the units.
 use Rattle.std.specs.Prelude.{◌≡◌, ◌⊎◌, ℕ, ◌<◌, ◌≤◌, ◌==◌, Bool, true, false, List, [], ◌∷◌, map, Some, None, if◌then◌else◌}
-use Rattle.std.specs.FinMap.{empty, entries}
+use Rattle.std.specs.FinMap.{entries}
 use Rattle.script_lines.specs.declared.answer.Answer.{Answer as settings_answer}
 use Rattle.script_lines.specs.declared.answer.Answer.TheVariants as settings
 use Rattle.backend_api.specs.Commands.{Command, applied, all_applied}
@@ -47,7 +47,7 @@ pub record IsDone (r : Rules) (command : Command) (units : ℕ) (old new : State
   pub some : is_idle old.settings command ≡ false → IsCounted r.last → 0 < units
   pub at_most : units ≤ r.most
   pub state : let after = all_applied old.settings (changing old.settings command) in
-      new ≡ record old { settings = after; other = after; gone = new.gone }
+      new ≡ record old { settings = after; other = after }
 
 -- without the command, or with it
 abbrev pub HasOrNot : Command → Map → Map → Type 0
@@ -95,12 +95,11 @@ Gets name (settings.Value value) old new = IsStored old.settings name value × (
 Gets name settings.Absent old new = IsAbsent old.settings name × (new ≡ old)
 Gets name answer old new = ⊥
 
--- The label of the named area, and all settings. That area is the one that is read, as long as there
--- are settings.
+-- The label of the area that is read, which the selector names, and all settings.
 abbrev pub ReportsAll : Rules → settings_answer → State → State → Type 0
 ReportsAll r (settings.Names active pairs) old new =
-    (active ≡ r.label old.named) × (pairs ≡ map as_pair (entries old.settings))
-    × (old.gone ≡ true → old.settings ≡ empty) × (new ≡ old)
+    (active ≡ r.label (trusted_of r old)) × (pairs ≡ map as_pair (entries old.settings))
+    × (old.gone ≡ false) × (new ≡ old)
 ReportsAll r answer old new = ⊥
 
 -- ---- mounts

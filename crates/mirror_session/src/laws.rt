@@ -2,7 +2,7 @@
 ghost use Rattle.std.specs.Prelude.{List};
 ghost use Rattle.flash_map.specs.declared.area.Area.{Area as area_type};
 ghost use Rattle.mirror_session.specs.Bench.{meanings};
-ghost use Rattle.mirror_session.specs.Laws.{HoldsAcknowledged, KeepsNamed, LinesAreServed, LinesMakeRuns, LosesPower, RunsInRow, StaysMirrored};
+ghost use Rattle.mirror_session.specs.Laws.{HoldsAcknowledged, KeepsNamed, KeepsNamesRead, LinesAreServed, LinesMakeRuns, LosesPower, RunsInRow, StaysMirrored};
 
 use mirror::Priced;
 
@@ -16,6 +16,11 @@ pub fn acknowledged_commands_stand()
 /// With power on, both areas read as the settings.
 pub fn areas_stay_mirrored()
     ensures { StaysMirrored }
+{}
+
+/// With power on, the selector names the area that is read.
+pub fn named_area_is_read()
+    ensures { KeepsNamesRead }
 {}
 
 /// Power is off from a line in which it was lost until a mount answers `ok`.

@@ -8,6 +8,7 @@ ghost use Rattle.flash_map.specs.Spending.{SpendsAtMost};
 ghost use Rattle.flash_map.specs.Touches.{Touches};
 ghost use Rattle.flash_map.specs.On.{on, StandsOn};
 ghost use Rattle.backend_api.specs.Room.{command_units};
+ghost use Rattle.backend_api.specs.Written.{StaysWritten};
 ghost use Rattle.named_items.specs.StoreEnds as items;
 ghost use Rattle.named_items.specs.Ends.{DeletesPair, PutsPair};
 ghost use Rattle.named_items.specs.Looking.{HasIds};
@@ -22,7 +23,8 @@ use flash_sim::{Flash, PowerLost, Steps};
 use setting_name::Name;
 use std::sync::ledger::Ledger;
 
-/// Deletes a name, the item `first`, and then its value, the item `second`.
+/// Deletes a name, the item `first`, and then its value, the item `second`. The area is all FF
+/// afterwards only if it was so before.
 ///
 /// # Errors
 /// `PowerLost`: neither is deleted, or the name alone, or both. The store is down.
@@ -48,6 +50,8 @@ pub fn delete_pair<S: ItemStore, F: Flash, L: Ledger>(
     ensures ends { let area = S.mounted_on store.old in
         DeletesPair (on S.contents (F.device flash.old) area)
         (on S.contents (F.device flash.new) area) first second result }
+    ensures written { StaysWritten (F.device flash.old) (F.device flash.new)
+        (S.mounted_on store.old) }
     ensures at_most { let d = F.device flash.old in
         SpendsAtMost d (F.device flash.new)
         (command_units (geometry_of d (S.mounted_on store.old))) }
@@ -56,7 +60,8 @@ pub fn delete_pair<S: ItemStore, F: Flash, L: Ledger>(
     store.delete(flash, second, steps)
 }
 
-/// Deletes a setting: first the item of its name, then that of its value. All other items stay.
+/// Deletes a setting: first the item of its name, then that of its value. All other items stay. The
+/// area is all FF afterwards only if it was so before.
 ///
 /// # Errors
 /// `PowerLost`: the settings are as before, or without the name, and the store is down.
@@ -79,6 +84,8 @@ pub fn delete_name<N: IdLayout, S: ItemStore, F: Flash, L: Ledger>(
     ensures others { let area = S.mounted_on store.old in
         AltersOnlySetting (N.numbering area) (on S.contents (F.device flash.old) area)
         (on S.contents (F.device flash.new) area) name.now }
+    ensures written { StaysWritten (F.device flash.old) (F.device flash.new)
+        (S.mounted_on store.old) }
     ensures at_most { let d = F.device flash.old in
         SpendsAtMost d (F.device flash.new)
         (command_units (geometry_of d (S.mounted_on store.old))) }

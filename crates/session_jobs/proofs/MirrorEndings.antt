@@ -152,8 +152,8 @@ module _ (name script out : List ℕ) (outside : Outside) (banks : List Bank) (b
               (mirror_reads_same (version_of areas) (map plain_area areas) areas bench' whole map_left (still none));
           both_read = λ on_then. subst (λ (i : Plain). BothRead any_damage any_contents areas (flash_of i) (state_of any_meanings areas (closing bench' whole)).settings) same
               (both_same (version_of areas) (map plain_area areas) areas bench' (state_of any_meanings areas (closing bench' whole)).settings (ran.both (λ on_first. absurd (never_on (begun image bench).is_on on_first)) on_then));
-          rests = λ on_then named. subst (λ (i : Plain). IsAtRest any_damage any_contents any_rests areas (flash_of i)) same
-              (rests_same (version_of areas) (map plain_area areas) areas bench' (still_rests on_then named));
+          rests = λ on_then. subst (λ (i : Plain). IsAtRest any_damage any_contents any_rests areas (flash_of i)) same
+              (rests_same (version_of areas) (map plain_area areas) areas bench' (still_rests on_then));
           banks = ran.keeps.banks;
           loads = loads;
           prints = prints;

@@ -25,7 +25,6 @@ use Rattle.mirror_session.specs.Bench.{Meanings, Moment, beside_in, meanings, mo
 use Rattle.mirror_session.specs.History.{IsAfterPrefix, IsMirrored}
 use Rattle.mirror_session.specs.LineDone.{FitsBoth}
 use Rattle.mirror_session.specs.Running.{Ran, RunStops, ReportsUnfit, replaced_in}
-use Rattle.mirror_session.specs.Standing.{NamesRead}
 use Rattle.mirror_session.specs.State.{IsOn}
 use Rattle.image_jobs.specs.declared.outcome.Outcome.{Outcome}
 use Rattle.image_jobs.specs.declared.stops.Refusal.{Refusal}
@@ -126,15 +125,13 @@ pub record MirrorJobDoes (name script out : List ℕ) (host : Outside) (old new 
       → MirrorReads any_damage any_contents areas (flash_of (left image new))
       (state_of any_meanings areas (closing new whole)).settings
   -- With power on at the end, neither area of OUT is damaged, and both read as the last
-  -- map. A mount of OUT has nothing to do if that map has settings or the selector names
-  -- the area that is read.
+  -- map. A mount of OUT has nothing to do.
   pub both_read :
       IsOn (state_of any_meanings areas (closing new whole))
       → BothRead any_damage any_contents areas (flash_of (left image new))
       (state_of any_meanings areas (closing new whole)).settings
   pub rests :
       IsOn (state_of any_meanings areas (closing new whole))
-      → NamesRead (state_of any_meanings areas (closing new whole))
       → IsAtRest any_damage any_contents any_rests areas (flash_of (left image new))
   pub banks : new.banks ≡ image.banks
   pub loads : new.loads ≡ counted old.loads (1 + replaced_in (Mount ∷ lines) answers)

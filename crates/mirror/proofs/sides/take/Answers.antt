@@ -6,8 +6,11 @@ use Rattle.flash_map.specs.On.{on}
 use Rattle.flash_map.specs.Spending.{SpendsAtMost}
 use Rattle.flash_map.specs.Touches.{Touches}
 use Rattle.flash_map.specs.declared.area.Area.{Area}
+use Rattle.flash_map.specs.declared.area.Role.TheVariants.{Fcb as FcbRole}
 use Rattle.flash_map.specs.Lawful.{IsLawfulFor}
 use Rattle.backend_api.specs.Room.{command_units}
+use Rattle.backend_api.specs.Written.{StaysWritten}
+use Rattle.mirror.proofs.SideSteps.{not-records}
 use Rattle.mirror.proofs.sides.take.Goals as goal
 
 pub delete-requires-clause-lawful : goal.delete-requires-clause-lawful
@@ -43,3 +46,9 @@ returns-clause-stands g c = λ whole. record {
 
 pub returns-clause-down : goal.returns-clause-down
 returns-clause-down g c = c.delete.ensures.down
+
+pub returns-clause-written : goal.returns-clause-written
+returns-clause-written g c =
+    let d = g.F.Flash.device c.args.flash.now in
+    let e = g.F.Flash.device c.delete.new.flash in
+    subst (λ (x : Area). (x.role ≡ FcbRole → ⊥) → StaysWritten d e x) c.requires.stands.here c.delete.ensures.written (not-records c.args.side.now.area c.requires.stands.role)

@@ -12,7 +12,7 @@ use Rattle.mirror_session.specs.declared.answer.Answer.TheVariants.{Plain}
 use Rattle.mirror_session.specs.Answer.{done, lost}
 use Rattle.mirror_session.specs.Bench.{meanings, moment}
 use Rattle.mirror_session.specs.LineDone.{LineDone}
-use Rattle.mirror_session.proofs.CommandLines.{held_again, set_done, set_full, set_lost_sound, set_many}
+use Rattle.mirror_session.proofs.CommandLines.{held_again, set_done, set_done_read, set_full, set_full_read, set_lost_sound, set_many, set_many_read}
 use Rattle.mirror_session.proofs.CommandLines.{set_lost as set_line_lost}
 use Rattle.mirror_session.proofs.HeldLemmas.{limit_is}
 use Rattle.mirror_session.proofs.SideLemmas.{sides_fit, sides_sound}
@@ -35,7 +35,7 @@ returns-in-Ok-clause-done g c =
     let some : 0 < length c.as_slice.result.now = rw (c.as_slice.ensures) c.requires.some in
     let up = c.set-end.ensures.mirrors (ap (λ (r : Result (Unit {0}) SetFault). set_lost r) c.in-Ok.is) in
     let sound = sides_sound K.mounted_on K.stands m new c.args.mirror.now c.set-end.new.self (λ s h x is. g.met.K.Backend.stands_reads s h x is) c.set-end.ensures.trusted c.set-end.ensures.other up in
-    let line = set_done K.mounted_on K.stands m K.serves c.args.map.now old new c.args.mirror.now c.set-end.new.self c.requires.map c.requires.held c.requires.on lawful lawful_new c.args.name.now c.as_slice.result.now some c.set-end.ensures.at_most (new.spent - old.spent) refl c.set-end.result c.set-end.ensures.ends c.in-Ok.field-0 c.in-Ok.is (subst (λ (r : Result (Unit {0}) SetFault). Touches (c.args.mirror.now.trusted.area ∷ c.args.mirror.now.other.area ∷ []) old new (set_lost r)) c.in-Ok.is c.set-end.ensures.touches) sound.0 sound.1 (sides_fit K.mounted_on K.stands m new c.args.mirror.now c.set-end.new.self c.set-end.ensures.trusted c.set-end.ensures.other up) in
+    let line = set_done K.mounted_on K.stands m K.serves c.args.map.now old new c.args.mirror.now c.set-end.new.self c.requires.map c.requires.held c.requires.on lawful lawful_new c.args.name.now c.as_slice.result.now some c.set-end.ensures.at_most (new.spent - old.spent) refl c.set-end.result c.set-end.ensures.ends c.in-Ok.field-0 c.in-Ok.is (λ x a fine is served blank. g.met.K.Priced.blank_empty x a fine is served blank) (subst (λ (r : Result (Unit {0}) SetFault). Touches (c.args.mirror.now.trusted.area ∷ c.args.mirror.now.other.area ∷ []) old new (set_lost r)) c.in-Ok.is c.set-end.ensures.touches) sound.0 sound.1 (sides_fit K.mounted_on K.stands m new c.args.mirror.now c.set-end.new.self c.set-end.ensures.trusted c.set-end.ensures.other up) in
     rw (c.done.ensures, c.spent.ensures, c.spent-before.ensures) (subst (λ (v : List ℕ). LineDone m c.args.map.now (Set c.args.name.now v) (done (new.spent - old.spent)) (moment old true) (moment new true)) c.as_slice.ensures line)
 
 pub returns-in-Err-NoSpace-clause-done : goal.returns-in-Err-NoSpace-clause-done
@@ -92,7 +92,9 @@ returns-in-Ok-clause-held g c =
     let touches = subst (λ (r : Result (Unit {0}) SetFault). Touches (c.args.mirror.now.trusted.area ∷ c.args.mirror.now.other.area ∷ []) old new (set_lost r)) end c.set-end.ensures.touches in
     let up = c.set-end.ensures.mirrors (ap (λ (r : Result (Unit {0}) SetFault). set_lost r) end) in
     let sound = sides_sound K.mounted_on K.stands m new c.args.mirror.now c.set-end.new.self (λ s h x is. g.met.K.Backend.stands_reads s h x is) c.set-end.ensures.trusted c.set-end.ensures.other up in
+    let some : 0 < length c.as_slice.result.now = rw (c.as_slice.ensures) c.requires.some in
     held_again K.mounted_on K.stands m K.serves c.args.map.now old new c.args.mirror.now c.set-end.new.self c.requires.map c.requires.held c.requires.on lawful lawful_new false touches c.set-end.ensures.trusted c.set-end.ensures.other sound.0 sound.1 (λ power. up)
+    (λ power. set_done_read K.mounted_on K.stands m K.serves c.args.map.now old new c.args.mirror.now c.set-end.new.self c.requires.map c.requires.held c.requires.on lawful lawful_new c.args.name.now c.as_slice.result.now some c.set-end.ensures.at_most (new.spent - old.spent) refl c.set-end.result c.set-end.ensures.ends c.in-Ok.field-0 end (λ x a fine is served blank. g.met.K.Priced.blank_empty x a fine is served blank) touches)
 
 pub returns-in-Err-NoSpace-clause-held : goal.returns-in-Err-NoSpace-clause-held
 returns-in-Err-NoSpace-clause-held g c =
@@ -107,7 +109,9 @@ returns-in-Err-NoSpace-clause-held g c =
     let touches = subst (λ (r : Result (Unit {0}) SetFault). Touches (c.args.mirror.now.trusted.area ∷ c.args.mirror.now.other.area ∷ []) old new (set_lost r)) end c.set-end.ensures.touches in
     let up = c.set-end.ensures.mirrors (ap (λ (r : Result (Unit {0}) SetFault). set_lost r) end) in
     let sound = sides_sound K.mounted_on K.stands m new c.args.mirror.now c.set-end.new.self (λ s h x is. g.met.K.Backend.stands_reads s h x is) c.set-end.ensures.trusted c.set-end.ensures.other up in
+    let some : 0 < length c.as_slice.result.now = rw (c.as_slice.ensures) c.requires.some in
     held_again K.mounted_on K.stands m K.serves c.args.map.now old new c.args.mirror.now c.set-end.new.self c.requires.map c.requires.held c.requires.on lawful lawful_new false touches c.set-end.ensures.trusted c.set-end.ensures.other sound.0 sound.1 (λ power. up)
+    (λ power. set_full_read K.mounted_on K.stands m K.serves c.args.map.now old new c.args.mirror.now c.set-end.new.self c.requires.map c.requires.held c.requires.on lawful lawful_new c.args.name.now c.as_slice.result.now some c.set-end.ensures.at_most (new.spent - old.spent) refl c.set-end.result c.set-end.ensures.ends c.in-Err-NoSpace.need c.in-Err-NoSpace.live end touches)
 
 pub returns-in-Err-TooManyNames-clause-held : goal.returns-in-Err-TooManyNames-clause-held
 returns-in-Err-TooManyNames-clause-held g c =
@@ -122,7 +126,9 @@ returns-in-Err-TooManyNames-clause-held g c =
     let touches = subst (λ (r : Result (Unit {0}) SetFault). Touches (c.args.mirror.now.trusted.area ∷ c.args.mirror.now.other.area ∷ []) old new (set_lost r)) end c.set-end.ensures.touches in
     let up = c.set-end.ensures.mirrors (ap (λ (r : Result (Unit {0}) SetFault). set_lost r) end) in
     let sound = sides_sound K.mounted_on K.stands m new c.args.mirror.now c.set-end.new.self (λ s h x is. g.met.K.Backend.stands_reads s h x is) c.set-end.ensures.trusted c.set-end.ensures.other up in
+    let some : 0 < length c.as_slice.result.now = rw (c.as_slice.ensures) c.requires.some in
     held_again K.mounted_on K.stands m K.serves c.args.map.now old new c.args.mirror.now c.set-end.new.self c.requires.map c.requires.held c.requires.on lawful lawful_new false touches c.set-end.ensures.trusted c.set-end.ensures.other sound.0 sound.1 (λ power. up)
+    (λ power. set_many_read K.mounted_on K.stands m K.serves c.args.map.now old new c.args.mirror.now c.set-end.new.self c.requires.map c.requires.held c.requires.on lawful lawful_new c.args.name.now c.as_slice.result.now some c.set-end.ensures.at_most (new.spent - old.spent) refl c.set-end.result c.set-end.ensures.ends end touches)
 
 pub returns-in-Err-PowerLost-clause-held : goal.returns-in-Err-PowerLost-clause-held
 returns-in-Err-PowerLost-clause-held g c =
@@ -137,4 +143,4 @@ returns-in-Err-PowerLost-clause-held g c =
     let end : c.set-end.result ≡ Err (PowerLost) = c.in-Err-PowerLost.is ∙ ap (λ (fault : SetFault). Err fault) which in
     let touches = subst (λ (r : Result (Unit {0}) SetFault). Touches (c.args.mirror.now.trusted.area ∷ c.args.mirror.now.other.area ∷ []) old new (set_lost r)) end c.set-end.ensures.touches in
     let sound = set_lost_sound K.mounted_on K.stands m K.serves c.args.map.now old new c.args.mirror.now c.set-end.new.self c.requires.map c.requires.held c.requires.on lawful lawful_new c.args.name.now c.as_slice.result.now some c.set-end.ensures.at_most (new.spent - old.spent) refl c.set-end.result c.set-end.ensures.ends end in
-    held_again K.mounted_on K.stands m K.serves c.args.map.now old new c.args.mirror.now c.set-end.new.self c.requires.map c.requires.held c.requires.on lawful lawful_new true touches c.set-end.ensures.trusted c.set-end.ensures.other sound.0 sound.1 (λ power. absurd (false≢true (sym (touches.ends c.requires.on).off ∙ power)))
+    held_again K.mounted_on K.stands m K.serves c.args.map.now old new c.args.mirror.now c.set-end.new.self c.requires.map c.requires.held c.requires.on lawful lawful_new true touches c.set-end.ensures.trusted c.set-end.ensures.other sound.0 sound.1 (λ power. absurd (false≢true (sym (touches.ends c.requires.on).off ∙ power))) (λ power. absurd (false≢true (sym (touches.ends c.requires.on).off ∙ power)))

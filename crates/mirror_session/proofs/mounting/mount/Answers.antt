@@ -16,7 +16,7 @@ returns-in-Ok-clause-done g c =
     let old = g.B.Flash.device c.args.bench.now in
     let mid = g.B.Flash.device c.restore.new.self in
     let new = g.B.Flash.device c.mount-end.new.flash in
-    λ was. rw (c.done.ensures, c.spent.ensures, c.spent-before.ensures) (whole_line K.mounted_on K.stands m K.serves c.args.map.now old mid new c.requires.map c.restore.ensures c.mount-end.result c.mount-end.ensures.touches c.mount-end.ensures.ends c.in-Ok.mirror c.in-Ok.is (λ s h x is. g.met.K.Backend.stands_reads s h x is) (new.spent - mid.spent) was refl c.mount-end.ensures.at_most c.mount-end.ensures.idle c.mount-end.ensures.copy c.mount-end.ensures.trusted)
+    λ was. rw (c.done.ensures, c.spent.ensures, c.spent-before.ensures) (whole_line K.mounted_on K.stands m K.serves c.args.map.now old mid new c.requires.map c.restore.ensures c.mount-end.result c.mount-end.ensures.touches c.mount-end.ensures.ends c.in-Ok.mirror c.in-Ok.is (λ s h x is. g.met.K.Backend.stands_reads s h x is) c.mount-end.ensures.trusted (new.spent - mid.spent) was refl c.mount-end.ensures.at_most c.mount-end.ensures.idle c.mount-end.ensures.copy)
 
 pub returns-in-Ok-clause-ready : goal.returns-in-Ok-clause-ready
 returns-in-Ok-clause-ready g c =
@@ -25,7 +25,7 @@ returns-in-Ok-clause-ready g c =
     let old = g.B.Flash.device c.args.bench.now in
     let mid = g.B.Flash.device c.restore.new.self in
     let new = g.B.Flash.device c.mount-end.new.flash in
-    held_now K.mounted_on K.stands m K.serves c.args.map.now old mid new c.requires.map c.restore.ensures c.mount-end.result c.mount-end.ensures.touches c.mount-end.ensures.ends c.in-Ok.mirror c.in-Ok.is (λ s h x is. g.met.K.Backend.stands_reads s h x is)
+    held_now K.mounted_on K.stands m K.serves c.args.map.now old mid new c.requires.map c.restore.ensures c.mount-end.result c.mount-end.ensures.touches c.mount-end.ensures.ends c.in-Ok.mirror c.in-Ok.is (λ s h x is. g.met.K.Backend.stands_reads s h x is) c.mount-end.ensures.trusted
 
 pub returns-in-Err-PowerLost-clause-done : goal.returns-in-Err-PowerLost-clause-done
 returns-in-Err-PowerLost-clause-done g c =

@@ -9,7 +9,7 @@ use Rattle.migrator.specs.Active.{active_on}
 use Rattle.migrator.proofs.AreaLemmas.{store-within}
 use Rattle.session.proofs.ActiveAreas.{area_there}
 use Rattle.mirror_session.specs.Bench.{meanings}
-use Rattle.mirror_session.proofs.HeldLemmas.{at_here, gone_empty, settings_are}
+use Rattle.mirror_session.proofs.HeldLemmas.{at_here, settings_are}
 use Rattle.mirror_session.proofs.QuietLemmas.{names}
 use Rattle.mirror_session.proofs.reporting.report_all.Goals as goal
 
@@ -31,4 +31,4 @@ returns g c =
     names m c.args.map.now d c.in_ok-active.active c.in_ok-pairs.pairs c.requires.on
     (c.in_ok-active.ensures ∙ ap (λ (a : Area). a.label.bytes) area)
     (c.in_ok-pairs.ensures ∙ ap (λ (x : Map). map as_pair (entries x)) (sym (settings_are K.mounted_on K.stands m K.serves c.args.map.now d c.args.mirror.now c.requires.map c.requires.held c.requires.on)))
-    (gone_empty K.mounted_on K.stands m K.serves c.args.map.now d c.requires.map (g.met.B.Flash.is_lawful c.args.bench.now) (λ x a fine is served blank. g.met.K.Priced.blank_empty x a fine is served blank) c.args.mirror.now c.requires.held c.requires.on)
+    (c.requires.held.read c.requires.on)

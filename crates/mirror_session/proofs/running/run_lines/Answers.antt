@@ -46,7 +46,7 @@ returns-clause-ends g c =
     let m = meanings K.damage K.contents K.rests K.room g.K.Priced.prices in
     let all : length c.args.lines.now ≤ c.loop-line.line-index = omega (arith, c.loop-line-test.false) in
     ran m c.args.map.now c.args.lines.now c.loop-line.line-index c.loop-line.answers (device c.args.bench.now) (device c.loop-line.bench) (is_some c.loop-line.session.mirror) all c.loop-line.invariant.so_far
-    (rests_now K.mounted_on K.stands m K.serves c.args.map.now (device c.loop-line.bench) c.loop-line.invariant.map (λ s h x is. g.met.K.Backend.stands_rests s h x is) (g.met.B.Flash.is_lawful c.loop-line.bench) (λ x a fine is served blank. g.met.K.Priced.blank_empty x a fine is served blank) c.loop-line.session.mirror c.loop-line.invariant.ready)
+    (rests_now K.mounted_on K.stands m K.serves c.args.map.now (device c.loop-line.bench) c.loop-line.invariant.map (λ s h x is. g.met.K.Backend.stands_rests s h x is) c.loop-line.session.mirror c.loop-line.invariant.ready)
 
 pub returns-in-Err-clause-ends : goal.returns-in-Err-clause-ends
 returns-in-Err-clause-ends g c =

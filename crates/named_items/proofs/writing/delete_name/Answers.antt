@@ -72,3 +72,9 @@ id_of_name-requires-clause-stands g c = c.requires.here.up
 
 pub id_of_name-requires-clause-clean : goal.id_of_name-requires-clause-clean
 id_of_name-requires-clause-clean g c = c.requires.here.clean
+
+pub returns-in-Some-clause-written : goal.returns-in-Some-clause-written
+returns-in-Some-clause-written g c = c.delete_pair.ensures.written
+
+pub returns-in-None-clause-written : goal.returns-in-None-clause-written
+returns-in-None-clause-written g c = λ blank. blank

@@ -5,6 +5,7 @@ use Rattle.flash_map.specs.declared.area.Area.{Area}
 use Rattle.flash_map.specs.On.{on}
 use Rattle.flash_sim.specs.Device.{Device}
 use Rattle.flash_map.specs.Area.{geometry_of}
+use Rattle.backend_api.specs.Written.{StaysWritten}
 use Rattle.named_items.specs.StoreEnds as items
 use Rattle.named_items.proofs.SpendSteps.{spends-calls, one-call, calls-within}
 use Rattle.named_items.proofs.writing.delete_pair.Goals as goal
@@ -36,3 +37,12 @@ returns-in_err-delete-clause-store g c = record {
   up = λ kept. absurd (false≢true (sym kept ∙ c.from_residual.ensures.0));
   down = λ lost. c.in_err-delete.ensures.down refl;
 }
+
+pub returns-clause-written : goal.returns-clause-written
+returns-clause-written g c = λ blank.
+    let b : Device = g.F.Flash.device c.delete.new.flash in
+    let e : Device = g.F.Flash.device c.delete-2.new.flash in
+    c.delete.ensures.written (subst (λ (x : Area). StaysWritten b e x) c.delete.ensures.area c.delete-2.ensures.written blank)
+
+pub returns-in_err-delete-clause-written : goal.returns-in_err-delete-clause-written
+returns-in_err-delete-clause-written g c = c.delete.ensures.written

@@ -4,6 +4,7 @@ use Rattle.std.proofs.Common.{true, [], ◌∷◌, ◌∙◌, sym, ap, subst}
 use Rattle.flash_sim.specs.Device.{Device}
 use Rattle.flash_map.specs.declared.area.Area.{Area}
 use Rattle.flash_map.specs.declared.area.Role.{Role}
+use Rattle.flash_map.specs.declared.area.Role.TheVariants.{Fcb as FcbRole}
 use Rattle.flash_map.specs.Area.{geometry_of, sectors_of}
 use Rattle.flash_map.specs.Lawful.{IsLawfulFor}
 use Rattle.flash_map.specs.Spending.{SpendsAtMost}
@@ -12,6 +13,7 @@ use Rattle.backend_api.specs.Commands.{StopsAt}
 use Rattle.backend_api.specs.Commands.Command.{Del}
 use Rattle.backend_api.specs.Ends.{DeleteEnds}
 use Rattle.backend_api.specs.Room.{command_units}
+use Rattle.backend_api.specs.Written.{StaysWritten}
 use Rattle.any_backend.specs.declared.backend.AnyBackend.{AnyBackend}
 use Rattle.any_backend.specs.declared.backend.AnyBackend.TheVariants.{Nvs, Zms, Fcb}
 use Rattle.any_backend.specs.ByRole.{chance_as, contents_as, damage_as, tears_as}
@@ -200,3 +202,21 @@ returns-in-Fcb-clause-stands g c = c.delete-in-Fcb.ensures.stands
 
 pub returns-in-Fcb-clause-down : goal.returns-in-Fcb-clause-down
 returns-in-Fcb-clause-down g c = c.delete-in-Fcb.ensures.down
+
+pub returns-in-Nvs-clause-written : goal.returns-in-Nvs-clause-written
+returns-in-Nvs-clause-written g c =
+    let d : Device = g.F.Flash.device c.args.flash.now in
+    let e : Device = g.F.Flash.device c.delete.new.flash in
+    subst (λ (s : AnyBackend). ((area_of s).role ≡ FcbRole → ⊥) → StaysWritten d e (area_of s)) (sym c.in-Nvs.is) c.delete.ensures.written
+
+pub returns-in-Zms-clause-written : goal.returns-in-Zms-clause-written
+returns-in-Zms-clause-written g c =
+    let d : Device = g.F.Flash.device c.args.flash.now in
+    let e : Device = g.F.Flash.device c.delete-in-Zms.new.flash in
+    subst (λ (s : AnyBackend). ((area_of s).role ≡ FcbRole → ⊥) → StaysWritten d e (area_of s)) (sym c.in-Zms.is) c.delete-in-Zms.ensures.written
+
+pub returns-in-Fcb-clause-written : goal.returns-in-Fcb-clause-written
+returns-in-Fcb-clause-written g c =
+    let d : Device = g.F.Flash.device c.args.flash.now in
+    let e : Device = g.F.Flash.device c.delete-in-Fcb.new.flash in
+    subst (λ (s : AnyBackend). ((area_of s).role ≡ FcbRole → ⊥) → StaysWritten d e (area_of s)) (sym c.in-Fcb.is) c.delete-in-Fcb.ensures.written

@@ -225,3 +225,12 @@ returns-in-Err-PowerLost-clause-cut g c on lost =
     let body : c.as_slice.result.now ≡ body_of c.args.name.now [] = c.as_slice.ensures.value ∙ c.body_of-body.ensures.items in
     let ends : PutEnds {T = Unit {0}} d e c.args.self.now.ring c.put.new.ring c.as_slice.result.now 0 1 (Err PowerLost) = rw c.in-Err-PowerLost.field-0-is at c.in-Err-PowerLost.ensures.ends in
     stops-at d e area c.as_slice.result.now (Del name) body (takes-value (value_limit c.args.self.now.ring.area) (settings_on d area) name c.body_of-body.ensures.name) (ends.0.stops on)
+
+pub returns-then-is_none-clause-written : goal.returns-then-is_none-clause-written
+returns-then-is_none-clause-written g c other = absurd (other c.requires.stands.role)
+
+pub returns-in-Ok-clause-written : goal.returns-in-Ok-clause-written
+returns-in-Ok-clause-written g c other = absurd (other c.requires.stands.role)
+
+pub returns-in-Err-PowerLost-clause-written : goal.returns-in-Err-PowerLost-clause-written
+returns-in-Err-PowerLost-clause-written g c other = absurd (other c.requires.stands.role)

@@ -40,3 +40,6 @@ returns-clause-stands g c = λ kept.
       store = c.delete_name.ensures.store.up kept;
       clean = subst (λ (x : Area). HasNoOrphans (numbering_of x) (on nvs_items e x)) (sym c.delete_name.ensures.store.area) (c.delete_name.ensures.ends.clean kept);
     }
+
+pub returns-clause-written : goal.returns-clause-written
+returns-clause-written g c other = c.delete_name.ensures.written

@@ -1,10 +1,12 @@
-use Rattle.std.proofs.Common.{◌≡◌, ◌+◌, ℕ, true, false, [], ◌∷◌, is_err, refl, subst, ◌∙◌}
+use Rattle.std.proofs.Common.{◌≡◌, ◌+◌, ℕ, true, false, [], ◌∷◌, is_err, refl, sym, ap, subst, ◌∙◌}
+use Rattle.std.specs.List.{list_all}
 use Rattle.flash_sim.specs.Device.{Device}
 use Rattle.flash_map.specs.Area.{geometry_of}
+use Rattle.flash_map.specs.Units.{is_erased}
 use Rattle.flash_map.proofs.Touches.{first_of_two, second_of_two, then}
 use Rattle.backend_api.specs.Room.{command_units}
 use Rattle.mirror.proofs.BothSteps.{most-both-on, most-first}
-use Rattle.mirror.proofs.MirrorEnds.{delete-ends, delete-mirror, first-cut, other-stands, removed-fit}
+use Rattle.mirror.proofs.MirrorEnds.{back, delete-ends, delete-mirror, first-cut, other-stands, removed-fit}
 use Rattle.mirror.proofs.mirror.Mirror.delete.Goals as goal
 
 pub returns-in-Err-clause-touches : goal.returns-in-Err-clause-touches
@@ -55,3 +57,14 @@ returns-clause-mirrors g c whole =
     let e : Device = g.F.Flash.device c.take-2.new.flash in
     delete-mirror g.K.Backend.mounted_on g.K.Backend.stands g.K.Backend.damage g.K.Backend.contents g.K.Backend.room g.K.Priced.prices d c.args.self.now.trusted c.args.self.now.other c.requires.mirrors (g.met.F.Flash.is_lawful c.args.flash.now) m e (is_err c.take-2.result) c.args.name.now c.take-2.result c.take.new.side c.take-2.new.side (g.met.F.Flash.is_lawful c.take.new.flash) (g.met.F.Flash.is_lawful c.take-2.new.flash) c.in-Ok.ensures.touches c.take-2.ensures.touches c.in-Ok.ensures.ends c.take-2.ensures.ends whole
     c.take.ensures.same c.take-2.ensures.same (c.in-Ok.ensures.stands refl) (c.take-2.ensures.stands whole) (g.met.K.Priced.is_room c.args.self.now.trusted.area (geometry_of d c.args.self.now.trusted.area) c.requires.mirrors.trusted_stands.role) (g.met.K.Priced.is_room c.args.self.now.other.area (geometry_of d c.args.self.now.other.area) c.requires.mirrors.other_stands.role)
+
+pub returns-in-Err-clause-written : goal.returns-in-Err-clause-written
+returns-in-Err-clause-written g c = c.in-Err.ensures.written
+
+pub returns-clause-written : goal.returns-clause-written
+returns-clause-written g c = λ blank.
+    let d : Device = g.F.Flash.device c.args.flash.now in
+    let m : Device = g.F.Flash.device c.take.new.flash in
+    let e : Device = g.F.Flash.device c.take-2.new.flash in
+    let same = back g.K.Backend.mounted_on g.K.Backend.stands g.K.Backend.damage g.K.Backend.contents g.K.Backend.room g.K.Priced.prices d c.args.self.now.trusted c.args.self.now.other c.requires.mirrors (g.met.F.Flash.is_lawful c.args.flash.now) m e (is_err c.take-2.result) (g.met.F.Flash.is_lawful c.take.new.flash) (g.met.F.Flash.is_lawful c.take-2.new.flash) c.in-Ok.ensures.touches.banks c.take-2.ensures.touches in
+    c.take.ensures.written (sym (ap (list_all is_erased) same) ∙ blank)

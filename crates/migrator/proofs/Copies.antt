@@ -1,8 +1,9 @@
--- A copy of all settings, one after the other.
-use Rattle.std.proofs.Common.{◌≡◌, ℕ, ◌+◌, ◌*◌, Bool, true, false, List, [], ◌∷◌, Option, Some, None, is_some, Result, Ok, Err, refl, sym, ap, subst, ◌∙◌}
+-- Settings in memory, put one after the other into a store.
+use Rattle.std.proofs.Common.{◌≡◌, ℕ, suc, ◌+◌, ◌*◌, ◌<◌, ◌≤◌, false, List, [], ◌∷◌, length, Option, Some, None, Result, Ok, Err, refl, sym, ap, subst, ◌∙◌, arith}
 use Rattle.std.specs.FinMap as maps
-use Rattle.std.specs.Option.{ForSome}
-use Rattle.std.proofs.lemmas.Bool.{false≢true}
+use Rattle.std.specs.List.{slice_get}
+use Rattle.std.proofs.Math.Nat.{suc-mul}
+use Rattle.std.proofs.lemmas.Nat.{mul-le}
 use Rattle.flash_sim.specs.Device.{Device}
 use Rattle.flash_sim.specs.declared.flash.Bank.{Bank}
 use Rattle.flash_map.specs.declared.area.Area.{Area}
@@ -12,19 +13,16 @@ use Rattle.flash_map.specs.Spending.{SpendsAtMost}
 use Rattle.flash_map.specs.Touches.{Touches}
 use Rattle.flash_map.proofs.SpendingLemmas.{most_weaker}
 use Rattle.flash_map.proofs.Touches.{then, untouched}
-use Rattle.backend_api.specs.Ends.{SetEnds, set_lost}
-use Rattle.backend_api.specs.Map.{Map, IsStored, next_name}
+use Rattle.backend_api.specs.Ends.{SetEnds, SetEndsOn, set_lost}
+use Rattle.backend_api.specs.Map.{Map}
 use Rattle.flash_map.specs.On.{on, StandsOn}
 use Rattle.backend_api.specs.Room.{Room, command_units}
 use Rattle.backend_api.specs.declared.backend.SetFault.{SetFault}
 use Rattle.backend_api.specs.declared.backend.SetFault.TheVariants.{NoSpace, TooManyNames, PowerLost}
 use Rattle.migrator.specs.Copying.{before, NoneTooMany, CopyEnds}
-use Rattle.migrator.proofs.Names.{before-first, before-all, insert-next, left-smaller, next-stored, none-many-first, none-many-next}
-use Rattle.migrator.proofs.Spent.{most_none, most_then, put-all, put-next, put_units}
-
-pub has-value : {X : Type 0} (o : Option X) → is_some o ≡ true → (x : X) × (o ≡ Some x)
-has-value None is = absurd (false≢true is)
-has-value (Some x) is = (x, refl)
+use Rattle.migrator.proofs.Names.{before-first, before-all, insert-next, none-many-first, none-many-next}
+use Rattle.migrator.proofs.Puts.{Pair, behind-all, first-name, name-at, next-at, stored-at}
+use Rattle.migrator.proofs.Spent.{most_none, most_then}
 
 -- ---- an area that another call does not touch
 
@@ -34,115 +32,127 @@ geometry-same a d area banks = ap (λ (b : List Bank). geometry_in b area) banks
     geometry_in : List Bank → Area → Geometry
     geometry_in banks area = geometry_of (record a { banks = banks }) area
 
+row-more : (n units : ℕ) → (n + 1) * units ≡ n * units + units
+row-more n units = let e : n + 1 ≡ suc n = omega arith in ap (λ (k : ℕ). k * units) e ∙ suc-mul n units
+
+rows-within : (few many units : ℕ) → few ≤ many → few * units ≤ many * units
+rows-within few many units le = mul-le few units many units le (omega arith)
+
 module _ {S : Type 0} (mounted : S → Area) (stands : S → Geometry → List (List ℕ) → Type 0) (contents : Area → Geometry → List (List ℕ) → Map) (room : Area → Geometry → Room) where
   pub stands-still : (a d : Device) (state : S) → d.banks ≡ a.banks → sectors_of d (mounted state) ≡ sectors_of a (mounted state) → StandsOn mounted stands a state → StandsOn mounted stands d state
   stands-still a d state banks same is =
       subst (λ (g : Geometry). stands state g (sectors_of d (mounted state))) (sym (geometry-same a d (mounted state) banks))
       (subst (λ (s : List (List ℕ)). stands state (geometry_of a (mounted state)) s) (sym same) is)
 
-  pub contents-still : (a d : Device) (area : Area) → d.banks ≡ a.banks → sectors_of d area ≡ sectors_of a area → on contents d area ≡ on contents a area
-  contents-still a d area banks same =
-      ap (λ (g : Geometry). contents area g (sectors_of d area)) (geometry-same a d area banks) ∙ ap (contents area (geometry_of a area)) same
-
-  -- what was copied so far, and the name that is next
-  pub record IsCopying (a d : Device) (from to now : S) (at : Option (List ℕ)) : Type 0 where
+  -- the first so many of these pairs were put, which are the pairs of a map
+  pub record HasPut (a d : Device) (to now : S) (pairs : List Pair) (count : ℕ) : Type 0 where
     pub touches : Touches (mounted to ∷ []) a d false
     pub area : mounted now ≡ mounted to
-    pub source : sectors_of d (mounted from) ≡ sectors_of a (mounted from)
     pub stand : StandsOn mounted stands d now
-    pub copied : on contents d (mounted to) ≡ before (on contents a (mounted from)) at
-    pub stored : ForSome at (λ name. maps.contains_key (on contents a (mounted from)) name ≡ true)
-    pub free : NoneTooMany (room (mounted to) (geometry_of a (mounted to))) (on contents a (mounted from)) at
-    pub units : SpendsAtMost a d (put_units (on contents a (mounted from)) at (geometry_of a (mounted to)))
+    pub copied : (m : Map) → pairs ≡ maps.entries m → on contents d (mounted to) ≡ before m (slice_get (maps.keys m) count)
+    pub free : (m : Map) → pairs ≡ maps.entries m → NoneTooMany (room (mounted to) (geometry_of a (mounted to))) m (slice_get (maps.keys m) count)
+    pub units : SpendsAtMost a d (count * command_units (geometry_of a (mounted to)))
 
-  pub copying-start : (a : Device) (from to : S) (at : Option (List ℕ)) → StandsOn mounted stands a to → on contents a (mounted to) ≡ maps.empty → at ≡ next_name (on contents a (mounted from)) None → IsCopying a a from to to at
-  copying-start a from to at is empty next = record {
+  pub put-none : (a : Device) (to : S) (pairs : List Pair) → StandsOn mounted stands a to → on contents a (mounted to) ≡ maps.empty → HasPut a a to to pairs 0
+  put-none a to pairs is empty = record {
     touches = untouched (mounted to ∷ []) a;
     area = refl;
-    source = refl;
     stand = is;
-    copied = empty ∙ sym (before-first (on contents a (mounted from)) at next);
-    stored = next-stored (on contents a (mounted from)) None at next;
-    free = none-many-first (room (mounted to) (geometry_of a (mounted to))) (on contents a (mounted from)) at next;
-    units = most_none a a (put_units (on contents a (mounted from)) at (geometry_of a (mounted to))) refl;
+    copied = λ m same. empty ∙ sym (before-first m (slice_get (maps.keys m) 0) (first-name (maps.keys m)));
+    free = λ m same. none-many-first (room (mounted to) (geometry_of a (mounted to))) m (slice_get (maps.keys m) 0) (first-name (maps.keys m));
+    units = most_none a a (0 * command_units (geometry_of a (mounted to))) refl;
   }
 
-  -- the same source, on the device as it is now
-  pub source-same : (a d : Device) (from to now : S) (at : Option (List ℕ)) → IsCopying a d from to now at → on contents d (mounted from) ≡ on contents a (mounted from)
-  source-same a d from to now at so_far = contents-still a d (mounted from) so_far.touches.banks so_far.source
+  -- what the next set says, on the area and the banks from before the first one
+  set-says : {T : Type 0} (a d e : Device) (to now : S) (name value : List ℕ) (result : Result T SetFault) → mounted now ≡ mounted to → d.banks ≡ a.banks
+      → SetEndsOn room contents d e (mounted now) name value result
+      → SetEnds (room (mounted to) (geometry_of a (mounted to))) (mounted to).sectors d e (on contents d (mounted to)) (on contents e (mounted to)) name value result
+  set-says a d e to now name value result area banks ends =
+      subst (λ (g : Geometry). SetEnds (room (mounted to) g) (mounted to).sectors d e (on contents d (mounted to)) (on contents e (mounted to)) name value result) (geometry-same a d (mounted to) banks)
+      (subst (λ (x : Area). SetEndsOn room contents d e x name value result) area ends)
 
-  pub source-stands : (a d : Device) (from to now : S) (at : Option (List ℕ)) → StandsOn mounted stands a from → IsCopying a d from to now at → StandsOn mounted stands d from
-  source-stands a d from to now at is so_far = stands-still a d from so_far.touches.banks so_far.source is
-
-  -- what a set says of the copy so far
-  pub set-says : {T : Type 0} (a d e : Device) (from to now : S) (name value : List ℕ) (result : Result T SetFault) → IsCopying a d from to now (Some name) → d.banks ≡ a.banks
-      → SetEnds (room (mounted now) (geometry_of d (mounted now))) (mounted now).sectors d e (on contents d (mounted now)) (on contents e (mounted now)) name value result
-      → SetEnds (room (mounted to) (geometry_of a (mounted to))) (mounted to).sectors d e (before (on contents a (mounted from)) (Some name)) (on contents e (mounted to)) name value result
-  set-says a d e from to now name value result so_far banks ends =
-      subst (λ (m : Map). SetEnds (room (mounted to) (geometry_of a (mounted to))) (mounted to).sectors d e m (on contents e (mounted to)) name value result) so_far.copied
-      (subst (λ (g : Geometry). SetEnds (room (mounted to) g) (mounted to).sectors d e (on contents d (mounted to)) (on contents e (mounted to)) name value result) (geometry-same a d (mounted to) banks)
-      (subst (λ (x : Area). SetEnds (room x (geometry_of d x)) x.sectors d e (on contents d x) (on contents e x) name value result) so_far.area ends))
-
-  pub copying-touches : (a d e : Device) (from to now : S) (at : Option (List ℕ)) (lost : Bool) → IsCopying a d from to now at → Touches (mounted now ∷ []) d e lost → Touches (mounted to ∷ []) a e lost
-  copying-touches a d e from to now at lost so_far touches = then so_far.touches (subst (λ (x : Area). Touches (x ∷ []) d e lost) so_far.area touches)
-
-  -- and what it and a set spend
-  pub copying-spends : (a d e : Device) (from to now : S) (name : List ℕ) (next : Option (List ℕ)) → IsCopying a d from to now (Some name) → next ≡ next_name (on contents a (mounted from)) (Some name)
-      → SpendsAtMost d e (command_units (geometry_of d (mounted now))) → SpendsAtMost a e (put_units (on contents a (mounted from)) next (geometry_of a (mounted to)))
-  copying-spends a d e from to now name next so_far is spent =
-      let m = on contents a (mounted from) in
+  -- and what it spends beside those before it
+  put-spends : (a d e : Device) (to now : S) (pairs : List Pair) (count : ℕ) → HasPut a d to now pairs count → SpendsAtMost d e (command_units (geometry_of d (mounted now))) → SpendsAtMost a e ((count + 1) * command_units (geometry_of a (mounted to)))
+  put-spends a d e to now pairs count so_far spent =
       let g : geometry_of d (mounted now) ≡ geometry_of a (mounted to) = ap (geometry_of d) so_far.area ∙ geometry-same a d (mounted to) so_far.touches.banks in
       let one : SpendsAtMost d e (command_units (geometry_of a (mounted to))) = subst (λ (x : Geometry). SpendsAtMost d e (command_units x)) g spent in
-      most_weaker a e (put_units m (Some name) (geometry_of a (mounted to)) + command_units (geometry_of a (mounted to))) (put_units m next (geometry_of a (mounted to)))
-      (put-next m (Some name) next (geometry_of a (mounted to)) (left-smaller m (Some name) name next refl (so_far.stored name refl) is))
-      (most_then a d e (put_units m (Some name) (geometry_of a (mounted to))) (command_units (geometry_of a (mounted to))) so_far.units one)
+      subst (λ (n : ℕ). SpendsAtMost a e n) (sym (row-more count (command_units (geometry_of a (mounted to)))))
+      (most_then a d e (count * command_units (geometry_of a (mounted to))) (command_units (geometry_of a (mounted to))) so_far.units one)
 
-  -- as all of it may spend
-  pub copying-most : (a d e : Device) (from to now : S) (name : List ℕ) → IsCopying a d from to now (Some name) → SpendsAtMost d e (command_units (geometry_of d (mounted now)))
-      → SpendsAtMost a e (maps.len (on contents a (mounted from)) * command_units (geometry_of a (mounted to)))
-  copying-most a d e from to now name so_far spent =
-      let m = on contents a (mounted from) in
-      let next = next_name m (Some name) in
-      most_weaker a e (put_units m next (geometry_of a (mounted to))) (maps.len m * command_units (geometry_of a (mounted to))) (put-all m next (geometry_of a (mounted to))) (copying-spends a d e from to now name next so_far refl spent)
+  -- as all of them may spend, so many as there are
+  pub put-most : (a d e : Device) (to now : S) (pairs : List Pair) (count total : ℕ) → HasPut a d to now pairs count → count < total → SpendsAtMost d e (command_units (geometry_of d (mounted now))) → SpendsAtMost a e (total * command_units (geometry_of a (mounted to)))
+  put-most a d e to now pairs count total so_far fewer spent =
+      let units : ℕ = command_units (geometry_of a (mounted to)) in
+      most_weaker a e ((count + 1) * units) (total * units) (rows-within (count + 1) total units (omega arith)) (put-spends a d e to now pairs count so_far spent)
 
-  pub copying-step : {T : Type 0} (a d e : Device) (from to now after : S) (name value : List ℕ) (next : Option (List ℕ)) (result : Result T SetFault) (x : T) → result ≡ Ok x → IsCopying a d from to now (Some name)
-      → IsStored (on contents a (mounted from)) name value
-      → Touches (mounted now ∷ []) d e (set_lost result) → mounted after ≡ mounted now → sectors_of e (mounted from) ≡ sectors_of d (mounted from)
-      → SetEnds (room (mounted now) (geometry_of d (mounted now))) (mounted now).sectors d e (on contents d (mounted now)) (on contents e (mounted now)) name value result
+  pub put-within : (a d : Device) (to now : S) (pairs : List Pair) (count total : ℕ) → HasPut a d to now pairs count → count ≤ total → SpendsAtMost a d (total * command_units (geometry_of a (mounted to)))
+  put-within a d to now pairs count total so_far few =
+      let units : ℕ = command_units (geometry_of a (mounted to)) in
+      most_weaker a d (count * units) (total * units) (rows-within count total units few) so_far.units
+
+  pub put-more : {T : Type 0} (a d e : Device) (to now after : S) (pairs : List Pair) (count : ℕ) (name value : List ℕ) (result : Result T SetFault) (x : T) → result ≡ Ok x → HasPut a d to now pairs count
+      → slice_get pairs count ≡ Some (name, value)
+      → Touches (mounted now ∷ []) d e (set_lost result) → mounted after ≡ mounted now
+      → SetEndsOn room contents d e (mounted now) name value result
+      → SpendsAtMost d e (command_units (geometry_of d (mounted now)))
       → (set_lost result ≡ false → StandsOn mounted stands e after)
-      → next ≡ next_name (on contents e (mounted from)) (Some name) → SpendsAtMost d e (command_units (geometry_of d (mounted now)))
-      → IsCopying a e from to after next
-  copying-step {T} a d e from to now after name value next result x ok so_far has touches area source ends standing is spent =
-      let did = subst (λ (r : Result T SetFault). SetEnds (room (mounted to) (geometry_of a (mounted to))) (mounted to).sectors d e (before (on contents a (mounted from)) (Some name)) (on contents e (mounted to)) name value r) ok
-      (set-says a d e from to now name value result so_far so_far.touches.banks ends) in
-      let whole : Touches (mounted to ∷ []) a e false = copying-touches a d e from to now (Some name) false so_far (subst (λ (r : Result T SetFault). Touches (mounted now ∷ []) d e (set_lost r)) ok touches) in
-      let sectors : sectors_of e (mounted from) ≡ sectors_of a (mounted from) = source ∙ so_far.source in
-      let next-is : next ≡ next_name (on contents a (mounted from)) (Some name) = is ∙ ap (λ (m : Map). next_name m (Some name)) (contents-still a e (mounted from) whole.banks sectors) in
+      → HasPut a e to after pairs (count + 1)
+  put-more {T} a d e to now after pairs count name value result x ok so_far at touches area ends spent standing =
+      let limits : Room = room (mounted to) (geometry_of a (mounted to)) in
+      let did = subst (λ (r : Result T SetFault). SetEnds limits (mounted to).sectors d e (on contents d (mounted to)) (on contents e (mounted to)) name value r) ok
+      (set-says a d e to now name value result so_far.area so_far.touches.banks ends) in
       record {
-        touches = whole;
+        touches =
+            then so_far.touches
+            (subst (λ (z : Area). Touches (z ∷ []) d e false) so_far.area (subst (λ (r : Result T SetFault). Touches (mounted now ∷ []) d e (set_lost r)) ok touches));
         area = area ∙ so_far.area;
-        source = sectors;
         stand = standing (ap set_lost ok);
-        copied = did.settings ∙ insert-next (on contents a (mounted from)) name value next next-is has;
-        stored = next-stored (on contents a (mounted from)) (Some name) next next-is;
-        free = none-many-next (room (mounted to) (geometry_of a (mounted to))) (on contents a (mounted from)) name next next-is so_far.free did.free;
-        units = copying-spends a d e from to now name next so_far next-is spent;
+        copied =
+            λ m same.
+            let here = subst (λ (es : List Pair). slice_get es count ≡ Some (name, value)) same at in
+            did.settings
+            ∙ ap (λ (z : Map). maps.insert z name value) (so_far.copied m same ∙ ap (before m) (name-at m count (name, value) here))
+            ∙ insert-next m name value (slice_get (maps.keys m) (count + 1)) (next-at m count (name, value) here) (stored-at m count (name, value) here);
+        free =
+            λ m same.
+            let here = subst (λ (es : List Pair). slice_get es count ≡ Some (name, value)) same at in
+            none-many-next limits m name (slice_get (maps.keys m) (count + 1)) (next-at m count (name, value) here)
+            (subst (λ (o : Option (List ℕ)). NoneTooMany limits m o) (name-at m count (name, value) here) (so_far.free m same))
+            (ap (λ (z : Map). limits.too_many z name) (sym (so_far.copied m same ∙ ap (before m) (name-at m count (name, value) here))) ∙ did.free);
+        units = put-spends a d e to now pairs count so_far spent;
       }
 
-  pub copying-end : {T : Type 0} (a d : Device) (from to now : S) (x : T) → IsCopying a d from to now None → CopyEnds {T = T} (room (mounted to) (geometry_of a (mounted to))) (mounted to).sectors (on contents a (mounted from)) (on contents d (mounted to)) (Ok x)
-  copying-end a d from to now x so_far = (so_far.copied ∙ before-all (on contents a (mounted from)), so_far.free)
+  -- all were put
+  pub put-whole : {T : Type 0} (a d : Device) (to now : S) (pairs : List Pair) (count : ℕ) (x : T) → HasPut a d to now pairs count → length pairs ≤ count
+      → (m : Map) → pairs ≡ maps.entries m → CopyEnds {T = T} (room (mounted to) (geometry_of a (mounted to))) (mounted to).sectors m (on contents d (mounted to)) (Ok x)
+  put-whole a d to now pairs count x so_far all m same =
+      let end : slice_get (maps.keys m) count ≡ None = behind-all m count (subst (λ (es : List Pair). length es ≤ count) same all) in
+      (so_far.copied m same ∙ ap (before m) end ∙ before-all m, subst (λ (o : Option (List ℕ)). NoneTooMany (room (mounted to) (geometry_of a (mounted to))) m o) end (so_far.free m same))
 
   -- a set that was refused
-  pub copying-refused : {T : Type 0} (U : Type 0) (a d e : Device) (from to now : S) (name value : List ℕ) (result : Result T SetFault) (fault : SetFault) → result ≡ Err fault → IsCopying a d from to now (Some name)
-      → IsStored (on contents a (mounted from)) name value
-      → SetEnds (room (mounted now) (geometry_of d (mounted now))) (mounted now).sectors d e (on contents d (mounted now)) (on contents e (mounted now)) name value result
-      → CopyEnds {T = U} (room (mounted to) (geometry_of a (mounted to))) (mounted to).sectors (on contents a (mounted from)) (on contents e (mounted to)) (Err fault)
-  copying-refused {T} U a d e from to now name value result fault is so_far has ends =
-      at fault (subst (λ (r : Result T SetFault). SetEnds (room (mounted to) (geometry_of a (mounted to))) (mounted to).sectors d e (before (on contents a (mounted from)) (Some name)) (on contents e (mounted to)) name value r) is
-      (set-says a d e from to now name value result so_far so_far.touches.banks ends))
+  pub put-refused : {T : Type 0} (a d e : Device) (to now : S) (pairs : List Pair) (count : ℕ) (name value : List ℕ) (result : Result T SetFault) (fault : SetFault) → result ≡ Err fault → HasPut a d to now pairs count
+      → slice_get pairs count ≡ Some (name, value)
+      → SetEndsOn room contents d e (mounted now) name value result
+      → (m : Map) → pairs ≡ maps.entries m → CopyEnds {T = T} (room (mounted to) (geometry_of a (mounted to))) (mounted to).sectors m (on contents e (mounted to)) (Err fault)
+  put-refused {T} a d e to now pairs count name value result fault is so_far at ends m same =
+      by fault (subst (λ (z : Map). SetEnds {T = T} limits (mounted to).sectors d e z (on contents e (mounted to)) name value (Err fault)) (so_far.copied m same ∙ ap (before m) named)
+      (subst (λ (r : Result T SetFault). SetEnds limits (mounted to).sectors d e (on contents d (mounted to)) (on contents e (mounted to)) name value r) is
+      (set-says a d e to now name value result so_far.area so_far.touches.banks ends)))
     where
-      at : (f : SetFault) → SetEnds {T = T} (room (mounted to) (geometry_of a (mounted to))) (mounted to).sectors d e (before (on contents a (mounted from)) (Some name)) (on contents e (mounted to)) name value (Err f)
-          → CopyEnds {T = U} (room (mounted to) (geometry_of a (mounted to))) (mounted to).sectors (on contents a (mounted from)) (on contents e (mounted to)) (Err f)
-      at TooManyNames did = record { name = name; value = value; stored = has; many = did.0; earlier = so_far.free }
-      at (NoSpace need live) did = record { name = name; value = value; stored = has; few = did.free; earlier = so_far.free; full = did.full; needs = did.needs; lives = did.lives }
-      at PowerLost did = tt
+      limits : Room
+      limits = room (mounted to) (geometry_of a (mounted to))
+
+      here : slice_get (maps.entries m) count ≡ Some (name, value)
+      here = subst (λ (es : List Pair). slice_get es count ≡ Some (name, value)) same at
+
+      named : slice_get (maps.keys m) count ≡ Some name
+      named = name-at m count (name, value) here
+
+      earlier : NoneTooMany limits m (Some name)
+      earlier = subst (λ (o : Option (List ℕ)). NoneTooMany limits m o) named (so_far.free m same)
+
+      by : (f : SetFault) → SetEnds {T = T} limits (mounted to).sectors d e (before m (Some name)) (on contents e (mounted to)) name value (Err f)
+          → CopyEnds {T = T} limits (mounted to).sectors m (on contents e (mounted to)) (Err f)
+      by TooManyNames did = record { name = name; value = value; stored = stored-at m count (name, value) here; many = did.0; earlier = earlier }
+      by (NoSpace need live) did = record { name = name; value = value; stored = stored-at m count (name, value) here; few = did.free; earlier = earlier; full = did.full; needs = did.needs; lives = did.lives }
+      by PowerLost did = tt

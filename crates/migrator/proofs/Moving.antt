@@ -25,7 +25,7 @@ use Rattle.migrator.specs.declared.migrating.MigrateFault.TheVariants.{NoTarget,
 use Rattle.migrator.specs.Active.{active_in, active_by}
 use Rattle.migrator.specs.Choosing.{IsOpen, ChooseEnds}
 use Rattle.migrator.specs.Copying.{NoneTooMany, CopyEnds}
-use Rattle.migrator.specs.Migrating.{migrate_lost, filled_as, moved_as, FillEnds, MoveEnds, StaysActive}
+use Rattle.migrator.specs.Migrating.{migrate_lost, filled_as, moved_as, OpenEnds, FillEnds, MoveEnds, StaysActive}
 use Rattle.migrator.proofs.Collecting.{kept-itself}
 use Rattle.migrator.proofs.Copies.{geometry-same}
 
@@ -43,22 +43,36 @@ filled-ends to room sectors settings copy (Err (NoPlace need live)) ends = ends
 filled-ends to room sectors settings copy (Err OneTooMany) ends = ends
 filled-ends to room sectors settings copy (Err CopyLost) ends = tt
 
+-- the area was not opened
+pub blank-ends : (T : Type 0) (room : Room) (sectors : ℕ) (settings copy : Map) (fault : MigrateFault) → OpenEnds {T = T} copy (Err fault) → FillEnds {T = T} room sectors settings copy (Err fault)
+blank-ends T room sectors settings copy NoTarget ends = ends
+blank-ends T room sectors settings copy TooManyNames ends = absurd ends
+blank-ends T room sectors settings copy (NoSpace need live) ends = absurd ends
+blank-ends T room sectors settings copy PowerLost ends = tt
+blank-ends T room sectors settings copy NoMemory ends = tt
+
+-- what holds of the store unless power was lost
+pub filled-if : {T : Type 0} (P : T → Type 0) (to : T) (copied : Result (Unit {0}) SetFault) (result : Result T MigrateFault) → result ≡ filled_as to copied → (set_lost copied ≡ false → P to) → IfOk result P
+filled-if {T} P to copied result is kept = subst (λ (r : Result T MigrateFault). IfOk r P) (sym is) (at copied kept)
+  where
+    at : (r : Result (Unit {0}) SetFault) → (set_lost r ≡ false → P to) → IfOk (filled_as to r) P
+    at (Ok x) kept = kept refl
+    at (Err (NoPlace need live)) kept = tt
+    at (Err OneTooMany) kept = tt
+    at (Err CopyLost) kept = tt
+
 module _ {S : Type 0} (mounted : S → Area) (contents : Area → Geometry → List (List ℕ) → Map) (room : Area → Geometry → Room) where
-  -- an area was opened, and then all settings were copied into it
-  pub fill-ends : (a b e : Device) (source area : Area) (to after : S) (copied : Result (Unit {0}) SetFault) (result : Result S MigrateFault) → b.banks ≡ a.banks → sectors_of b source ≡ sectors_of a source → mounted to ≡ area
-      → CopyEnds (room (mounted to) (geometry_of b (mounted to))) (mounted to).sectors (on contents b source) (on contents e (mounted to)) copied → result ≡ filled_as after copied
-      → FillEnds (room area (geometry_of a area)) area.sectors (on contents a source) (on contents e area) result
-  fill-ends a b e source area to after copied result banks same is ends result-is =
-      let first : CopyEnds (room area (geometry_of b area)) area.sectors (on contents b source) (on contents e area) copied =
-      subst (λ (x : Area). CopyEnds (room x (geometry_of b x)) x.sectors (on contents b source) (on contents e x) copied) is ends in
-      let second : CopyEnds (room area (geometry_of a area)) area.sectors (on contents b source) (on contents e area) copied =
-      subst (λ (g : Geometry). CopyEnds (room area g) area.sectors (on contents b source) (on contents e area) copied) (geometry-same a b area banks) first in
-      let third : CopyEnds (room area (geometry_of a area)) area.sectors (contents source (geometry_of a source) (sectors_of b source)) (on contents e area) copied =
-      subst (λ (g : Geometry). CopyEnds (room area (geometry_of a area)) area.sectors (contents source g (sectors_of b source)) (on contents e area) copied) (geometry-same a b source banks) second in
-      let fourth : CopyEnds (room area (geometry_of a area)) area.sectors (on contents a source) (on contents e area) copied =
-      subst (λ (s : List (List ℕ)). CopyEnds (room area (geometry_of a area)) area.sectors (contents source (geometry_of a source) s) (on contents e area) copied) same third in
-      subst (λ (r : Result S MigrateFault). FillEnds (room area (geometry_of a area)) area.sectors (on contents a source) (on contents e area) r) (sym result-is)
-      (filled-ends after (room area (geometry_of a area)) area.sectors (on contents a source) (on contents e area) copied fourth)
+  -- an area was opened, and then these settings were put into it
+  pub fill-ends : (a b e : Device) (area : Area) (settings : Map) (to after : S) (copied : Result (Unit {0}) SetFault) (result : Result S MigrateFault) → b.banks ≡ a.banks → mounted to ≡ area
+      → CopyEnds (room (mounted to) (geometry_of b (mounted to))) (mounted to).sectors settings (on contents e (mounted to)) copied → result ≡ filled_as after copied
+      → FillEnds (room area (geometry_of a area)) area.sectors settings (on contents e area) result
+  fill-ends a b e area settings to after copied result banks is ends result-is =
+      let first : CopyEnds (room area (geometry_of b area)) area.sectors settings (on contents e area) copied =
+      subst (λ (x : Area). CopyEnds (room x (geometry_of b x)) x.sectors settings (on contents e x) copied) is ends in
+      let second : CopyEnds (room area (geometry_of a area)) area.sectors settings (on contents e area) copied =
+      subst (λ (g : Geometry). CopyEnds (room area g) area.sectors settings (on contents e area) copied) (geometry-same a b area banks) first in
+      subst (λ (r : Result S MigrateFault). FillEnds (room area (geometry_of a area)) area.sectors settings (on contents e area) r) (sym result-is)
+      (filled-ends after (room area (geometry_of a area)) area.sectors settings (on contents e area) copied second)
 
   pub fill-touches : (a b e : Device) (area : Area) (to after : S) (copied : Result (Unit {0}) SetFault) (result : Result S MigrateFault) → mounted to ≡ area → Touches (area ∷ []) a b false → Touches (mounted to ∷ []) b e (set_lost copied) → result ≡ filled_as after copied
       → Touches (area ∷ []) a e (migrate_lost result)

@@ -1,14 +1,12 @@
 -- The names of settings in byte order, one after the other.
-use Rattle.std.proofs.Common.{◌≡◌, ℕ, ◌+◌, ◌<◌, ◌≤◌, Bool, true, false, cond, ◌&&◌, T, List, [], ◌∷◌, length, Option, Some, None, is_some, is_lt, find, refl, sym, ap, subst, ◌∙◌, inl, inr, arith}
+use Rattle.std.proofs.Common.{◌≡◌, ℕ, ◌+◌, ◌<◌, ◌≤◌, Bool, true, false, cond, ◌&&◌, T, List, [], ◌∷◌, Option, Some, None, is_some, is_lt, find, refl, sym, ap, subst, ◌∙◌, inl, inr, arith}
 use Rattle.std.specs.Prelude.{map}
 use Rattle.std.specs.List.{list_any, All}
-use Rattle.std.specs.Option.{ForSome}
 use Rattle.std.specs.Ordering.{eq_by_cmp, ordering_reverse}
 use Rattle.std.specs.FinMap as maps
 use Rattle.std.specs.FinMap.Entries.{below_all}
 use Rattle.std.proofs.lemmas.Bool.{cases_Bool, cond-true, cond-false, false≢true, or_left, or_right, or_cases}
 use Rattle.std.proofs.lemmas.Cmp.{nat_list_cmp_total, tied_itself}
-use Rattle.std.proofs.lemmas.List.{length-map}
 use Rattle.std.proofs.lemmas.List.Elements.{All-head, All-tail}
 use Rattle.std.proofs.lemmas.Map.Lookups.{exact_bytes}
 use Rattle.std.proofs.lemmas.Option.{none-some}
@@ -99,10 +97,6 @@ module _ {X : Type 0} where
 
 pub next-is-least : (m : Map) (after : Option (List ℕ)) → IsLeast after (maps.contains_key m) (next_name m after)
 next-is-least m after = least-same after (has_key (maps.entries m)) (maps.contains_key m) (next_name m after) (λ name. sym (maps.contains_key-keys m name)) (find-least after (maps.entries m) (maps.entries_sorted m))
-
--- a next name has a value
-pub next-stored : (m : Map) (after o : Option (List ℕ)) → o ≡ next_name m after → ForSome o (λ name. maps.contains_key m name ≡ true)
-next-stored m after o is name some = (subst (IsLeast after (maps.contains_key m)) (sym is ∙ some) (next-is-least m after)).0
 
 -- ---- the settings before a name
 
@@ -250,21 +244,6 @@ some-left name (key ∷ keys) has = elim (or_cases (eq_by_cmp cmp name key) (lis
       let others = some-left name keys later in
       omega arith
 ]
-
--- of so many names not more are left
-left-few : (name : List ℕ) (keys : List (List ℕ)) → left_from name keys ≤ length keys
-unfolding left_from
-left-few name [] = omega arith
-left-few name (key ∷ keys) = let one = at-most-one (is_lt (cmp key name)) in let others = left-few name keys in omega arith
-  where
-    at-most-one : (t : Bool) → cond t 0 1 ≤ 1
-    at-most-one true = omega arith
-    at-most-one false = omega arith
-
-pub left-within : (m : Map) (at : Option (List ℕ)) → left (maps.keys m) at ≤ maps.len m
-unfolding left
-left-within m None = omega arith
-left-within m (Some name) = subst (λ (n : ℕ). left_from name (maps.keys m) ≤ n) (length-map (maps.entries m) (λ (e : List ℕ × List ℕ). e.0) ∙ sym (maps.len-entries m)) (left-few name (maps.keys m))
 
 pub left-smaller : (m : Map) (at : Option (List ℕ)) (name : List ℕ) (next : Option (List ℕ)) → at ≡ Some name → maps.contains_key m name ≡ true → next ≡ next_name m (Some name) → left (maps.keys m) next < left (maps.keys m) at
 unfolding left

@@ -1,10 +1,7 @@
 -- What the choice of an area and the filling of one spend at most.
-use Rattle.std.proofs.Common.{◌≡◌, ℕ, ◌+◌, ◌-◌, ◌*◌, ◌/◌, ◌<◌, ◌≤◌, Bool, true, false, cond, List, [], ◌∷◌, length, Option, Some, None, Result, Ok, Err, refl, sym, ap, subst, ◌∙◌, arith}
-use Rattle.std.specs.Prelude.{OnOk, OnErr, map, count_by}
-use Rattle.std.specs.FinMap as maps
-use Rattle.std.proofs.lemmas.Bool.{cases_Bool}
+use Rattle.std.proofs.Common.{◌≡◌, ℕ, ◌+◌, ◌*◌, ◌/◌, ◌≤◌, Bool, true, false, cond, List, length, Result, Ok, Err, refl, sym, ap, subst, ◌∙◌, arith}
+use Rattle.std.specs.Prelude.{OnOk, OnErr, count_by}
 use Rattle.std.proofs.lemmas.List.Sums.{count_by-le-length}
-use Rattle.std.proofs.lemmas.Nat.{mul-le, row_fits}
 use Rattle.flash_sim.specs.Bank.{bank_at}
 use Rattle.flash_sim.specs.Device.{Device}
 use Rattle.flash_sim.specs.declared.flash.Bank.{Bank}
@@ -19,15 +16,13 @@ use Rattle.fcb_ring.specs.declared.record.RecordAt.{RecordAt}
 use Rattle.fcb_ring.specs.declared.ring.Ring.{Ring}
 use Rattle.fcb_ring.specs.declared.writing.AppendFault.{AppendFault}
 use Rattle.fcb_ring.specs.declared.writing.AppendFault.TheVariants.{Full, TooLong, PowerLost}
-use Rattle.fcb_ring.specs.Changing.{AppendEnds, CopiedRecord, StopsCopyingRecord, append_units, header_units, record_units}
+use Rattle.fcb_ring.specs.Changing.{AppendEnds, CopiedRecord, StopsCopyingRecord, header_units, record_units}
 use Rattle.fcb_ring.specs.Writing.{record_cost}
 use Rattle.fcb_ring.proofs.AppendLemmas.{unit-after}
 use Rattle.fcb_ring.proofs.AreaLemmas.{count-sectors}
-use Rattle.backend_api.specs.Map.{Map}
 use Rattle.backend_api.specs.Room.{command_units, mount_units}
 use Rattle.migrator.specs.Choosing.{choice_units}
 use Rattle.migrator.specs.Migrating.{fill_units, move_units}
-use Rattle.migrator.proofs.Names.{left, left-within}
 
 -- ---- two calls in a row, and none
 
@@ -92,19 +87,6 @@ choice-full a b e before ring flash same spent = subst (λ (d : Device). SpendsA
 pub written-within : (d : Device) (area : Area) → count_by is_written (sectors_of d area) ≤ area.sectors
 written-within d area = subst (λ (n : ℕ). count_by is_written (sectors_of d area) ≤ n) (count-sectors d area) (count_by-le-length is_written (sectors_of d area))
 
--- what was spent until it is the turn of a name
-abbrev pub put_units : Map → Option (List ℕ) → Geometry → ℕ
-put_units m at g = (maps.len m - left (maps.keys m) at) * command_units g
-
-pub put-next : (m : Map) (at next : Option (List ℕ)) (g : Geometry) → left (maps.keys m) next < left (maps.keys m) at → put_units m at g + command_units g ≤ put_units m next g
-put-next m at next g fewer =
-    let within = left-within m at in
-    let more : maps.len m - left (maps.keys m) at < maps.len m - left (maps.keys m) next = omega arith in
-    row_fits (maps.len m - left (maps.keys m) at) (command_units g) (maps.len m - left (maps.keys m) next) (command_units g) more (omega arith)
-
-pub put-all : (m : Map) (at : Option (List ℕ)) (g : Geometry) → put_units m at g ≤ maps.len m * command_units g
-put-all m at g = mul-le (maps.len m - left (maps.keys m) at) (command_units g) (maps.len m) (command_units g) (omega arith) (omega arith)
-
 -- it was erased, whole or in part
 pub erased-most : {E : Type 0} (d e : Device) (area : Area) (result : Result (Unit {0}) E) → OnOk result (Spends d e (count_by is_written (sectors_of d area))) → OnErr result (SpendsAtMost d e (count_by is_written (sectors_of d area))) → SpendsAtMost d e area.sectors
 erased-most d e area (Ok x) units lost = most_weaker d e (count_by is_written (sectors_of d area)) area.sectors (written-within d area) (spends_most d e (count_by is_written (sectors_of d area)) units)
@@ -123,17 +105,17 @@ pub erased-first : (a b : Device) (area : Area) (more : ℕ) → SpendsAtMost a 
 erased-first a b area more spent = most_weaker a b area.sectors (area.sectors + more) (omega arith) spent
 
 -- nothing was put yet
-pub opened-first : (a b : Device) (area : Area) (m : Map) → SpendsAtMost a b (area.sectors + mount_units (geometry_of a area)) → SpendsAtMost a b (fill_units (geometry_of a area) (maps.len m))
-opened-first a b area m spent = most_weaker a b (area.sectors + mount_units (geometry_of a area)) (fill_units (geometry_of a area) (maps.len m)) (omega arith) spent
+pub opened-first : (a b : Device) (area : Area) (names : ℕ) → SpendsAtMost a b (area.sectors + mount_units (geometry_of a area)) → SpendsAtMost a b (fill_units (geometry_of a area) names)
+opened-first a b area names spent = most_weaker a b (area.sectors + mount_units (geometry_of a area)) (fill_units (geometry_of a area) names) (omega arith) spent
 
 -- all settings were put
-pub filled-most : (a b e : Device) (area into : Area) (m copied : Map) → b.banks ≡ a.banks → into ≡ area → copied ≡ m → SpendsAtMost a b (area.sectors + mount_units (geometry_of a area)) → SpendsAtMost b e (maps.len copied * command_units (geometry_of b into))
-    → SpendsAtMost a e (fill_units (geometry_of a area) (maps.len m))
-filled-most a b e area into m copied banks same is first second =
+pub filled-most : (a b e : Device) (area into : Area) (count names : ℕ) → b.banks ≡ a.banks → into ≡ area → count ≡ names → SpendsAtMost a b (area.sectors + mount_units (geometry_of a area)) → SpendsAtMost b e (count * command_units (geometry_of b into))
+    → SpendsAtMost a e (fill_units (geometry_of a area) names)
+filled-most a b e area into count names banks same is first second =
     let g : geometry_of b into ≡ geometry_of a area = ap (geometry_of b) same ∙ units-still a b area banks in
-    let puts : SpendsAtMost b e (maps.len m * command_units (geometry_of a area)) =
-    subst (λ (x : Geometry). SpendsAtMost b e (maps.len m * command_units x)) g (subst (λ (x : Map). SpendsAtMost b e (maps.len x * command_units (geometry_of b into))) is second) in
-    most_then a b e (area.sectors + mount_units (geometry_of a area)) (maps.len m * command_units (geometry_of a area)) first puts
+    let puts : SpendsAtMost b e (names * command_units (geometry_of a area)) =
+    subst (λ (x : Geometry). SpendsAtMost b e (names * command_units x)) g (subst (λ (n : ℕ). SpendsAtMost b e (n * command_units (geometry_of b into))) is second) in
+    most_then a b e (area.sectors + mount_units (geometry_of a area)) (names * command_units (geometry_of a area)) first puts
 
 -- ---- an area that is filled, and then chosen
 

@@ -2,18 +2,17 @@
 use Rattle.std.specs.Prelude.{◌≡◌, ℕ, true, false, List, take, Option, Some, None, Result, Ok, Err}
 use Rattle.std.specs.FinMap.{retain_keys, empty, entries}
 use Rattle.std.specs.List.{slice_get}
-use Rattle.flash_sim.specs.Device.{Device}
-use Rattle.flash_map.specs.Area.{AreApart}
-use Rattle.flash_map.specs.Lawful.{IsLawfulFor}
-use Rattle.flash_map.specs.On.{StandsOn}
-use Rattle.flash_map.specs.declared.area.Area.{Area}
-use Rattle.flash_map.specs.declared.area.Geometry.{Geometry}
 use Rattle.backend_api.specs.Commands.{all_applied, puts_of}
 use Rattle.backend_api.specs.Least.{is_before}
 use Rattle.backend_api.specs.Map.{Map, IsStored}
 use Rattle.backend_api.specs.Room.{Room, HasNoRoom}
 use Rattle.backend_api.specs.declared.backend.SetFault.{SetFault}
 use Rattle.backend_api.specs.declared.backend.SetFault.TheVariants.{NoSpace, TooManyNames, PowerLost}
+use Rattle.migrator.specs.declared.copying.Setting.{Setting}
+
+-- the name and the value of a setting in memory
+abbrev pub pair_of : Setting → List ℕ × List ℕ
+pair_of setting = (setting.name, setting.value.items)
 
 -- the settings of the names before `end`, which are put when it is its turn; all of them if
 -- `end` is `None`
@@ -60,14 +59,3 @@ CopyEnds room sectors settings copy (Err TooManyNames) = HasOneTooMany room sett
 CopyEnds room sectors settings copy (Err (NoSpace need live)) =
     HasOneWithoutRoom room sectors settings need live
 CopyEnds room sectors settings copy (Err PowerLost) = Unit {0}
-
--- A store and another one to which its settings are copied: both are mounted, and their areas share
--- no sector and have one version.
-pub record AreTwoStores {S : Type 0} (mounted_on : S → Area)
-    (stands : S → Geometry → List (List ℕ) → Type 0) (d : Device) (from to : S) : Type 0 where
-  pub lawful_from : IsLawfulFor d.banks (mounted_on from)
-  pub stands_from : StandsOn mounted_on stands d from
-  pub lawful_to : IsLawfulFor d.banks (mounted_on to)
-  pub stands_to : StandsOn mounted_on stands d to
-  pub apart : AreApart (mounted_on to) (mounted_on from)
-  pub version : (mounted_on to).version ≡ (mounted_on from).version

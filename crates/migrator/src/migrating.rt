@@ -15,7 +15,7 @@ ghost use Rattle.migrator.specs.Migrating.{migrate_lost, is_refused, IsServed, C
 
 use crate::Selector;
 use crate::areas::{area_at, target};
-use crate::copying::copy_all;
+use crate::copying::{put_all, read_all};
 use backend_api::{Backend, SetFault};
 use flash_map::{Area, FlashMap, MountFault};
 use flash_sim::{Flash, PowerLost, Steps};
@@ -118,9 +118,10 @@ fn moved_as<K: Backend>(
     }
 }
 
-/// Erases an area, mounts a store on it, and puts all settings of another store into it, in the
-/// byte order of their names. The source stays as it is. Whatever the result, it spends at most the
-/// units and erases that `fill_units` gives for the area's geometry and the count of settings.
+/// Reads all settings of a store into memory. Then it erases an area, mounts a store on it, and
+/// puts them into it, in the byte order of their names. The source stays as it is. Whatever the
+/// result, it spends at most the units and erases that `fill_units` gives for the area's geometry
+/// and the count of settings.
 ///
 /// # Errors
 /// `TooManyNames` and `NoSpace` if the area has no place for a setting beside those of lesser
@@ -155,12 +156,15 @@ pub fn fill<F: Flash, K: Backend, L: Ledger>(
         SpendsAtMost d (F.device flash.new)
         (fill_units (geometry_of d area) (finite.len settings)) }
 {
+    let Ok(settings) = read_all(alloc, from, flash, steps) else {
+        return Err(MigrateFault::NoMemory);
+    };
     let opened: Result<K, MigrateFault> = open_blank(alloc, flash, area, steps);
     let mut to = match opened {
         Ok(to) => to,
         Err(fault) => return Err(fault),
     };
-    let copied = copy_all(from, &mut to, flash, steps);
+    let copied = put_all(&settings, &mut to, flash, steps);
     filled_as(to, copied)
 }
 
@@ -204,10 +208,11 @@ fn move_to<F: Flash, K: Backend, L: Ledger>(
     moved_as(to, index as usize, chosen)
 }
 
-/// Moves all settings to the next store area of the map, and makes that area the active one. It
-/// returns the store on that area, and the area's index. The sectors of the source stay as they
-/// are. Whatever happens, the active area reads as the same settings. It spends at most the units
-/// and erases of filling the target once and choosing it (`migrate_units`).
+/// Moves all settings to the next store area of the map, and makes that area the active one. All
+/// of them are in memory before the target is erased. It returns the store on that area, and the
+/// area's index. The sectors of the source stay as they are. Whatever happens, the active area
+/// reads as the same settings. It spends at most the units and erases of filling the target once
+/// and choosing it (`migrate_units`).
 ///
 /// # Errors
 /// `NoTarget` exactly if there is no other store area; nothing changed then. `TooManyNames` and

@@ -1,62 +1,82 @@
-use Rattle.std.proofs.Common.{◌≡◌, ◌∙◌, List, sym, ap, subst}
+use Rattle.std.proofs.Common.{◌≡◌, ℕ, [], ◌∷◌, All, List, length, map, refl, sym, ap, subst, ◌∙◌}
+use Rattle.std.specs.FinMap as maps
+use Rattle.std.proofs.lemmas.List.{length-map}
 use Rattle.flash_sim.specs.Device.{Device}
 use Rattle.flash_sim.specs.declared.flash.Bank.{Bank}
-use Rattle.flash_map.specs.Area.{AreApart}
+use Rattle.flash_map.specs.Area.{geometry_of, value_limit}
 use Rattle.flash_map.specs.Lawful.{IsLawfulFor}
+use Rattle.flash_map.specs.Touches.{Touches}
 use Rattle.flash_map.specs.declared.area.Area.{Area}
 use Rattle.flash_map.proofs.Apart.{same_apart}
-use Rattle.flash_map.specs.On.{on}
-use Rattle.migrator.proofs.Copies.{contents-still, stands-still}
-use Rattle.migrator.proofs.Moving.{fill-ends, fill-touches}
-use Rattle.migrator.proofs.Spent.{filled-most, opened-first}
+use Rattle.flash_map.proofs.Touches.{untouched}
+use Rattle.flash_map.specs.On.{on, StandsOn}
+use Rattle.backend_api.specs.Map.{Map, IsValue}
+use Rattle.migrator.specs.Copying.{pair_of}
+use Rattle.migrator.specs.Migrating.{migrate_lost, fill_units}
+use Rattle.migrator.specs.declared.copying.Setting.{Setting}
+use Rattle.migrator.proofs.Moving.{blank-ends, fill-ends, fill-touches, filled-if}
+use Rattle.migrator.proofs.Spent.{filled-most, most_none, opened-first}
+use Rattle.migrator.proofs.Values.{limit-same}
 use Rattle.migrator.proofs.migrating.fill.Goals as goal
 
-pub returns-in-Err-clause-source : goal.returns-in-Err-clause-source
-returns-in-Err-clause-source g c =
-    same_apart (g.met.F.Flash.is_lawful c.args.flash.now) (g.met.F.Flash.is_lawful c.open_blank-opened.new.flash) c.requires.lawful_from.in_bank c.requires.apart c.open_blank-opened.ensures.touches
+pub returns-in_default : goal.returns-in_default
+returns-in_default g c =
+    let a : Device = g.F.Flash.device c.args.flash.now in
+    record {
+      touches = untouched (c.args.area ∷ []) a;
+      source = refl;
+      ends = tt;
+      on = tt;
+      stands = tt;
+      at_most = most_none a a (fill_units (geometry_of a c.args.area) (maps.len (on g.K.Backend.contents a (g.K.Backend.mounted_on c.args.from.now)))) refl;
+    }
 
-pub returns-clause-touches : goal.returns-clause-touches
-returns-clause-touches g c =
-    fill-touches g.K.Backend.mounted_on g.K.Backend.contents g.K.Backend.room (g.F.Flash.device c.args.flash.now) (g.F.Flash.device c.open_blank-opened.new.flash) (g.F.Flash.device c.copy_all-copied.new.flash) c.args.area c.in-Ok.to c.copy_all-copied.new.to c.copy_all-copied.result c.filled_as.result
-    c.in-Ok.ensures.on c.in-Ok.ensures.touches c.copy_all-copied.ensures.touches c.filled_as.ensures
-
-pub returns-clause-source : goal.returns-clause-source
-returns-clause-source g c =
-    c.copy_all-copied.ensures.source
-    ∙ same_apart (g.met.F.Flash.is_lawful c.args.flash.now) (g.met.F.Flash.is_lawful c.open_blank-opened.new.flash) c.requires.lawful_from.in_bank c.requires.apart c.open_blank-opened.ensures.touches
-
-pub returns-clause-ends : goal.returns-clause-ends
-returns-clause-ends g c =
-    fill-ends g.K.Backend.mounted_on g.K.Backend.contents g.K.Backend.room (g.F.Flash.device c.args.flash.now) (g.F.Flash.device c.open_blank-opened.new.flash) (g.F.Flash.device c.copy_all-copied.new.flash) (g.K.Backend.mounted_on c.args.from.now) c.args.area c.in-Ok.to c.copy_all-copied.new.to c.copy_all-copied.result c.filled_as.result
-    c.open_blank-opened.ensures.touches.banks (same_apart (g.met.F.Flash.is_lawful c.args.flash.now) (g.met.F.Flash.is_lawful c.open_blank-opened.new.flash) c.requires.lawful_from.in_bank c.requires.apart c.open_blank-opened.ensures.touches)
-    c.in-Ok.ensures.on c.copy_all-copied.ensures.ends c.filled_as.ensures
-
-pub returns-in-Err-clause-at_most : goal.returns-in-Err-clause-at_most
-returns-in-Err-clause-at_most g c =
-    let a = g.F.Flash.device c.args.flash.now in
-    opened-first a (g.F.Flash.device c.open_blank-opened.new.flash) c.args.area (on g.K.Backend.contents a (g.K.Backend.mounted_on c.args.from.now)) c.open_blank-opened.ensures.at_most
-
-pub returns-clause-at_most : goal.returns-clause-at_most
-returns-clause-at_most g c =
-    let a = g.F.Flash.device c.args.flash.now in
-    let b = g.F.Flash.device c.open_blank-opened.new.flash in
-    let source = g.K.Backend.mounted_on c.args.from.now in
-    let same = same_apart (g.met.F.Flash.is_lawful c.args.flash.now) (g.met.F.Flash.is_lawful c.open_blank-opened.new.flash) c.requires.lawful_from.in_bank c.requires.apart c.open_blank-opened.ensures.touches in
-    filled-most a b (g.F.Flash.device c.copy_all-copied.new.flash) c.args.area (g.K.Backend.mounted_on c.in-Ok.to) (on g.K.Backend.contents a source) (on g.K.Backend.contents b source) c.open_blank-opened.ensures.touches.banks c.in-Ok.ensures.on
-    (contents-still g.K.Backend.mounted_on g.K.Backend.stands g.K.Backend.contents g.K.Backend.room a b source c.open_blank-opened.ensures.touches.banks same) c.open_blank-opened.ensures.at_most c.copy_all-copied.ensures.at_most
-
-pub copy_all-copied-requires-clause-stores : goal.copy_all-copied-requires-clause-stores
-copy_all-copied-requires-clause-stores g c =
+pub returns-in-Err : goal.returns-in-Err
+returns-in-Err g c =
     let a : Device = g.F.Flash.device c.args.flash.now in
     let b : Device = g.F.Flash.device c.open_blank-opened.new.flash in
-    let from : Area = g.K.Backend.mounted_on c.args.from.now in
-    let banks : b.banks ≡ a.banks = c.open_blank-opened.ensures.touches.banks in
-    let there : g.K.Backend.mounted_on c.in-Ok.to ≡ c.args.area = c.in-Ok.ensures.on in
     record {
-      lawful_from = subst (λ (l : List Bank). IsLawfulFor l from) (sym banks) c.requires.lawful_from;
-      stands_from = stands-still g.K.Backend.mounted_on g.K.Backend.stands g.K.Backend.contents g.K.Backend.room (g.F.Flash.device c.args.flash.now) (g.F.Flash.device c.open_blank-opened.new.flash) c.args.from.now c.open_blank-opened.ensures.touches.banks (same_apart (g.met.F.Flash.is_lawful c.args.flash.now) (g.met.F.Flash.is_lawful c.open_blank-opened.new.flash) c.requires.lawful_from.in_bank c.requires.apart c.open_blank-opened.ensures.touches) c.requires.stands_from;
-      lawful_to = subst (λ (x : Area). IsLawfulFor b.banks x) (sym there) (subst (λ (l : List Bank). IsLawfulFor l c.args.area) (sym banks) c.requires.lawful);
-      stands_to = c.in-Ok.ensures.stands;
-      apart = subst (λ (x : Area). AreApart x from) (sym there) c.requires.apart;
-      version = ap (λ (x : Area). x.version) there ∙ c.requires.version;
+      touches = c.in-Err.ensures.touches;
+      source = same_apart (g.met.F.Flash.is_lawful c.args.flash.now) (g.met.F.Flash.is_lawful c.open_blank-opened.new.flash) c.requires.lawful_from.in_bank c.requires.apart c.in-Err.ensures.touches;
+      ends = blank-ends g.row.K.Denot (g.K.Backend.room c.args.area (geometry_of a c.args.area)) c.args.area.sectors (on g.K.Backend.contents a (g.K.Backend.mounted_on c.args.from.now)) (on g.K.Backend.contents b c.args.area) c.in-Err.fault c.in-Err.ensures.ends;
+      on = tt;
+      stands = tt;
+      at_most = opened-first a b c.args.area (maps.len (on g.K.Backend.contents a (g.K.Backend.mounted_on c.args.from.now))) c.open_blank-opened.ensures.at_most;
+    }
+
+pub put_all-copied-requires : goal.put_all-copied-requires
+put_all-copied-requires g c =
+    let b : Device = g.F.Flash.device c.open_blank-opened.new.flash in
+    let there : g.K.Backend.mounted_on c.in-Ok-opened.to ≡ c.args.area = c.in-Ok-opened.ensures.on in
+    let limit : value_limit (g.K.Backend.mounted_on c.in-Ok-opened.to) ≡ value_limit (g.K.Backend.mounted_on c.args.from.now) =
+    limit-same (g.K.Backend.mounted_on c.in-Ok-opened.to) (g.K.Backend.mounted_on c.args.from.now) (ap (λ (x : Area). x.version) there ∙ c.requires.version) in
+    let lawful : IsLawfulFor b.banks c.args.area = subst (λ (banks : List Bank). IsLawfulFor banks c.args.area) (sym c.open_blank-opened.ensures.touches.banks) c.requires.lawful in
+    let values : All (λ (setting : Setting). IsValue (value_limit (g.K.Backend.mounted_on c.args.from.now)) setting.value.items) c.deref.result.now =
+    subst (λ (settings : List Setting). All (λ setting. IsValue (value_limit (g.K.Backend.mounted_on c.args.from.now)) setting.value.items) settings) (sym c.deref.ensures.value) c.in-Ok.ensures.values in
+    record {
+      lawful = subst (λ (x : Area). IsLawfulFor b.banks x) (sym there) lawful;
+      stands = c.in-Ok-opened.ensures.stands;
+      empty = ap (on g.K.Backend.contents b) there ∙ c.in-Ok-opened.ensures.ends;
+      values = subst (λ (n : ℕ). All (λ setting. IsValue n setting.value.items) c.deref.result.now) (sym limit) values;
+    }
+
+pub returns : goal.returns
+returns g c =
+    let a : Device = g.F.Flash.device c.args.flash.now in
+    let b : Device = g.F.Flash.device c.open_blank-opened.new.flash in
+    let e : Device = g.F.Flash.device c.put_all-copied.new.flash in
+    let m : Map = on g.K.Backend.contents a (g.K.Backend.mounted_on c.args.from.now) in
+    let banks : b.banks ≡ a.banks = c.open_blank-opened.ensures.touches.banks in
+    let there : g.K.Backend.mounted_on c.in-Ok-opened.to ≡ c.args.area = c.in-Ok-opened.ensures.on in
+    let pairs : map pair_of c.deref.result.now ≡ maps.entries m = ap (map pair_of) c.deref.ensures.value ∙ c.in-Ok.ensures.pairs in
+    let names : length c.deref.result.now ≡ maps.len m = sym (length-map c.deref.result.now pair_of) ∙ ap length pairs ∙ sym (maps.len-entries m) in
+    let touches : Touches (c.args.area ∷ []) a e (migrate_lost c.filled_as.result) =
+    fill-touches g.K.Backend.mounted_on g.K.Backend.contents g.K.Backend.room a b e c.args.area c.in-Ok-opened.to c.put_all-copied.new.to c.put_all-copied.result c.filled_as.result there c.in-Ok-opened.ensures.touches c.put_all-copied.ensures.touches c.filled_as.ensures in
+    record {
+      touches = touches;
+      source = same_apart (g.met.F.Flash.is_lawful c.args.flash.now) (g.met.F.Flash.is_lawful c.put_all-copied.new.flash) c.requires.lawful_from.in_bank c.requires.apart touches;
+      ends = fill-ends g.K.Backend.mounted_on g.K.Backend.contents g.K.Backend.room a b e c.args.area m c.in-Ok-opened.to c.put_all-copied.new.to c.put_all-copied.result c.filled_as.result banks there (c.put_all-copied.ensures.ends m pairs) c.filled_as.ensures;
+      on = filled-if (λ state. g.K.Backend.mounted_on state ≡ c.args.area) c.put_all-copied.new.to c.put_all-copied.result c.filled_as.result c.filled_as.ensures (λ kept. c.put_all-copied.ensures.area ∙ there);
+      stands = filled-if (λ state. StandsOn g.K.Backend.mounted_on g.K.Backend.stands e state) c.put_all-copied.new.to c.put_all-copied.result c.filled_as.result c.filled_as.ensures c.put_all-copied.ensures.stands;
+      at_most = filled-most a b e c.args.area (g.K.Backend.mounted_on c.in-Ok-opened.to) (length c.deref.result.now) (maps.len m) banks there names c.open_blank-opened.ensures.at_most c.put_all-copied.ensures.at_most;
     }

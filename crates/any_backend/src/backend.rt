@@ -9,9 +9,10 @@ use backend_fcb::FcbBackend;
 use backend_nvs::NvsBackend;
 use backend_zms::ZmsBackend;
 use flash_map::{Area, MountFault, Role};
-use flash_sim::{Flash, Loss, PowerLost, Steps};
+use flash_sim::{Flash, Loss, NoMemory, PowerLost, Steps};
 use setting_name::Name;
 use std::alloc::Global;
+use std::collections::BTreeMap;
 use std::sync::ledger::Ledger;
 
 /// A store of settings on an area. The area's role says which of the three it is; a selector's
@@ -130,6 +131,19 @@ impl Backend for AnyBackend {
             AnyBackend::Nvs(backend) => backend.next_name(flash, after, steps),
             AnyBackend::Zms(backend) => backend.next_name(flash, after, steps),
             AnyBackend::Fcb(backend) => backend.next_name(flash, after, steps),
+        }
+    }
+
+    fn settings<'a, F: Flash, L: Ledger>(
+        &self,
+        alloc: Global,
+        flash: &'a F,
+        steps: &mut Steps<L>,
+    ) -> Result<BTreeMap<Name, &'a [u8], Global>, NoMemory> {
+        match self {
+            AnyBackend::Nvs(backend) => backend.settings(alloc, flash, steps),
+            AnyBackend::Zms(backend) => backend.settings(alloc, flash, steps),
+            AnyBackend::Fcb(backend) => backend.settings(alloc, flash, steps),
         }
     }
 

@@ -8,11 +8,14 @@ ghost use Rattle.backend_nvs.specs.Standing.{Stands, Rests, stands-rest, reads_s
 use crate::numbering::NvsIdLayout;
 use backend_api::{Backend, SetFault};
 use flash_map::{Area, MountFault, area_format};
-use flash_sim::{Flash, Loss, PowerLost, Steps};
-use named_items::{ItemStore, delete_name, mount_store, next_name, set_value, standing_value};
+use flash_sim::{Flash, Loss, NoMemory, PowerLost, Steps};
+use named_items::{
+    ItemStore, all_settings, delete_name, mount_store, next_name, set_value, standing_value,
+};
 use nvs_gc::Nvs;
 use setting_name::Name;
 use std::alloc::Global;
+use std::collections::BTreeMap;
 use std::sync::ledger::Ledger;
 
 /// The backend over NVS: a store of settings on an NVS area. Each setting is two items, its name
@@ -100,6 +103,15 @@ impl Backend for NvsBackend {
         steps: &mut Steps<L>,
     ) -> Option<Name> {
         next_name::<NvsIdLayout, Nvs, F, L>(&self.store, flash, after, steps)
+    }
+
+    fn settings<'a, F: Flash, L: Ledger>(
+        &self,
+        alloc: Global,
+        flash: &'a F,
+        steps: &mut Steps<L>,
+    ) -> Result<BTreeMap<Name, &'a [u8], Global>, NoMemory> {
+        all_settings::<NvsIdLayout, Nvs, F, L>(alloc, &self.store, flash, steps)
     }
 
     fn format<F: Flash, L: Ledger>(

@@ -7,10 +7,13 @@ ghost use Rattle.backend_zms.specs.Standing.{IsServed, settings_of, Rests, Stand
 use crate::numbering::ZmsIdLayout;
 use backend_api::{Backend, SetFault};
 use flash_map::{Area, MountFault, area_format};
-use flash_sim::{Flash, Loss, PowerLost, Steps};
-use named_items::{ItemStore, delete_name, mount_store, next_name, set_value, standing_value};
+use flash_sim::{Flash, Loss, NoMemory, PowerLost, Steps};
+use named_items::{
+    ItemStore, all_settings, delete_name, mount_store, next_name, set_value, standing_value,
+};
 use setting_name::Name;
 use std::alloc::Global;
+use std::collections::BTreeMap;
 use std::sync::ledger::Ledger;
 use zms_store::Zms;
 
@@ -99,6 +102,15 @@ impl Backend for ZmsBackend {
         steps: &mut Steps<L>,
     ) -> Option<Name> {
         next_name::<ZmsIdLayout, Zms, F, L>(&self.store, flash, after, steps)
+    }
+
+    fn settings<'a, F: Flash, L: Ledger>(
+        &self,
+        alloc: Global,
+        flash: &'a F,
+        steps: &mut Steps<L>,
+    ) -> Result<BTreeMap<Name, &'a [u8], Global>, NoMemory> {
+        all_settings::<ZmsIdLayout, Zms, F, L>(alloc, &self.store, flash, steps)
     }
 
     fn format<F: Flash, L: Ledger>(

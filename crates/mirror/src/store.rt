@@ -10,10 +10,11 @@ use any_backend::AnyBackend;
 use backend_api::{Backend, SetFault};
 use backend_zms::{FIRST, GROUP_SIZE, first_of};
 use flash_map::{Area, MountFault, Role, geometry};
-use flash_sim::{Flash, Loss, PowerLost, Steps};
+use flash_sim::{Flash, Loss, NoMemory, PowerLost, Steps};
 use nvs_store::{capacity as nvs_capacity, cost as nvs_cost};
 use setting_name::Name;
 use std::alloc::Global;
+use std::collections::BTreeMap;
 use std::sync::ledger::Ledger;
 use zms_cycle::{capacity as zms_capacity, cost as zms_cost};
 
@@ -104,6 +105,15 @@ impl Backend for MirrorStore {
         steps: &mut Steps<L>,
     ) -> Option<Name> {
         self.backend.next_name(flash, after, steps)
+    }
+
+    fn settings<'a, F: Flash, L: Ledger>(
+        &self,
+        alloc: Global,
+        flash: &'a F,
+        steps: &mut Steps<L>,
+    ) -> Result<BTreeMap<Name, &'a [u8], Global>, NoMemory> {
+        self.backend.settings(alloc, flash, steps)
     }
 
     fn format<F: Flash, L: Ledger>(

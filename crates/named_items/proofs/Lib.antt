@@ -5,6 +5,7 @@ pub mod FormatSteps
 pub mod CandidateLemmas
 mod ItemSteps
 pub mod LawfulLemmas
+mod ListingSteps
 pub mod LookupSteps
 mod MostUnits
 pub mod NameLemmas

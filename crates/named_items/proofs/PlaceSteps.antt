@@ -38,7 +38,7 @@ among-own n top ids own id low high =
 
 module _ (n : Numbering) (items : Items) where
   -- an id for names that is kept is the place of the setting whose name is there
-  kept-at : (laws : IsNumbering n) (name : List ℕ) (id : ℕ) → IsForName n id → get items id ≡ Some name → IsKept n items id → IsAt n items name id
+  pub kept-at : (laws : IsNumbering n) (name : List ℕ) (id : ℕ) → IsForName n id → get items id ≡ Some name → IsKept n items id → IsAt n items name id
   kept-at laws name id own has kept =
       let low : n.first ≤ id = own.from in
       let high : id < n.first + n.step = own.to in

@@ -4,6 +4,7 @@ pub mod Ends
 pub mod Few
 pub mod Candidates
 pub mod Limits
+pub mod Listing
 pub mod Looking
 pub mod Mounted
 pub mod Numbering

@@ -4,6 +4,7 @@
 
 mod candidates;
 pub mod laws;
+mod listing;
 mod lookup;
 mod mounting;
 mod numbering;
@@ -16,6 +17,7 @@ mod writing;
 mod zms;
 
 pub use candidates::Ids;
+pub use listing::all_settings;
 pub use lookup::{id_of_name, is_at, is_free, is_named, is_value, standing_value, value_of};
 pub use mounting::mount_store;
 pub use numbering::IdLayout;

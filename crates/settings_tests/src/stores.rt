@@ -212,9 +212,10 @@ fn agrees<B: Bench, L: Ledger, R: Abort>(
     row(rt, line, answer == no_space && spent == units);
 }
 
-// These are all names, in order, with their values.
+// These are all names, in order, with their values, one after the other and at once.
 fn shows<B: Bench, L: Ledger, R: Abort>(
     rt: &R,
+    alloc: Global,
     backend: &AnyBackend,
     bench: &B,
     left: &str,
@@ -222,12 +223,16 @@ fn shows<B: Bench, L: Ledger, R: Abort>(
 )
     requires { IsReady (B.device bench.now) backend.now }
 {
+    let Ok(all) = backend.settings(alloc, bench, steps) else {
+        rt.panic("no memory")
+    };
+    row(rt, left, all.len() == left.lines().count());
     let mut after = None;
     for line in left.lines() {
         let (wanted, byte, len, _, _) = pair_of(rt, line);
         let found = backend.next_name(bench, after.as_ref(), steps);
         let value = backend.get(bench, &wanted, steps);
-        let got = is_value(value, byte, len);
+        let got = is_value(value, byte, len) && all.get(&wanted).copied() == value;
         after = Some(wanted);
         row(rt, line, found == after && got);
     }
@@ -273,11 +278,11 @@ fn carries_out<B: Bench, L: Ledger, R: Abort>(
 {
     carried(rt, alloc, bench, area, case.calls, steps);
     let backend = mounted(rt, alloc, bench, area, steps);
-    shows(rt, &backend, bench, case.left, steps);
+    shows(rt, alloc, &backend, bench, case.left, steps);
     drop(backend);
     AnyBackend::format(bench, area, steps)?;
     let backend = mounted(rt, alloc, bench, area, steps);
-    shows(rt, &backend, bench, "", steps);
+    shows(rt, alloc, &backend, bench, "", steps);
     Ok(())
 }
 

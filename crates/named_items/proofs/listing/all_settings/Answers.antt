@@ -1,0 +1,62 @@
+use Rattle.std.proofs.Common.{ℕ, ◌+◌, ◌<◌, ◌≤◌, List, Bor, ap, arith}
+use Rattle.flash_map.specs.declared.area.Area.{Area}
+use Rattle.flash_map.specs.On.{on}
+use Rattle.item_laws.specs.Items.{Items}
+use Rattle.backend_api.proofs.ListedPairs.{listed-settings}
+use Rattle.named_items.specs.Numbering.{Numbering}
+use Rattle.named_items.specs.Pairs.{settings_in}
+use Rattle.named_items.proofs.LookupSteps.{at-known}
+use Rattle.named_items.proofs.ListingSteps.{answer, answer-more, listed-none, listed-more, listed-all}
+use Rattle.named_items.proofs.listing.all_settings.Goals as goal
+
+pub loop-place-init : goal.loop-place-init
+loop-place-init g c =
+    let area : Area = g.S.ItemStore.mounted_on c.args.store.now in
+    let n : Numbering = g.N.IdLayout.numbering area in
+    let items : Items = on g.S.ItemStore.contents (g.F.Flash.device c.args.flash.now) area in
+    let below : n.count_id < n.first = (g.met.N.IdLayout.is_numbering area).below in
+    let first : n.first ≤ c.all_candidates-after.result.least = (c.all_candidates-after.ensures.ids area).from in
+    let least : c.all_candidates-after.result.least < g.N.IdLayout.top = (c.all_candidates-after.ensures.ids area).least in
+    let some : 0 < c.all_candidates-after.result.least = omega arith in
+    record {
+      listed = listed-none n items c.all_candidates-after.result (c.all_candidates-after.ensures.candidates area) some (answer c.new-found.result.entries)
+          (λ q. ap (λ (pairs : List (List ℕ × Bor (List ℕ))). answer pairs q) c.new-found.ensures.empty);
+      sorted = c.new-found.ensures.ordered;
+      from = omega arith;
+      known = omega arith;
+    }
+
+pub next_setting-requires-clause-from : goal.next_setting-requires-clause-from
+next_setting-requires-clause-from g c = c.loop-place.invariant.from
+
+pub loop-place-smaller : goal.loop-place-smaller
+loop-place-smaller g c =
+    let behind : c.loop-place.after < c.in-Some.place = c.in-Some.ensures.0 in
+    let known : c.loop-place.after < g.N.IdLayout.top = c.loop-place.invariant.known in
+    omega arith
+
+pub loop-place-preserved : goal.loop-place-preserved
+loop-place-preserved g c =
+    let area : Area = g.S.ItemStore.mounted_on c.args.store.now in
+    let n : Numbering = g.N.IdLayout.numbering area in
+    let items : Items = on g.S.ItemStore.contents (g.F.Flash.device c.args.flash.now) area in
+    let behind : c.loop-place.after < c.in-Some.place = c.in-Some.ensures.0 in
+    let from : n.first ≤ c.loop-place.after + 1 = c.loop-place.invariant.from in
+    let known : c.in-Some.place + n.step < g.N.IdLayout.top = at-known n items c.in-Some.name c.in-Some.place c.in-Some.ensures.1.at g.N.IdLayout.top (g.met.N.IdLayout.within area) in
+    record {
+      listed = listed-more n items (answer c.loop-place.found.entries) (answer c.insert.new.self.entries) c.loop-place.after c.in-Some.place c.in-Some.name c.in-Some.value.now
+          c.in-Some.ensures.1 behind c.in-Some.ensures.2
+          (answer-more c.loop-place.found.entries c.insert.new.self.entries c.in-Some.name c.in-Some.value c.in_ok-insert.ensures.updates.0)
+          c.loop-place.invariant.listed;
+      sorted = c.in_ok-insert.ensures.ordered;
+      from = omega arith;
+      known = omega arith;
+    }
+
+pub returns : goal.returns
+returns g c =
+    let area : Area = g.S.ItemStore.mounted_on c.args.store.now in
+    let n : Numbering = g.N.IdLayout.numbering area in
+    let items : Items = on g.S.ItemStore.contents (g.F.Flash.device c.args.flash.now) area in
+    listed-settings (λ (bytes : Bor (List ℕ)). bytes.now) c.loop-place.found.entries c.loop-place.invariant.sorted (settings_in n items)
+    (listed-all n items (g.met.N.IdLayout.is_numbering area) c.requires.clean (answer c.loop-place.found.entries) c.loop-place.after c.in_default.ensures c.loop-place.invariant.listed)

@@ -1,5 +1,5 @@
--- Answers have texts: the label of the area named is one, and names rise.
-use Rattle.std.proofs.Common.{◌≡◌, ℕ, ◌≤◌, true, List, [], ◌∷◌, sym, subst, arith}
+-- Answers have texts: the label of the area that is read is one, and names rise.
+use Rattle.std.proofs.Common.{◌≡◌, ℕ, ◌≤◌, Bool, true, cond, List, [], ◌∷◌, sym, ap, subst, ◌∙◌, arith}
 use Rattle.std.specs.Prelude.{All}
 use Rattle.std.proofs.lemmas.List.Elements.{All-nil, All-cons}
 use Rattle.flash_map.specs.declared.area.Area.{Area}
@@ -28,7 +28,7 @@ use Rattle.mirror_session.specs.Step.{Step}
 named_label : (r : Rules) (line : Line) (label : List ℕ) (pairs : List Pair) (old new : State) → IsLabel (r.label old.named) → Step r line (Plain (Named label pairs)) old new
     → CanReportSettings (Named label pairs)
 named_label r Names label pairs old new is step =
-    (subst IsLabel (sym step.1.0) is, subst Rise (sym step.1.1) (names_rise old.settings))
+    (subst IsLabel (sym (step.1.0 ∙ ap (λ (b : Bool). r.label (cond b (r.beside old.named) old.named)) step.1.2)) is, subst Rise (sym step.1.1) (names_rise old.settings))
 named_label r (Set name value) label pairs old new is step = absurd step.1
 named_label r (Get name) label pairs old new is step = absurd step.1
 named_label r (Del name) label pairs old new is step = absurd step.1

@@ -9,6 +9,7 @@ use Rattle.mirror_session.specs.Bench.{Meanings, meanings, moment}
 use Rattle.mirror_session.specs.LineDone.{LineDone}
 use Rattle.mirror_session.specs.Running.{BeginsLine, LineStops, takes_memory}
 use Rattle.mirror_session.specs.Step.{needs_power}
+use Rattle.mirror_session.proofs.ReadyLemmas.{ready_still}
 use Rattle.mirror_session.proofs.carrying.MirrorSession.carry_out.Goals as goal
 
 -- what is none of the four lines needs power
@@ -91,3 +92,15 @@ returns-in-Mount-clause-stops g c =
     let K = g.K.Backend in
     let m = meanings K.damage K.contents K.rests K.room g.K.Priced.prices in
     subst (λ (line : Line). IfErr c.mount.result (λ fault. LineStops m c.args.map.now line (g.B.Flash.device c.args.bench.now) (g.B.Flash.device c.mount.new.bench) fault)) (sym c.in-Mount.is) c.mount.ensures.stops
+
+pub returns-in-Cut-clause-ready : goal.returns-in-Cut-clause-ready
+returns-in-Cut-clause-ready g c =
+    let K = g.K.Backend in
+    let m = meanings K.damage K.contents K.rests K.room g.K.Priced.prices in
+    ready_still K.mounted_on K.stands m c.args.map.now (g.B.Flash.device c.args.bench.now) (g.B.Flash.device c.plan_loss.new.bench) c.args.self.now.mirror c.plan_loss.ensures.same c.requires.ready
+
+pub returns-in-Uncut-clause-ready : goal.returns-in-Uncut-clause-ready
+returns-in-Uncut-clause-ready g c =
+    let K = g.K.Backend in
+    let m = meanings K.damage K.contents K.rests K.room g.K.Priced.prices in
+    ready_still K.mounted_on K.stands m c.args.map.now (g.B.Flash.device c.args.bench.now) (g.B.Flash.device c.drop_plan.new.bench) c.args.self.now.mirror c.drop_plan.ensures.same c.requires.ready

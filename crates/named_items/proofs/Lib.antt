@@ -5,6 +5,7 @@ pub mod FormatSteps
 pub mod CandidateLemmas
 mod ItemSteps
 pub mod LawfulLemmas
+pub mod LeavingSteps
 pub mod LookupSteps
 mod MostUnits
 pub mod NameLemmas

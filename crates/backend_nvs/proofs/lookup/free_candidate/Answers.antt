@@ -11,10 +11,11 @@ returns-then-is_free g c = λ name.
     let area = g.S.ItemStore.mounted_on c.args.store.now in
     let items = on g.S.ItemStore.contents (g.F.Flash.device c.args.flash.now) area in
     let place : ℕ = c.loop-place.place in
-    let counted : c.read_count-count.result ≡ count_in (numbering_of area) items = c.read_count-count.ensures.count in
-    (record { inside = record { from = omega arith; to = omega arith }; candidate = refl },
-    subst (λ (b : Bool). MatchBool b (IsFree items place (place + 0x4000)) (¬ IsFree items place (place + 0x4000))) c.if-is_free.true c.is_free.ensures,
-    λ other may below. c.loop-place.invariant.none other may.inside.from below)
+    let counted : c.read_count-count.result ≡ count_in (numbering_of area) items = c.read_count-count.ensures.count in (
+      record { inside = record { from = omega arith; to = omega arith }; candidate = refl },
+      subst (λ (b : Bool). MatchBool b (IsFree items place (place + 0x4000)) (¬ IsFree items place (place + 0x4000))) c.if-is_free.true c.is_free.ensures,
+      λ other may below. c.loop-place.invariant.none other may.inside.from below,
+    )
 
 pub returns : goal.returns
 returns g c = λ name other may.

@@ -29,7 +29,8 @@ use std::sync::ledger::Ledger;
 
 /// How a layout of ids puts a new name.
 pub trait NewNames: IdLayout {
-    /// Gives a name that has no value its first one.
+    /// Gives a name that has no value its first one. The name takes the least free id of its own. If
+    /// none is free, the count rises by one first, where there is a count.
     ///
     /// # Errors
     /// `TooManyNames` exactly if the name would be one too many; nothing was programmed then.

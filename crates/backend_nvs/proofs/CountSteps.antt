@@ -9,8 +9,9 @@ use Rattle.backend_api.specs.Map.{Map, IsStored}
 use Rattle.backend_api.specs.Ends.{FindsNoSpace}
 use Rattle.named_items.specs.StoreEnds as stored
 use Rattle.named_items.specs.PairRoom.{pair_room}
+use Rattle.named_items.specs.Candidates.{IsFreeCandidate}
 use Rattle.named_items.specs.Ends.{IsFree}
-use Rattle.backend_nvs.specs.IdLayout.{nvs_numbering, nvs-numbering, nvs-counts, count_of, count-few, is_count, too_many, IsFreeCandidate}
+use Rattle.backend_nvs.specs.IdLayout.{nvs_numbering, nvs-numbering, nvs-counts, count_of, count-few, is_count, too_many}
 use Rattle.named_items.specs.Cost.{item_cost, pair_cost, settings_cost}
 use Rattle.named_items.specs.Numbering.{Numbering, IsNumbering}
 use Rattle.named_items.specs.Pairs.{count_in, pair_at, settings_in, IsInside, IsIdOfName, HasNoOrphans}
@@ -64,8 +65,8 @@ module _ (limit : ℕ) (items : Items) (clean : HasNoOrphans (nvs_numbering limi
       omega arith
 
   -- or all names are in use
-  pub all-used : IsFreeCandidate (nvs_numbering limit) items None → count_in (nvs_numbering limit) items ≡ 511 → len (settings_in (nvs_numbering limit) items) ≡ 511
-  all-used none full =
+  pub all-used : (name : List ℕ) → IsFreeCandidate (nvs_numbering limit) items name None → count_in (nvs_numbering limit) items ≡ 511 → len (settings_in (nvs_numbering limit) items) ≡ 511
+  all-used name none full =
       clean-len n laws items clean
       ∙ on-full (pair_at n items) 0x8001 (count_in n items) (λ k from to. used k (record { from = from; to = to }))
       ∙ full
@@ -75,7 +76,7 @@ module _ (limit : ℕ) (items : Items) (clean : HasNoOrphans (nvs_numbering limi
         where
           by : (o : Option (List ℕ)) → get items k ≡ o → ¬ (pair_at n items k ≡ None)
           by (Some bytes) is = used-name n laws items clean k inside (λ gone. none_some bytes (sym gone ∙ is))
-          by None is = used-value n laws items clean k inside (λ gone. none k inside (is, gone))
+          by None is = used-value n laws items clean k inside (λ gone. none k (record { inside = inside; candidate = refl }) (is, gone))
 
   pub names-over : (name : List ℕ) → IsIdOfName (nvs_numbering limit) items name None → len (settings_in (nvs_numbering limit) items) ≡ 511 → too_many (settings_in (nvs_numbering limit) items) name ≡ true
   names-over name absent is =

@@ -13,8 +13,7 @@ use Rattle.backend_api.specs.Map.{Map}
 use Rattle.backend_api.specs.Room.{Room}
 use Rattle.named_items.specs.Numbering.{Numbering, IsNumbering}
 use Rattle.named_items.specs.PairRoom.{IsCountCost}
-use Rattle.named_items.specs.Pairs.{settings_in, IsInside}
-use Rattle.named_items.specs.Ends.{IsFree}
+use Rattle.named_items.specs.Pairs.{settings_in}
 use Rattle.named_items.specs.Putting.{room_in}
 use Rattle.backend_nvs.specs.declared.lookup.TheConstants.{COUNT, FIRST, STEP, LIMIT}
 
@@ -48,13 +47,6 @@ numbering_of area = nvs_numbering (value_limit area)
 -- the settings that they read as
 abbrev pub settings_of : Area → Items → Map
 settings_of area items = settings_in (numbering_of area) items
-
--- the least free place of those that the count allows, if there is one
-abbrev pub IsFreeCandidate : Numbering → Items → Option ℕ → Type 0
-IsFreeCandidate n items None = (place : ℕ) → IsInside n items place → ¬ IsFree items place (place + n.step)
-IsFreeCandidate n items (Some free) =
-    IsInside n items free × IsFree items free (free + n.step)
-    × ((place : ℕ) → n.first ≤ place → place < free → ¬ IsFree items place (place + n.step))
 
 -- ---- room
 

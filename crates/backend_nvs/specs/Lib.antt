@@ -1,2 +1,3 @@
 pub mod IdLayout
+pub mod Members
 pub mod Standing

@@ -1,11 +1,12 @@
 // Look-ups of names.
-ghost use Rattle.std.specs.Prelude.{◌≡◌, ◌+◌, ◌<◌, ◌≤◌, false};
+ghost use Rattle.std.specs.Prelude.{◌≡◌, ◌+◌, ◌<◌, ◌≤◌, ℕ, List, false};
 ghost use Rattle.std.specs.Bool.{MatchBool};
 ghost use Rattle.flash_map.specs.Lawful.{IsLawfulFor};
 ghost use Rattle.flash_map.specs.On.{on, HoldsOn, StandsOn};
+ghost use Rattle.named_items.specs.Candidates.{IsFreeCandidate};
 ghost use Rattle.named_items.specs.Pairs.{count_in, pair_at, HasName, IsIdOfName};
 ghost use Rattle.named_items.specs.Looking.{HasIds};
-ghost use Rattle.backend_nvs.specs.IdLayout.{number_of, numbering_of, IsFreeCandidate};
+ghost use Rattle.backend_nvs.specs.IdLayout.{number_of, numbering_of};
 
 use flash_sim::{Flash, Steps};
 use named_items::{ItemStore, is_at, is_free};
@@ -123,7 +124,7 @@ pub(crate) fn place_of<S: ItemStore, F: Flash, L: Ledger>(
     None
 }
 
-// The least place that the count allows with neither a name nor a value.
+// The least place that the count allows with neither a name nor a value. Any name may stand there.
 pub(crate) fn free_candidate<S: ItemStore, F: Flash, L: Ledger>(
     store: &S,
     flash: &F,
@@ -136,7 +137,8 @@ pub(crate) fn free_candidate<S: ItemStore, F: Flash, L: Ledger>(
     requires describes { HoldsOn (S.describes index.now) (F.device flash.now)
         (S.mounted_on store.now) }
     ensures { let area = S.mounted_on store.now in
-        IsFreeCandidate (numbering_of area) (on S.contents (F.device flash.now) area) result }
+        let items = on S.contents (F.device flash.now) area in
+        (name : List ℕ) → IsFreeCandidate (numbering_of area) items name result }
 {
     let count = read_count(store, flash, index, steps);
     for place in FIRST..FIRST + count {

@@ -7,6 +7,8 @@ ghost use Rattle.flash_map.specs.Spending.{SpendsAtMost};
 ghost use Rattle.flash_map.specs.Touches.{Touches};
 ghost use Rattle.backend_api.specs.Ends.{set_lost};
 ghost use Rattle.backend_api.specs.Room.{command_units};
+ghost use Rattle.named_items.specs.Candidates.{IsFreeCandidate};
+ghost use Rattle.named_items.specs.Leaving.{SetLeavesItems};
 ghost use Rattle.named_items.specs.Pairs.{count_in, HasNoOrphans, IsIdOfName};
 ghost use Rattle.named_items.specs.Looking.{HasIds};
 ghost use Rattle.named_items.specs.Mounted.{IsMounted, StaysMounted};
@@ -61,7 +63,7 @@ fn is_full(count: u32) -> bool
     count == LIMIT
 }
 
-// Raises the count by one, and puts the new name at the id that this admits.
+// Raises the count by one, and puts the new name at the id that this admits. No lower id is free.
 fn add_name<S: ItemStore, F: Flash, L: Ledger>(
     store: &mut S,
     flash: &mut F,
@@ -76,6 +78,8 @@ fn add_name<S: ItemStore, F: Flash, L: Ledger>(
     requires value { IsStorable (value_limit (S.mounted_on store.old)) value.now }
     requires absent { let area = S.mounted_on store.old in
         IsIdOfName (numbering_of area) (on S.contents (F.device flash.old) area) name.now None }
+    requires full { let area = S.mounted_on store.old in
+        IsFreeCandidate (numbering_of area) (on S.contents (F.device flash.old) area) name.now None }
     requires counted { let area = S.mounted_on store.old in
         count ≡ count_in (numbering_of area) (on S.contents (F.device flash.old) area) }
     requires few { count < LIMIT }
@@ -87,6 +91,9 @@ fn add_name<S: ItemStore, F: Flash, L: Ledger>(
     ensures ends { let d = F.device flash.old in let e = F.device flash.new in
         SetLeavesOn numbering_of (nvs_room S.price S.cap) S.contents d e (S.mounted_on store.old)
         name.now value.now result }
+    ensures items { let d = F.device flash.old in let area = S.mounted_on store.old in
+        SetLeavesItems (numbering_of area) (on S.contents d area)
+        (on S.contents (F.device flash.new) area) name.now value.now result }
     ensures at_most { let d = F.device flash.old in
         SpendsAtMost d (F.device flash.new)
         (command_units (geometry_of d (S.mounted_on store.old))) }

@@ -1,3 +1,4 @@
 pub mod Hash
 pub mod IdLayout
+pub mod Members
 pub mod Standing

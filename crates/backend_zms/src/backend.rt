@@ -1,7 +1,20 @@
 // The backend over ZMS.
-ghost use Rattle.std.specs.Prelude.{◌≡◌, false, refl};
-ghost use Rattle.named_items.specs.ZmsStore.{zms_damage, zms_price, zms_cap};
-ghost use Rattle.backend_zms.specs.IdLayout.{zms_room};
+ghost use Rattle.std.specs.Prelude.{◌≡◌, ◌<◌, ◌≤◌, ◌∷◌, [], length, true, false, is_err, None, refl};
+ghost use Rattle.flash_map.specs.Area.{geometry_of, value_limit};
+ghost use Rattle.flash_map.specs.Lawful.{IsLawfulFor};
+ghost use Rattle.flash_map.specs.On.{on, StandsOn};
+ghost use Rattle.flash_map.specs.Spending.{SpendsAtMost};
+ghost use Rattle.flash_map.specs.Touches.{Touches};
+ghost use Rattle.flash_map.specs.declared.area.Role.TheVariants.{Fcb as FcbRole};
+ghost use Rattle.backend_api.specs.Commands.{StopsOn};
+ghost use Rattle.backend_api.specs.Commands.Command.{Put, Del};
+ghost use Rattle.backend_api.specs.Ends.{set_lost, SetEndsOn, DeleteEndsOn};
+ghost use Rattle.backend_api.specs.Room.{command_units};
+ghost use Rattle.backend_api.specs.Written.{StaysWritten};
+ghost use Rattle.named_items.specs.Leaving.{SetLeavesItems, DeleteLeavesItems};
+ghost use Rattle.named_items.specs.ZmsStore.{zms_damage, zms_items};
+ghost use Rattle.backend_zms.specs.IdLayout.{numbering_of};
+ghost use Rattle.backend_zms.specs.Members.{room_by, chance_of, TearsBy, area_of, is_running};
 ghost use Rattle.backend_zms.specs.Standing.{IsServed, settings_of, Rests, Stands, stands-rest, reads_settings};
 
 use crate::numbering::ZmsIdLayout;
@@ -29,21 +42,21 @@ impl Backend for ZmsBackend {
 
     ghost damage = { λ area geometry sectors. zms_damage area geometry sectors };
 
-    ghost contents = { λ area geometry sectors. settings_of area geometry sectors };
+    ghost contents = { settings_of };
 
-    ghost room = { λ area geometry. zms_room zms_price zms_cap geometry };
+    ghost room = { room_by };
 
     ghost rests = { λ area geometry sectors. Rests area geometry sectors };
 
-    ghost chance = { λ area geometry sectors loss. false };
+    ghost chance = { chance_of };
 
-    ghost tears = { λ area geometry command done before after. ⊥ };
+    ghost tears = { TearsBy };
 
-    ghost mounted_on = { λ backend. backend.store.store.area };
+    ghost mounted_on = { area_of };
 
-    ghost stands = { λ backend geometry sectors. Stands backend geometry sectors };
+    ghost stands = { Stands };
 
-    ghost runs = { λ backend. backend.store.store.up };
+    ghost runs = { is_running };
 
     ghost stands_up = { λ backend geometry sectors stands. stands.store.up };
 
@@ -76,22 +89,71 @@ impl Backend for ZmsBackend {
         standing_value::<ZmsIdLayout, Zms, F, L>(&self.store, flash, name, steps)
     }
 
+    // As the trait says, and which items it leaves.
     fn set<F: Flash, L: Ledger>(
         &mut self,
         flash: &mut F,
         name: &Name,
         value: &[u8],
         steps: &mut Steps<L>,
-    ) -> Result<(), SetFault> {
+    ) -> Result<(), SetFault>
+        requires lawful { IsLawfulFor (F.device flash.old).banks (area_of self.old) }
+        requires stands { StandsOn area_of Stands (F.device flash.old) self.old }
+        requires some { 0 < length value.now }
+        requires short { length value.now ≤ value_limit (area_of self.old) }
+
+        ensures touches { Touches (area_of self.old ∷ []) (F.device flash.old) (F.device flash.new)
+            (set_lost result) }
+        ensures area { area_of self.new ≡ area_of self.old }
+        ensures ends { let d = F.device flash.old in let e = F.device flash.new in
+            SetEndsOn room_by settings_of d e (area_of self.old) name.now value.now result }
+        ensures items { let d = F.device flash.old in let area = area_of self.old in
+            SetLeavesItems (numbering_of area) (on zms_items d area)
+            (on zms_items (F.device flash.new) area) name.now value.now result }
+        ensures at_most { let d = F.device flash.old in
+            SpendsAtMost d (F.device flash.new) (command_units (geometry_of d (area_of self.old))) }
+        ensures sound { on zms_damage (F.device flash.new) (area_of self.old) ≡ None }
+        ensures cut { let d = F.device flash.old in let e = F.device flash.new in
+            d.is_on ≡ true → set_lost result ≡ true
+            → StopsOn chance_of TearsBy settings_of (Put name.now value.now) d e
+            (area_of self.old) }
+        ensures stands { set_lost result ≡ false
+            → StandsOn area_of Stands (F.device flash.new) self.new }
+        ensures down { set_lost result ≡ true → is_running self.new ≡ false }
+    {
         set_value::<ZmsIdLayout, Zms, F, L>(&mut self.store, flash, name, value, steps)
     }
 
+    // As the trait says, and which items it leaves.
     fn delete<F: Flash, L: Ledger>(
         &mut self,
         flash: &mut F,
         name: &Name,
         steps: &mut Steps<L>,
-    ) -> Result<(), PowerLost> {
+    ) -> Result<(), PowerLost>
+        requires lawful { IsLawfulFor (F.device flash.old).banks (area_of self.old) }
+        requires stands { StandsOn area_of Stands (F.device flash.old) self.old }
+
+        ensures touches { Touches (area_of self.old ∷ []) (F.device flash.old) (F.device flash.new)
+            (is_err result) }
+        ensures area { area_of self.new ≡ area_of self.old }
+        ensures ends { let d = F.device flash.old in let e = F.device flash.new in
+            DeleteEndsOn settings_of d e (area_of self.old) name.now result }
+        ensures items { let d = F.device flash.old in let area = area_of self.old in
+            DeleteLeavesItems (numbering_of area) (on zms_items d area)
+            (on zms_items (F.device flash.new) area) name.now result }
+        ensures written { let d = F.device flash.old in let area = area_of self.old in
+            (area.role ≡ FcbRole → ⊥) → StaysWritten d (F.device flash.new) area }
+        ensures at_most { let d = F.device flash.old in
+            SpendsAtMost d (F.device flash.new) (command_units (geometry_of d (area_of self.old))) }
+        ensures sound { on zms_damage (F.device flash.new) (area_of self.old) ≡ None }
+        ensures cut { let d = F.device flash.old in let e = F.device flash.new in
+            d.is_on ≡ true → is_err result ≡ true
+            → StopsOn chance_of TearsBy settings_of (Del name.now) d e (area_of self.old) }
+        ensures stands { is_err result ≡ false
+            → StandsOn area_of Stands (F.device flash.new) self.new }
+        ensures down { is_err result ≡ true → is_running self.new ≡ false }
+    {
         delete_name::<ZmsIdLayout, Zms, F, L>(&mut self.store, flash, name, steps)
     }
 

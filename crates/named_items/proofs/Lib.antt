@@ -6,6 +6,7 @@ pub mod CandidateLemmas
 mod ItemSteps
 pub mod LawfulLemmas
 mod ListingSteps
+pub mod LeavingSteps
 pub mod LookupSteps
 mod MostUnits
 pub mod NameLemmas

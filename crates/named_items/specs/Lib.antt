@@ -3,6 +3,7 @@ pub mod Cost
 pub mod Ends
 pub mod Few
 pub mod Candidates
+pub mod Leaving
 pub mod Limits
 pub mod Listing
 pub mod Looking

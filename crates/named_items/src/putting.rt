@@ -12,6 +12,7 @@ ghost use Rattle.backend_api.specs.Room.{command_units};
 ghost use Rattle.named_items.specs.StoreEnds as items;
 ghost use Rattle.named_items.specs.Pairs.{settings_in, AltersOnly, IsAt, IsIdOfName};
 ghost use Rattle.named_items.specs.Ends.{AltersTwo};
+ghost use Rattle.named_items.specs.Leaving.{pair_at_place, MakesPuts, SetLeavesItems};
 ghost use Rattle.named_items.specs.Looking.{HasIds};
 ghost use Rattle.named_items.specs.Mounted.{IsMounted, StaysMounted};
 ghost use Rattle.named_items.specs.Putting.{room_in, IsNewAt, IsStorable, SetLeavesOn};
@@ -28,7 +29,8 @@ use std::sync::ledger::Ledger;
 
 /// How a layout of ids puts a new name.
 pub trait NewNames: IdLayout {
-    /// Gives a name that has no value its first one.
+    /// Gives a name that has no value its first one. The name takes the least free id of its own. If
+    /// none is free, the count rises by one first, where there is a count.
     ///
     /// # Errors
     /// `TooManyNames` exactly if the name would be one too many; nothing was programmed then.
@@ -57,6 +59,9 @@ pub trait NewNames: IdLayout {
         ensures ends { let d = F.device flash.old in let e = F.device flash.new in
             SetLeavesOn Self.numbering (room_in Self.counted Self.too_many S.price S.cap) S.contents
             d e (S.mounted_on store.old) name.now value.now result }
+        ensures items { let d = F.device flash.old in let area = S.mounted_on store.old in
+            SetLeavesItems (Self.numbering area) (on S.contents d area)
+            (on S.contents (F.device flash.new) area) name.now value.now result }
         ensures at_most { let d = F.device flash.old in
             SpendsAtMost d (F.device flash.new)
             (command_units (geometry_of d (S.mounted_on store.old))) };
@@ -109,6 +114,9 @@ pub fn change_value<N: IdLayout, S: ItemStore, F: Flash, L: Ledger>(
     ensures ends { let d = F.device flash.old in let e = F.device flash.new in
         SetLeavesOn N.numbering (room_in N.counted N.too_many S.price S.cap) S.contents d e
         (S.mounted_on store.old) name.now value.now result }
+    ensures items { let d = F.device flash.old in let area = S.mounted_on store.old in
+        SetLeavesItems (N.numbering area) (on S.contents d area)
+        (on S.contents (F.device flash.new) area) name.now value.now result }
     ensures others { let area = S.mounted_on store.old in
         AltersOnly (on S.contents (F.device flash.old) area)
         (on S.contents (F.device flash.new) area) (first + (N.numbering area).step) }
@@ -168,6 +176,9 @@ pub fn put_new<N: IdLayout, S: ItemStore, F: Flash, L: Ledger>(
     ensures ends { let d = F.device flash.old in let e = F.device flash.new in
         SetLeavesOn N.numbering (room_in N.counted N.too_many S.price S.cap) S.contents d e
         (S.mounted_on store.old) name.now value.now result }
+    ensures items { let d = F.device flash.old in let area = S.mounted_on store.old in
+        MakesPuts (on S.contents d area) (on S.contents (F.device flash.new) area)
+        (pair_at_place (N.numbering area) first name.now value.now) result }
     ensures others { let area = S.mounted_on store.old in
         AltersTwo (on S.contents (F.device flash.old) area)
         (on S.contents (F.device flash.new) area) first (first + (N.numbering area).step) }
@@ -210,6 +221,9 @@ pub fn set_value<N: NewNames, S: ItemStore, F: Flash, L: Ledger>(
     ensures ends { let d = F.device flash.old in let e = F.device flash.new in
         SetLeavesOn N.numbering (room_in N.counted N.too_many S.price S.cap) S.contents d e
         (S.mounted_on store.old) name.now value.now result }
+    ensures items { let d = F.device flash.old in let area = S.mounted_on store.old in
+        SetLeavesItems (N.numbering area) (on S.contents d area)
+        (on S.contents (F.device flash.new) area) name.now value.now result }
     ensures at_most { let d = F.device flash.old in
         SpendsAtMost d (F.device flash.new)
         (command_units (geometry_of d (S.mounted_on store.old))) }

@@ -11,6 +11,7 @@ ghost use Rattle.backend_api.specs.Room.{command_units};
 ghost use Rattle.backend_api.specs.Written.{StaysWritten};
 ghost use Rattle.named_items.specs.StoreEnds as items;
 ghost use Rattle.named_items.specs.Ends.{DeletesPair, PutsPair};
+ghost use Rattle.named_items.specs.Leaving.{DeleteLeavesItems};
 ghost use Rattle.named_items.specs.Looking.{HasIds};
 ghost use Rattle.named_items.specs.Mounted.{IsMounted, StaysMounted};
 ghost use Rattle.named_items.specs.Putting.{AltersOnlySetting, DeleteLeavesOn};
@@ -81,6 +82,9 @@ pub fn delete_name<N: IdLayout, S: ItemStore, F: Flash, L: Ledger>(
         store.old store.new (is_err result) }
     ensures ends { DeleteLeavesOn N.numbering S.contents (F.device flash.old) (F.device flash.new)
         (S.mounted_on store.old) name.now result }
+    ensures items { let d = F.device flash.old in let area = S.mounted_on store.old in
+        DeleteLeavesItems (N.numbering area) (on S.contents d area)
+        (on S.contents (F.device flash.new) area) name.now result }
     ensures others { let area = S.mounted_on store.old in
         AltersOnlySetting (N.numbering area) (on S.contents (F.device flash.old) area)
         (on S.contents (F.device flash.new) area) name.now }

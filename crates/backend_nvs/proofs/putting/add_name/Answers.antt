@@ -1,4 +1,5 @@
-use Rattle.std.proofs.Common.{◌≡◌, ◌+◌, ◌<◌, ◌≤◌, ◌∷◌, [], ℕ, List, length, false, Some, None, Err, refl, sym, ap, subst, ◌∙◌, inl, inr, arith}
+use Rattle.std.proofs.Common.{◌≡◌, ◌+◌, ◌<◌, ◌≤◌, ◌∷◌, [], ℕ, List, length, true, false, Some, None, Err, refl, sym, ap, subst, ◌∙◌, inl, inr, arith}
+use Rattle.std.specs.Prelude.{◌==◌}
 use Rattle.std.specs.FinMap.{get, insert}
 use Rattle.std.proofs.lemmas.Bool.{false≢true}
 use Rattle.flash_sim.specs.Device.{Device}
@@ -18,9 +19,11 @@ use Rattle.flash_map.specs.Touches.{Touches}
 use Rattle.named_items.specs.Ends.{IsFree}
 use Rattle.named_items.specs.Putting.{IsPut, IsStorable}
 use Rattle.named_items.proofs.ChangeSteps.{moved-clean, moved-lawful, moved-cost}
+use Rattle.named_items.specs.Leaving.{pair_at_place, MakesPuts, SetLeavesItems}
+use Rattle.named_items.proofs.LeavingSteps.{count-cut, raised-leave}
 use Rattle.named_items.proofs.NewSteps.{not-stored, set-after}
 use Rattle.named_items.proofs.SpendSteps.{spends-some, one-call, spends-both, calls-within, geometry-stays}
-use Rattle.backend_nvs.specs.IdLayout.{count_of, numbering_of, settings_of, nvs_counted, nvs_room, nvs-counts, nvs-numbering, too_many}
+use Rattle.backend_nvs.specs.IdLayout.{count_of, is_count, numbering_of, settings_of, nvs_counted, nvs_room, nvs-counts, nvs-numbering, too_many}
 use Rattle.backend_nvs.proofs.CountSteps.{few-free, count-leaves, count-refused, raised-same, raised-kept, raised-inside, raised-free}
 use Rattle.flash_map.proofs.Touches.{then}
 use Rattle.named_items.specs.Limits.{limit-least}
@@ -215,6 +218,48 @@ returns-in-Err-NoSpace-clause-ends g c =
       cut = λ lost. absurd {A = IsPut (settings_of own before) (settings_of own mid) c.args.name.now c.args.value.now} (false≢true (sym still ∙ lost));
       clean = λ kept. subst (HasNoOrphans (numbering_of own)) (sym ended.items) c.requires.here.clean;
     }
+
+-- the count is raised, and the pair is put behind the last one
+pub returns-in-Ok-clause-items : goal.returns-in-Ok-clause-items
+returns-in-Ok-clause-items g c =
+    let d : Device = g.F.Flash.device c.args.flash.now in
+    let b : Device = g.F.Flash.device c.write.new.flash in
+    let own : Area = g.S.ItemStore.mounted_on c.args.store.now in
+    let e : Device = g.F.Flash.device c.put_new.new.flash in
+    let before : Items = on g.S.ItemStore.contents d own in
+    let mid : Items = on g.S.ItemStore.contents b own in
+    let bytes : List ℕ = c.bytes_of_count-bytes.result in
+    let counts : is_count (Some bytes) ≡ true = ap (λ (x : ℕ). x == 2) c.bytes_of_count-bytes.ensures.two in
+    let more : count_of (Some bytes) ≡ count_in (numbering_of own) before + 1 = c.bytes_of_count-bytes.ensures.counts ∙ ap (λ (x : ℕ). x + 1) c.requires.counted in
+    raised-leave (numbering_of own) before c.args.name.now c.args.value.now c.requires.absent c.requires.full bytes counts more mid (on g.S.ItemStore.contents e own) (0x8001 + c.args.count) c.put_new.result c.in-Ok.ensures.ends.items
+    (ap (λ (x : ℕ). 0x8001 + x) c.requires.counted)
+    (subst (λ (x : Area). MakesPuts (on g.S.ItemStore.contents b x) (on g.S.ItemStore.contents e x) (pair_at_place (numbering_of x) (0x8001 + c.args.count) c.args.name.now c.args.value.now) c.put_new.result) c.in-Ok.ensures.area c.put_new.ensures.items)
+
+pub returns-in-Err-PowerLost-clause-items : goal.returns-in-Err-PowerLost-clause-items
+returns-in-Err-PowerLost-clause-items g c =
+    let d : Device = g.F.Flash.device c.args.flash.now in
+    let b : Device = g.F.Flash.device c.write.new.flash in
+    let own : Area = g.S.ItemStore.mounted_on c.args.store.now in
+    let before : Items = on g.S.ItemStore.contents d own in
+    let mid : Items = on g.S.ItemStore.contents b own in
+    let bytes : List ℕ = c.bytes_of_count-bytes.result in
+    let counts : is_count (Some bytes) ≡ true = ap (λ (x : ℕ). x == 2) c.bytes_of_count-bytes.ensures.two in
+    let more : count_of (Some bytes) ≡ count_in (numbering_of own) before + 1 = c.bytes_of_count-bytes.ensures.counts ∙ ap (λ (x : ℕ). x + 1) c.requires.counted in
+    let k : Geometry = geometry_of d own in
+    let ended = subst (λ (w : WriteFault). ends.WriteEnds {T = Unit {0}} (g.S.ItemStore.price k) (g.S.ItemStore.cap k) own.sectors d b before mid 0x8000 bytes (Err w)) c.in-Err-PowerLost.field-0-is c.in-Err-PowerLost.ensures.ends in
+    count-cut (numbering_of own) before c.args.name.now c.args.value.now c.requires.absent c.requires.full bytes counts more (Unit {0}) mid ended.items
+
+pub returns-in-Err-NoSpace-clause-items : goal.returns-in-Err-NoSpace-clause-items
+returns-in-Err-NoSpace-clause-items g c =
+    let d : Device = g.F.Flash.device c.args.flash.now in
+    let b : Device = g.F.Flash.device c.write.new.flash in
+    let own : Area = g.S.ItemStore.mounted_on c.args.store.now in
+    let before : Items = on g.S.ItemStore.contents d own in
+    let mid : Items = on g.S.ItemStore.contents b own in
+    let bytes : List ℕ = c.bytes_of_count-bytes.result in
+    let k : Geometry = geometry_of d own in
+    let ended = subst (λ (w : WriteFault). ends.WriteEnds {T = Unit {0}} (g.S.ItemStore.price k) (g.S.ItemStore.cap k) own.sectors d b before mid 0x8000 bytes (Err w)) c.in-Err-NoSpace.field-0-is c.in-Err-NoSpace.ensures.ends in
+    subst (λ (w : SetFault). SetLeavesItems {T = Unit {0}} (numbering_of own) before mid c.args.name.now c.args.value.now (Err w)) (sym c.refused.ensures) (inl ended.items)
 
 -- a count fits a sector
 pub unreachable-requires : goal.unreachable-requires

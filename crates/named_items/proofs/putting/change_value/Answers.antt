@@ -1,20 +1,22 @@
-use Rattle.std.proofs.Common.{◌≡◌, ℕ, ◌+◌, ◌<◌, ◌≤◌, ◌∷◌, [], List, length, true, false, Ok, Err, sym, ap, subst, ◌∙◌, refl, arith, Bool}
+use Rattle.std.proofs.Common.{◌≡◌, ℕ, ◌+◌, ◌<◌, ◌≤◌, ◌∷◌, [], length, true, false, Err, sym, ap, subst, ◌∙◌, refl, inl, arith, Bool}
 use Rattle.std.proofs.lemmas.Bool.{false≢true}
 use Rattle.flash_sim.specs.Device.{Device}
 use Rattle.flash_map.specs.declared.area.Area.{Area}
 use Rattle.flash_map.specs.declared.area.Geometry.{Geometry}
 use Rattle.flash_map.specs.declared.faults.WriteFault.{WriteFault}
-use Rattle.flash_map.specs.Area.{geometry_of, sectors_of}
+use Rattle.flash_map.specs.Area.{geometry_of}
 use Rattle.flash_map.specs.Faults.{write_lost}
 use Rattle.item_laws.specs.Items.{Items}
 use Rattle.backend_api.specs.declared.backend.SetFault.{SetFault}
 use Rattle.backend_api.specs.Ends.{SetEnds, set_lost}
 use Rattle.flash_map.specs.On.{on}
 use Rattle.named_items.specs.StoreEnds as ends
+use Rattle.named_items.specs.Leaving.{SetLeavesItems}
 use Rattle.named_items.specs.Numbering.{Numbering}
 use Rattle.named_items.specs.Pairs.{is_pair, settings_in, AltersOnly, HasNoOrphans}
 use Rattle.named_items.specs.Putting.{room_in, IsPut}
 use Rattle.named_items.proofs.ChangeSteps.{moved-clean, moved-lawful, moved-cost, moved-price, change-clean, change-done, change-refused, change-cut, change-few, stored-holds}
+use Rattle.named_items.proofs.LeavingSteps.{one-cut, changes}
 use Rattle.named_items.proofs.LookupSteps.{at-passes, at-known}
 use Rattle.named_items.proofs.OtherSteps.{write-alters}
 use Rattle.named_items.proofs.SpendSteps.{spends-some}
@@ -90,6 +92,16 @@ returns-in-Ok g c = record {
         cut = λ lost. absurd {A = IsPut (settings_in n before) (settings_in n after) c.args.name.now c.args.value.now} (false≢true lost);
         clean = λ kept. subst (HasNoOrphans n) (sym writes.items) (change-clean n (g.met.N.IdLayout.is_numbering own) g.N.IdLayout.counted g.N.IdLayout.too_many (g.met.N.IdLayout.count_cost own) g.met.N.IdLayout.stored_few before c.requires.here.clean c.args.name.now c.args.value.now c.args.first (c.args.first + n.step) c.requires.at pair refl);
       };
+  items = let d : Device = g.F.Flash.device c.args.flash.now in
+      let e : Device = g.F.Flash.device c.write.new.flash in
+      let own : Area = g.S.ItemStore.mounted_on c.args.store.now in
+      let n : Numbering = g.N.IdLayout.numbering own in
+      let k : Geometry = geometry_of d own in
+      let before : Items = on g.S.ItemStore.contents d own in
+      let after : Items = on g.S.ItemStore.contents e own in
+      let writes : ends.Writes (g.S.ItemStore.price k) (g.S.ItemStore.cap k) d e before after (c.args.first + n.step) c.args.value.now =
+      subst (λ (step : ℕ). ends.Writes (g.S.ItemStore.price k) (g.S.ItemStore.cap k) d e before after (c.args.first + step) c.args.value.now) (sym (c.step.ensures own)) c.in-Ok.ensures.ends in
+      ((c.args.first + n.step, c.args.value.now) ∷ [], changes n before c.args.name.now c.args.value.now c.args.first c.requires.at, writes.items);
   others = let d : Device = g.F.Flash.device c.args.flash.now in
       let e : Device = g.F.Flash.device c.write.new.flash in
       let own : Area = g.S.ItemStore.mounted_on c.args.store.now in
@@ -127,6 +139,17 @@ returns-in-Err-PowerLost g c = record {
         cut = λ lost. change-cut n (g.met.N.IdLayout.is_numbering own) g.N.IdLayout.counted g.N.IdLayout.too_many (g.met.N.IdLayout.count_cost own) g.met.N.IdLayout.stored_few before c.requires.here.clean c.args.name.now c.args.value.now c.args.first (c.args.first + n.step) c.requires.at pair refl (g.S.ItemStore.price k) (g.S.ItemStore.cap k) own.sectors d e after stops;
         clean = λ kept. absurd {A = HasNoOrphans n after} (false≢true (sym kept));
       };
+  items = let d : Device = g.F.Flash.device c.args.flash.now in
+      let e : Device = g.F.Flash.device c.write.new.flash in
+      let own : Area = g.S.ItemStore.mounted_on c.args.store.now in
+      let n : Numbering = g.N.IdLayout.numbering own in
+      let k : Geometry = geometry_of d own in
+      let before : Items = on g.S.ItemStore.contents d own in
+      let after : Items = on g.S.ItemStore.contents e own in
+      let stops : ends.StopsWriting (g.S.ItemStore.price k) (g.S.ItemStore.cap k) before after (c.args.first + n.step) c.args.value.now =
+      subst (λ (w : WriteFault). ends.WriteEnds {T = Unit {0}} (g.S.ItemStore.price k) (g.S.ItemStore.cap k) own.sectors d e before after (c.args.first + n.step) c.args.value.now (Err w)) c.in-Err-PowerLost.field-0-is
+      (subst (λ (step : ℕ). ends.WriteEnds {T = Unit {0}} (g.S.ItemStore.price k) (g.S.ItemStore.cap k) own.sectors d e before after (c.args.first + step) c.args.value.now (Err c.in-Err-PowerLost.field-0)) (sym (c.step.ensures own)) c.in-Err-PowerLost.ensures.ends) in
+      ((c.args.first + n.step, c.args.value.now) ∷ [], changes n before c.args.name.now c.args.value.now c.args.first c.requires.at, one-cut before after (c.args.first + n.step) c.args.value.now stops.items);
   others = let d : Device = g.F.Flash.device c.args.flash.now in
       let e : Device = g.F.Flash.device c.write.new.flash in
       let own : Area = g.S.ItemStore.mounted_on c.args.store.now in
@@ -171,6 +194,17 @@ returns-in-Err-NoSpace g c = record {
         cut = λ lost. absurd {A = IsPut (settings_in n before) (settings_in n after) c.args.name.now c.args.value.now} (false≢true (sym still ∙ lost));
         clean = λ kept. subst (HasNoOrphans n) (sym finds.items) c.requires.here.clean;
       };
+  items = let d : Device = g.F.Flash.device c.args.flash.now in
+      let e : Device = g.F.Flash.device c.write.new.flash in
+      let own : Area = g.S.ItemStore.mounted_on c.args.store.now in
+      let n : Numbering = g.N.IdLayout.numbering own in
+      let k : Geometry = geometry_of d own in
+      let before : Items = on g.S.ItemStore.contents d own in
+      let after : Items = on g.S.ItemStore.contents e own in
+      let finds : ends.FindsNoSpace (g.S.ItemStore.price k) (g.S.ItemStore.cap k) own.sectors before after (c.args.first + n.step) c.args.value.now c.in-Err-NoSpace.field-0-0 c.in-Err-NoSpace.field-0-1 =
+      subst (λ (w : WriteFault). ends.WriteEnds {T = Unit {0}} (g.S.ItemStore.price k) (g.S.ItemStore.cap k) own.sectors d e before after (c.args.first + n.step) c.args.value.now (Err w)) c.in-Err-NoSpace.field-0-is
+      (subst (λ (step : ℕ). ends.WriteEnds {T = Unit {0}} (g.S.ItemStore.price k) (g.S.ItemStore.cap k) own.sectors d e before after (c.args.first + step) c.args.value.now (Err c.in-Err-NoSpace.field-0)) (sym (c.step.ensures own)) c.in-Err-NoSpace.ensures.ends) in
+      subst (λ (w : SetFault). SetLeavesItems {T = Unit {0}} n before after c.args.name.now c.args.value.now (Err w)) (sym c.refused.ensures) (inl finds.items);
   others = let d : Device = g.F.Flash.device c.args.flash.now in
       let e : Device = g.F.Flash.device c.write.new.flash in
       let own : Area = g.S.ItemStore.mounted_on c.args.store.now in

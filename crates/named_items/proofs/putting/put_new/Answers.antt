@@ -1,4 +1,4 @@
-use Rattle.std.proofs.Common.{◌≡◌, ℕ, ◌+◌, ◌<◌, ◌≤◌, ◌∷◌, [], List, length, true, false, None, Ok, Err, refl, sym, ap, subst, ◌∙◌, inl, inr, arith, Bool}
+use Rattle.std.proofs.Common.{◌≡◌, ℕ, ◌+◌, ◌<◌, ◌≤◌, ◌∷◌, [], length, true, false, None, Ok, Err, refl, sym, ap, subst, ◌∙◌, arith, Bool}
 use Rattle.std.specs.FinMap.{get}
 use Rattle.std.proofs.lemmas.Bool.{false≢true}
 use Rattle.flash_sim.specs.Device.{Device}
@@ -12,11 +12,13 @@ use Rattle.item_laws.specs.Items.{Items}
 use Rattle.backend_api.specs.declared.backend.SetFault.{SetFault}
 use Rattle.backend_api.specs.Ends.{SetEnds, set_lost}
 use Rattle.flash_map.specs.On.{on}
+use Rattle.named_items.specs.Leaving.{pair_at_place, MakesPuts}
 use Rattle.named_items.specs.Numbering.{Numbering}
-use Rattle.named_items.specs.Pairs.{count_in, is_pair, settings_in, HasNoOrphans}
+use Rattle.named_items.specs.Pairs.{is_pair, settings_in, HasNoOrphans}
 use Rattle.named_items.specs.Ends.{AltersTwo, PutsPair}
 use Rattle.named_items.specs.Putting.{room_in, IsPut}
 use Rattle.named_items.proofs.ChangeSteps.{moved-clean, moved-lawful, moved-cost}
+use Rattle.named_items.proofs.LeavingSteps.{pair-cut}
 use Rattle.named_items.proofs.LookupSteps.{all-pass, inside-known}
 use Rattle.named_items.proofs.NewSteps.{not-stored, new-done, new-clean, new-cut, new-refused}
 use Rattle.named_items.proofs.OtherSteps.{puts-alters}
@@ -106,6 +108,15 @@ returns-in-Ok g c = record {
         cut = λ lost. absurd {A = IsPut (settings_in n before) (settings_in n after) c.args.name.now c.args.value.now} (false≢true lost);
         clean = λ kept. new-clean n (g.met.N.IdLayout.is_numbering own) g.N.IdLayout.counted g.N.IdLayout.too_many (g.met.N.IdLayout.count_cost own) before c.requires.here.clean c.args.name.now c.args.value.now c.requires.place.absent c.args.first (c.args.first + n.step) c.requires.place.inside c.requires.place.free pair c.requires.place.few refl after puts;
       };
+  items = let d : Device = g.F.Flash.device c.args.flash.now in
+      let e : Device = g.F.Flash.device c.put_pair.new.flash in
+      let own : Area = g.S.ItemStore.mounted_on c.args.store.now in
+      let n : Numbering = g.N.IdLayout.numbering own in
+      let k : Geometry = geometry_of d own in
+      let before : Items = on g.S.ItemStore.contents d own in
+      let after : Items = on g.S.ItemStore.contents e own in
+      let puts = subst (λ (step : ℕ). PutsPair {T = Unit {0}} (g.S.ItemStore.price k) (g.S.ItemStore.cap k) own.sectors before after c.args.first (c.args.first + step) c.args.name.now c.args.value.now (Ok tt)) (sym (c.step.ensures own)) c.in-Ok.ensures.ends in
+      puts;
   others = let d : Device = g.F.Flash.device c.args.flash.now in
       let e : Device = g.F.Flash.device c.put_pair.new.flash in
       let own : Area = g.S.ItemStore.mounted_on c.args.store.now in
@@ -142,6 +153,16 @@ returns-in-Err-PowerLost g c = record {
         cut = λ lost. new-cut n (g.met.N.IdLayout.is_numbering own) g.N.IdLayout.counted g.N.IdLayout.too_many (g.met.N.IdLayout.count_cost own) before c.requires.here.clean c.args.name.now c.args.value.now c.requires.place.absent c.args.first (c.args.first + n.step) c.requires.place.inside c.requires.place.free pair c.requires.place.few refl after puts;
         clean = λ kept. absurd {A = HasNoOrphans n after} (false≢true (sym kept));
       };
+  items = let d : Device = g.F.Flash.device c.args.flash.now in
+      let e : Device = g.F.Flash.device c.put_pair.new.flash in
+      let own : Area = g.S.ItemStore.mounted_on c.args.store.now in
+      let n : Numbering = g.N.IdLayout.numbering own in
+      let k : Geometry = geometry_of d own in
+      let before : Items = on g.S.ItemStore.contents d own in
+      let after : Items = on g.S.ItemStore.contents e own in
+      let puts = subst (λ (w : WriteFault). PutsPair {T = Unit {0}} (g.S.ItemStore.price k) (g.S.ItemStore.cap k) own.sectors before after c.args.first (c.args.first + n.step) c.args.name.now c.args.value.now (Err w)) c.in-Err-PowerLost.field-0-is
+      (subst (λ (step : ℕ). PutsPair {T = Unit {0}} (g.S.ItemStore.price k) (g.S.ItemStore.cap k) own.sectors before after c.args.first (c.args.first + step) c.args.name.now c.args.value.now (Err c.in-Err-PowerLost.field-0)) (sym (c.step.ensures own)) c.in-Err-PowerLost.ensures.ends) in
+      pair-cut n before c.args.name.now c.args.value.now after c.args.first (c.args.first + n.step) refl puts;
   others = let d : Device = g.F.Flash.device c.args.flash.now in
       let e : Device = g.F.Flash.device c.put_pair.new.flash in
       let own : Area = g.S.ItemStore.mounted_on c.args.store.now in
@@ -188,6 +209,16 @@ returns-in-Err-NoSpace g c = record {
         cut = λ lost. absurd {A = IsPut (settings_in n before) (settings_in n after) c.args.name.now c.args.value.now} (false≢true (sym still ∙ lost));
         clean = λ kept. subst (HasNoOrphans n) (sym puts.0) c.requires.here.clean;
       };
+  items = let d : Device = g.F.Flash.device c.args.flash.now in
+      let e : Device = g.F.Flash.device c.put_pair.new.flash in
+      let own : Area = g.S.ItemStore.mounted_on c.args.store.now in
+      let n : Numbering = g.N.IdLayout.numbering own in
+      let k : Geometry = geometry_of d own in
+      let before : Items = on g.S.ItemStore.contents d own in
+      let after : Items = on g.S.ItemStore.contents e own in
+      let puts = subst (λ (w : WriteFault). PutsPair {T = Unit {0}} (g.S.ItemStore.price k) (g.S.ItemStore.cap k) own.sectors before after c.args.first (c.args.first + n.step) c.args.name.now c.args.value.now (Err w)) c.in-Err-NoSpace.field-0-is
+      (subst (λ (step : ℕ). PutsPair {T = Unit {0}} (g.S.ItemStore.price k) (g.S.ItemStore.cap k) own.sectors before after c.args.first (c.args.first + step) c.args.name.now c.args.value.now (Err c.in-Err-NoSpace.field-0)) (sym (c.step.ensures own)) c.in-Err-NoSpace.ensures.ends) in
+      subst (λ (w : SetFault). MakesPuts {T = Unit {0}} before after (pair_at_place n c.args.first c.args.name.now c.args.value.now) (Err w)) (sym c.refused.ensures) puts.0;
   others = let d : Device = g.F.Flash.device c.args.flash.now in
       let e : Device = g.F.Flash.device c.put_pair.new.flash in
       let own : Area = g.S.ItemStore.mounted_on c.args.store.now in

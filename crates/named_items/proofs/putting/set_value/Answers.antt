@@ -26,3 +26,9 @@ returns-in-Some-clause-at_most g c =
     let e : Device = g.F.Flash.device c.change_value.new.flash in
     let k = geometry_of d (g.S.ItemStore.mounted_on c.args.store.now) in
     calls-within d e 1 k (omega arith) (one-call d e (items.item_units k) c.change_value.ensures.at_most)
+
+pub returns-in-Some-clause-items : goal.returns-in-Some-clause-items
+returns-in-Some-clause-items g c = c.change_value.ensures.items
+
+pub returns-in-None-clause-items : goal.returns-in-None-clause-items
+returns-in-None-clause-items g c = c.put_name.ensures.items

@@ -1,4 +1,4 @@
-use Rattle.std.proofs.Common.{◌≡◌, ℕ, ◌+◌, ◌∷◌, [], refl, sym, ap, subst}
+use Rattle.std.proofs.Common.{◌≡◌, ℕ, ◌+◌, ◌∷◌, [], refl, sym, ap, subst, inl}
 use Rattle.std.specs.Prelude.{is_err}
 use Rattle.std.proofs.lemmas.Bool.{false≢true}
 use Rattle.flash_sim.specs.Device.{Device}
@@ -10,6 +10,7 @@ use Rattle.named_items.specs.Numbering.{Numbering}
 use Rattle.named_items.specs.Pairs.{settings_in}
 use Rattle.named_items.specs.Ends.{AltersTwo, DeletesPair}
 use Rattle.named_items.proofs.ItemSteps.{delete-ends, delete-cut, delete-clean, delete-absent}
+use Rattle.named_items.proofs.LeavingSteps.{delete-leaves}
 use Rattle.named_items.proofs.OtherSteps.{deletes-alters}
 use Rattle.named_items.proofs.OrphanSteps.{same-place}
 use Rattle.named_items.proofs.SpendSteps.{spends-some}
@@ -78,3 +79,14 @@ returns-in-Some-clause-written g c = c.delete_pair.ensures.written
 
 pub returns-in-None-clause-written : goal.returns-in-None-clause-written
 returns-in-None-clause-written g c = λ blank. blank
+
+pub returns-in-Some-clause-items : goal.returns-in-Some-clause-items
+returns-in-Some-clause-items g c =
+    let d : Device = g.F.Flash.device c.args.flash.now in
+    let e : Device = g.F.Flash.device c.delete_pair.new.flash in
+    let area : Area = g.S.ItemStore.mounted_on c.args.store.now in
+    delete-leaves (g.N.IdLayout.numbering area) (on g.S.ItemStore.contents d area) (on g.S.ItemStore.contents e area) c.args.name.now c.in-Some.place (c.in-Some.place + c.step.result) c.delete_pair.result c.in-Some.ensures
+    (ap (λ (k : ℕ). c.in-Some.place + k) (sym (c.step.ensures area))) c.delete_pair.ensures.ends
+
+pub returns-in-None-clause-items : goal.returns-in-None-clause-items
+returns-in-None-clause-items g c = inl (c.in-None.ensures, refl)

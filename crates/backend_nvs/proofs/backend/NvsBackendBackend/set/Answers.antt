@@ -43,3 +43,6 @@ returns-clause-stands g c = λ kept.
       store = c.set_value.ensures.store.up kept;
       clean = subst (λ (x : Area). HasNoOrphans (numbering_of x) (on nvs_items e x)) (sym c.set_value.ensures.store.area) (c.set_value.ensures.ends.clean kept);
     }
+
+pub returns-clause-items : goal.returns-clause-items
+returns-clause-items g c = c.set_value.ensures.items

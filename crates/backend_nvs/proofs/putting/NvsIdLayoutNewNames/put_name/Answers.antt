@@ -1,12 +1,15 @@
-use Rattle.std.proofs.Common.{◌≡◌, ◌+◌, ◌<◌, ◌≤◌, refl, arith}
+use Rattle.std.proofs.Common.{◌≡◌, Some, refl, arith}
 use Rattle.std.proofs.lemmas.Bool.{false≢true}
 use Rattle.flash_sim.specs.Device.{Device}
 use Rattle.flash_map.specs.declared.area.Area.{Area}
 use Rattle.flash_map.specs.Area.{geometry_of, sectors_of, value_limit}
 use Rattle.item_laws.specs.Items.{Items}
 use Rattle.flash_map.specs.On.{on}
+use Rattle.named_items.specs.Candidates.{IsFreeCandidate}
 use Rattle.named_items.specs.Pairs.{count_in}
 use Rattle.named_items.specs.Putting.{IsPut}
+use Rattle.named_items.proofs.LeavingSteps.{takes, puts-leave}
+use Rattle.named_items.specs.Leaving.{pair_at_place}
 use Rattle.backend_nvs.specs.IdLayout.{numbering_of, settings_of}
 use Rattle.backend_nvs.proofs.CountSteps.{all-used, names-over, few-free, free-few}
 use Rattle.backend_nvs.proofs.putting.NvsIdLayoutNewNames.put_name.Goals as goal
@@ -16,12 +19,13 @@ put_new-requires-clause-place g c =
     let d : Device = g.F.Flash.device c.args.flash.now in
     let own : Area = g.S.ItemStore.mounted_on c.args.store.now in
     let before : Items = on g.S.ItemStore.contents d own in
+    let least : IsFreeCandidate (numbering_of own) before c.args.name.now (Some c.in-Some.free) = c.in-Some.ensures c.args.name.now in
     record {
       absent = c.requires.absent;
-      few = few-free (settings_of own before) c.args.name.now (free-few (value_limit own) before c.requires.here.clean c.in-Some.free c.in-Some.ensures.0 c.in-Some.ensures.1);
-      inside = c.in-Some.ensures.0;
+      few = few-free (settings_of own before) c.args.name.now (free-few (value_limit own) before c.requires.here.clean c.in-Some.free least.0.inside least.1);
+      inside = least.0.inside;
       candidate = refl;
-      free = c.in-Some.ensures.1;
+      free = least.1;
     }
 
 -- no place is free
@@ -34,7 +38,7 @@ returns-then-is_full-clause-ends g c =
     let counted : c.read_count-count.result ≡ count_in (numbering_of own) before = c.read_count-count.ensures.count in
     let full : count_in (numbering_of own) before ≡ 511 = omega arith in
     record {
-      ends = (names-over (value_limit own) before c.requires.here.clean c.args.name.now c.requires.absent (all-used (value_limit own) before c.requires.here.clean c.in-None.ensures full), refl);
+      ends = (names-over (value_limit own) before c.requires.here.clean c.args.name.now c.requires.absent (all-used (value_limit own) before c.requires.here.clean c.args.name.now (c.in-None.ensures c.args.name.now) full), refl);
       cut = λ lost. absurd {A = IsPut (settings_of own before) (settings_of own before) c.args.name.now c.args.value.now} (false≢true lost);
       clean = λ kept. c.requires.here.clean;
     }
@@ -49,3 +53,22 @@ returns-then-is_full-clause-store g c =
       up = λ kept. c.requires.here.up;
       down = λ lost. absurd (false≢true lost);
     }
+
+-- the least free place takes the name
+pub returns-in-Some-clause-items : goal.returns-in-Some-clause-items
+returns-in-Some-clause-items g c =
+    let d : Device = g.F.Flash.device c.args.flash.now in
+    let e : Device = g.F.Flash.device c.put_new.new.flash in
+    let own : Area = g.S.ItemStore.mounted_on c.args.store.now in
+    let before : Items = on g.S.ItemStore.contents d own in
+    puts-leave (numbering_of own) before c.args.name.now c.args.value.now (on g.S.ItemStore.contents e own) (pair_at_place (numbering_of own) c.in-Some.free c.args.name.now c.args.value.now) c.put_new.result
+    (takes (numbering_of own) before c.args.name.now c.args.value.now c.in-Some.free c.requires.absent (c.in-Some.ensures c.args.name.now)) c.put_new.ensures.items
+
+pub returns-then-is_full-clause-items : goal.returns-then-is_full-clause-items
+returns-then-is_full-clause-items g c = refl
+
+pub add_name-requires-clause-full : goal.add_name-requires-clause-full
+add_name-requires-clause-full g c = c.in-None.ensures c.args.name.now
+
+pub returns-clause-items : goal.returns-clause-items
+returns-clause-items g c = c.add_name.ensures.items

@@ -43,3 +43,6 @@ returns-clause-stands g c = λ kept.
 
 pub returns-clause-written : goal.returns-clause-written
 returns-clause-written g c other = c.delete_name.ensures.written
+
+pub returns-clause-items : goal.returns-clause-items
+returns-clause-items g c = c.delete_name.ensures.items

@@ -5,8 +5,10 @@ use Rattle.flash_map.specs.declared.area.Area.{Area}
 use Rattle.flash_map.specs.Area.{geometry_of, sectors_of, value_limit}
 use Rattle.flash_map.specs.On.{on}
 use Rattle.item_laws.specs.Items.{Items}
+use Rattle.named_items.specs.Leaving.{pair_at_place}
 use Rattle.named_items.specs.Pairs.{settings_in}
 use Rattle.named_items.specs.Putting.{IsPut}
+use Rattle.named_items.proofs.LeavingSteps.{takes, puts-leave}
 use Rattle.backend_zms.specs.IdLayout.{numbering_of}
 use Rattle.backend_zms.proofs.GroupLemmas.{group-full, group-free}
 use Rattle.backend_zms.proofs.numbering.ZmsIdLayoutNewNames.put_name.Goals as goal
@@ -45,3 +47,15 @@ returns-clause-store g c =
       up = λ kept. c.requires.here.up;
       down = λ lost. absurd (false≢true lost);
     }
+
+-- the least free id takes the name
+pub returns-in-Some-clause-items : goal.returns-in-Some-clause-items
+returns-in-Some-clause-items g c =
+    let e : Device = g.F.Flash.device c.put_new.new.flash in
+    let area : Area = g.S.ItemStore.mounted_on c.args.store.now in
+    let before : Items = on g.S.ItemStore.contents (g.F.Flash.device c.args.flash.now) area in
+    puts-leave (numbering_of area) before c.args.name.now c.args.value.now (on g.S.ItemStore.contents e area) (pair_at_place (numbering_of area) c.in-Some.free c.args.name.now c.args.value.now) c.put_new.result
+    (takes (numbering_of area) before c.args.name.now c.args.value.now c.in-Some.free c.requires.absent c.in-Some.ensures.place) c.put_new.ensures.items
+
+pub returns-clause-items : goal.returns-clause-items
+returns-clause-items g c = refl

@@ -4,6 +4,7 @@ pub mod EmptySteps
 pub mod FormatSteps
 pub mod CandidateLemmas
 mod ItemSteps
+mod KeepSteps
 pub mod LawfulLemmas
 pub mod LookupSteps
 mod MostUnits
@@ -19,6 +20,7 @@ mod RemovalUnits
 mod RemovedSteps
 mod RingSteps
 pub mod RoomLemmas
+mod SeenSteps
 mod SetSteps
 mod SoFar
 pub mod SpendSteps

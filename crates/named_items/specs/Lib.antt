@@ -13,6 +13,7 @@ pub mod PairRoom
 pub mod Pairs
 pub mod Putting
 pub mod RingStore
+pub mod Seen
 pub mod StoreEnds
 pub mod Orphans
 pub mod Walking

@@ -3,6 +3,7 @@
 #![tactic(auto)]
 
 mod candidates;
+mod keeping;
 pub mod laws;
 mod lookup;
 mod mounting;
@@ -10,6 +11,7 @@ mod numbering;
 mod nvs;
 mod orphans;
 mod putting;
+mod seen;
 mod store;
 mod walking;
 mod writing;

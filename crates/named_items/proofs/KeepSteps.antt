@@ -1,8 +1,9 @@
 -- Whether an item is kept, as a walk sees it: no orphan is left below, and the names below are known.
-use Rattle.std.proofs.Common.{◌≡◌, ◌⊎◌, ℕ, ◌+◌, ◌<◌, ◌≤◌, Bool, true, List, Option, Some, None, refl, sym, ap, subst, ◌∙◌, inl, inr, arith}
+use Rattle.std.proofs.Common.{◌≡◌, ◌⊎◌, ℕ, ◌+◌, ◌<◌, ◌≤◌, Bool, false, true, List, Bor, Option, Some, None, refl, sym, ap, subst, ◌∙◌, inl, inr, arith}
 use Rattle.std.specs.Prelude.{IfSome}
 use Rattle.std.specs.FinMap.{get}
-use Rattle.std.proofs.lemmas.Bool.{cases_eq, cases_lt}
+use Rattle.std.specs.Option.{is_some, option_map}
+use Rattle.std.proofs.lemmas.Bool.{cases_eq, cases_lt, false≢true}
 use Rattle.item_laws.specs.Items.{Items}
 use Rattle.setting_name.specs.Name.{IsName}
 use Rattle.named_items.specs.declared.candidates.Ids.{Ids}
@@ -24,6 +25,24 @@ some_none name e = cc
 
 pub valued-as : (r : Bool) (a b : ℕ) (o p : Option (List ℕ)) → r ≡ is_value a o → a ≡ b → o ≡ p → r ≡ is_value b p
 valued-as r a b o p is limit item = is ∙ ap (λ (k : ℕ). is_value k o) limit ∙ ap (is_value b) item
+
+-- whether a look-up found an item
+pub is-there : (o : Option (Bor (List ℕ))) (item : Option (List ℕ)) → option_map {T = Bor (List ℕ)} {U = List ℕ} (λ bytes. bytes.now) o ≡ item → is_some o ≡ true → ¬ (item ≡ None)
+is-there None item e some = absurd (false≢true some)
+is-there (Some bytes) item e some = λ none. some_none bytes.now (e ∙ none)
+
+pub is-gone : (o : Option (Bor (List ℕ))) (item : Option (List ℕ)) → option_map {T = Bor (List ℕ)} {U = List ℕ} (λ bytes. bytes.now) o ≡ item → is_some o ≡ false → item ≡ None
+is-gone None item e none = sym e
+is-gone (Some bytes) item e none = absurd (false≢true (sym none))
+
+-- each place of a name is an id for names
+pub for-name : (n : Numbering) (top : ℕ) (ids : Ids) → AreOfNames n top ids → (place : ℕ) → IsCandidateId ids place → IsForName n place
+for-name n top ids of_names place one =
+    let low : n.first ≤ ids.least = of_names.from in
+    let high : ids.most < n.first + n.step = of_names.to in
+    let from : ids.least ≤ place = one.from in
+    let to : place ≤ ids.most = one.to in
+    record { from = omega arith; to = omega arith }
 
 module _ (n : Numbering) (items : Items) where
   -- ---- a setting of a name, in effect or not
@@ -89,18 +108,10 @@ module _ (n : Numbering) (items : Items) where
     -- ---- a value
 
     module _ (top : ℕ) (ids : Ids) (of_names : AreOfNames n top ids) (all : HasAllCandidates n ids) (place : ℕ) (one : IsCandidateId ids place) where
-      for-name : IsForName n place
-      for-name =
-          let low : n.first ≤ ids.least = of_names.from in
-          let high : ids.most < n.first + n.step = of_names.to in
-          let from : ids.least ≤ place = one.from in
-          let to : place ≤ ids.most = one.to in
-          record { from = omega arith; to = omega arith }
-
       -- the name's item is still there, so it is kept
       pub value-kept : IsCleanBelow n items (place + n.step) → ¬ (get items place ≡ None) → IsKept n items (place + n.step)
       value-kept clean some =
-          let for : IsForName n place = for-name in
+          let for : IsForName n place = for-name n top ids of_names place one in
           let from : n.first ≤ place = for.from in
           let to : place < n.first + n.step = for.to in
           let less : place < place + n.step = omega arith in
@@ -120,7 +131,7 @@ module _ (n : Numbering) (items : Items) where
 
       pub value-gone : ¬ IsCandidateId ids (place + n.step) → get items place ≡ None → IsKept n items (place + n.step) → ⊥
       value-gone apart none (inl count) =
-          let for : IsForName n place = for-name in
+          let for : IsForName n place = for-name n top ids of_names place one in
           let from : n.first ≤ place = for.from in
           let below : n.count_id < n.first = laws.below in
           let is : place + n.step ≡ n.count_id = count.is in

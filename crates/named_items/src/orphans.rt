@@ -1,5 +1,5 @@
 // The removal of items that belong to no setting.
-ghost use Rattle.std.specs.Prelude.{◌≡◌, ◌+◌, ◌*◌, ◌<◌, ◌∷◌, [], false, is_err};
+ghost use Rattle.std.specs.Prelude.{◌≡◌, ◌+◌, ◌*◌, ◌<◌, ◌∷◌, [], false, is_err, None};
 ghost use Rattle.std.specs.FinMap as finite;
 ghost use Rattle.flash_map.specs.Area.{geometry_of};
 ghost use Rattle.flash_map.specs.Lawful.{IsLawfulFor};
@@ -56,6 +56,8 @@ fn remove_orphan<N: IdLayout, S: ItemStore, F: Flash, L: Ledger>(
         (S.mounted_on store.old) }
     ensures describes { is_err result ≡ false
         → HoldsOn (S.describes index.new) (F.device flash.new) (S.mounted_on store.new) }
+    ensures gone { is_err result ≡ false
+        → finite.get (on S.contents (F.device flash.new) (S.mounted_on store.old)) id ≡ None }
 {
     store.delete(flash, id, steps)?;
     store.fill_index(flash, index, steps);

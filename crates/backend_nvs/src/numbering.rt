@@ -60,6 +60,15 @@ impl IdLayout for NvsIdLayout {
         lookup::has_count(store, flash, steps)
     }
 
+    fn end_of_names<S: ItemStore, F: Flash, L: Ledger>(
+        store: &S,
+        flash: &F,
+        index: &S::Index,
+        steps: &mut Steps<L>,
+    ) -> u32 {
+        FIRST + lookup::read_count(store, flash, index, steps)
+    }
+
     fn place_of<S: ItemStore, F: Flash, L: Ledger>(
         store: &S,
         flash: &F,

@@ -72,6 +72,15 @@ impl IdLayout for ZmsIdLayout {
         may_stand(store, name)
     }
 
+    fn end_of_names<S: ItemStore, F: Flash, L: Ledger>(
+        _store: &S,
+        _flash: &F,
+        _index: &S::Index,
+        _steps: &mut Steps<L>,
+    ) -> u32 {
+        FIRST + GROUP_BITS + GROUP_SIZE
+    }
+
     fn place_of<S: ItemStore, F: Flash, L: Ledger>(
         store: &S,
         flash: &F,

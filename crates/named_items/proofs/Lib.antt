@@ -4,6 +4,7 @@ pub mod EmptySteps
 pub mod FormatSteps
 pub mod CandidateLemmas
 mod ItemSteps
+mod KeepSteps
 pub mod LawfulLemmas
 mod ListingSteps
 pub mod LeavingSteps
@@ -21,6 +22,7 @@ mod RemovalUnits
 mod RemovedSteps
 mod RingSteps
 pub mod RoomLemmas
+mod SeenSteps
 mod SetSteps
 mod SoFar
 pub mod SpendSteps

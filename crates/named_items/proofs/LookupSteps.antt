@@ -43,6 +43,10 @@ module _ (n : Numbering) where
       at_most : (k : ℕ) → k ≤ n.longest → nat_le k n.longest ≡ true
       at_most k le = grind (arith, nat_tests)
 
+  -- the name may stand there
+  pub pair-candidate : (place : ℕ) (name value : List ℕ) → is_pair n place name value ≡ true → n.is_candidate place name ≡ true
+  pair-candidate place name value passes = (parts place name value passes).candidate
+
   -- both are there
   pub here-has : (place : ℕ) (name : List ℕ) (first second : Option (List ℕ)) → IsHere n.longest first second name → IsName name → n.is_candidate place name ≡ true → HasName (pair_of n place first second) name
   here-has place name first None is named candidate = absurd (false≢true is.valued)

@@ -5,6 +5,7 @@ use Rattle.std.specs.FinMap.{get, remove}
 use Rattle.std.proofs.lemmas.Bool.{cases_eq, cases_lt, false≢true}
 use Rattle.flash_sim.specs.Device.{Device}
 use Rattle.flash_sim.specs.declared.flash.PowerLost.{PowerLost as Lost}
+use Rattle.flash_map.proofs.SpendingLemmas.{spends_none}
 use Rattle.item_laws.specs.Items.{Items}
 use Rattle.named_items.specs.Numbering.{Numbering, IsNumbering}
 use Rattle.named_items.specs.Pairs.{settings_in, IsAt, IsKept, HasNoOrphans}
@@ -12,7 +13,8 @@ use Rattle.named_items.proofs.CostLemmas.{get-cut, get-cut_other}
 use Rattle.named_items.proofs.PairLemmas.{pair-made}
 use Rattle.named_items.proofs.OrphanLemmas.{orphan-removed, kept-stays}
 use Rattle.named_items.specs.StoreEnds.{IsNextId, DeleteEnds}
-use Rattle.named_items.specs.Orphans.{KeepsEach, Removes}
+use Rattle.named_items.specs.Orphans.{KeepsEach, KeepsSettings, LooksAt, Removes, SpendsOnOne}
+use Rattle.named_items.proofs.RemovalUnits.{per-none}
 use Rattle.named_items.proofs.SoFar.{IsPast, HasNoneBefore, ids_left}
 
 -- ---- which name stands at an id
@@ -34,9 +36,28 @@ same-place n items name a b x y =
 
 -- ---- one id
 
+pub keeps-same : (n : Numbering) (items : Items) → KeepsSettings n items items
+keeps-same n items = record { settings = refl; kept = λ id is. refl; gone = λ id. inr refl }
+
+pub spends-kept : (most : ℕ) (d : Device) (items : Items) → SpendsOnOne most d d items items false
+spends-kept most d items = record { at_most = (0, omega arith, spends_none d); per_item = λ ok. per-none most d items }
+
+-- the item is gone
+pub delete-cut : {U : Type 0} (items : Items) (id : ℕ) (d e : Device) (after : Items) (r : Result U Lost) → is_err r ≡ false → DeleteEnds d e items after id r → get after id ≡ None
+delete-cut items id d e after (Ok x) ok ends = ap (λ (m : Items). get m id) ends.items ∙ get-cut items id
+delete-cut items id d e after (Err l) ok ends = absurd (false≢true (sym ok))
+
 module _ (n : Numbering) (laws : IsNumbering n) (items : Items) (id : ℕ) where
-  pub removes-none : IsKept n items id → Removes n items items id
-  removes-none kept = record { done = inr kept; others = λ other apart. refl; kept = λ other apart was. was }
+  -- it is kept
+  pub looks-kept : (d : Device) → IsKept n items id → LooksAt n d d items items id false
+  looks-kept d kept = record {
+    others = λ other apart. refl;
+    still = λ other is. is;
+    idle = λ is. refl;
+    rests = λ clean. refl;
+    present = λ lost. absurd (false≢true lost);
+    removes = λ ok. record { done = inr kept; others = λ other apart. refl; kept = λ other apart was. was };
+  }
 
   module _ (orphan : ¬ IsKept n items id) where
     pub removes-cut : Removes n items (remove items id) id

@@ -15,6 +15,7 @@ pub mod PairRoom
 pub mod Pairs
 pub mod Putting
 pub mod RingStore
+pub mod Seen
 pub mod StoreEnds
 pub mod Orphans
 pub mod Walking

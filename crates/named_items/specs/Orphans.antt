@@ -19,10 +19,14 @@ StaysKept n before after = (id : ℕ) → IsKept n before id → IsKept n after 
 abbrev pub OnlyRemoves : Items → Items → Type 0
 OnlyRemoves before after = (id : ℕ) → (get after id ≡ None) ⊎ (get after id ≡ get before id)
 
+-- no orphan is left below this id
+abbrev pub IsCleanBelow : Numbering → Items → ℕ → Type 0
+IsCleanBelow n items id = (other : ℕ) → other < id → (get items other ≡ None) ⊎ IsKept n items other
+
 -- The removal came as far as this id: no orphan is left below it, and each item above
 -- it is as before.
 pub record StopsAt (n : Numbering) (before after : Items) (id : ℕ) : Type 0 where
-  pub below : (other : ℕ) → other < id → (get after other ≡ None) ⊎ IsKept n after other
+  pub below : IsCleanBelow n after id
   pub above : (other : ℕ) → id < other → get after other ≡ get before other
 
 -- One id was looked at, and has no orphan any more. All other items stay, and those that are

@@ -41,6 +41,11 @@ pub record IsInside (n : Numbering) (items : Items) (place : ℕ) : Type 0 where
   pub from : n.first ≤ place
   pub to : place < n.first + count_in n items
 
+-- a setting of this name stands there, in effect or not
+pub record IsHeld (n : Numbering) (items : Items) (name : List ℕ) (place : ℕ) : Type 0 where
+  pub inside : IsInside n items place
+  pub here : HasName (pair_at n items place) name
+
 -- no setting of this name stands below the place
 abbrev pub IsLowest : Numbering → Items → List ℕ → ℕ → Type 0
 IsLowest n items name place =

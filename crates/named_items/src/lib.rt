@@ -3,6 +3,7 @@
 #![tactic(auto)]
 
 mod candidates;
+mod keeping;
 pub mod laws;
 mod listing;
 mod lookup;
@@ -11,6 +12,7 @@ mod numbering;
 mod nvs;
 mod orphans;
 mod putting;
+mod seen;
 mod store;
 mod walking;
 mod writing;

@@ -12,7 +12,7 @@ ghost use Rattle.flash_map.specs.On.{on, HoldsOn};
 ghost use Rattle.named_items.specs.Mounted.{IsMountedOn};
 ghost use Rattle.named_items.specs.Pairs.{HasNoOrphans};
 ghost use Rattle.named_items.specs.Looking.{HasIds};
-ghost use Rattle.named_items.specs.Orphans.{KeepsSettings};
+ghost use Rattle.named_items.specs.Orphans.{KeepsSettings, RemovalEnds};
 
 use crate::numbering::IdLayout;
 use crate::orphans::remove_orphans;
@@ -22,14 +22,15 @@ use flash_sim::{Flash, Steps};
 use std::alloc::Global;
 use std::sync::ledger::Ledger;
 
-/// Mounts a store, and deletes the items that belong to no setting. The settings and each item that
-/// is kept stay, even if power is lost; no item is new or has other bytes. Whatever the result, it
-/// spends at most as many units and erases as `mount_units` says for the area's geometry. The area
-/// is all FF afterwards only if it was so before.
+/// Mounts a store, and deletes the items that belong to no setting, in rising order of ids. The
+/// settings and each item that is kept stay, even if power is lost; no item is new or has other
+/// bytes. Whatever the result, it spends at most as many units and erases as `mount_units` says for
+/// the area's geometry. The area is all FF afterwards only if it was so before.
 ///
 /// # Errors
 /// `Damaged` exactly if the area shows damage; nothing was programmed then. `PowerLost`: the
-/// settings are as before. `NoMemory`: nothing was programmed.
+/// settings are as before. There is an id below which no orphan is left, and above which every item
+/// is as before; the item at that id is as before, or gone. `NoMemory`: nothing was programmed.
 #[tactic(auto, using(flash_map::proofs::Touches::then))]
 pub fn mount_store<N: IdLayout, S: ItemStore, F: Flash, L: Ledger>(
     alloc: Global,
@@ -50,6 +51,9 @@ pub fn mount_store<N: IdLayout, S: ItemStore, F: Flash, L: Ledger>(
     ensures keeps { on S.damage (F.device flash.old) area ≡ None
         → KeepsSettings (N.numbering area) (on S.contents (F.device flash.old) area)
         (on S.contents (F.device flash.new) area) }
+    ensures order { on S.damage (F.device flash.old) area ≡ None
+        → RemovalEnds (N.numbering area) (on S.contents (F.device flash.old) area)
+        (on S.contents (F.device flash.new) area) result }
     ensures rests { HoldsOn S.rests (F.device flash.old) area
         → HasNoOrphans (N.numbering area) (on S.contents (F.device flash.old) area)
         → F.device flash.new ≡ F.device flash.old }

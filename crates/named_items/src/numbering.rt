@@ -8,7 +8,7 @@ ghost use Rattle.flash_map.specs.On.{on, HoldsOn, StandsOn};
 ghost use Rattle.backend_api.specs.Map.{Map};
 ghost use Rattle.named_items.specs.Numbering.{Numbering, IsNumbering};
 ghost use Rattle.named_items.specs.PairRoom.{IsCountCost};
-ghost use Rattle.named_items.specs.Pairs.{settings_in, IsKept, IsIdOfName, HasNoOrphans};
+ghost use Rattle.named_items.specs.Pairs.{count_in, settings_in, IsKept, IsIdOfName, HasNoOrphans};
 ghost use Rattle.named_items.specs.CandidateIds.{AreOfNames, HasCandidates, HasOnlyCandidates, HasAllCandidates, HasOnlyPlaces};
 ghost use Rattle.named_items.specs.Looking.{HasIds};
 ghost use Rattle.named_items.specs.Putting.{room_in};
@@ -63,6 +63,22 @@ pub trait IdLayout {
         ensures { let area = S.mounted_on store.now in
             result ≡ false
             → IsIdOfName (numbering area) (on S.contents (F.device flash.now) area) name.now None };
+
+    /// The first id above those at which the count allows names.
+    fn end_of_names<S: ItemStore, F: Flash, L: Ledger>(
+        store: &S,
+        flash: &F,
+        index: &S::Index,
+        steps: &mut Steps<L>,
+    ) -> u32
+        requires ids { HasIds top S.is_id }
+        requires lawful { IsLawfulFor (F.device flash.now).banks (S.mounted_on store.now) }
+        requires stands { StandsOn S.mounted_on S.stands (F.device flash.now) store.now }
+        requires describes { HoldsOn (S.describes index.now) (F.device flash.now)
+            (S.mounted_on store.now) }
+        ensures { let area = S.mounted_on store.now in
+            result ≡ (numbering area).first
+            + count_in (numbering area) (on S.contents (F.device flash.now) area) };
 
     /// The id at which the setting of a name stands; `None` if the name has no value. Items may be
     /// orphans. It looks at the ids of the name in rising order, up to that one.

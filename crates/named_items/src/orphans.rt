@@ -1,5 +1,5 @@
 // The removal of items that belong to no setting.
-ghost use Rattle.std.specs.Prelude.{◌≡◌, ◌*◌, ◌<◌, ◌∷◌, [], false, is_err};
+ghost use Rattle.std.specs.Prelude.{◌≡◌, ◌+◌, ◌*◌, ◌<◌, ◌∷◌, [], false, is_err, None};
 ghost use Rattle.std.specs.FinMap as finite;
 ghost use Rattle.flash_map.specs.Area.{geometry_of};
 ghost use Rattle.flash_map.specs.Lawful.{IsLawfulFor};
@@ -9,14 +9,60 @@ ghost use Rattle.flash_map.specs.On.{on, HoldsOn, StandsOn};
 ghost use Rattle.backend_api.specs.Room.{removal_units};
 ghost use Rattle.backend_api.specs.Written.{StaysWritten};
 ghost use Rattle.named_items.specs.Mounted.{StaysMounted};
-ghost use Rattle.named_items.specs.Pairs.{HasNoOrphans};
+ghost use Rattle.named_items.specs.Pairs.{HasNoOrphans, IsKept};
+ghost use Rattle.named_items.specs.Seen.{SawBelow};
 ghost use Rattle.named_items.specs.Looking.{HasIds};
-ghost use Rattle.named_items.specs.Orphans.{KeepsSettings, LooksAt, RemovalEnds, SpendsOnOne};
+ghost use Rattle.named_items.specs.Orphans.{IsCleanBelow, KeepsSettings, LooksAt, RemovalEnds, SpendsOnOne};
 
+use crate::keeping::is_kept_next;
 use crate::numbering::IdLayout;
+use crate::seen::SeenNames;
 use crate::store::ItemStore;
 use flash_sim::{Flash, PowerLost, Steps};
 use std::sync::ledger::Ledger;
+
+// Deletes the item of an id that is neither the count nor a part of a setting in effect, and fills
+// the index anew.
+fn remove_orphan<N: IdLayout, S: ItemStore, F: Flash, L: Ledger>(
+    store: &mut S,
+    flash: &mut F,
+    index: &mut S::Index,
+    id: u32,
+    steps: &mut Steps<L>,
+) -> Result<(), PowerLost>
+    requires ids { HasIds N.top S.is_id }
+    requires lawful { IsLawfulFor (F.device flash.old).banks (S.mounted_on store.old) }
+    requires stands { StandsOn S.mounted_on S.stands (F.device flash.old) store.old }
+    requires known { id < N.top }
+    requires orphan { let area = S.mounted_on store.old in
+        IsKept (N.numbering area) (on S.contents (F.device flash.old) area) id → ⊥ }
+
+    ensures touches { Touches (S.mounted_on store.old ∷ []) (F.device flash.old)
+        (F.device flash.new) (is_err result) }
+    ensures store { StaysMounted S.mounted_on S.stands S.runs S.damage (F.device flash.new)
+        store.old store.new (is_err result) }
+    ensures keeps { let area = S.mounted_on store.old in
+        KeepsSettings (N.numbering area) (on S.contents (F.device flash.old) area)
+        (on S.contents (F.device flash.new) area) }
+    ensures ends { let d = F.device flash.old in let e = F.device flash.new in
+        let area = S.mounted_on store.old in
+        LooksAt (N.numbering area) d e (on S.contents d area) (on S.contents e area) id
+        (is_err result) }
+    ensures units { let d = F.device flash.old in let e = F.device flash.new in
+        let area = S.mounted_on store.old in
+        SpendsOnOne (removal_units (geometry_of d area)) d e (on S.contents d area)
+        (on S.contents e area) (is_err result) }
+    ensures written { StaysWritten (F.device flash.old) (F.device flash.new)
+        (S.mounted_on store.old) }
+    ensures describes { is_err result ≡ false
+        → HoldsOn (S.describes index.new) (F.device flash.new) (S.mounted_on store.new) }
+    ensures gone { is_err result ≡ false
+        → finite.get (on S.contents (F.device flash.new) (S.mounted_on store.old)) id ≡ None }
+{
+    store.delete(flash, id, steps)?;
+    store.fill_index(flash, index, steps);
+    Ok(())
+}
 
 /// Deletes an item, unless it is the count or a part of a setting in effect: then nothing is
 /// programmed. The index then has the items that are left. No other item changes, whatever the
@@ -63,9 +109,57 @@ pub fn remove_if_orphan<N: IdLayout, S: ItemStore, F: Flash, L: Ledger>(
     if N::is_kept(store, flash, index, id, steps) {
         return Ok(());
     }
-    store.delete(flash, id, steps)?;
-    store.fill_index(flash, index, steps);
-    Ok(())
+    remove_orphan::<N, S, F, L>(store, flash, index, id, steps)
+}
+
+// Deletes an item, unless it is the count or a part of a setting in effect, as `remove_if_orphan`
+// does. Below the id no orphan is left. The set has the names below, and gets the name at the id.
+fn remove_next<N: IdLayout, S: ItemStore, F: Flash, L: Ledger>(
+    store: &mut S,
+    flash: &mut F,
+    index: &mut S::Index,
+    seen: &mut SeenNames,
+    id: u32,
+    steps: &mut Steps<L>,
+) -> Result<(), PowerLost>
+    requires ids { HasIds N.top S.is_id }
+    requires lawful { IsLawfulFor (F.device flash.old).banks (S.mounted_on store.old) }
+    requires stands { StandsOn S.mounted_on S.stands (F.device flash.old) store.old }
+    requires describes { HoldsOn (S.describes index.old) (F.device flash.old)
+        (S.mounted_on store.old) }
+    requires known { id < N.top }
+    requires clean { let area = S.mounted_on store.old in
+        IsCleanBelow (N.numbering area) (on S.contents (F.device flash.old) area) id }
+    requires saw { let area = S.mounted_on store.old in
+        SawBelow (N.numbering area) (on S.contents (F.device flash.old) area) seen.old.words id }
+
+    ensures touches { Touches (S.mounted_on store.old ∷ []) (F.device flash.old)
+        (F.device flash.new) (is_err result) }
+    ensures store { StaysMounted S.mounted_on S.stands S.runs S.damage (F.device flash.new)
+        store.old store.new (is_err result) }
+    ensures keeps { let area = S.mounted_on store.old in
+        KeepsSettings (N.numbering area) (on S.contents (F.device flash.old) area)
+        (on S.contents (F.device flash.new) area) }
+    ensures ends { let d = F.device flash.old in let e = F.device flash.new in
+        let area = S.mounted_on store.old in
+        LooksAt (N.numbering area) d e (on S.contents d area) (on S.contents e area) id
+        (is_err result) }
+    ensures units { let d = F.device flash.old in let e = F.device flash.new in
+        let area = S.mounted_on store.old in
+        SpendsOnOne (removal_units (geometry_of d area)) d e (on S.contents d area)
+        (on S.contents e area) (is_err result) }
+    ensures written { StaysWritten (F.device flash.old) (F.device flash.new)
+        (S.mounted_on store.old) }
+    ensures describes { is_err result ≡ false
+        → HoldsOn (S.describes index.new) (F.device flash.new) (S.mounted_on store.new) }
+    ensures saw { let area = S.mounted_on store.old in
+        is_err result ≡ false → SawBelow (N.numbering area)
+        (on S.contents (F.device flash.new) area) seen.new.words (id + 1) }
+{
+    if is_kept_next::<N, S, F, L>(store, flash, index, seen, id, steps) {
+        return Ok(());
+    }
+    remove_orphan::<N, S, F, L>(store, flash, index, id, steps)
 }
 
 /// Deletes every orphan, in rising order of ids: each item that is neither the count nor a part of
@@ -108,9 +202,10 @@ pub fn remove_orphans<N: IdLayout, S: ItemStore, F: Flash, L: Ledger>(
 {
     let mut index = S::new_index();
     store.fill_index(flash, &mut index, steps);
+    let mut seen = SeenNames::new();
     let mut at = store.next_by(flash, &index, None, steps);
     while let Some(id) = at {
-        remove_if_orphan::<N, S, F, L>(store, flash, &mut index, id, steps)?;
+        remove_next::<N, S, F, L>(store, flash, &mut index, &mut seen, id, steps)?;
         at = store.next_by(flash, &index, Some(id), steps);
     }
     Ok(())

@@ -1,4 +1,4 @@
-use Rattle.std.proofs.Common.{◌≡◌, ◌*◌, ◌∷◌, [], false, true, None, refl, sym, ap, subst, ◌∙◌, inr}
+use Rattle.std.proofs.Common.{◌≡◌, ℕ, ◌*◌, ◌∷◌, [], false, true, None, refl, sym, ap, subst, ◌∙◌, inr, arith}
 use Rattle.std.specs.FinMap.{get, len}
 use Rattle.flash_sim.specs.Device.{Device}
 use Rattle.flash_map.specs.declared.area.Area.{Area}
@@ -11,7 +11,7 @@ use Rattle.flash_map.specs.On.{on}
 use Rattle.item_laws.specs.Items.{Items}
 use Rattle.backend_api.specs.Room.{removal_units}
 use Rattle.backend_api.specs.Written.{StaysWritten}
-use Rattle.named_items.specs.Orphans.{KeepsSettings}
+use Rattle.named_items.specs.Orphans.{KeepsSettings, StopsAt}
 use Rattle.named_items.proofs.RemovalUnits.{store-mounted, all-removed}
 use Rattle.named_items.proofs.SpendSteps.{geometry-stays}
 use Rattle.named_items.specs.Pairs.{settings_in, HasNoOrphans}
@@ -67,6 +67,9 @@ returns-in-Ok-remove_orphans g c = record {
   touches = let e : Device = g.F.Flash.device c.mount.new.flash in
       let f : Device = g.F.Flash.device c.remove_orphans.new.flash in
       then c.in-Ok.ensures.touches (subst (λ (x : Area). Touches (x ∷ []) e f false) c.in-Ok.ensures.on c.in-Ok-remove_orphans.ensures.touches);
+  order = λ none.
+      let f : Device = g.F.Flash.device c.remove_orphans.new.flash in
+      subst (λ (x : Area). HasNoOrphans (g.N.IdLayout.numbering x) (on g.S.ItemStore.contents f x)) c.in-Ok.ensures.on c.in-Ok-remove_orphans.ensures.ends;
   ends = c.in-Ok.ensures.ends;
 }
 
@@ -114,6 +117,13 @@ returns-in-Err-remove_orphans g c = record {
   sound = λ none.
       let f : Device = g.F.Flash.device c.remove_orphans.new.flash in
       subst (λ (x : Area). on g.S.ItemStore.damage f x ≡ None) c.in-Ok.ensures.on c.remove_orphans.ensures.store.sound;
+  order = λ none.
+      let e : Device = g.F.Flash.device c.mount.new.flash in
+      let f : Device = g.F.Flash.device c.remove_orphans.new.flash in
+      let own : Area = c.args.area in
+      let keeps : on g.S.ItemStore.contents e own ≡ on g.S.ItemStore.contents (g.F.Flash.device c.args.flash.now) own = c.in-Ok.ensures.keeps none in
+      subst (λ (m : Items). (id : ℕ) × StopsAt (g.N.IdLayout.numbering own) m (on g.S.ItemStore.contents f own) id) keeps
+      (subst (λ (x : Area). (id : ℕ) × StopsAt (g.N.IdLayout.numbering x) (on g.S.ItemStore.contents e x) (on g.S.ItemStore.contents f x) id) c.in-Ok.ensures.on c.in-Err-remove_orphans.ensures.ends);
   ends = c.in-Ok.ensures.ends;
   store = tt;
 }
@@ -126,6 +136,7 @@ returns-in-Err g c = record {
     kept = λ id is. ap (λ (m : Items). get m id) (c.in-Err.ensures.keeps none);
     gone = λ id. inr (ap (λ (m : Items). get m id) (c.in-Err.ensures.keeps none));
   };
+  order = λ none. (0, record { below = λ other less. absurd (omega arith); above = λ other more. ap (λ (m : Items). get m other) (c.in-Err.ensures.keeps none) });
   touches = c.in-Err.ensures.touches;
   ends = c.in-Err.ensures.ends;
   sound = c.in-Err.ensures.sound;

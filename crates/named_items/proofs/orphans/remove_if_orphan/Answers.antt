@@ -1,161 +1,50 @@
-use Rattle.std.proofs.Common.{refl, sym, ap, ◌∙◌, inr, arith, Bool, subst, ◌∷◌, []}
-use Rattle.std.specs.Prelude.{is_err}
+use Rattle.std.proofs.Common.{◌∷◌, [], refl}
 use Rattle.std.proofs.lemmas.Bool.{false≢true}
 use Rattle.flash_sim.specs.Device.{Device}
 use Rattle.flash_map.specs.declared.area.Area.{Area}
 use Rattle.flash_map.specs.Area.{geometry_of, sectors_of}
-use Rattle.flash_map.proofs.SpendingLemmas.{spends_none}
 use Rattle.flash_map.specs.On.{on}
+use Rattle.flash_map.proofs.Touches.{untouched}
 use Rattle.item_laws.specs.Items.{Items}
 use Rattle.backend_api.specs.Room.{removal_units}
-use Rattle.named_items.specs.Numbering.{Numbering}
-use Rattle.named_items.specs.Pairs.{IsKept}
-use Rattle.named_items.proofs.RemovalUnits.{per-none, delete-per_item, delete-present}
-use Rattle.named_items.proofs.RemovedSteps.{delete-alters, delete-gone, delete-still}
-use Rattle.named_items.proofs.OrphanSteps.{removes-none, delete-keeps, delete-removes, delete-kept, delete-rests}
-use Rattle.flash_map.specs.Touches.{Touches}
-use Rattle.flash_map.proofs.Touches.{untouched}
+use Rattle.named_items.proofs.OrphanSteps.{keeps-same, looks-kept, spends-kept}
 use Rattle.named_items.proofs.orphans.remove_if_orphan.Goals as goal
 
--- ---- the item is kept
-
 pub returns-then-is_kept : goal.returns-then-is_kept
-returns-then-is_kept g c = record {
-  store = let d : Device = g.F.Flash.device c.args.flash.now in
-      let area : Area = g.S.ItemStore.mounted_on c.args.store.now in
-      record {
+returns-then-is_kept g c =
+    let d : Device = g.F.Flash.device c.args.flash.now in
+    let area : Area = g.S.ItemStore.mounted_on c.args.store.now in
+    let items : Items = on g.S.ItemStore.contents d area in
+    record {
+      touches = untouched (area ∷ []) d;
+      store = record {
         area = refl;
         sound = g.met.S.ItemStore.stands_reads c.args.store.now (geometry_of d area) (sectors_of d area) c.requires.stands;
         up = λ kept. c.requires.stands;
         down = λ lost. absurd (false≢true lost);
       };
-  keeps = record { settings = refl; kept = λ id is. refl; gone = λ id. inr refl };
-  ends = let d : Device = g.F.Flash.device c.args.flash.now in
-      let area : Area = g.S.ItemStore.mounted_on c.args.store.now in
-      record {
-        others = λ other apart. refl;
-        still = λ id is. is;
-        idle = λ is. refl;
-        rests = λ clean. refl;
-        present = λ lost. absurd (false≢true lost);
-        removes = λ ok. removes-none (g.N.IdLayout.numbering area) (g.met.N.IdLayout.is_numbering area) (on g.S.ItemStore.contents d area) c.args.id (c.is_kept.ensures.yes_it c.if-is_kept.true);
-      };
-  units = let d : Device = g.F.Flash.device c.args.flash.now in
-      let area : Area = g.S.ItemStore.mounted_on c.args.store.now in
-      record { at_most = (0, omega arith, spends_none d); per_item = λ ok. per-none (removal_units (geometry_of d area)) d (on g.S.ItemStore.contents d area) };
-  touches = untouched (g.S.ItemStore.mounted_on c.args.store.now ∷ []) (g.F.Flash.device c.args.flash.now);
-  written = λ blank. blank;
-  describes = λ kept. c.requires.describes;
-}
-
--- ---- it was deleted
+      keeps = keeps-same (g.N.IdLayout.numbering area) items;
+      ends = looks-kept (g.N.IdLayout.numbering area) (g.met.N.IdLayout.is_numbering area) items c.args.id d (c.is_kept.ensures.yes_it c.if-is_kept.true);
+      units = spends-kept (removal_units (geometry_of d area)) d items;
+      written = λ blank. blank;
+      describes = λ kept. c.requires.describes;
+    }
 
 pub returns : goal.returns
-returns g c = record {
-  store = record {
-    area = c.delete.ensures.area;
-    sound = c.delete.ensures.sound;
-    up = λ kept. c.delete.ensures.stands (ap is_err c.in_ok-delete.was);
-    down = λ lost. absurd (false≢true lost);
-  };
-  keeps = let d : Device = g.F.Flash.device c.args.flash.now in
-      let e : Device = g.F.Flash.device c.delete.new.flash in
-      let area : Area = g.S.ItemStore.mounted_on c.args.store.now in
-      let n : Numbering = g.N.IdLayout.numbering area in
-      let before : Items = on g.S.ItemStore.contents d area in
-      let after : Items = on g.S.ItemStore.contents e area in
-      let orphan : ¬ IsKept n before c.args.id = c.is_kept.ensures.not_it c.if-is_kept.false in
-      record {
-        settings = delete-keeps n (g.met.N.IdLayout.is_numbering area) before c.args.id orphan d e after c.delete.result c.delete.ensures.ends;
-        kept = delete-kept n (g.met.N.IdLayout.is_numbering area) before c.args.id orphan d e after c.delete.result c.delete.ensures.ends;
-        gone = delete-gone before after c.args.id d e c.delete.result c.delete.ensures.ends;
-      };
-  ends = let d : Device = g.F.Flash.device c.args.flash.now in
-      let e : Device = g.F.Flash.device c.delete.new.flash in
-      let area : Area = g.S.ItemStore.mounted_on c.args.store.now in
-      let n : Numbering = g.N.IdLayout.numbering area in
-      let before : Items = on g.S.ItemStore.contents d area in
-      let after : Items = on g.S.ItemStore.contents e area in
-      let orphan : ¬ IsKept n before c.args.id = c.is_kept.ensures.not_it c.if-is_kept.false in
-      record {
-        others = delete-alters before after c.args.id d e c.delete.result c.delete.ensures.ends;
-        still = delete-still before after c.args.id n (g.met.N.IdLayout.is_numbering area) orphan d e c.delete.result c.delete.ensures.ends;
-        idle = λ kept. absurd (orphan kept);
-        rests = λ clean. delete-rests n (g.met.N.IdLayout.is_numbering area) before c.args.id orphan d e after c.delete.result c.delete.ensures.ends clean;
-        present = λ lost. absurd (false≢true lost);
-        removes = λ kept. delete-removes n (g.met.N.IdLayout.is_numbering area) before c.args.id orphan d e after c.delete.result (ap is_err c.in_ok-delete.was) c.delete.ensures.ends;
-      };
-  units = let d : Device = g.F.Flash.device c.args.flash.now in
-      let e : Device = g.F.Flash.device c.delete.new.flash in
-      let area : Area = g.S.ItemStore.mounted_on c.args.store.now in
-      let n : Numbering = g.N.IdLayout.numbering area in
-      let before : Items = on g.S.ItemStore.contents d area in
-      let after : Items = on g.S.ItemStore.contents e area in
-      let orphan : ¬ IsKept n before c.args.id = c.is_kept.ensures.not_it c.if-is_kept.false in
-      record {
-        at_most = c.delete.ensures.removal;
-        per_item = λ kept. delete-per_item (removal_units (geometry_of d area)) d e before after c.args.id c.delete.result (ap is_err c.in_ok-delete.was) c.delete.ensures.ends c.delete.ensures.removal;
-      };
-  touches = c.in_ok-delete.ensures.touches;
-  written = c.delete.ensures.written;
-  describes = λ kept. c.fill_index.ensures;
-}
+returns g c =
+    let step = c.remove_orphan.ensures in
+    record {
+      touches = step.touches;
+      store = step.store;
+      keeps = step.keeps;
+      ends = step.ends;
+      units = step.units;
+      written = step.written;
+      describes = step.describes;
+    }
 
--- ---- where it was cut
-
-pub returns-in_err-delete : goal.returns-in_err-delete
-returns-in_err-delete g c = record {
-  store = record {
-    area = c.delete.ensures.area;
-    sound = c.delete.ensures.sound;
-    up = λ kept. absurd (false≢true (sym kept ∙ c.from_residual.ensures.0));
-    down = λ lost. c.delete.ensures.down (ap is_err c.in_err-delete.was);
-  };
-  keeps = let d : Device = g.F.Flash.device c.args.flash.now in
-      let e : Device = g.F.Flash.device c.delete.new.flash in
-      let area : Area = g.S.ItemStore.mounted_on c.args.store.now in
-      let n : Numbering = g.N.IdLayout.numbering area in
-      let before : Items = on g.S.ItemStore.contents d area in
-      let after : Items = on g.S.ItemStore.contents e area in
-      let orphan : ¬ IsKept n before c.args.id = c.is_kept.ensures.not_it c.if-is_kept.false in
-      record {
-        settings = delete-keeps n (g.met.N.IdLayout.is_numbering area) before c.args.id orphan d e after c.delete.result c.delete.ensures.ends;
-        kept = delete-kept n (g.met.N.IdLayout.is_numbering area) before c.args.id orphan d e after c.delete.result c.delete.ensures.ends;
-        gone = delete-gone before after c.args.id d e c.delete.result c.delete.ensures.ends;
-      };
-  ends = let d : Device = g.F.Flash.device c.args.flash.now in
-      let e : Device = g.F.Flash.device c.delete.new.flash in
-      let area : Area = g.S.ItemStore.mounted_on c.args.store.now in
-      let n : Numbering = g.N.IdLayout.numbering area in
-      let before : Items = on g.S.ItemStore.contents d area in
-      let after : Items = on g.S.ItemStore.contents e area in
-      let orphan : ¬ IsKept n before c.args.id = c.is_kept.ensures.not_it c.if-is_kept.false in
-      record {
-        others = delete-alters before after c.args.id d e c.delete.result c.delete.ensures.ends;
-        still = delete-still before after c.args.id n (g.met.N.IdLayout.is_numbering area) orphan d e c.delete.result c.delete.ensures.ends;
-        idle = λ kept. absurd (orphan kept);
-        rests = λ clean. delete-rests n (g.met.N.IdLayout.is_numbering area) before c.args.id orphan d e after c.delete.result c.delete.ensures.ends clean;
-        present = λ lost. delete-present d e before after c.args.id c.delete.result (ap is_err c.in_err-delete.was) c.delete.ensures.ends;
-        removes = λ kept. absurd (false≢true (sym kept ∙ c.from_residual.ensures.0));
-      };
-  units = let d : Device = g.F.Flash.device c.args.flash.now in
-      let e : Device = g.F.Flash.device c.delete.new.flash in
-      let area : Area = g.S.ItemStore.mounted_on c.args.store.now in
-      let n : Numbering = g.N.IdLayout.numbering area in
-      let before : Items = on g.S.ItemStore.contents d area in
-      let after : Items = on g.S.ItemStore.contents e area in
-      let orphan : ¬ IsKept n before c.args.id = c.is_kept.ensures.not_it c.if-is_kept.false in
-      record {
-        at_most = c.delete.ensures.removal;
-        per_item = λ kept. absurd (false≢true (sym kept ∙ c.from_residual.ensures.0));
-      };
-  touches = subst (λ (lost : Bool). Touches (g.S.ItemStore.mounted_on c.args.store.now ∷ []) (g.F.Flash.device c.args.flash.now) (g.F.Flash.device c.delete.new.flash) lost) (sym c.from_residual.ensures.0) c.in_err-delete.ensures.touches;
-  written = c.delete.ensures.written;
-  describes = λ kept. absurd (false≢true (sym kept ∙ c.from_residual.ensures.0));
-}
+pub remove_orphan-requires : goal.remove_orphan-requires
+remove_orphan-requires g c = record { ids = c.requires.ids; lawful = c.requires.lawful; stands = c.requires.stands; known = c.requires.known; orphan = c.is_kept.ensures.not_it c.if-is_kept.false }
 
 pub is_kept-requires : goal.is_kept-requires
 is_kept-requires g c = record { ids = c.requires.ids; lawful = c.requires.lawful; stands = c.requires.stands; describes = c.requires.describes; known = c.requires.known }
-
-pub delete-requires : goal.delete-requires
-delete-requires g c = record { lawful = c.requires.lawful; stands = c.requires.stands; known = c.requires.ids.all c.args.id c.requires.known }

@@ -1,5 +1,5 @@
 -- In the loop the store's area is that of the start by an equation alone, so each fact of a step is moved along it.
-use Rattle.std.proofs.Common.{◌≡◌, ℕ, ◌<◌, ◌∷◌, [], Bool, false, true, Option, Some, None, refl, sym, ap, subst, ◌∙◌, inr}
+use Rattle.std.proofs.Common.{◌≡◌, ℕ, ◌+◌, ◌<◌, ◌∷◌, [], Bool, false, true, Option, Some, None, refl, sym, ap, subst, ◌∙◌, inr}
 use Rattle.std.specs.Prelude.{IfSome}
 use Rattle.std.specs.FinMap.{get}
 use Rattle.std.proofs.lemmas.Bool.{false≢true}
@@ -16,13 +16,15 @@ use Rattle.named_items.specs.Pairs.{settings_in, AltersOnly, HasNoOrphans, IsKep
 use Rattle.named_items.specs.StoreEnds.{IsNextId}
 use Rattle.backend_api.specs.Room.{removal_units}
 use Rattle.backend_api.specs.Written.{StaysWritten}
-use Rattle.named_items.specs.Orphans.{KeepsEach, OnlyRemoves, Removes, SpendsPerItem, StaysKept, StopsAt}
+use Rattle.named_items.specs.Orphans.{IsCleanBelow, KeepsEach, OnlyRemoves, Removes, SpendsPerItem, StaysKept, StopsAt}
 use Rattle.named_items.proofs.RemovalUnits.{per-none, per-most, per-then, per-cut}
 use Rattle.named_items.proofs.RemovedSteps.{StaysAhead, gone-then, ahead-start, ahead-step, stops-at, removal-cut}
 use Rattle.named_items.proofs.SpendSteps.{geometry-stays}
 use Rattle.named_items.proofs.SoFar.{HasNoneBefore, ids_left}
 use Rattle.named_items.proofs.OrphanSteps.{kept-more, stays-more, orphans-start, orphans-step, orphans-end, left-smaller}
 use Rattle.named_items.proofs.ChangeSteps.{moved-lawful}
+use Rattle.named_items.specs.Seen.{SawBelow}
+use Rattle.named_items.proofs.KeepSteps.{saw-first, saw-next}
 use Rattle.named_items.proofs.orphans.remove_orphans.Goals as goal
 
 pub loop-at-init : goal.loop-at-init
@@ -43,27 +45,36 @@ loop-at-init g c =
       written = λ blank. blank;
       so_far = orphans-start (g.N.IdLayout.numbering own) (on g.S.ItemStore.contents a own) c.next_by-at.result c.next_by-at.ensures.next;
       per_item = per-none (removal_units (geometry_of a own)) a (on g.S.ItemStore.contents a own);
+      saw = saw-first (g.N.IdLayout.numbering own) (on g.S.ItemStore.contents a own) c.new-seen.result.words c.next_by-at.result c.next_by-at.ensures.next;
       known = IfSome_then c.next_by-at.result c.next_by-at.ensures.known (λ id is. c.requires.ids.only id is);
     }
 
-pub remove_if_orphan-requires : goal.remove_if_orphan-requires
-remove_if_orphan-requires g c = record {
+pub remove_next-requires : goal.remove_next-requires
+remove_next-requires g c = record {
   known = subst (λ (o : Option ℕ). IfSome o (λ id. id < g.N.IdLayout.top)) c.in-Some.is c.loop-at.invariant.known;
   ids = c.requires.ids;
   lawful = moved-lawful (g.S.ItemStore.mounted_on c.args.store.now) (g.S.ItemStore.mounted_on c.loop-at.store) c.loop-at.invariant.area (g.F.Flash.device c.args.flash.now) (g.F.Flash.device c.loop-at.flash) (c.loop-at.invariant.touches.banks) c.requires.lawful;
   stands = c.loop-at.invariant.stands;
   describes = c.loop-at.invariant.describes;
+  clean = let own : Area = g.S.ItemStore.mounted_on c.args.store.now in
+      let b : Device = g.F.Flash.device c.loop-at.flash in
+      subst (λ (x : Area). IsCleanBelow (g.N.IdLayout.numbering x) (on g.S.ItemStore.contents b x) c.in-Some.id) (sym c.loop-at.invariant.area)
+      (subst (λ (o : Option ℕ). HasNoneBefore (g.N.IdLayout.numbering own) (on g.S.ItemStore.contents b own) o) c.in-Some.is c.loop-at.invariant.so_far);
+  saw = let own : Area = g.S.ItemStore.mounted_on c.args.store.now in
+      let b : Device = g.F.Flash.device c.loop-at.flash in
+      subst (λ (x : Area). SawBelow (g.N.IdLayout.numbering x) (on g.S.ItemStore.contents b x) c.loop-at.seen.words c.in-Some.id) (sym c.loop-at.invariant.area)
+      (subst (λ (o : Option ℕ). IfSome o (λ id. SawBelow (g.N.IdLayout.numbering own) (on g.S.ItemStore.contents b own) c.loop-at.seen.words id)) c.in-Some.is c.loop-at.invariant.saw);
 }
 
 pub loop-at-preserved : goal.loop-at-preserved
 loop-at-preserved g c =
     let a : Device = g.F.Flash.device c.args.flash.now in
     let b : Device = g.F.Flash.device c.loop-at.flash in
-    let e : Device = g.F.Flash.device c.remove_if_orphan.new.flash in
+    let e : Device = g.F.Flash.device c.remove_next.new.flash in
     let own : Area = g.S.ItemStore.mounted_on c.args.store.now in
     let kept = c.loop-at.invariant in
-    let step = c.in_ok-remove_if_orphan.ensures in
-    let area : g.S.ItemStore.mounted_on c.remove_if_orphan.new.store ≡ own = step.store.area ∙ kept.area in
+    let step = c.in_ok-remove_next.ensures in
+    let area : g.S.ItemStore.mounted_on c.remove_next.new.store ≡ own = step.store.area ∙ kept.area in
     record {
       touches = then kept.touches (subst (λ (x : Area). Touches (x ∷ []) b e false) kept.area step.touches);
       area = area;
@@ -93,44 +104,47 @@ loop-at-preserved g c =
       per_item = per-then (removal_units (geometry_of a own)) a b e (on g.S.ItemStore.contents a own) (on g.S.ItemStore.contents b own) kept.per_item (on g.S.ItemStore.contents e own)
           (subst (λ (k : Geometry). SpendsPerItem (removal_units k) b e (on g.S.ItemStore.contents b own) (on g.S.ItemStore.contents e own)) (geometry-stays a b own kept.touches.banks)
           (subst (λ (x : Area). SpendsPerItem (removal_units (geometry_of b x)) b e (on g.S.ItemStore.contents b x) (on g.S.ItemStore.contents e x)) kept.area (step.units.per_item refl)));
+      saw = saw-next (g.N.IdLayout.numbering own) (on g.S.ItemStore.contents e own) c.remove_next.new.seen.words c.in-Some.id c.next_by-at-in-Some.result
+          (subst (λ (x : Area). SawBelow (g.N.IdLayout.numbering x) (on g.S.ItemStore.contents e x) c.remove_next.new.seen.words (c.in-Some.id + 1)) kept.area (step.saw refl))
+          (subst (λ (x : Area). IsNextId (on g.S.ItemStore.contents e x) (Some c.in-Some.id) c.next_by-at-in-Some.result) area c.next_by-at-in-Some.ensures.next);
       known = IfSome_then c.next_by-at-in-Some.result c.next_by-at-in-Some.ensures.known (λ id is. c.requires.ids.only id is);
     }
 
 pub loop-at-smaller : goal.loop-at-smaller
 loop-at-smaller g c =
-    let e : Device = g.F.Flash.device c.remove_if_orphan.new.flash in
+    let e : Device = g.F.Flash.device c.remove_next.new.flash in
     let known : IfSome c.next_by-at-in-Some.result (λ id. id < g.N.IdLayout.top) = IfSome_then c.next_by-at-in-Some.result c.next_by-at-in-Some.ensures.known (λ id is. c.requires.ids.only id is) in
     subst (λ (o : Option ℕ). ids_left c.next_by-at-in-Some.result < ids_left o) (sym c.in-Some.is)
-    (left-smaller g.N.IdLayout.top (on g.S.ItemStore.contents e (g.S.ItemStore.mounted_on c.remove_if_orphan.new.store)) c.in-Some.id c.next_by-at-in-Some.result g.met.N.IdLayout.top_small known
+    (left-smaller g.N.IdLayout.top (on g.S.ItemStore.contents e (g.S.ItemStore.mounted_on c.remove_next.new.store)) c.in-Some.id c.next_by-at-in-Some.result g.met.N.IdLayout.top_small known
     (subst (λ (o : Option ℕ). IfSome o (λ id. id < g.N.IdLayout.top)) c.in-Some.is c.loop-at.invariant.known) c.next_by-at-in-Some.ensures.next)
 
-pub returns-in_err-remove_if_orphan : goal.returns-in_err-remove_if_orphan
-returns-in_err-remove_if_orphan g c = record {
+pub returns-in_err-remove_next : goal.returns-in_err-remove_next
+returns-in_err-remove_next g c = record {
   touches = let b : Device = g.F.Flash.device c.loop-at.flash in
-      let e : Device = g.F.Flash.device c.remove_if_orphan.new.flash in
+      let e : Device = g.F.Flash.device c.remove_next.new.flash in
       let kept = c.loop-at.invariant in
-      subst (λ (lost : Bool). Touches (g.S.ItemStore.mounted_on c.args.store.now ∷ []) (g.F.Flash.device c.args.flash.now) e lost) (sym c.from_residual.ensures.0) (then kept.touches (subst (λ (x : Area). Touches (x ∷ []) b e true) kept.area c.in_err-remove_if_orphan.ensures.touches));
+      subst (λ (lost : Bool). Touches (g.S.ItemStore.mounted_on c.args.store.now ∷ []) (g.F.Flash.device c.args.flash.now) e lost) (sym c.from_residual.ensures.0) (then kept.touches (subst (λ (x : Area). Touches (x ∷ []) b e true) kept.area c.in_err-remove_next.ensures.touches));
   rests = λ clean.
       let b : Device = g.F.Flash.device c.loop-at.flash in
       let own : Area = g.S.ItemStore.mounted_on c.args.store.now in
       let kept = c.loop-at.invariant in
       let same = kept.same clean in
-      c.in_err-remove_if_orphan.ensures.ends.rests (subst (λ (x : Area). HasNoOrphans (g.N.IdLayout.numbering x) (on g.S.ItemStore.contents b x)) (sym kept.area) (subst (λ (d : Device). HasNoOrphans (g.N.IdLayout.numbering own) (on g.S.ItemStore.contents d own)) (sym same) clean)) ∙ same;
+      c.in_err-remove_next.ensures.ends.rests (subst (λ (x : Area). HasNoOrphans (g.N.IdLayout.numbering x) (on g.S.ItemStore.contents b x)) (sym kept.area) (subst (λ (d : Device). HasNoOrphans (g.N.IdLayout.numbering own) (on g.S.ItemStore.contents d own)) (sym same) clean)) ∙ same;
   at_most = let a : Device = g.F.Flash.device c.args.flash.now in
       let b : Device = g.F.Flash.device c.loop-at.flash in
-      let e : Device = g.F.Flash.device c.remove_if_orphan.new.flash in
+      let e : Device = g.F.Flash.device c.remove_next.new.flash in
       let own : Area = g.S.ItemStore.mounted_on c.args.store.now in
       let kept = c.loop-at.invariant in
       per-cut (removal_units (geometry_of a own)) a b e (on g.S.ItemStore.contents a own) (on g.S.ItemStore.contents b own) kept.per_item c.in-Some.id
-      (subst (λ (x : Area). ¬ (get (on g.S.ItemStore.contents b x) c.in-Some.id ≡ None)) kept.area (c.in_err-remove_if_orphan.ensures.ends.present refl))
+      (subst (λ (x : Area). ¬ (get (on g.S.ItemStore.contents b x) c.in-Some.id ≡ None)) kept.area (c.in_err-remove_next.ensures.ends.present refl))
       (subst (λ (k : Geometry). SpendsAtMost b e (removal_units k)) (geometry-stays a b own kept.touches.banks)
-      (subst (λ (x : Area). SpendsAtMost b e (removal_units (geometry_of b x))) kept.area c.in_err-remove_if_orphan.ensures.units.at_most));
+      (subst (λ (x : Area). SpendsAtMost b e (removal_units (geometry_of b x))) kept.area c.in_err-remove_next.ensures.units.at_most));
   written = λ blank.
       let b : Device = g.F.Flash.device c.loop-at.flash in
-      let e : Device = g.F.Flash.device c.remove_if_orphan.new.flash in
-      c.loop-at.invariant.written (subst (λ (x : Area). StaysWritten b e x) c.loop-at.invariant.area c.in_err-remove_if_orphan.ensures.written blank);
-  store = let e : Device = g.F.Flash.device c.remove_if_orphan.new.flash in
-      let step = c.in_err-remove_if_orphan.ensures in
+      let e : Device = g.F.Flash.device c.remove_next.new.flash in
+      c.loop-at.invariant.written (subst (λ (x : Area). StaysWritten b e x) c.loop-at.invariant.area c.in_err-remove_next.ensures.written blank);
+  store = let e : Device = g.F.Flash.device c.remove_next.new.flash in
+      let step = c.in_err-remove_next.ensures in
       record {
         area = step.store.area ∙ c.loop-at.invariant.area;
         sound = subst (λ (x : Area). on g.S.ItemStore.damage e x ≡ None) c.loop-at.invariant.area step.store.sound;
@@ -139,27 +153,27 @@ returns-in_err-remove_if_orphan g c = record {
       };
   keeps = let a : Device = g.F.Flash.device c.args.flash.now in
       let b : Device = g.F.Flash.device c.loop-at.flash in
-      let e : Device = g.F.Flash.device c.remove_if_orphan.new.flash in
+      let e : Device = g.F.Flash.device c.remove_next.new.flash in
       let own : Area = g.S.ItemStore.mounted_on c.args.store.now in
       let kept = c.loop-at.invariant in
-      let step = c.in_err-remove_if_orphan.ensures in
+      let step = c.in_err-remove_next.ensures in
       record {
         settings = subst (λ (x : Area). settings_in (g.N.IdLayout.numbering x) (on g.S.ItemStore.contents e x) ≡ settings_in (g.N.IdLayout.numbering x) (on g.S.ItemStore.contents b x)) kept.area step.keeps.settings ∙ kept.keeps;
-        kept = kept-more (g.N.IdLayout.numbering own) (on g.S.ItemStore.contents a own) (on g.S.ItemStore.contents b own) (on g.S.ItemStore.contents e own) kept.kept (subst (λ (x : Area). KeepsEach (g.N.IdLayout.numbering x) (on g.S.ItemStore.contents b x) (on g.S.ItemStore.contents e x)) kept.area c.in_err-remove_if_orphan.ensures.keeps.kept);
-        gone = gone-then (on g.S.ItemStore.contents a own) (on g.S.ItemStore.contents b own) (on g.S.ItemStore.contents e own) kept.gone (subst (λ (x : Area). OnlyRemoves (on g.S.ItemStore.contents b x) (on g.S.ItemStore.contents e x)) kept.area c.in_err-remove_if_orphan.ensures.keeps.gone);
+        kept = kept-more (g.N.IdLayout.numbering own) (on g.S.ItemStore.contents a own) (on g.S.ItemStore.contents b own) (on g.S.ItemStore.contents e own) kept.kept (subst (λ (x : Area). KeepsEach (g.N.IdLayout.numbering x) (on g.S.ItemStore.contents b x) (on g.S.ItemStore.contents e x)) kept.area c.in_err-remove_next.ensures.keeps.kept);
+        gone = gone-then (on g.S.ItemStore.contents a own) (on g.S.ItemStore.contents b own) (on g.S.ItemStore.contents e own) kept.gone (subst (λ (x : Area). OnlyRemoves (on g.S.ItemStore.contents b x) (on g.S.ItemStore.contents e x)) kept.area c.in_err-remove_next.ensures.keeps.gone);
       };
   ends = let a : Device = g.F.Flash.device c.args.flash.now in
       let b : Device = g.F.Flash.device c.loop-at.flash in
-      let e : Device = g.F.Flash.device c.remove_if_orphan.new.flash in
+      let e : Device = g.F.Flash.device c.remove_next.new.flash in
       let own : Area = g.S.ItemStore.mounted_on c.args.store.now in
       let kept = c.loop-at.invariant in
       let n = g.N.IdLayout.numbering own in
       let stops : StopsAt n (on g.S.ItemStore.contents a own) (on g.S.ItemStore.contents e own) c.in-Some.id =
       stops-at (on g.S.ItemStore.contents a own) (on g.S.ItemStore.contents b own) (on g.S.ItemStore.contents e own) c.in-Some.id
-      (subst (λ (x : Area). AltersOnly (on g.S.ItemStore.contents b x) (on g.S.ItemStore.contents e x) c.in-Some.id) kept.area c.in_err-remove_if_orphan.ensures.ends.others)
+      (subst (λ (x : Area). AltersOnly (on g.S.ItemStore.contents b x) (on g.S.ItemStore.contents e x) c.in-Some.id) kept.area c.in_err-remove_next.ensures.ends.others)
       (subst (λ (o : Option ℕ). StaysAhead (on g.S.ItemStore.contents a own) (on g.S.ItemStore.contents b own) o) c.in-Some.is kept.ahead)
       n
-      (subst (λ (x : Area). StaysKept (g.N.IdLayout.numbering x) (on g.S.ItemStore.contents b x) (on g.S.ItemStore.contents e x)) kept.area c.in_err-remove_if_orphan.ensures.ends.still)
+      (subst (λ (x : Area). StaysKept (g.N.IdLayout.numbering x) (on g.S.ItemStore.contents b x) (on g.S.ItemStore.contents e x)) kept.area c.in_err-remove_next.ensures.ends.still)
       (subst (λ (o : Option ℕ). HasNoneBefore n (on g.S.ItemStore.contents b own) o) c.in-Some.is kept.so_far) in
       removal-cut n (on g.S.ItemStore.contents a own) (on g.S.ItemStore.contents e own) c.from_residual.result c.from_residual.ensures.0 (c.in-Some.id, stops);
 }
@@ -198,9 +212,9 @@ next_by-at-requires g c = record { lawful = c.requires.lawful; stands = c.requir
 pub next_by-at-requires-in-Some : goal.next_by-at-requires-in-Some
 next_by-at-requires-in-Some g c =
     let kept = c.loop-at.invariant in
-    let step = c.in_ok-remove_if_orphan.ensures in
+    let step = c.in_ok-remove_next.ensures in
     record {
-      lawful = moved-lawful (g.S.ItemStore.mounted_on c.args.store.now) (g.S.ItemStore.mounted_on c.remove_if_orphan.new.store) (step.store.area ∙ kept.area) (g.F.Flash.device c.args.flash.now) (g.F.Flash.device c.remove_if_orphan.new.flash) (step.touches.banks ∙ kept.touches.banks) c.requires.lawful;
+      lawful = moved-lawful (g.S.ItemStore.mounted_on c.args.store.now) (g.S.ItemStore.mounted_on c.remove_next.new.store) (step.store.area ∙ kept.area) (g.F.Flash.device c.args.flash.now) (g.F.Flash.device c.remove_next.new.flash) (step.touches.banks ∙ kept.touches.banks) c.requires.lawful;
       stands = step.store.up refl;
       describes = step.describes refl;
     }

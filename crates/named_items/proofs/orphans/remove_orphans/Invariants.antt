@@ -7,6 +7,7 @@ use Rattle.named_items.specs.Pairs.{settings_in, HasNoOrphans}
 use Rattle.backend_api.specs.Room.{removal_units}
 use Rattle.backend_api.specs.Written.{StaysWritten}
 use Rattle.named_items.specs.Orphans.{OnlyRemoves, SpendsPerItem}
+use Rattle.named_items.specs.Seen.{SawBelow}
 use Rattle.named_items.proofs.RemovedSteps.{StaysAhead}
 use Rattle.named_items.proofs.SoFar.{HasNoneBefore, ids_left}
 use Rattle.named_items.proofs.OrphanSteps.{StaysEach}
@@ -31,6 +32,7 @@ invariant-loop-at g l =
       written : StaysWritten a b own;
       so_far : HasNoneBefore (g.N.IdLayout.numbering own) (on g.S.ItemStore.contents b own) l.at;
       per_item : SpendsPerItem (removal_units (geometry_of a own)) a b (on g.S.ItemStore.contents a own) (on g.S.ItemStore.contents b own);
+      saw : IfSome l.at (λ id. SawBelow (g.N.IdLayout.numbering own) (on g.S.ItemStore.contents b own) l.seen.words id);
       known : IfSome l.at (λ id. id < g.N.IdLayout.top);
     }
 

@@ -1,0 +1,26 @@
+-- The names that a walk over the items has met, as bits of a table.
+use Rattle.std.specs.Prelude.{◌≡◌, ℕ, ◌+◌, ◌*◌, ◌/◌, ◌%◌, ◌^◌, ◌<◌, List, Some, fold, get_or}
+use Rattle.std.specs.Int.{bit_at}
+use Rattle.std.specs.FinMap.{get}
+use Rattle.item_laws.specs.Items.{Items}
+use Rattle.setting_name.specs.Name.{IsName}
+use Rattle.named_items.specs.Numbering.{Numbering}
+use Rattle.named_items.specs.Pairs.{IsInside}
+
+-- a hash of 32 bits
+abbrev pub hash : List ℕ → ℕ
+hash bytes = fold (λ hash byte. (hash * 31 % 2 ^ 32 + byte) % 2 ^ 32) 0 bytes
+
+-- the bit of a hash: which word it is in, and which bit of that word it is
+abbrev pub is_marked : List ℕ → ℕ → ℕ
+is_marked words hash = bit_at (get_or words (hash / 32 % 512) 0) (hash % 32)
+
+-- the bit of the name is set
+abbrev pub Saw : List ℕ → List ℕ → Type 0
+Saw words name = is_marked words (hash name) ≡ 1
+
+-- the bits of all lawful names are set that stand as items below this id, at places of names
+abbrev pub SawBelow : Numbering → Items → List ℕ → ℕ → Type 0
+SawBelow n items words id =
+    (place : ℕ) (name : List ℕ) → IsInside n items place → place < id → get items place ≡ Some name → IsName name
+    → Saw words name

@@ -87,10 +87,12 @@ module _ (n : Numbering) (items : Items) where
         let is : id ≡ n.count_id = count.is in
         absurd (omega arith)
     kept-part id for (inr part) = elim part.is [
-      | inl e ↦ (part.name,
-          subst (λ (k : ℕ). get items k ≡ Some part.name) (sym e) (named-at n items part.name part.place part.at),
-          at-lawful n items part.name part.place part.at,
-          subst (λ (k : ℕ). IsHeld n items part.name k) (sym e) (record { inside = part.at.inside; here = part.at.here }))
+      | inl e ↦ (
+        part.name,
+        subst (λ (k : ℕ). get items k ≡ Some part.name) (sym e) (named-at n items part.name part.place part.at),
+        at-lawful n items part.name part.place part.at,
+        subst (λ (k : ℕ). IsHeld n items part.name k) (sym e) (record { inside = part.at.inside; here = part.at.here }),
+      )
       | inr e ↦
           let to : id < n.first + n.step = for.to in
           let from : n.first ≤ part.place = part.at.inside.from in

@@ -23,7 +23,7 @@ pub use listing::all_settings;
 pub use lookup::{id_of_name, is_at, is_free, is_named, is_value, standing_value, value_of};
 pub use mounting::mount_store;
 pub use numbering::IdLayout;
-pub use orphans::{remove_if_orphan, remove_orphans};
+pub use orphans::remove_orphans;
 pub use putting::{NewNames, change_value, price_of_pair, put_new, refused, set_value};
 pub use store::ItemStore;
 pub use walking::{name_in, next_name};

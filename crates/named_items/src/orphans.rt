@@ -64,56 +64,9 @@ fn remove_orphan<N: IdLayout, S: ItemStore, F: Flash, L: Ledger>(
     Ok(())
 }
 
-/// Deletes an item, unless it is the count or a part of a setting in effect: then nothing is
-/// programmed. The index then has the items that are left. No other item changes, whatever the
-/// result. It spends at most the units and erases of one removal (`removal_units`), and none if the
-/// item stays. The area is all FF afterwards only if it was so before.
-///
-/// # Errors
-/// `PowerLost`, only if the id has an item: that item is as before, or gone. The settings and each
-/// item that is kept are as before.
-pub fn remove_if_orphan<N: IdLayout, S: ItemStore, F: Flash, L: Ledger>(
-    store: &mut S,
-    flash: &mut F,
-    index: &mut S::Index,
-    id: u32,
-    steps: &mut Steps<L>,
-) -> Result<(), PowerLost>
-    requires ids { HasIds N.top S.is_id }
-    requires lawful { IsLawfulFor (F.device flash.old).banks (S.mounted_on store.old) }
-    requires stands { StandsOn S.mounted_on S.stands (F.device flash.old) store.old }
-    requires describes { HoldsOn (S.describes index.old) (F.device flash.old)
-        (S.mounted_on store.old) }
-    requires known { id < N.top }
-
-    ensures touches { Touches (S.mounted_on store.old ∷ []) (F.device flash.old)
-        (F.device flash.new) (is_err result) }
-    ensures store { StaysMounted S.mounted_on S.stands S.runs S.damage (F.device flash.new)
-        store.old store.new (is_err result) }
-    ensures keeps { let area = S.mounted_on store.old in
-        KeepsSettings (N.numbering area) (on S.contents (F.device flash.old) area)
-        (on S.contents (F.device flash.new) area) }
-    ensures ends { let d = F.device flash.old in let e = F.device flash.new in
-        let area = S.mounted_on store.old in
-        LooksAt (N.numbering area) d e (on S.contents d area) (on S.contents e area) id
-        (is_err result) }
-    ensures units { let d = F.device flash.old in let e = F.device flash.new in
-        let area = S.mounted_on store.old in
-        SpendsOnOne (removal_units (geometry_of d area)) d e (on S.contents d area)
-        (on S.contents e area) (is_err result) }
-    ensures written { StaysWritten (F.device flash.old) (F.device flash.new)
-        (S.mounted_on store.old) }
-    ensures describes { is_err result ≡ false
-        → HoldsOn (S.describes index.new) (F.device flash.new) (S.mounted_on store.new) }
-{
-    if N::is_kept(store, flash, index, id, steps) {
-        return Ok(());
-    }
-    remove_orphan::<N, S, F, L>(store, flash, index, id, steps)
-}
-
-// Deletes an item, unless it is the count or a part of a setting in effect, as `remove_if_orphan`
-// does. Below the id no orphan is left. The set has the names below, and gets the name at the id.
+// Deletes an item, unless it is the count or a part of a setting in effect: then nothing is
+// programmed. Below the id no orphan is left. The set has the names below, and gets the name at the
+// id. The index then has the items that are left.
 fn remove_next<N: IdLayout, S: ItemStore, F: Flash, L: Ledger>(
     store: &mut S,
     flash: &mut F,

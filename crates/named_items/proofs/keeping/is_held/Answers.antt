@@ -24,9 +24,9 @@ returns g c =
     let one : IsCandidateId ids c.args.id = subst (λ (b : Bool). MatchBool b (IsCandidateId ids c.args.id) (¬ IsCandidateId ids c.args.id)) c.if-not-contains.false c.contains.ensures in
     let less : c.args.id < n.first + count_in n items = subst (λ (k : ℕ). c.args.id < k) c.end_of_names.ensures c.if-end_of_names-id.false in
     let same : c.is_value.result ≡ is_value n.longest (get items (c.args.id + n.step)) =
-        valued-as c.is_value.result c.value_limit-longest.result n.longest (option_map {T = Bor (List ℕ)} {U = List ℕ} (λ bytes. bytes.now) c.get_by.result) (get items (c.args.id + n.step)) c.is_value.ensures
-        (c.value_limit-longest.ensures ∙ ap value_limit c.area.ensures ∙ sym (g.met.N.IdLayout.longest area))
-        (c.get_by.ensures ∙ ap (λ (k : ℕ). get items (c.args.id + k)) (sym (c.step.ensures area))) in
+    valued-as c.is_value.result c.value_limit-longest.result n.longest (option_map {T = Bor (List ℕ)} {U = List ℕ} (λ bytes. bytes.now) c.get_by.result) (get items (c.args.id + n.step)) c.is_value.ensures
+    (c.value_limit-longest.ensures ∙ ap value_limit c.area.ensures ∙ sym (g.met.N.IdLayout.longest area))
+    (c.get_by.ensures ∙ ap (λ (k : ℕ). get items (c.args.id + k)) (sym (c.step.ensures area))) in
     record {
       yes_it = λ is. held-here n items c.args.name.now ids g.N.IdLayout.top (c.candidates_of.ensures.ids area) c.args.id one (c.candidates_of.ensures.only area) less c.requires.name (record { named = c.requires.named; valued = sym same ∙ is });
       not_it = λ is held. false≢true (sym is ∙ same ∙ (held-parts n items c.args.name.now c.args.id held).valued);

@@ -204,7 +204,7 @@ impl<F: Flash> Subsystem<F> {
     ///
     /// # Errors
     /// `Off` exactly where an earlier call answered that power was lost; nothing changes then.
-    /// `NoMemory`: some of the values were given, and nothing was committed.
+    /// `NoMemory`: the values up to some name were given, or none, and nothing was committed.
     pub fn load(&mut self, alloc: Global, subtree: Option<&Name>) -> Result<Loaded, LoadFault>
         requires ready { IsReady (F.device self.old.board.flash) self.old.board.map
             self.old.settings.backend (registered state self.old.registry) }

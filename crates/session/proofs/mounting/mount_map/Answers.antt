@@ -10,152 +10,130 @@ use Rattle.session.proofs.MountLemmas.{stopped_touches, stopped_ends, stopped_so
 use Rattle.session.proofs.MountUnits.{stopped_most, map_most}
 use Rattle.session.proofs.mounting.mount_map.Goals as goal
 
-pub returns-in-Err-clause-touches : goal.returns-in-Err-clause-touches
-returns-in-Err-clause-touches g c =
-    stopped_touches g.K.Backend.serves c.args.map.now (g.F.Flash.device c.args.flash.now) (g.F.Flash.device c.mount_selector.new.flash) (map_lost c.mount_selector.result) c.requires.map (g.met.F.Flash.is_lawful c.args.flash.now) (g.met.F.Flash.is_lawful c.mount_selector.new.flash)
-    c.mount_selector.ensures.touches c.mount_selector.ensures.idle g.K.Backend.mounted_on g.K.Backend.stands g.K.Backend.runs g.K.Backend.damage g.K.Backend.contents c.in-Err.fault (ap map_lost c.in-Err.is)
-
-pub returns-in-Err-clause-ends : goal.returns-in-Err-clause-ends
-returns-in-Err-clause-ends g c =
-    stopped_ends g.K.Backend.serves c.args.map.now (g.F.Flash.device c.args.flash.now) (g.F.Flash.device c.mount_selector.new.flash) (map_lost c.mount_selector.result) c.requires.map (g.met.F.Flash.is_lawful c.args.flash.now) (g.met.F.Flash.is_lawful c.mount_selector.new.flash)
-    c.mount_selector.ensures.touches c.mount_selector.ensures.idle g.K.Backend.mounted_on g.K.Backend.stands g.K.Backend.runs g.K.Backend.damage g.K.Backend.contents c.in-Err.fault (ap map_lost c.in-Err.is) c.requires.on c.in-Err.ensures.active c.in-Err.ensures.ends
-
-pub returns-in-Err-clause-sound : goal.returns-in-Err-clause-sound
-returns-in-Err-clause-sound g c =
-    stopped_sound g.K.Backend.serves c.args.map.now (g.F.Flash.device c.args.flash.now) (g.F.Flash.device c.mount_selector.new.flash) (map_lost c.mount_selector.result) c.requires.map (g.met.F.Flash.is_lawful c.args.flash.now) (g.met.F.Flash.is_lawful c.mount_selector.new.flash)
-    c.mount_selector.ensures.touches c.mount_selector.ensures.idle g.K.Backend.mounted_on g.K.Backend.stands g.K.Backend.runs g.K.Backend.damage g.K.Backend.contents c.in-Err.ensures.sound c.in-Err.ensures.active
-
-pub returns-in-Err-clause-rests : goal.returns-in-Err-clause-rests
-returns-in-Err-clause-rests g c = λ rest. c.in-Err.ensures.idle rest.selector
+pub returns-in-Err : goal.returns-in-Err
+returns-in-Err g c = record {
+  touches = stopped_touches g.K.Backend.serves c.args.map.now (g.F.Flash.device c.args.flash.now) (g.F.Flash.device c.mount_selector.new.flash) (map_lost c.mount_selector.result) c.requires.map (g.met.F.Flash.is_lawful c.args.flash.now) (g.met.F.Flash.is_lawful c.mount_selector.new.flash)
+      c.mount_selector.ensures.touches c.mount_selector.ensures.idle g.K.Backend.mounted_on g.K.Backend.stands g.K.Backend.runs g.K.Backend.damage g.K.Backend.contents c.in-Err.fault (ap map_lost c.in-Err.is);
+  ends = stopped_ends g.K.Backend.serves c.args.map.now (g.F.Flash.device c.args.flash.now) (g.F.Flash.device c.mount_selector.new.flash) (map_lost c.mount_selector.result) c.requires.map (g.met.F.Flash.is_lawful c.args.flash.now) (g.met.F.Flash.is_lawful c.mount_selector.new.flash)
+      c.mount_selector.ensures.touches c.mount_selector.ensures.idle g.K.Backend.mounted_on g.K.Backend.stands g.K.Backend.runs g.K.Backend.damage g.K.Backend.contents c.in-Err.fault (ap map_lost c.in-Err.is) c.requires.on c.in-Err.ensures.active c.in-Err.ensures.ends;
+  sound = stopped_sound g.K.Backend.serves c.args.map.now (g.F.Flash.device c.args.flash.now) (g.F.Flash.device c.mount_selector.new.flash) (map_lost c.mount_selector.result) c.requires.map (g.met.F.Flash.is_lawful c.args.flash.now) (g.met.F.Flash.is_lawful c.mount_selector.new.flash)
+      c.mount_selector.ensures.touches c.mount_selector.ensures.idle g.K.Backend.mounted_on g.K.Backend.stands g.K.Backend.runs g.K.Backend.damage g.K.Backend.contents c.in-Err.ensures.sound c.in-Err.ensures.active;
+  rests = λ rest. c.in-Err.ensures.idle rest.selector;
+  at_most = stopped_most c.args.map.now (g.F.Flash.device c.args.flash.now) (g.F.Flash.device c.mount_selector.new.flash) c.mount_selector.ensures.at_most;
+}
 
 pub area_at-requires : goal.area_at-requires
 area_at-requires g c = subst (λ n. n < length c.args.map.now) (sym c.active_place-place.ensures) (active_within g.K.Backend.serves c.args.map.now (g.F.Flash.device c.args.flash.now) c.requires.map (g.F.Flash.device c.mount_selector.new.flash))
 
-pub mount-mounted-requires-clause-lawful : goal.mount-mounted-requires-clause-lawful
-mount-mounted-requires-clause-lawful g c =
-    subst (λ (banks : List Bank). IsLawfulFor banks c.area_at.result) (sym c.mount_selector.ensures.touches.banks)
-    (subst (λ (a : Area). IsLawfulFor (g.F.Flash.device c.args.flash.now).banks a) (sym (at_active c.args.map.now (g.F.Flash.device c.mount_selector.new.flash) c.active_place-place.result c.area_at.result c.active_place-place.ensures c.area_at.ensures))
-    (active_lawful g.K.Backend.serves c.args.map.now (g.F.Flash.device c.args.flash.now) c.requires.map (g.F.Flash.device c.mount_selector.new.flash)))
+pub mount-mounted-requires : goal.mount-mounted-requires
+mount-mounted-requires g c = record {
+  lawful = subst (λ (banks : List Bank). IsLawfulFor banks c.area_at.result) (sym c.mount_selector.ensures.touches.banks)
+      (subst (λ (a : Area). IsLawfulFor (g.F.Flash.device c.args.flash.now).banks a) (sym (at_active c.args.map.now (g.F.Flash.device c.mount_selector.new.flash) c.active_place-place.result c.area_at.result c.active_place-place.ensures c.area_at.ensures))
+      (active_lawful g.K.Backend.serves c.args.map.now (g.F.Flash.device c.args.flash.now) c.requires.map (g.F.Flash.device c.mount_selector.new.flash)));
+  serves = let now = served_still g.K.Backend.serves c.args.map.now (g.F.Flash.device c.args.flash.now) (g.F.Flash.device c.mount_selector.new.flash) c.mount_selector.ensures.touches.banks c.requires.map in
+      subst (λ (a : Area). g.K.Backend.serves a (geometry_of (g.F.Flash.device c.mount_selector.new.flash) a)) (sym (at_active c.args.map.now (g.F.Flash.device c.mount_selector.new.flash) c.active_place-place.result c.area_at.result c.active_place-place.ensures c.area_at.ensures))
+      (active_serves g.K.Backend.serves c.args.map.now (g.F.Flash.device c.mount_selector.new.flash) now (g.F.Flash.device c.mount_selector.new.flash));
+}
 
-pub mount-mounted-requires-clause-serves : goal.mount-mounted-requires-clause-serves
-mount-mounted-requires-clause-serves g c =
-    let now = served_still g.K.Backend.serves c.args.map.now (g.F.Flash.device c.args.flash.now) (g.F.Flash.device c.mount_selector.new.flash) c.mount_selector.ensures.touches.banks c.requires.map in
-    subst (λ (a : Area). g.K.Backend.serves a (geometry_of (g.F.Flash.device c.mount_selector.new.flash) a)) (sym (at_active c.args.map.now (g.F.Flash.device c.mount_selector.new.flash) c.active_place-place.result c.area_at.result c.active_place-place.ensures c.area_at.ensures))
-    (active_serves g.K.Backend.serves c.args.map.now (g.F.Flash.device c.mount_selector.new.flash) now (g.F.Flash.device c.mount_selector.new.flash))
-
-pub returns-clause-touches : goal.returns-clause-touches
-returns-clause-touches g c =
-    map_touches g.K.Backend.serves g.K.Backend.mounted_on g.K.Backend.stands g.K.Backend.runs g.K.Backend.damage g.K.Backend.contents g.K.Backend.rests c.args.map.now (g.F.Flash.device c.args.flash.now) (g.F.Flash.device c.mount_selector.new.flash) (g.F.Flash.device c.mount-mounted.new.flash) c.in-Ok.selector c.active_place-place.result c.mount-mounted.result (g.met.F.Flash.is_lawful c.mount-mounted.new.flash)
-    (record {
-      map = c.requires.map;
-      powered_on = c.requires.on;
-      lawful = g.met.F.Flash.is_lawful c.args.flash.now;
-      lawful_mid = g.met.F.Flash.is_lawful c.mount_selector.new.flash;
-      touches = c.in-Ok.ensures.touches;
-      idle = c.mount_selector.ensures.idle;
-      units = c.in-Ok.ensures.units;
-      none = c.in-Ok.ensures.ends.0;
-      sound = c.mount_selector.ensures.sound c.in-Ok.ensures.ends.0;
-      active = c.mount_selector.ensures.active c.in-Ok.ensures.ends.0;
-      has = c.in-Ok.ensures.ends.1;
-    }) c.active_place-place.ensures
-    (settled g.K.Backend.serves g.K.Backend.mounted_on g.K.Backend.stands g.K.Backend.runs g.K.Backend.damage g.K.Backend.contents g.K.Backend.rests c.args.map.now (g.F.Flash.device c.mount_selector.new.flash) (g.F.Flash.device c.mount-mounted.new.flash) c.area_at.result c.active_place-place.result c.mount-mounted.result c.active_place-place.ensures c.area_at.ensures (record {
-      touches = c.mount-mounted.ensures.touches;
-      ends = c.mount-mounted.ensures.ends;
-      sound = c.mount-mounted.ensures.sound;
-      keeps = c.mount-mounted.ensures.keeps;
-      idle = c.mount-mounted.ensures.rests;
-      area_is = c.mount-mounted.ensures.area;
-      stand = c.mount-mounted.ensures.stands;
-      up = c.mount-mounted.ensures.up;
-    })) c.mounted_as.result c.mounted_as.ensures
-
-pub returns-clause-ends : goal.returns-clause-ends
-returns-clause-ends g c =
-    map_ends g.K.Backend.serves g.K.Backend.mounted_on g.K.Backend.stands g.K.Backend.runs g.K.Backend.damage g.K.Backend.contents g.K.Backend.rests c.args.map.now (g.F.Flash.device c.args.flash.now) (g.F.Flash.device c.mount_selector.new.flash) (g.F.Flash.device c.mount-mounted.new.flash) c.in-Ok.selector c.active_place-place.result c.mount-mounted.result (g.met.F.Flash.is_lawful c.mount-mounted.new.flash)
-    (record {
-      map = c.requires.map;
-      powered_on = c.requires.on;
-      lawful = g.met.F.Flash.is_lawful c.args.flash.now;
-      lawful_mid = g.met.F.Flash.is_lawful c.mount_selector.new.flash;
-      touches = c.in-Ok.ensures.touches;
-      idle = c.mount_selector.ensures.idle;
-      units = c.in-Ok.ensures.units;
-      none = c.in-Ok.ensures.ends.0;
-      sound = c.mount_selector.ensures.sound c.in-Ok.ensures.ends.0;
-      active = c.mount_selector.ensures.active c.in-Ok.ensures.ends.0;
-      has = c.in-Ok.ensures.ends.1;
-    }) c.active_place-place.ensures
-    (settled g.K.Backend.serves g.K.Backend.mounted_on g.K.Backend.stands g.K.Backend.runs g.K.Backend.damage g.K.Backend.contents g.K.Backend.rests c.args.map.now (g.F.Flash.device c.mount_selector.new.flash) (g.F.Flash.device c.mount-mounted.new.flash) c.area_at.result c.active_place-place.result c.mount-mounted.result c.active_place-place.ensures c.area_at.ensures (record {
-      touches = c.mount-mounted.ensures.touches;
-      ends = c.mount-mounted.ensures.ends;
-      sound = c.mount-mounted.ensures.sound;
-      keeps = c.mount-mounted.ensures.keeps;
-      idle = c.mount-mounted.ensures.rests;
-      area_is = c.mount-mounted.ensures.area;
-      stand = c.mount-mounted.ensures.stands;
-      up = c.mount-mounted.ensures.up;
-    })) c.mounted_as.result c.mounted_as.ensures
-
-pub returns-clause-sound : goal.returns-clause-sound
-returns-clause-sound g c =
-    map_sound g.K.Backend.serves g.K.Backend.mounted_on g.K.Backend.stands g.K.Backend.runs g.K.Backend.damage g.K.Backend.contents g.K.Backend.rests c.args.map.now (g.F.Flash.device c.args.flash.now) (g.F.Flash.device c.mount_selector.new.flash) (g.F.Flash.device c.mount-mounted.new.flash) c.in-Ok.selector c.active_place-place.result c.mount-mounted.result (g.met.F.Flash.is_lawful c.mount-mounted.new.flash)
-    (record {
-      map = c.requires.map;
-      powered_on = c.requires.on;
-      lawful = g.met.F.Flash.is_lawful c.args.flash.now;
-      lawful_mid = g.met.F.Flash.is_lawful c.mount_selector.new.flash;
-      touches = c.in-Ok.ensures.touches;
-      idle = c.mount_selector.ensures.idle;
-      units = c.in-Ok.ensures.units;
-      none = c.in-Ok.ensures.ends.0;
-      sound = c.mount_selector.ensures.sound c.in-Ok.ensures.ends.0;
-      active = c.mount_selector.ensures.active c.in-Ok.ensures.ends.0;
-      has = c.in-Ok.ensures.ends.1;
-    }) c.active_place-place.ensures
-    (settled g.K.Backend.serves g.K.Backend.mounted_on g.K.Backend.stands g.K.Backend.runs g.K.Backend.damage g.K.Backend.contents g.K.Backend.rests c.args.map.now (g.F.Flash.device c.mount_selector.new.flash) (g.F.Flash.device c.mount-mounted.new.flash) c.area_at.result c.active_place-place.result c.mount-mounted.result c.active_place-place.ensures c.area_at.ensures (record {
-      touches = c.mount-mounted.ensures.touches;
-      ends = c.mount-mounted.ensures.ends;
-      sound = c.mount-mounted.ensures.sound;
-      keeps = c.mount-mounted.ensures.keeps;
-      idle = c.mount-mounted.ensures.rests;
-      area_is = c.mount-mounted.ensures.area;
-      stand = c.mount-mounted.ensures.stands;
-      up = c.mount-mounted.ensures.up;
-    }))
-
-pub returns-clause-rests : goal.returns-clause-rests
-returns-clause-rests g c =
-    map_rests g.K.Backend.serves g.K.Backend.mounted_on g.K.Backend.stands g.K.Backend.runs g.K.Backend.damage g.K.Backend.contents g.K.Backend.rests c.args.map.now (g.F.Flash.device c.args.flash.now) (g.F.Flash.device c.mount_selector.new.flash) (g.F.Flash.device c.mount-mounted.new.flash) c.in-Ok.selector c.active_place-place.result c.mount-mounted.result (g.met.F.Flash.is_lawful c.mount-mounted.new.flash)
-    (record {
-      map = c.requires.map;
-      powered_on = c.requires.on;
-      lawful = g.met.F.Flash.is_lawful c.args.flash.now;
-      lawful_mid = g.met.F.Flash.is_lawful c.mount_selector.new.flash;
-      touches = c.in-Ok.ensures.touches;
-      idle = c.mount_selector.ensures.idle;
-      units = c.in-Ok.ensures.units;
-      none = c.in-Ok.ensures.ends.0;
-      sound = c.mount_selector.ensures.sound c.in-Ok.ensures.ends.0;
-      active = c.mount_selector.ensures.active c.in-Ok.ensures.ends.0;
-      has = c.in-Ok.ensures.ends.1;
-    }) c.active_place-place.ensures
-    (settled g.K.Backend.serves g.K.Backend.mounted_on g.K.Backend.stands g.K.Backend.runs g.K.Backend.damage g.K.Backend.contents g.K.Backend.rests c.args.map.now (g.F.Flash.device c.mount_selector.new.flash) (g.F.Flash.device c.mount-mounted.new.flash) c.area_at.result c.active_place-place.result c.mount-mounted.result c.active_place-place.ensures c.area_at.ensures (record {
-      touches = c.mount-mounted.ensures.touches;
-      ends = c.mount-mounted.ensures.ends;
-      sound = c.mount-mounted.ensures.sound;
-      keeps = c.mount-mounted.ensures.keeps;
-      idle = c.mount-mounted.ensures.rests;
-      area_is = c.mount-mounted.ensures.area;
-      stand = c.mount-mounted.ensures.stands;
-      up = c.mount-mounted.ensures.up;
-    }))
-
-pub returns-in-Err-clause-at_most : goal.returns-in-Err-clause-at_most
-returns-in-Err-clause-at_most g c = stopped_most c.args.map.now (g.F.Flash.device c.args.flash.now) (g.F.Flash.device c.mount_selector.new.flash) c.mount_selector.ensures.at_most
-
-pub returns-clause-at_most : goal.returns-clause-at_most
-returns-clause-at_most g c =
-    map_most c.args.map.now (g.F.Flash.device c.args.flash.now) (g.F.Flash.device c.mount_selector.new.flash) (g.F.Flash.device c.mount-mounted.new.flash) c.area_at.result c.mount_selector.ensures.touches.banks
-    (c.mount_selector.ensures.active c.in-Ok.ensures.ends.0) (at_active c.args.map.now (g.F.Flash.device c.mount_selector.new.flash) c.active_place-place.result c.area_at.result c.active_place-place.ensures c.area_at.ensures)
-    c.mount_selector.ensures.at_most c.mount-mounted.ensures.at_most
+pub returns : goal.returns
+returns g c = record {
+  touches = map_touches g.K.Backend.serves g.K.Backend.mounted_on g.K.Backend.stands g.K.Backend.runs g.K.Backend.damage g.K.Backend.contents g.K.Backend.rests c.args.map.now (g.F.Flash.device c.args.flash.now) (g.F.Flash.device c.mount_selector.new.flash) (g.F.Flash.device c.mount-mounted.new.flash) c.in-Ok.selector c.active_place-place.result c.mount-mounted.result (g.met.F.Flash.is_lawful c.mount-mounted.new.flash)
+      (record {
+        map = c.requires.map;
+        powered_on = c.requires.on;
+        lawful = g.met.F.Flash.is_lawful c.args.flash.now;
+        lawful_mid = g.met.F.Flash.is_lawful c.mount_selector.new.flash;
+        touches = c.in-Ok.ensures.touches;
+        idle = c.mount_selector.ensures.idle;
+        units = c.in-Ok.ensures.units;
+        none = c.in-Ok.ensures.ends.0;
+        sound = c.mount_selector.ensures.sound c.in-Ok.ensures.ends.0;
+        active = c.mount_selector.ensures.active c.in-Ok.ensures.ends.0;
+        has = c.in-Ok.ensures.ends.1;
+      }) c.active_place-place.ensures
+      (settled g.K.Backend.serves g.K.Backend.mounted_on g.K.Backend.stands g.K.Backend.runs g.K.Backend.damage g.K.Backend.contents g.K.Backend.rests c.args.map.now (g.F.Flash.device c.mount_selector.new.flash) (g.F.Flash.device c.mount-mounted.new.flash) c.area_at.result c.active_place-place.result c.mount-mounted.result c.active_place-place.ensures c.area_at.ensures (record {
+        touches = c.mount-mounted.ensures.touches;
+        ends = c.mount-mounted.ensures.ends;
+        sound = c.mount-mounted.ensures.sound;
+        keeps = c.mount-mounted.ensures.keeps;
+        idle = c.mount-mounted.ensures.rests;
+        area_is = c.mount-mounted.ensures.area;
+        stand = c.mount-mounted.ensures.stands;
+        up = c.mount-mounted.ensures.up;
+      })) c.mounted_as.result c.mounted_as.ensures;
+  ends = map_ends g.K.Backend.serves g.K.Backend.mounted_on g.K.Backend.stands g.K.Backend.runs g.K.Backend.damage g.K.Backend.contents g.K.Backend.rests c.args.map.now (g.F.Flash.device c.args.flash.now) (g.F.Flash.device c.mount_selector.new.flash) (g.F.Flash.device c.mount-mounted.new.flash) c.in-Ok.selector c.active_place-place.result c.mount-mounted.result (g.met.F.Flash.is_lawful c.mount-mounted.new.flash)
+      (record {
+        map = c.requires.map;
+        powered_on = c.requires.on;
+        lawful = g.met.F.Flash.is_lawful c.args.flash.now;
+        lawful_mid = g.met.F.Flash.is_lawful c.mount_selector.new.flash;
+        touches = c.in-Ok.ensures.touches;
+        idle = c.mount_selector.ensures.idle;
+        units = c.in-Ok.ensures.units;
+        none = c.in-Ok.ensures.ends.0;
+        sound = c.mount_selector.ensures.sound c.in-Ok.ensures.ends.0;
+        active = c.mount_selector.ensures.active c.in-Ok.ensures.ends.0;
+        has = c.in-Ok.ensures.ends.1;
+      }) c.active_place-place.ensures
+      (settled g.K.Backend.serves g.K.Backend.mounted_on g.K.Backend.stands g.K.Backend.runs g.K.Backend.damage g.K.Backend.contents g.K.Backend.rests c.args.map.now (g.F.Flash.device c.mount_selector.new.flash) (g.F.Flash.device c.mount-mounted.new.flash) c.area_at.result c.active_place-place.result c.mount-mounted.result c.active_place-place.ensures c.area_at.ensures (record {
+        touches = c.mount-mounted.ensures.touches;
+        ends = c.mount-mounted.ensures.ends;
+        sound = c.mount-mounted.ensures.sound;
+        keeps = c.mount-mounted.ensures.keeps;
+        idle = c.mount-mounted.ensures.rests;
+        area_is = c.mount-mounted.ensures.area;
+        stand = c.mount-mounted.ensures.stands;
+        up = c.mount-mounted.ensures.up;
+      })) c.mounted_as.result c.mounted_as.ensures;
+  sound = map_sound g.K.Backend.serves g.K.Backend.mounted_on g.K.Backend.stands g.K.Backend.runs g.K.Backend.damage g.K.Backend.contents g.K.Backend.rests c.args.map.now (g.F.Flash.device c.args.flash.now) (g.F.Flash.device c.mount_selector.new.flash) (g.F.Flash.device c.mount-mounted.new.flash) c.in-Ok.selector c.active_place-place.result c.mount-mounted.result (g.met.F.Flash.is_lawful c.mount-mounted.new.flash)
+      (record {
+        map = c.requires.map;
+        powered_on = c.requires.on;
+        lawful = g.met.F.Flash.is_lawful c.args.flash.now;
+        lawful_mid = g.met.F.Flash.is_lawful c.mount_selector.new.flash;
+        touches = c.in-Ok.ensures.touches;
+        idle = c.mount_selector.ensures.idle;
+        units = c.in-Ok.ensures.units;
+        none = c.in-Ok.ensures.ends.0;
+        sound = c.mount_selector.ensures.sound c.in-Ok.ensures.ends.0;
+        active = c.mount_selector.ensures.active c.in-Ok.ensures.ends.0;
+        has = c.in-Ok.ensures.ends.1;
+      }) c.active_place-place.ensures
+      (settled g.K.Backend.serves g.K.Backend.mounted_on g.K.Backend.stands g.K.Backend.runs g.K.Backend.damage g.K.Backend.contents g.K.Backend.rests c.args.map.now (g.F.Flash.device c.mount_selector.new.flash) (g.F.Flash.device c.mount-mounted.new.flash) c.area_at.result c.active_place-place.result c.mount-mounted.result c.active_place-place.ensures c.area_at.ensures (record {
+        touches = c.mount-mounted.ensures.touches;
+        ends = c.mount-mounted.ensures.ends;
+        sound = c.mount-mounted.ensures.sound;
+        keeps = c.mount-mounted.ensures.keeps;
+        idle = c.mount-mounted.ensures.rests;
+        area_is = c.mount-mounted.ensures.area;
+        stand = c.mount-mounted.ensures.stands;
+        up = c.mount-mounted.ensures.up;
+      }));
+  rests = map_rests g.K.Backend.serves g.K.Backend.mounted_on g.K.Backend.stands g.K.Backend.runs g.K.Backend.damage g.K.Backend.contents g.K.Backend.rests c.args.map.now (g.F.Flash.device c.args.flash.now) (g.F.Flash.device c.mount_selector.new.flash) (g.F.Flash.device c.mount-mounted.new.flash) c.in-Ok.selector c.active_place-place.result c.mount-mounted.result (g.met.F.Flash.is_lawful c.mount-mounted.new.flash)
+      (record {
+        map = c.requires.map;
+        powered_on = c.requires.on;
+        lawful = g.met.F.Flash.is_lawful c.args.flash.now;
+        lawful_mid = g.met.F.Flash.is_lawful c.mount_selector.new.flash;
+        touches = c.in-Ok.ensures.touches;
+        idle = c.mount_selector.ensures.idle;
+        units = c.in-Ok.ensures.units;
+        none = c.in-Ok.ensures.ends.0;
+        sound = c.mount_selector.ensures.sound c.in-Ok.ensures.ends.0;
+        active = c.mount_selector.ensures.active c.in-Ok.ensures.ends.0;
+        has = c.in-Ok.ensures.ends.1;
+      }) c.active_place-place.ensures
+      (settled g.K.Backend.serves g.K.Backend.mounted_on g.K.Backend.stands g.K.Backend.runs g.K.Backend.damage g.K.Backend.contents g.K.Backend.rests c.args.map.now (g.F.Flash.device c.mount_selector.new.flash) (g.F.Flash.device c.mount-mounted.new.flash) c.area_at.result c.active_place-place.result c.mount-mounted.result c.active_place-place.ensures c.area_at.ensures (record {
+        touches = c.mount-mounted.ensures.touches;
+        ends = c.mount-mounted.ensures.ends;
+        sound = c.mount-mounted.ensures.sound;
+        keeps = c.mount-mounted.ensures.keeps;
+        idle = c.mount-mounted.ensures.rests;
+        area_is = c.mount-mounted.ensures.area;
+        stand = c.mount-mounted.ensures.stands;
+        up = c.mount-mounted.ensures.up;
+      }));
+  at_most = map_most c.args.map.now (g.F.Flash.device c.args.flash.now) (g.F.Flash.device c.mount_selector.new.flash) (g.F.Flash.device c.mount-mounted.new.flash) c.area_at.result c.mount_selector.ensures.touches.banks
+      (c.mount_selector.ensures.active c.in-Ok.ensures.ends.0) (at_active c.args.map.now (g.F.Flash.device c.mount_selector.new.flash) c.active_place-place.result c.area_at.result c.active_place-place.ensures c.area_at.ensures)
+      c.mount_selector.ensures.at_most c.mount-mounted.ensures.at_most;
+}

@@ -14,46 +14,29 @@ pub mount-mounted-requires : goal.mount-mounted-requires
 mount-mounted-requires g c =
     selector_ring (g.F.Flash.device c.args.flash.now).banks c.args.map.now c.area_at.result c.requires.lawful (selected c.args.map.now c.in-Some.place c.area_at.result (sym c.selector_place.ensures ∙ c.in-Some.is) c.area_at.ensures)
 
-pub returns-in-Some-clause-touches : goal.returns-in-Some-clause-touches
-returns-in-Some-clause-touches g c =
-    chosen_touches c.args.map.now c.in-Some.place c.area_at.result (g.F.Flash.device c.args.flash.now) (g.F.Flash.device c.mount-mounted.new.flash) c.mount-mounted.result (sym c.selector_place.ensures ∙ c.in-Some.is) c.area_at.ensures
-    c.mount-mounted.ensures.touches c.selected_as.result c.selected_as.ensures
-
-pub returns-in-Some-clause-ends : goal.returns-in-Some-clause-ends
-returns-in-Some-clause-ends g c =
-    chosen_ends c.args.map.now c.in-Some.place c.area_at.result (g.F.Flash.device c.args.flash.now) (g.F.Flash.device c.mount-mounted.new.flash) c.mount-mounted.result (sym c.selector_place.ensures ∙ c.in-Some.is) c.area_at.ensures
-    c.mount-mounted.ensures.ends c.selected_as.result c.selected_as.ensures
-
-pub returns-in-Some-clause-sound : goal.returns-in-Some-clause-sound
-returns-in-Some-clause-sound g c =
-    chosen_sound c.args.map.now c.in-Some.place c.area_at.result (g.F.Flash.device c.args.flash.now) (g.F.Flash.device c.mount-mounted.new.flash) c.mount-mounted.result (sym c.selector_place.ensures ∙ c.in-Some.is) c.area_at.ensures
-    c.mount-mounted.ensures.sound
-
-pub returns-in-Some-clause-active : goal.returns-in-Some-clause-active
-returns-in-Some-clause-active g c =
-    chosen_active c.args.map.now c.in-Some.place c.area_at.result (g.F.Flash.device c.args.flash.now) (g.F.Flash.device c.mount-mounted.new.flash) c.mount-mounted.result (sym c.selector_place.ensures ∙ c.in-Some.is) c.area_at.ensures
-    c.mount-mounted.ensures.active
-
-pub returns-in-Some-clause-idle : goal.returns-in-Some-clause-idle
-returns-in-Some-clause-idle g c =
-    chosen_idle c.args.map.now c.in-Some.place c.area_at.result (g.F.Flash.device c.args.flash.now) (g.F.Flash.device c.mount-mounted.new.flash) c.mount-mounted.result (sym c.selector_place.ensures ∙ c.in-Some.is) c.area_at.ensures
-    c.mount-mounted.ensures.idle
+pub returns-in-Some : goal.returns-in-Some
+returns-in-Some g c = record {
+  touches = chosen_touches c.args.map.now c.in-Some.place c.area_at.result (g.F.Flash.device c.args.flash.now) (g.F.Flash.device c.mount-mounted.new.flash) c.mount-mounted.result (sym c.selector_place.ensures ∙ c.in-Some.is) c.area_at.ensures
+      c.mount-mounted.ensures.touches c.selected_as.result c.selected_as.ensures;
+  ends = chosen_ends c.args.map.now c.in-Some.place c.area_at.result (g.F.Flash.device c.args.flash.now) (g.F.Flash.device c.mount-mounted.new.flash) c.mount-mounted.result (sym c.selector_place.ensures ∙ c.in-Some.is) c.area_at.ensures
+      c.mount-mounted.ensures.ends c.selected_as.result c.selected_as.ensures;
+  sound = chosen_sound c.args.map.now c.in-Some.place c.area_at.result (g.F.Flash.device c.args.flash.now) (g.F.Flash.device c.mount-mounted.new.flash) c.mount-mounted.result (sym c.selector_place.ensures ∙ c.in-Some.is) c.area_at.ensures
+      c.mount-mounted.ensures.sound;
+  active = chosen_active c.args.map.now c.in-Some.place c.area_at.result (g.F.Flash.device c.args.flash.now) (g.F.Flash.device c.mount-mounted.new.flash) c.mount-mounted.result (sym c.selector_place.ensures ∙ c.in-Some.is) c.area_at.ensures
+      c.mount-mounted.ensures.active;
+  idle = chosen_idle c.args.map.now c.in-Some.place c.area_at.result (g.F.Flash.device c.args.flash.now) (g.F.Flash.device c.mount-mounted.new.flash) c.mount-mounted.result (sym c.selector_place.ensures ∙ c.in-Some.is) c.area_at.ensures
+      c.mount-mounted.ensures.idle;
+  units = chosen_units c.args.map.now c.in-Some.place c.area_at.result (g.F.Flash.device c.args.flash.now) (g.F.Flash.device c.mount-mounted.new.flash) c.mount-mounted.result (sym c.selector_place.ensures ∙ c.in-Some.is) c.area_at.ensures
+      c.mount-mounted.ensures.units c.selected_as.result c.selected_as.ensures;
+  at_most = selector_most c.args.map.now c.area_at.result (g.F.Flash.device c.args.flash.now) (g.F.Flash.device c.mount-mounted.new.flash) c.mount-mounted.result
+      (selected c.args.map.now c.in-Some.place c.area_at.result (sym c.selector_place.ensures ∙ c.in-Some.is) c.area_at.ensures) c.mount-mounted.ensures.ends c.mount-mounted.ensures.units c.mount-mounted.ensures.bound;
+}
 
 pub returns-in-None-clause-ends : goal.returns-in-None-clause-ends
 returns-in-None-clause-ends g c = none_ends c.args.map.now (g.F.Flash.device c.args.flash.now) (unselected c.args.map.now (sym c.selector_place.ensures ∙ c.in-None.is))
 
-pub returns-in-Some-clause-units : goal.returns-in-Some-clause-units
-returns-in-Some-clause-units g c =
-    chosen_units c.args.map.now c.in-Some.place c.area_at.result (g.F.Flash.device c.args.flash.now) (g.F.Flash.device c.mount-mounted.new.flash) c.mount-mounted.result (sym c.selector_place.ensures ∙ c.in-Some.is) c.area_at.ensures
-    c.mount-mounted.ensures.units c.selected_as.result c.selected_as.ensures
-
 pub returns-in-None-clause-units : goal.returns-in-None-clause-units
 returns-in-None-clause-units g c = λ area is. absurd (none-some area (sym (unselected c.args.map.now (sym c.selector_place.ensures ∙ c.in-None.is)) ∙ is))
-
-pub returns-in-Some-clause-at_most : goal.returns-in-Some-clause-at_most
-returns-in-Some-clause-at_most g c =
-    selector_most c.args.map.now c.area_at.result (g.F.Flash.device c.args.flash.now) (g.F.Flash.device c.mount-mounted.new.flash) c.mount-mounted.result
-    (selected c.args.map.now c.in-Some.place c.area_at.result (sym c.selector_place.ensures ∙ c.in-Some.is) c.area_at.ensures) c.mount-mounted.ensures.ends c.mount-mounted.ensures.units c.mount-mounted.ensures.bound
 
 pub returns-in-None-clause-at_most : goal.returns-in-None-clause-at_most
 returns-in-None-clause-at_most g c =

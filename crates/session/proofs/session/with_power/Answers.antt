@@ -9,55 +9,94 @@ use Rattle.session.proofs.ActiveArea.{active-lawful, active-limit}
 use Rattle.session.proofs.ReadyLemmas.{beside_done, beside_if, never_changed}
 use Rattle.session.proofs.session.with_power.Goals as goal
 
-pub returns-in-Set-clause-done : goal.returns-in-Set-clause-done
-returns-in-Set-clause-done g c = beside_done (meanings g.K.Backend.contents g.K.Backend.room g.K.Backend.chance g.K.Backend.tears) c.args.map.now c.args.line.now _ (g.B.Flash.device c.args.bench.now) (g.B.Flash.device c.set_setting.new.bench) _ _ c.in-Set.is c.set_setting.result c.set_setting.ensures.done
+pub returns-in-Set : goal.returns-in-Set
+returns-in-Set g c = record {
+  done = beside_done (meanings g.K.Backend.contents g.K.Backend.room g.K.Backend.chance g.K.Backend.tears) c.args.map.now c.args.line.now _ (g.B.Flash.device c.args.bench.now) (g.B.Flash.device c.set_setting.new.bench) _ _ c.in-Set.is c.set_setting.result c.set_setting.ensures.done;
+  stays = c.set_setting.ensures.stays;
+  handlers = c.requires.handlers;
+  sound = λ none. c.set_setting.ensures.sound;
+  stops = tt;
+}
 
-pub returns-in-Del-clause-done : goal.returns-in-Del-clause-done
-returns-in-Del-clause-done g c = beside_done (meanings g.K.Backend.contents g.K.Backend.room g.K.Backend.chance g.K.Backend.tears) c.args.map.now c.args.line.now _ (g.B.Flash.device c.args.bench.now) (g.B.Flash.device c.delete_setting.new.bench) _ _ c.in-Del.is c.delete_setting.result c.delete_setting.ensures.done
+pub returns-in-Del : goal.returns-in-Del
+returns-in-Del g c = record {
+  done = beside_done (meanings g.K.Backend.contents g.K.Backend.room g.K.Backend.chance g.K.Backend.tears) c.args.map.now c.args.line.now _ (g.B.Flash.device c.args.bench.now) (g.B.Flash.device c.delete_setting.new.bench) _ _ c.in-Del.is c.delete_setting.result c.delete_setting.ensures.done;
+  stays = c.delete_setting.ensures.stays;
+  handlers = c.requires.handlers;
+  sound = λ none. c.delete_setting.ensures.sound;
+  stops = tt;
+}
 
-pub returns-in-Get-clause-done : goal.returns-in-Get-clause-done
-returns-in-Get-clause-done g c = beside_if (meanings g.K.Backend.contents g.K.Backend.room g.K.Backend.chance g.K.Backend.tears) c.args.map.now c.args.line.now _ (g.B.Flash.device c.args.bench.now) (g.B.Flash.device c.args.bench.now) _ _ c.in-Get.is c.get_setting.result c.get_setting.ensures
+pub returns-in-Get : goal.returns-in-Get
+returns-in-Get g c = record {
+  done = beside_if (meanings g.K.Backend.contents g.K.Backend.room g.K.Backend.chance g.K.Backend.tears) c.args.map.now c.args.line.now _ (g.B.Flash.device c.args.bench.now) (g.B.Flash.device c.args.bench.now) _ _ c.in-Get.is c.get_setting.result c.get_setting.ensures;
+  stays = record {
+    mounted = c.requires.here.mounted;
+    up = λ powered. c.requires.here.up;
+    standing = λ powered. c.requires.here.standing;
+  };
+  stops = never_changed c.args.line.now (g.B.Flash.device c.args.bench.now) c.get_setting.result (ap takes_memory c.in-Get.is);
+  handlers = c.requires.handlers;
+  sound = λ none. none;
+}
 
-pub returns-in-Direct-clause-done : goal.returns-in-Direct-clause-done
-returns-in-Direct-clause-done g c = beside_if (meanings g.K.Backend.contents g.K.Backend.room g.K.Backend.chance g.K.Backend.tears) c.args.map.now c.args.line.now _ (g.B.Flash.device c.args.bench.now) (g.B.Flash.device c.args.bench.now) _ _ c.in-Direct.is c.report_settings.result c.report_settings.ensures
+pub returns-in-Direct : goal.returns-in-Direct
+returns-in-Direct g c = record {
+  done = beside_if (meanings g.K.Backend.contents g.K.Backend.room g.K.Backend.chance g.K.Backend.tears) c.args.map.now c.args.line.now _ (g.B.Flash.device c.args.bench.now) (g.B.Flash.device c.args.bench.now) _ _ c.in-Direct.is c.report_settings.result c.report_settings.ensures;
+  stays = record {
+    mounted = c.requires.here.mounted;
+    up = λ powered. c.requires.here.up;
+    standing = λ powered. c.requires.here.standing;
+  };
+  stops = never_changed c.args.line.now (g.B.Flash.device c.args.bench.now) c.report_settings.result (ap takes_memory c.in-Direct.is);
+  handlers = c.requires.handlers;
+  sound = λ none. none;
+}
 
-pub returns-in-Names-clause-done : goal.returns-in-Names-clause-done
-returns-in-Names-clause-done g c = beside_if (meanings g.K.Backend.contents g.K.Backend.room g.K.Backend.chance g.K.Backend.tears) c.args.map.now c.args.line.now _ (g.B.Flash.device c.args.bench.now) (g.B.Flash.device c.args.bench.now) _ _ c.in-Names.is c.report_all.result c.report_all.ensures
+pub returns-in-Names : goal.returns-in-Names
+returns-in-Names g c = record {
+  done = beside_if (meanings g.K.Backend.contents g.K.Backend.room g.K.Backend.chance g.K.Backend.tears) c.args.map.now c.args.line.now _ (g.B.Flash.device c.args.bench.now) (g.B.Flash.device c.args.bench.now) _ _ c.in-Names.is c.report_all.result c.report_all.ensures;
+  stays = record {
+    mounted = c.requires.here.mounted;
+    up = λ powered. c.requires.here.up;
+    standing = λ powered. c.requires.here.standing;
+  };
+  stops = never_changed c.args.line.now (g.B.Flash.device c.args.bench.now) c.report_all.result (ap takes_memory c.in-Names.is);
+  handlers = c.requires.handlers;
+  sound = λ none. none;
+}
 
-pub set_setting-requires-clause-map : goal.set_setting-requires-clause-map
-set_setting-requires-clause-map g c = c.requires.map
+pub set_setting-requires : goal.set_setting-requires
+set_setting-requires g c = record {
+  map = c.requires.map;
+  here = c.requires.here;
+  short = let limit : value_limit c.args.area.now ≡ limit_of c.args.map.now = ap value_limit c.requires.here.active ∙ active-limit g.K.Backend.serves c.args.map.now (g.B.Flash.device c.args.bench.now) c.requires.map in
+      subst (λ (most : ℕ). length c.in-Set.value ≤ most) (sym limit) (subst (λ (line : Line). IsServed (limit_of c.args.map.now) line) c.in-Set.is c.requires.line);
+}
 
-pub set_setting-requires-clause-here : goal.set_setting-requires-clause-here
-set_setting-requires-clause-here g c = c.requires.here
+pub delete_setting-requires : goal.delete_setting-requires
+delete_setting-requires g c = record {
+  map = c.requires.map;
+  here = c.requires.here;
+}
 
-pub delete_setting-requires-clause-map : goal.delete_setting-requires-clause-map
-delete_setting-requires-clause-map g c = c.requires.map
+pub get_setting-requires : goal.get_setting-requires
+get_setting-requires g c = record {
+  here = c.requires.here;
+  lawful = subst (λ (a : Area). IsLawfulFor (g.B.Flash.device c.args.bench.now).banks a) (sym c.requires.here.active) (active-lawful g.K.Backend.serves c.args.map.now (g.B.Flash.device c.args.bench.now) c.requires.map);
+}
 
-pub delete_setting-requires-clause-here : goal.delete_setting-requires-clause-here
-delete_setting-requires-clause-here g c = c.requires.here
+pub report_settings-requires : goal.report_settings-requires
+report_settings-requires g c = record {
+  here = c.requires.here;
+  lawful = subst (λ (a : Area). IsLawfulFor (g.B.Flash.device c.args.bench.now).banks a) (sym c.requires.here.active) (active-lawful g.K.Backend.serves c.args.map.now (g.B.Flash.device c.args.bench.now) c.requires.map);
+}
 
-pub set_setting-requires-clause-short : goal.set_setting-requires-clause-short
-set_setting-requires-clause-short g c =
-    let limit : value_limit c.args.area.now ≡ limit_of c.args.map.now = ap value_limit c.requires.here.active ∙ active-limit g.K.Backend.serves c.args.map.now (g.B.Flash.device c.args.bench.now) c.requires.map in
-    subst (λ (most : ℕ). length c.in-Set.value ≤ most) (sym limit) (subst (λ (line : Line). IsServed (limit_of c.args.map.now) line) c.in-Set.is c.requires.line)
-
-pub get_setting-requires-clause-here : goal.get_setting-requires-clause-here
-get_setting-requires-clause-here g c = c.requires.here
-
-pub get_setting-requires-clause-lawful : goal.get_setting-requires-clause-lawful
-get_setting-requires-clause-lawful g c = subst (λ (a : Area). IsLawfulFor (g.B.Flash.device c.args.bench.now).banks a) (sym c.requires.here.active) (active-lawful g.K.Backend.serves c.args.map.now (g.B.Flash.device c.args.bench.now) c.requires.map)
-
-pub report_settings-requires-clause-here : goal.report_settings-requires-clause-here
-report_settings-requires-clause-here g c = c.requires.here
-
-pub report_settings-requires-clause-lawful : goal.report_settings-requires-clause-lawful
-report_settings-requires-clause-lawful g c = subst (λ (a : Area). IsLawfulFor (g.B.Flash.device c.args.bench.now).banks a) (sym c.requires.here.active) (active-lawful g.K.Backend.serves c.args.map.now (g.B.Flash.device c.args.bench.now) c.requires.map)
-
-pub report_all-requires-clause-here : goal.report_all-requires-clause-here
-report_all-requires-clause-here g c = c.requires.here
-
-pub report_all-requires-clause-lawful : goal.report_all-requires-clause-lawful
-report_all-requires-clause-lawful g c = subst (λ (a : Area). IsLawfulFor (g.B.Flash.device c.args.bench.now).banks a) (sym c.requires.here.active) (active-lawful g.K.Backend.serves c.args.map.now (g.B.Flash.device c.args.bench.now) c.requires.map)
+pub report_all-requires : goal.report_all-requires
+report_all-requires g c = record {
+  here = c.requires.here;
+  lawful = subst (λ (a : Area). IsLawfulFor (g.B.Flash.device c.args.bench.now).banks a) (sym c.requires.here.active) (active-lawful g.K.Backend.serves c.args.map.now (g.B.Flash.device c.args.bench.now) c.requires.map);
+}
 
 pub with_handlers-requires-clause-map : goal.with_handlers-requires-clause-map
 with_handlers-requires-clause-map g c = c.requires.map
@@ -70,54 +109,3 @@ with_handlers-requires-clause-line g c = c.requires.line
 
 pub with_handlers-requires-clause-handlers : goal.with_handlers-requires-clause-handlers
 with_handlers-requires-clause-handlers g c = c.requires.handlers
-
-pub returns-in-Set-clause-stays : goal.returns-in-Set-clause-stays
-returns-in-Set-clause-stays g c = c.set_setting.ensures.stays
-
-pub returns-in-Del-clause-stays : goal.returns-in-Del-clause-stays
-returns-in-Del-clause-stays g c = c.delete_setting.ensures.stays
-
-pub returns-in-Get-clause-stays : goal.returns-in-Get-clause-stays
-returns-in-Get-clause-stays g c = record {
-  mounted = c.requires.here.mounted;
-  up = λ powered. c.requires.here.up;
-  standing = λ powered. c.requires.here.standing;
-}
-
-pub returns-in-Direct-clause-stays : goal.returns-in-Direct-clause-stays
-returns-in-Direct-clause-stays g c = record {
-  mounted = c.requires.here.mounted;
-  up = λ powered. c.requires.here.up;
-  standing = λ powered. c.requires.here.standing;
-}
-
-pub returns-in-Names-clause-stays : goal.returns-in-Names-clause-stays
-returns-in-Names-clause-stays g c = record {
-  mounted = c.requires.here.mounted;
-  up = λ powered. c.requires.here.up;
-  standing = λ powered. c.requires.here.standing;
-}
-
-pub returns-in-Get-clause-stops : goal.returns-in-Get-clause-stops
-returns-in-Get-clause-stops g c = never_changed c.args.line.now (g.B.Flash.device c.args.bench.now) c.get_setting.result (ap takes_memory c.in-Get.is)
-
-pub returns-in-Direct-clause-stops : goal.returns-in-Direct-clause-stops
-returns-in-Direct-clause-stops g c = never_changed c.args.line.now (g.B.Flash.device c.args.bench.now) c.report_settings.result (ap takes_memory c.in-Direct.is)
-
-pub returns-in-Names-clause-stops : goal.returns-in-Names-clause-stops
-returns-in-Names-clause-stops g c = never_changed c.args.line.now (g.B.Flash.device c.args.bench.now) c.report_all.result (ap takes_memory c.in-Names.is)
-
-pub returns-in-Set-clause-handlers : goal.returns-in-Set-clause-handlers
-returns-in-Set-clause-handlers g c = c.requires.handlers
-
-pub returns-in-Del-clause-handlers : goal.returns-in-Del-clause-handlers
-returns-in-Del-clause-handlers g c = c.requires.handlers
-
-pub returns-in-Get-clause-handlers : goal.returns-in-Get-clause-handlers
-returns-in-Get-clause-handlers g c = c.requires.handlers
-
-pub returns-in-Direct-clause-handlers : goal.returns-in-Direct-clause-handlers
-returns-in-Direct-clause-handlers g c = c.requires.handlers
-
-pub returns-in-Names-clause-handlers : goal.returns-in-Names-clause-handlers
-returns-in-Names-clause-handlers g c = c.requires.handlers

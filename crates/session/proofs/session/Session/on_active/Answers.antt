@@ -37,14 +37,21 @@ returns-in-Ok-clause-ready g c = λ powered.
 pub area_at-area-requires : goal.area_at-area-requires
 area_at-area-requires g c = slice_get_within c.args.map.now c.args.self.now.active _ (ready_some g.K.Backend.mounted_on g.K.Backend.stands g.K.Backend.runs c.args.map.now (g.B.Flash.device c.args.bench.now) c.args.self.now.selector c.args.self.now.active c.args.self.now.settings c.in-Some.settings c.in-Some.is c.requires.on c.requires.ready).there
 
-pub with_power-requires-clause-line : goal.with_power-requires-clause-line
-with_power-requires-clause-line g c = c.requires.line
-
-pub with_power-requires-clause-local : goal.with_power-requires-clause-local
-with_power-requires-clause-local g c = c.requires.local
-
-pub with_power-requires-clause-map : goal.with_power-requires-clause-map
-with_power-requires-clause-map g c = c.requires.map
+pub with_power-requires : goal.with_power-requires
+with_power-requires g c = record {
+  line = c.requires.line;
+  local = c.requires.local;
+  map = c.requires.map;
+  here = let was = ready_some g.K.Backend.mounted_on g.K.Backend.stands g.K.Backend.runs c.args.map.now (g.B.Flash.device c.args.bench.now) c.args.self.now.selector c.args.self.now.active c.args.self.now.settings c.in-Some.settings c.in-Some.is c.requires.on c.requires.ready in
+      record {
+        powered = c.requires.on;
+        active = at_active c.args.map.now (g.B.Flash.device c.args.bench.now) c.args.self.now.active c.area_at-area.result was.is_active c.area_at-area.ensures;
+        mounted = same_there _ (g.K.Backend.mounted_on c.in-Some.settings.backend) c.area_at-area.result was.there c.area_at-area.ensures;
+        up = was.up;
+        standing = was.standing;
+      };
+  handlers = c.requires.handlers;
+}
 
 pub returns-in-Ok-clause-done : goal.returns-in-Ok-clause-done
 returns-in-Ok-clause-done g c = c.in-Ok.ensures.done
@@ -54,20 +61,6 @@ returns-in-Err-clause-undamaged g c = λ none. subst (λ (x : Device). damage_in
 
 pub unreachable-requires : goal.unreachable-requires
 unreachable-requires g c = never_none g.K.Backend.mounted_on g.K.Backend.stands g.K.Backend.runs c.args.map.now (g.B.Flash.device c.args.bench.now) c.args.self.now.selector c.args.self.now.active c.args.self.now.settings c.in-None.is c.requires.on c.requires.ready
-
-pub with_power-requires-clause-here : goal.with_power-requires-clause-here
-with_power-requires-clause-here g c =
-    let was = ready_some g.K.Backend.mounted_on g.K.Backend.stands g.K.Backend.runs c.args.map.now (g.B.Flash.device c.args.bench.now) c.args.self.now.selector c.args.self.now.active c.args.self.now.settings c.in-Some.settings c.in-Some.is c.requires.on c.requires.ready in
-    record {
-      powered = c.requires.on;
-      active = at_active c.args.map.now (g.B.Flash.device c.args.bench.now) c.args.self.now.active c.area_at-area.result was.is_active c.area_at-area.ensures;
-      mounted = same_there _ (g.K.Backend.mounted_on c.in-Some.settings.backend) c.area_at-area.result was.there c.area_at-area.ensures;
-      up = was.up;
-      standing = was.standing;
-    }
-
-pub with_power-requires-clause-handlers : goal.with_power-requires-clause-handlers
-with_power-requires-clause-handlers g c = c.requires.handlers
 
 pub returns-in-Ok-clause-handlers : goal.returns-in-Ok-clause-handlers
 returns-in-Ok-clause-handlers g c = c.in-Ok.ensures.handlers

@@ -1,5 +1,5 @@
 use Rattle.std.specs.Prelude.{is_some, IfErr, IfOk}
-use Rattle.std.proofs.Common.{◌≡◌, Bool, List, ℕ, true, refl, sym, subst}
+use Rattle.std.proofs.Common.{◌≡◌, List, ℕ, true, refl, sym, subst}
 use Rattle.std.proofs.lemmas.Bool.{false≢true}
 use Rattle.flash_sim.specs.Device.{Device}
 use Rattle.flash_map.specs.declared.area.Area.{Area}

@@ -21,7 +21,7 @@ returns g c =
     let n : Numbering = g.N.IdLayout.numbering area in
     let items : Items = on g.S.ItemStore.contents (g.F.Flash.device c.args.flash.now) area in
     let ids : Ids = c.candidates_of.result in
-    let one : IsCandidateId ids c.args.id = subst (λ (b : Bool). MatchBool b (IsCandidateId ids c.args.id) (¬ IsCandidateId ids c.args.id)) c.if-not-contains.false c.contains.ensures in
+    let one : IsCandidateId ids c.args.id = c.if-not-contains.ensures in
     let less : c.args.id < n.first + count_in n items = subst (λ (k : ℕ). c.args.id < k) c.end_of_names.ensures c.if-end_of_names-id.false in
     let same : c.is_value.result ≡ is_value n.longest (get items (c.args.id + n.step)) =
     valued-as c.is_value.result c.value_limit-longest.result n.longest (option_map {T = Bor (List ℕ)} {U = List ℕ} (λ bytes. bytes.now) c.get_by.result) (get items (c.args.id + n.step)) c.is_value.ensures
@@ -39,6 +39,5 @@ returns-then-not-contains g c =
     let ids : Ids = c.candidates_of.result in
     record {
       yes_it = λ is. absurd (false≢true is);
-      not_it = λ is held. subst (λ (b : Bool). MatchBool b (IsCandidateId ids c.args.id) (¬ IsCandidateId ids c.args.id)) c.if-not-contains.true c.contains.ensures
-          (held-id (g.N.IdLayout.numbering area) items c.args.name.now ids c.args.id (c.candidates_of.ensures.candidates area) held);
+      not_it = λ is held. c.if-not-contains.ensures (held-id (g.N.IdLayout.numbering area) items c.args.name.now ids c.args.id (c.candidates_of.ensures.candidates area) held);
     }

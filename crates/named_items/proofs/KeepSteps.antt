@@ -1,5 +1,5 @@
 -- Whether an item is kept, as a walk sees it: no orphan is left below, and the names below are known.
-use Rattle.std.proofs.Common.{◌≡◌, ◌⊎◌, ℕ, ◌+◌, ◌<◌, ◌≤◌, Bool, false, true, List, Bor, Option, Some, None, refl, sym, ap, subst, ◌∙◌, inl, inr, arith}
+use Rattle.std.proofs.Common.{◌≡◌, ℕ, ◌+◌, ◌<◌, ◌≤◌, Bool, false, true, List, Bor, Option, Some, None, refl, sym, ap, subst, ◌∙◌, inl, inr, arith}
 use Rattle.std.specs.Prelude.{IfSome}
 use Rattle.std.specs.FinMap.{get}
 use Rattle.std.specs.Option.{is_some, option_map}
@@ -11,7 +11,7 @@ use Rattle.named_items.specs.CandidateIds.{AreOfNames, HasCandidates, HasOnlyCan
 use Rattle.named_items.specs.Looking.{is_value, IsForName, IsHere}
 use Rattle.named_items.specs.Numbering.{Numbering, IsNumbering}
 use Rattle.named_items.specs.Orphans.{IsCleanBelow}
-use Rattle.named_items.specs.Pairs.{count_in, pair_at, HasName, IsHeld, IsInside, IsLowest, IsKept, IsPart, AltersOnly}
+use Rattle.named_items.specs.Pairs.{count_in, IsHeld, IsInside, IsLowest, IsKept, AltersOnly}
 use Rattle.named_items.specs.Seen.{Saw, SawBelow}
 use Rattle.named_items.specs.StoreEnds.{IsNextId}
 use Rattle.named_items.specs.Walking.{IsNameIn}

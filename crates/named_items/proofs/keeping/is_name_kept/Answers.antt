@@ -1,11 +1,10 @@
-use Rattle.std.proofs.Common.{◌≡◌, ℕ, Bool, false, true, List, Some, sym, subst, ◌∙◌}
+use Rattle.std.proofs.Common.{ℕ, List, subst, ◌∙◌}
 use Rattle.std.specs.FinMap.{get}
 use Rattle.std.proofs.lemmas.Bool.{false≢true}
 use Rattle.flash_map.specs.declared.area.Area.{Area}
 use Rattle.flash_map.specs.On.{on}
 use Rattle.item_laws.specs.Items.{Items}
 use Rattle.named_items.specs.Numbering.{Numbering}
-use Rattle.named_items.specs.Pairs.{IsKept}
 use Rattle.named_items.specs.Seen.{Saw}
 use Rattle.named_items.proofs.LookupSteps.{named-as}
 use Rattle.named_items.proofs.KeepSteps.{held-kept, kept-held, unnamed-gone, saw-more}

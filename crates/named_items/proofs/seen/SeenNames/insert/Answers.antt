@@ -1,5 +1,5 @@
-use Rattle.std.proofs.Common.{rules, ◌≡◌, ℕ, List, length, ap, sym, subst, ◌∙◌}
-use Rattle.named_items.specs.Seen.{hash, Saw, is_marked}
+use Rattle.std.proofs.Common.{rules, ◌≡◌, ℕ, length, subst}
+use Rattle.named_items.specs.Seen.{hash, is_marked}
 use Rattle.named_items.proofs.SeenSteps.{marked, mark-same, mark-keeps}
 use Rattle.named_items.proofs.seen.SeenNames.insert.Goals as goal
 

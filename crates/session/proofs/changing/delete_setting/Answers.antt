@@ -29,7 +29,8 @@ spells_another-requires g c = record {
 
 pub returns-in-Ok : goal.returns-in-Ok
 returns-in-Ok g c = record {
-  done = let old = g.B.Flash.device c.args.bench.now in
+  done =
+      let old = g.B.Flash.device c.args.bench.now in
       let new = g.B.Flash.device c.delete-end.new.flash in
       let up = g.K.Backend.runs c.args.settings.now.backend in
       let end : as_save c.delete-end.result ≡ Ok c.in-Ok.field-0 = ap (λ (r : Result (Unit {0}) DeleteFault). as_save r) c.in-Ok.is in
@@ -42,21 +43,22 @@ returns-in-Ok g c = record {
 }
 
 pub returns-in-Err-PowerLost : goal.returns-in-Err-PowerLost
-returns-in-Err-PowerLost g c = record {
-  done = let old = g.B.Flash.device c.args.bench.now in
-      let new = g.B.Flash.device c.delete-end.new.flash in
-      let up = g.K.Backend.runs c.args.settings.now.backend in
-      let which : c.in-Err-PowerLost.field-0 ≡ DeleteLost = rw c.in-Err-PowerLost.is at c.in-Err-PowerLost.field-0-is in
-      let end : as_save c.delete-end.result ≡ Err PowerLost = ap (λ (r : Result (Unit {0}) DeleteFault). as_save r) (c.in-Err-PowerLost.is ∙ ap (λ (fault : DeleteFault). Err fault) which) in
-      let here = ended g.K.Backend.contents g.K.Backend.room g.K.Backend.chance g.K.Backend.tears old new (Del c.args.name.now ∷ []) up (g.K.Backend.mounted_on c.args.settings.now.backend) (active_area c.args.map.now old) (as_save c.delete-end.result) (Err PowerLost) (c.requires.here.mounted ∙ c.requires.here.active) end
-      (record { touches = c.delete-end.ensures.touches; at_most = c.delete-end.ensures.at_most; count = c.delete-end.ensures.ends.0; ends = c.delete-end.ensures.ends.1 }) in
-      let stays = active_beside g.K.Backend.serves c.args.map.now old new c.requires.map (g.met.B.Flash.is_lawful c.args.bench.now) (g.met.B.Flash.is_lawful c.delete-end.new.flash) here.touches.banks here.touches.outside in
-      let reports = reported_at g.K.Backend.chance new c.args.area.now (active_area c.args.map.now old) c.spells_another.result c.requires.here.active c.spells_another.ensures in
-      λ registry pool. delete_by_lost g.K.Backend.contents g.K.Backend.room g.K.Backend.chance g.K.Backend.tears registry pool c.args.map.now c.args.name.now old new c.requires.here.powered stays up c.spent-before.result c.spent.result c.spent-before.ensures c.spent.ensures c.spells_another.result reports here;
-  sound = subst (λ (a : Area). on g.K.Backend.damage (g.B.Flash.device c.delete-end.new.flash) a ≡ None) c.requires.here.mounted (c.delete-end.ensures.sound c.requires.here.up);
-  stays = let which : c.in-Err-PowerLost.field-0 ≡ DeleteLost = rw c.in-Err-PowerLost.is at c.in-Err-PowerLost.field-0-is in
-      stays_off g.K.Backend.mounted_on g.K.Backend.stands g.K.Backend.runs c.args.map.now (g.B.Flash.device c.args.bench.now) (g.B.Flash.device c.delete-end.new.flash) c.args.area.now c.args.settings.now.backend c.delete-end.new.self.backend c.requires.here c.delete-end.ensures.area c.delete-end.ensures.stands _ (ap (λ (r : Result (Unit {0}) DeleteFault). save_lost (as_save r)) (c.in-Err-PowerLost.is ∙ ap (λ (fault : DeleteFault). Err fault) which)) c.delete-end.ensures.touches;
-}
+returns-in-Err-PowerLost g c =
+    let which : c.in-Err-PowerLost.field-0 ≡ DeleteLost = rw c.in-Err-PowerLost.is at c.in-Err-PowerLost.field-0-is in
+    record {
+      done =
+          let old = g.B.Flash.device c.args.bench.now in
+          let new = g.B.Flash.device c.delete-end.new.flash in
+          let up = g.K.Backend.runs c.args.settings.now.backend in
+          let end : as_save c.delete-end.result ≡ Err PowerLost = ap (λ (r : Result (Unit {0}) DeleteFault). as_save r) (c.in-Err-PowerLost.is ∙ ap (λ (fault : DeleteFault). Err fault) which) in
+          let here = ended g.K.Backend.contents g.K.Backend.room g.K.Backend.chance g.K.Backend.tears old new (Del c.args.name.now ∷ []) up (g.K.Backend.mounted_on c.args.settings.now.backend) (active_area c.args.map.now old) (as_save c.delete-end.result) (Err PowerLost) (c.requires.here.mounted ∙ c.requires.here.active) end
+          (record { touches = c.delete-end.ensures.touches; at_most = c.delete-end.ensures.at_most; count = c.delete-end.ensures.ends.0; ends = c.delete-end.ensures.ends.1 }) in
+          let stays = active_beside g.K.Backend.serves c.args.map.now old new c.requires.map (g.met.B.Flash.is_lawful c.args.bench.now) (g.met.B.Flash.is_lawful c.delete-end.new.flash) here.touches.banks here.touches.outside in
+          let reports = reported_at g.K.Backend.chance new c.args.area.now (active_area c.args.map.now old) c.spells_another.result c.requires.here.active c.spells_another.ensures in
+          λ registry pool. delete_by_lost g.K.Backend.contents g.K.Backend.room g.K.Backend.chance g.K.Backend.tears registry pool c.args.map.now c.args.name.now old new c.requires.here.powered stays up c.spent-before.result c.spent.result c.spent-before.ensures c.spent.ensures c.spells_another.result reports here;
+      sound = subst (λ (a : Area). on g.K.Backend.damage (g.B.Flash.device c.delete-end.new.flash) a ≡ None) c.requires.here.mounted (c.delete-end.ensures.sound c.requires.here.up);
+      stays = stays_off g.K.Backend.mounted_on g.K.Backend.stands g.K.Backend.runs c.args.map.now (g.B.Flash.device c.args.bench.now) (g.B.Flash.device c.delete-end.new.flash) c.args.area.now c.args.settings.now.backend c.delete-end.new.self.backend c.requires.here c.delete-end.ensures.area c.delete-end.ensures.stands _ (ap (λ (r : Result (Unit {0}) DeleteFault). save_lost (as_save r)) (c.in-Err-PowerLost.is ∙ ap (λ (fault : DeleteFault). Err fault) which)) c.delete-end.ensures.touches;
+    }
 
 pub delete-end-requires : goal.delete-end-requires
 delete-end-requires g c = record {

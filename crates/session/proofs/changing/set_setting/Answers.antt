@@ -28,7 +28,8 @@ spells_another-requires g c = record {
 
 pub returns-in-Ok : goal.returns-in-Ok
 returns-in-Ok g c = record {
-  done = let old = g.B.Flash.device c.args.bench.now in
+  done =
+      let old = g.B.Flash.device c.args.bench.now in
       let new = g.B.Flash.device c.save_one-end.new.flash in
       let up = g.K.Backend.runs c.args.settings.now.backend in
       let bytes = c.as_slice.result.now in
@@ -42,59 +43,62 @@ returns-in-Ok g c = record {
 }
 
 pub returns-in-Err-NoSpace : goal.returns-in-Err-NoSpace
-returns-in-Err-NoSpace g c = record {
-  done = let old = g.B.Flash.device c.args.bench.now in
-      let new = g.B.Flash.device c.save_one-end.new.flash in
-      let up = g.K.Backend.runs c.args.settings.now.backend in
-      let bytes = c.as_slice.result.now in
-      let which : c.in-Err-NoSpace.field-0 ≡ NoSpace c.in-Err-NoSpace.need c.in-Err-NoSpace.live = rw c.in-Err-NoSpace.is at c.in-Err-NoSpace.field-0-is in
-      let end : c.save_one-end.result ≡ Err (NoSpace c.in-Err-NoSpace.need c.in-Err-NoSpace.live) = c.in-Err-NoSpace.is ∙ ap (λ (fault : SaveFault). Err fault) which in
-      let here = ended g.K.Backend.contents g.K.Backend.room g.K.Backend.chance g.K.Backend.tears old new (command_of c.args.name.now bytes ∷ []) up (g.K.Backend.mounted_on c.args.settings.now.backend) (active_area c.args.map.now old) c.save_one-end.result (Err (NoSpace c.in-Err-NoSpace.need c.in-Err-NoSpace.live)) (c.requires.here.mounted ∙ c.requires.here.active) end
-      (record { touches = c.save_one-end.ensures.touches; at_most = c.save_one-end.ensures.at_most; count = c.save_one-end.ensures.ends.0; ends = c.save_one-end.ensures.ends.1 }) in
-      let stays = active_beside g.K.Backend.serves c.args.map.now old new c.requires.map (g.met.B.Flash.is_lawful c.args.bench.now) (g.met.B.Flash.is_lawful c.save_one-end.new.flash) here.touches.banks here.touches.outside in
-      λ registry pool. subst (λ (value : List ℕ). CarriedAt g.K.Backend.contents g.K.Backend.room g.K.Backend.chance g.K.Backend.tears registry pool c.args.map.now (Set c.args.name.now value) (Full (c.spent.result - c.spent-before.result) c.in-Err-NoSpace.need c.in-Err-NoSpace.live) old new) c.as_slice.ensures
-      (set_by_full g.K.Backend.contents g.K.Backend.room g.K.Backend.chance g.K.Backend.tears registry pool c.args.map.now c.args.name.now bytes old new c.requires.here.powered stays up c.spent-before.result c.spent.result c.spent-before.ensures c.spent.ensures c.in-Err-NoSpace.need c.in-Err-NoSpace.live here);
-  sound = subst (λ (a : Area). on g.K.Backend.damage (g.B.Flash.device c.save_one-end.new.flash) a ≡ None) c.requires.here.mounted (c.save_one-end.ensures.sound c.requires.here.up);
-  stays = let which : c.in-Err-NoSpace.field-0 ≡ NoSpace c.in-Err-NoSpace.need c.in-Err-NoSpace.live = rw c.in-Err-NoSpace.is at c.in-Err-NoSpace.field-0-is in
-      stays_up g.K.Backend.mounted_on g.K.Backend.stands g.K.Backend.runs c.args.map.now (g.B.Flash.device c.args.bench.now) (g.B.Flash.device c.save_one-end.new.flash) c.args.area.now c.args.settings.now.backend c.save_one-end.new.self.backend c.requires.here c.save_one-end.ensures.area c.save_one-end.ensures.stands (c.save_one-end.ensures.up (ap (λ (r : Result (Unit {0}) SaveFault). save_lost r) (c.in-Err-NoSpace.is ∙ ap (λ (fault : SaveFault). Err fault) which)));
-}
+returns-in-Err-NoSpace g c =
+    let which : c.in-Err-NoSpace.field-0 ≡ NoSpace c.in-Err-NoSpace.need c.in-Err-NoSpace.live = rw c.in-Err-NoSpace.is at c.in-Err-NoSpace.field-0-is in
+    record {
+      done =
+          let old = g.B.Flash.device c.args.bench.now in
+          let new = g.B.Flash.device c.save_one-end.new.flash in
+          let up = g.K.Backend.runs c.args.settings.now.backend in
+          let bytes = c.as_slice.result.now in
+          let end : c.save_one-end.result ≡ Err (NoSpace c.in-Err-NoSpace.need c.in-Err-NoSpace.live) = c.in-Err-NoSpace.is ∙ ap (λ (fault : SaveFault). Err fault) which in
+          let here = ended g.K.Backend.contents g.K.Backend.room g.K.Backend.chance g.K.Backend.tears old new (command_of c.args.name.now bytes ∷ []) up (g.K.Backend.mounted_on c.args.settings.now.backend) (active_area c.args.map.now old) c.save_one-end.result (Err (NoSpace c.in-Err-NoSpace.need c.in-Err-NoSpace.live)) (c.requires.here.mounted ∙ c.requires.here.active) end
+          (record { touches = c.save_one-end.ensures.touches; at_most = c.save_one-end.ensures.at_most; count = c.save_one-end.ensures.ends.0; ends = c.save_one-end.ensures.ends.1 }) in
+          let stays = active_beside g.K.Backend.serves c.args.map.now old new c.requires.map (g.met.B.Flash.is_lawful c.args.bench.now) (g.met.B.Flash.is_lawful c.save_one-end.new.flash) here.touches.banks here.touches.outside in
+          λ registry pool. subst (λ (value : List ℕ). CarriedAt g.K.Backend.contents g.K.Backend.room g.K.Backend.chance g.K.Backend.tears registry pool c.args.map.now (Set c.args.name.now value) (Full (c.spent.result - c.spent-before.result) c.in-Err-NoSpace.need c.in-Err-NoSpace.live) old new) c.as_slice.ensures
+          (set_by_full g.K.Backend.contents g.K.Backend.room g.K.Backend.chance g.K.Backend.tears registry pool c.args.map.now c.args.name.now bytes old new c.requires.here.powered stays up c.spent-before.result c.spent.result c.spent-before.ensures c.spent.ensures c.in-Err-NoSpace.need c.in-Err-NoSpace.live here);
+      sound = subst (λ (a : Area). on g.K.Backend.damage (g.B.Flash.device c.save_one-end.new.flash) a ≡ None) c.requires.here.mounted (c.save_one-end.ensures.sound c.requires.here.up);
+      stays = stays_up g.K.Backend.mounted_on g.K.Backend.stands g.K.Backend.runs c.args.map.now (g.B.Flash.device c.args.bench.now) (g.B.Flash.device c.save_one-end.new.flash) c.args.area.now c.args.settings.now.backend c.save_one-end.new.self.backend c.requires.here c.save_one-end.ensures.area c.save_one-end.ensures.stands (c.save_one-end.ensures.up (ap (λ (r : Result (Unit {0}) SaveFault). save_lost r) (c.in-Err-NoSpace.is ∙ ap (λ (fault : SaveFault). Err fault) which)));
+    }
 
 pub returns-in-Err-TooManyNames : goal.returns-in-Err-TooManyNames
-returns-in-Err-TooManyNames g c = record {
-  done = let old = g.B.Flash.device c.args.bench.now in
-      let new = g.B.Flash.device c.save_one-end.new.flash in
-      let up = g.K.Backend.runs c.args.settings.now.backend in
-      let bytes = c.as_slice.result.now in
-      let which : c.in-Err-TooManyNames.field-0 ≡ TooManyNames = rw c.in-Err-TooManyNames.is at c.in-Err-TooManyNames.field-0-is in
-      let end : c.save_one-end.result ≡ Err (TooManyNames) = c.in-Err-TooManyNames.is ∙ ap (λ (fault : SaveFault). Err fault) which in
-      let here = ended g.K.Backend.contents g.K.Backend.room g.K.Backend.chance g.K.Backend.tears old new (command_of c.args.name.now bytes ∷ []) up (g.K.Backend.mounted_on c.args.settings.now.backend) (active_area c.args.map.now old) c.save_one-end.result (Err TooManyNames) (c.requires.here.mounted ∙ c.requires.here.active) end
-      (record { touches = c.save_one-end.ensures.touches; at_most = c.save_one-end.ensures.at_most; count = c.save_one-end.ensures.ends.0; ends = c.save_one-end.ensures.ends.1 }) in
-      let stays = active_beside g.K.Backend.serves c.args.map.now old new c.requires.map (g.met.B.Flash.is_lawful c.args.bench.now) (g.met.B.Flash.is_lawful c.save_one-end.new.flash) here.touches.banks here.touches.outside in
-      λ registry pool. subst (λ (value : List ℕ). CarriedAt g.K.Backend.contents g.K.Backend.room g.K.Backend.chance g.K.Backend.tears registry pool c.args.map.now (Set c.args.name.now value) (TooMany (c.spent.result - c.spent-before.result)) old new) c.as_slice.ensures
-      (set_by_many g.K.Backend.contents g.K.Backend.room g.K.Backend.chance g.K.Backend.tears registry pool c.args.map.now c.args.name.now bytes old new c.requires.here.powered stays up c.spent-before.result c.spent.result c.spent-before.ensures c.spent.ensures here);
-  sound = subst (λ (a : Area). on g.K.Backend.damage (g.B.Flash.device c.save_one-end.new.flash) a ≡ None) c.requires.here.mounted (c.save_one-end.ensures.sound c.requires.here.up);
-  stays = let which : c.in-Err-TooManyNames.field-0 ≡ TooManyNames = rw c.in-Err-TooManyNames.is at c.in-Err-TooManyNames.field-0-is in
-      stays_up g.K.Backend.mounted_on g.K.Backend.stands g.K.Backend.runs c.args.map.now (g.B.Flash.device c.args.bench.now) (g.B.Flash.device c.save_one-end.new.flash) c.args.area.now c.args.settings.now.backend c.save_one-end.new.self.backend c.requires.here c.save_one-end.ensures.area c.save_one-end.ensures.stands (c.save_one-end.ensures.up (ap (λ (r : Result (Unit {0}) SaveFault). save_lost r) (c.in-Err-TooManyNames.is ∙ ap (λ (fault : SaveFault). Err fault) which)));
-}
+returns-in-Err-TooManyNames g c =
+    let which : c.in-Err-TooManyNames.field-0 ≡ TooManyNames = rw c.in-Err-TooManyNames.is at c.in-Err-TooManyNames.field-0-is in
+    record {
+      done =
+          let old = g.B.Flash.device c.args.bench.now in
+          let new = g.B.Flash.device c.save_one-end.new.flash in
+          let up = g.K.Backend.runs c.args.settings.now.backend in
+          let bytes = c.as_slice.result.now in
+          let end : c.save_one-end.result ≡ Err (TooManyNames) = c.in-Err-TooManyNames.is ∙ ap (λ (fault : SaveFault). Err fault) which in
+          let here = ended g.K.Backend.contents g.K.Backend.room g.K.Backend.chance g.K.Backend.tears old new (command_of c.args.name.now bytes ∷ []) up (g.K.Backend.mounted_on c.args.settings.now.backend) (active_area c.args.map.now old) c.save_one-end.result (Err TooManyNames) (c.requires.here.mounted ∙ c.requires.here.active) end
+          (record { touches = c.save_one-end.ensures.touches; at_most = c.save_one-end.ensures.at_most; count = c.save_one-end.ensures.ends.0; ends = c.save_one-end.ensures.ends.1 }) in
+          let stays = active_beside g.K.Backend.serves c.args.map.now old new c.requires.map (g.met.B.Flash.is_lawful c.args.bench.now) (g.met.B.Flash.is_lawful c.save_one-end.new.flash) here.touches.banks here.touches.outside in
+          λ registry pool. subst (λ (value : List ℕ). CarriedAt g.K.Backend.contents g.K.Backend.room g.K.Backend.chance g.K.Backend.tears registry pool c.args.map.now (Set c.args.name.now value) (TooMany (c.spent.result - c.spent-before.result)) old new) c.as_slice.ensures
+          (set_by_many g.K.Backend.contents g.K.Backend.room g.K.Backend.chance g.K.Backend.tears registry pool c.args.map.now c.args.name.now bytes old new c.requires.here.powered stays up c.spent-before.result c.spent.result c.spent-before.ensures c.spent.ensures here);
+      sound = subst (λ (a : Area). on g.K.Backend.damage (g.B.Flash.device c.save_one-end.new.flash) a ≡ None) c.requires.here.mounted (c.save_one-end.ensures.sound c.requires.here.up);
+      stays = stays_up g.K.Backend.mounted_on g.K.Backend.stands g.K.Backend.runs c.args.map.now (g.B.Flash.device c.args.bench.now) (g.B.Flash.device c.save_one-end.new.flash) c.args.area.now c.args.settings.now.backend c.save_one-end.new.self.backend c.requires.here c.save_one-end.ensures.area c.save_one-end.ensures.stands (c.save_one-end.ensures.up (ap (λ (r : Result (Unit {0}) SaveFault). save_lost r) (c.in-Err-TooManyNames.is ∙ ap (λ (fault : SaveFault). Err fault) which)));
+    }
 
 pub returns-in-Err-PowerLost : goal.returns-in-Err-PowerLost
-returns-in-Err-PowerLost g c = record {
-  done = let old = g.B.Flash.device c.args.bench.now in
-      let new = g.B.Flash.device c.save_one-end.new.flash in
-      let up = g.K.Backend.runs c.args.settings.now.backend in
-      let bytes = c.as_slice.result.now in
-      let which : c.in-Err-PowerLost.field-0 ≡ PowerLost = rw c.in-Err-PowerLost.is at c.in-Err-PowerLost.field-0-is in
-      let end : c.save_one-end.result ≡ Err (PowerLost) = c.in-Err-PowerLost.is ∙ ap (λ (fault : SaveFault). Err fault) which in
-      let here = ended g.K.Backend.contents g.K.Backend.room g.K.Backend.chance g.K.Backend.tears old new (command_of c.args.name.now bytes ∷ []) up (g.K.Backend.mounted_on c.args.settings.now.backend) (active_area c.args.map.now old) c.save_one-end.result (Err PowerLost) (c.requires.here.mounted ∙ c.requires.here.active) end
-      (record { touches = c.save_one-end.ensures.touches; at_most = c.save_one-end.ensures.at_most; count = c.save_one-end.ensures.ends.0; ends = c.save_one-end.ensures.ends.1 }) in
-      let stays = active_beside g.K.Backend.serves c.args.map.now old new c.requires.map (g.met.B.Flash.is_lawful c.args.bench.now) (g.met.B.Flash.is_lawful c.save_one-end.new.flash) here.touches.banks here.touches.outside in
-      let reports = reported_at g.K.Backend.chance new c.args.area.now (active_area c.args.map.now old) c.spells_another.result c.requires.here.active c.spells_another.ensures in
-      λ registry pool. subst (λ (value : List ℕ). CarriedAt g.K.Backend.contents g.K.Backend.room g.K.Backend.chance g.K.Backend.tears registry pool c.args.map.now (Set c.args.name.now value) (Lost (c.spent.result - c.spent-before.result) c.spells_another.result) old new) c.as_slice.ensures
-      (set_by_lost g.K.Backend.contents g.K.Backend.room g.K.Backend.chance g.K.Backend.tears registry pool c.args.map.now c.args.name.now bytes old new c.requires.here.powered stays up c.spent-before.result c.spent.result c.spent-before.ensures c.spent.ensures c.spells_another.result reports here);
-  sound = subst (λ (a : Area). on g.K.Backend.damage (g.B.Flash.device c.save_one-end.new.flash) a ≡ None) c.requires.here.mounted (c.save_one-end.ensures.sound c.requires.here.up);
-  stays = let which : c.in-Err-PowerLost.field-0 ≡ PowerLost = rw c.in-Err-PowerLost.is at c.in-Err-PowerLost.field-0-is in
-      stays_off g.K.Backend.mounted_on g.K.Backend.stands g.K.Backend.runs c.args.map.now (g.B.Flash.device c.args.bench.now) (g.B.Flash.device c.save_one-end.new.flash) c.args.area.now c.args.settings.now.backend c.save_one-end.new.self.backend c.requires.here c.save_one-end.ensures.area c.save_one-end.ensures.stands _ (ap (λ (r : Result (Unit {0}) SaveFault). save_lost r) (c.in-Err-PowerLost.is ∙ ap (λ (fault : SaveFault). Err fault) which)) c.save_one-end.ensures.touches;
-}
+returns-in-Err-PowerLost g c =
+    let which : c.in-Err-PowerLost.field-0 ≡ PowerLost = rw c.in-Err-PowerLost.is at c.in-Err-PowerLost.field-0-is in
+    record {
+      done =
+          let old = g.B.Flash.device c.args.bench.now in
+          let new = g.B.Flash.device c.save_one-end.new.flash in
+          let up = g.K.Backend.runs c.args.settings.now.backend in
+          let bytes = c.as_slice.result.now in
+          let end : c.save_one-end.result ≡ Err (PowerLost) = c.in-Err-PowerLost.is ∙ ap (λ (fault : SaveFault). Err fault) which in
+          let here = ended g.K.Backend.contents g.K.Backend.room g.K.Backend.chance g.K.Backend.tears old new (command_of c.args.name.now bytes ∷ []) up (g.K.Backend.mounted_on c.args.settings.now.backend) (active_area c.args.map.now old) c.save_one-end.result (Err PowerLost) (c.requires.here.mounted ∙ c.requires.here.active) end
+          (record { touches = c.save_one-end.ensures.touches; at_most = c.save_one-end.ensures.at_most; count = c.save_one-end.ensures.ends.0; ends = c.save_one-end.ensures.ends.1 }) in
+          let stays = active_beside g.K.Backend.serves c.args.map.now old new c.requires.map (g.met.B.Flash.is_lawful c.args.bench.now) (g.met.B.Flash.is_lawful c.save_one-end.new.flash) here.touches.banks here.touches.outside in
+          let reports = reported_at g.K.Backend.chance new c.args.area.now (active_area c.args.map.now old) c.spells_another.result c.requires.here.active c.spells_another.ensures in
+          λ registry pool. subst (λ (value : List ℕ). CarriedAt g.K.Backend.contents g.K.Backend.room g.K.Backend.chance g.K.Backend.tears registry pool c.args.map.now (Set c.args.name.now value) (Lost (c.spent.result - c.spent-before.result) c.spells_another.result) old new) c.as_slice.ensures
+          (set_by_lost g.K.Backend.contents g.K.Backend.room g.K.Backend.chance g.K.Backend.tears registry pool c.args.map.now c.args.name.now bytes old new c.requires.here.powered stays up c.spent-before.result c.spent.result c.spent-before.ensures c.spent.ensures c.spells_another.result reports here);
+      sound = subst (λ (a : Area). on g.K.Backend.damage (g.B.Flash.device c.save_one-end.new.flash) a ≡ None) c.requires.here.mounted (c.save_one-end.ensures.sound c.requires.here.up);
+      stays = stays_off g.K.Backend.mounted_on g.K.Backend.stands g.K.Backend.runs c.args.map.now (g.B.Flash.device c.args.bench.now) (g.B.Flash.device c.save_one-end.new.flash) c.args.area.now c.args.settings.now.backend c.save_one-end.new.self.backend c.requires.here c.save_one-end.ensures.area c.save_one-end.ensures.stands _ (ap (λ (r : Result (Unit {0}) SaveFault). save_lost r) (c.in-Err-PowerLost.is ∙ ap (λ (fault : SaveFault). Err fault) which)) c.save_one-end.ensures.touches;
+    }
 
 pub save_one-end-requires : goal.save_one-end-requires
 save_one-end-requires g c = record {

@@ -21,7 +21,8 @@ use Rattle.session.proofs.handling.with_handlers.Goals as goal
 
 pub load_settings-requires : goal.load_settings-requires
 load_settings-requires g c = record {
-  lawful = let d = g.B.Flash.device c.args.bench.now in
+  lawful =
+      let d = g.B.Flash.device c.args.bench.now in
       subst (λ (a : Area). IsLawfulFor d.banks a) (sym (c.requires.here.mounted ∙ c.requires.here.active)) (active-lawful g.K.Backend.serves c.args.map.now d c.requires.map);
   up = c.requires.here.up;
   stands = c.requires.here.standing;
@@ -29,7 +30,8 @@ load_settings-requires g c = record {
 
 pub returns-in-Register : goal.returns-in-Register
 returns-in-Register g c = record {
-  done = let d = g.B.Flash.device c.args.bench.now in
+  done =
+      let d = g.B.Flash.device c.args.bench.now in
       let hs = registered (λ b. (goal.Handler-dyn g (b.vtable, b.value)).state b.value) c.args.registry.now in
       let after = registered (λ b. (goal.Handler-dyn g (b.vtable, b.value)).state b.value) c.register_handler.new.registry in
       let pool = kinds (λ b. (goal.Handler-dyn g (b.vtable, b.value)).state b.value) c.args.pool.now.items in
@@ -49,43 +51,46 @@ returns-in-Register g c = record {
 }
 
 pub returns-in-Load : goal.returns-in-Load
-returns-in-Load g c = record {
-  done = let d = g.B.Flash.device c.args.bench.now in
-      let hs = registered (λ b. (goal.Handler-dyn g (b.vtable, b.value)).state b.value) c.args.registry.now in
-      let after = registered (λ b. (goal.Handler-dyn g (b.vtable, b.value)).state b.value) c.load_settings.new.registry in
-      let pool = kinds (λ b. (goal.Handler-dyn g (b.vtable, b.value)).state b.value) c.args.pool.now.items in
-      let at = g.K.Backend.mounted_on c.args.settings.now.backend in
-      subst (λ (line : Line). IfOk c.load_settings.result (λ answer. DoneWithin (meanings g.K.Backend.contents g.K.Backend.room g.K.Backend.chance g.K.Backend.tears) c.args.map.now line answer (moment d hs pool) (moment d after pool))) (sym c.in-Load.is)
-      (if-ok (λ answer. (s : State) → s.settings ≡ on g.K.Backend.contents d at → Loads c.in-Load.subtree answer (beside s hs s.pool) (beside s after s.pool))
-      (λ answer. DoneWithin (meanings g.K.Backend.contents g.K.Backend.room g.K.Backend.chance g.K.Backend.tears) c.args.map.now (Load c.in-Load.subtree) answer (moment d hs pool) (moment d after pool)) c.load_settings.result
-      (λ answer is. loads (meanings g.K.Backend.contents g.K.Backend.room g.K.Backend.chance g.K.Backend.tears) c.args.map.now d c.requires.here.powered hs after pool c.in-Load.subtree answer
-      (is (state_of (meanings g.K.Backend.contents g.K.Backend.room g.K.Backend.chance g.K.Backend.tears) c.args.map.now (moment d hs pool)) (ap (λ (a : Area). on g.K.Backend.contents d a) (sym (c.requires.here.mounted ∙ c.requires.here.active))))) c.load_settings.ensures.done);
-  handlers = let d = g.B.Flash.device c.args.bench.now in
-      let areas = c.args.map.now in
-      let state = c.args.settings.now.backend in
-      let at = g.K.Backend.mounted_on state in
-      let place : at ≡ active_area areas d = c.requires.here.mounted ∙ c.requires.here.active in
-      let lawful = subst (λ (a : Area). IsLawfulFor d.banks a) (sym place) (active-lawful g.K.Backend.serves areas d c.requires.map) in
-      let is = g.met.K.Backend.reads_settings d at (g.met.B.Flash.is_lawful c.args.bench.now) lawful
-      (g.met.K.Backend.stands_serves state (geometry_of d at) (sectors_of d at) c.requires.here.standing) (g.met.K.Backend.stands_reads state (geometry_of d at) (sectors_of d at) c.requires.here.standing) in
-      record {
-        registry =
-            c.load_settings.ensures.lawful (limit_of areas)
-            (subst (λ (limit : ℕ). IsSettings limit (on g.K.Backend.contents d at)) (ap value_limit place ∙ active-limit g.K.Backend.serves areas d c.requires.map) is) c.requires.handlers.registry;
-        pool = c.requires.handlers.pool;
+returns-in-Load g c =
+    let d = g.B.Flash.device c.args.bench.now in
+    record {
+      done =
+          let hs = registered (λ b. (goal.Handler-dyn g (b.vtable, b.value)).state b.value) c.args.registry.now in
+          let after = registered (λ b. (goal.Handler-dyn g (b.vtable, b.value)).state b.value) c.load_settings.new.registry in
+          let pool = kinds (λ b. (goal.Handler-dyn g (b.vtable, b.value)).state b.value) c.args.pool.now.items in
+          let at = g.K.Backend.mounted_on c.args.settings.now.backend in
+          subst (λ (line : Line). IfOk c.load_settings.result (λ answer. DoneWithin (meanings g.K.Backend.contents g.K.Backend.room g.K.Backend.chance g.K.Backend.tears) c.args.map.now line answer (moment d hs pool) (moment d after pool))) (sym c.in-Load.is)
+          (if-ok (λ answer. (s : State) → s.settings ≡ on g.K.Backend.contents d at → Loads c.in-Load.subtree answer (beside s hs s.pool) (beside s after s.pool))
+          (λ answer. DoneWithin (meanings g.K.Backend.contents g.K.Backend.room g.K.Backend.chance g.K.Backend.tears) c.args.map.now (Load c.in-Load.subtree) answer (moment d hs pool) (moment d after pool)) c.load_settings.result
+          (λ answer is. loads (meanings g.K.Backend.contents g.K.Backend.room g.K.Backend.chance g.K.Backend.tears) c.args.map.now d c.requires.here.powered hs after pool c.in-Load.subtree answer
+          (is (state_of (meanings g.K.Backend.contents g.K.Backend.room g.K.Backend.chance g.K.Backend.tears) c.args.map.now (moment d hs pool)) (ap (λ (a : Area). on g.K.Backend.contents d a) (sym (c.requires.here.mounted ∙ c.requires.here.active))))) c.load_settings.ensures.done);
+      handlers =
+          let areas = c.args.map.now in
+          let state = c.args.settings.now.backend in
+          let at = g.K.Backend.mounted_on state in
+          let place : at ≡ active_area areas d = c.requires.here.mounted ∙ c.requires.here.active in
+          let lawful = subst (λ (a : Area). IsLawfulFor d.banks a) (sym place) (active-lawful g.K.Backend.serves areas d c.requires.map) in
+          let is = g.met.K.Backend.reads_settings d at (g.met.B.Flash.is_lawful c.args.bench.now) lawful
+          (g.met.K.Backend.stands_serves state (geometry_of d at) (sectors_of d at) c.requires.here.standing) (g.met.K.Backend.stands_reads state (geometry_of d at) (sectors_of d at) c.requires.here.standing) in
+          record {
+            registry =
+                c.load_settings.ensures.lawful (limit_of areas)
+                (subst (λ (limit : ℕ). IsSettings limit (on g.K.Backend.contents d at)) (ap value_limit place ∙ active-limit g.K.Backend.serves areas d c.requires.map) is) c.requires.handlers.registry;
+            pool = c.requires.handlers.pool;
+          };
+      stays = record {
+        mounted = c.requires.here.mounted;
+        up = λ powered. c.requires.here.up;
+        standing = λ powered. c.requires.here.standing;
       };
-  stays = record {
-    mounted = c.requires.here.mounted;
-    up = λ powered. c.requires.here.up;
-    standing = λ powered. c.requires.here.standing;
-  };
-  stops = never_changed c.args.line.now (g.B.Flash.device c.args.bench.now) c.load_settings.result (ap takes_memory c.in-Load.is);
-  sound = λ none. none;
-}
+      stops = never_changed c.args.line.now (g.B.Flash.device c.args.bench.now) c.load_settings.result (ap takes_memory c.in-Load.is);
+      sound = λ none. none;
+    }
 
 pub returns-in-Save : goal.returns-in-Save
 returns-in-Save g c = record {
-  done = let old = g.B.Flash.device c.args.bench.now in
+  done =
+      let old = g.B.Flash.device c.args.bench.now in
       let new = g.B.Flash.device c.save_settings.new.bench in
       let hs = registered (λ b. (goal.Handler-dyn g (b.vtable, b.value)).state b.value) c.args.registry.now in
       let pool = kinds (λ b. (goal.Handler-dyn g (b.vtable, b.value)).state b.value) c.args.pool.now.items in
@@ -98,7 +103,8 @@ returns-in-Save g c = record {
 
 pub returns-in-Commit : goal.returns-in-Commit
 returns-in-Commit g c = record {
-  done = let d = g.B.Flash.device c.args.bench.now in
+  done =
+      let d = g.B.Flash.device c.args.bench.now in
       let hs = registered (λ b. (goal.Handler-dyn g (b.vtable, b.value)).state b.value) c.args.registry.now in
       let after = registered (λ b. (goal.Handler-dyn g (b.vtable, b.value)).state b.value) c.commit_handlers.new.registry in
       let pool = kinds (λ b. (goal.Handler-dyn g (b.vtable, b.value)).state b.value) c.args.pool.now.items in
@@ -116,7 +122,8 @@ returns-in-Commit g c = record {
 
 pub returns-in-RunSet : goal.returns-in-RunSet
 returns-in-RunSet g c = record {
-  done = let d = g.B.Flash.device c.args.bench.now in
+  done =
+      let d = g.B.Flash.device c.args.bench.now in
       let hs = registered (λ b. (goal.Handler-dyn g (b.vtable, b.value)).state b.value) c.args.registry.now in
       let after = registered (λ b. (goal.Handler-dyn g (b.vtable, b.value)).state b.value) c.offer_value.new.registry in
       let pool = kinds (λ b. (goal.Handler-dyn g (b.vtable, b.value)).state b.value) c.args.pool.now.items in
@@ -136,7 +143,8 @@ returns-in-RunSet g c = record {
 
 pub returns-in-RunGet : goal.returns-in-RunGet
 returns-in-RunGet g c = record {
-  done = let d = g.B.Flash.device c.args.bench.now in
+  done =
+      let d = g.B.Flash.device c.args.bench.now in
       let hs = registered (λ b. (goal.Handler-dyn g (b.vtable, b.value)).state b.value) c.args.registry.now in
       let pool = kinds (λ b. (goal.Handler-dyn g (b.vtable, b.value)).state b.value) c.args.pool.now.items in
       subst (λ (line : Line). IfOk c.ask_handler.result (λ answer. DoneWithin (meanings g.K.Backend.contents g.K.Backend.room g.K.Backend.chance g.K.Backend.tears) c.args.map.now line answer (moment d hs pool) (moment d hs pool))) (sym c.in-RunGet.is)

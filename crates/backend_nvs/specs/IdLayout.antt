@@ -1,6 +1,6 @@
 -- Where the settings of an NVS area are among its items: the count of names, the names above it,
 -- and each value above its name.
-use Rattle.std.specs.Prelude.{◌≡◌, ℕ, ◌+◌, ◌*◌, ◌^◌, ◌<◌, ◌≤◌, min, Bool, false, true, not, ◌&&◌, List, length, slice_index, Option, Some, None, ◌==◌, nat_le, if◌then◌else◌}
+use Rattle.std.specs.Prelude.{◌≡◌, ℕ, ◌+◌, ◌*◌, ◌/◌, ◌%◌, ◌^◌, ◌<◌, ◌≤◌, ◌∷◌, [], min, Bool, false, true, not, ◌&&◌, List, length, slice_index, Option, Some, None, ◌==◌, nat_le, if◌then◌else◌}
 use Rattle.std.proofs.Common.{cond, refl, ap, arith}
 use Rattle.std.proofs.lemmas.Bool.{false≢true}
 use Rattle.std.proofs.lemmas.Bool.Decides.{nat_tests}
@@ -29,11 +29,16 @@ abbrev pub is_count : Option (List ℕ) → Bool
 is_count None = false
 is_count (Some bytes) = length bytes == 2
 
+-- the count in two bytes, the low one first
+abbrev pub count_bytes : ℕ → List ℕ
+count_bytes count = count % 256 ∷ count / 256 ∷ []
+
 abbrev pub nvs_numbering : ℕ → Numbering
 nvs_numbering limit = record {
   count_id = COUNT;
   count_of = count_of;
   is_count = is_count;
+  count_bytes = count_bytes;
   first = FIRST;
   step = STEP;
   is_candidate = λ place name. true;

@@ -89,7 +89,8 @@ impl Backend for NvsBackend {
         standing_value::<NvsIdLayout, Nvs, F, L>(&self.store, flash, name, steps)
     }
 
-    // As the trait says, and which items it leaves.
+    // As the trait says. It puts the count if no id is free, the value, and the name, in this order. A
+    // loss leaves the first of these puts, and `NoSpace` at most the raised count.
     fn set<F: Flash, L: Ledger>(
         &mut self,
         flash: &mut F,
@@ -124,7 +125,8 @@ impl Backend for NvsBackend {
         set_value::<NvsIdLayout, Nvs, F, L>(&mut self.store, flash, name, value, steps)
     }
 
-    // As the trait says, and which items it leaves.
+    // As the trait says. The name's item goes first, and then the value's. A loss may leave the value
+    // alone.
     fn delete<F: Flash, L: Ledger>(
         &mut self,
         flash: &mut F,

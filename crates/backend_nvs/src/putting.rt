@@ -13,7 +13,7 @@ ghost use Rattle.named_items.specs.Pairs.{count_in, HasNoOrphans, IsIdOfName};
 ghost use Rattle.named_items.specs.Looking.{HasIds};
 ghost use Rattle.named_items.specs.Mounted.{IsMounted, StaysMounted};
 ghost use Rattle.named_items.specs.Putting.{IsStorable, SetLeavesOn};
-ghost use Rattle.backend_nvs.specs.IdLayout.{number_of, numbering_of, settings_of, nvs_room};
+ghost use Rattle.backend_nvs.specs.IdLayout.{count_bytes, number_of, numbering_of, settings_of, nvs_room};
 ghost use Rattle.backend_nvs.specs.declared.lookup.TheConstants.{TOP};
 
 use crate::lookup::{COUNT, FIRST, LIMIT, free_candidate, read_count};
@@ -52,6 +52,7 @@ fn bytes_of_count(count: u32) -> [u8; 2]
     requires few { count ≤ LIMIT }
     ensures two { length result ≡ 2 }
     ensures counts { number_of result ≡ count }
+    ensures spelled { result ≡ count_bytes count }
 {
     [(count % 256) as u8, (count / 256) as u8]
 }

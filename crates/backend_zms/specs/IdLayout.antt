@@ -1,6 +1,6 @@
 -- Where the settings of a ZMS area are among its items: each name at one of the 16 ids of its
 -- group, and its value 0x40000000 above it.
-use Rattle.std.specs.Prelude.{◌≡◌, ℕ, ◌+◌, ◌^◌, ◌<◌, ◌≤◌, Bool, true, false, not, ◌&&◌, List, Option, ◌==◌, nat_le, nat_lt, count_by, refl}
+use Rattle.std.specs.Prelude.{◌≡◌, ℕ, ◌+◌, ◌^◌, ◌<◌, ◌≤◌, Bool, true, false, not, ◌&&◌, List, [], Option, ◌==◌, nat_le, nat_lt, count_by, refl}
 use Rattle.std.proofs.Common.{ap, lit<, lit≤}
 use Rattle.std.proofs.lemmas.Bool.{false≢true}
 use Rattle.std.specs.FinMap.{contains_key, keys}
@@ -29,6 +29,7 @@ zms_numbering limit = record {
   count_id = 0;
   count_of = λ count. places;
   is_count = λ count. false;
+  count_bytes = λ count. [];
   first = FIRST;
   step = STEP;
   is_candidate = is_place_of;

@@ -46,12 +46,12 @@ module _ (n : Numbering) (before : Items) (name value : List ℕ) where
   takes free absent least = inr (inl (record { absent = absent; free = free; least = least; are = refl }))
 
   -- the name is new, and no place is free
-  module _ (absent : IsIdOfName n before name None) (full : IsFreeCandidate n before name None) (count : List ℕ) (counts : n.is_count (Some count) ≡ true) (one_more : n.count_of (Some count) ≡ count_in n before + 1) where
+  module _ (absent : IsIdOfName n before name None) (full : IsFreeCandidate n before name None) (count : List ℕ) (counts : n.is_count (Some count) ≡ true) (one_more : n.count_of (Some count) ≡ count_in n before + 1) (spelled : count ≡ n.count_bytes (count_in n before + 1)) where
     abbrev raise : List (ℕ × List ℕ)
     raise = (n.count_id, count) ∷ pair_at_place n (n.first + count_in n before) name value
 
     raises : Raises n before name value raise
-    raises = record { absent = absent; full = full; count = count; counts = counts; one_more = one_more; are = refl }
+    raises = record { absent = absent; full = full; count = count; spelled = spelled; counts = counts; one_more = one_more; are = refl }
 
     -- power is lost in the put of the count
     pub count-cut : (T : Type 0) (mid : Items) → (mid ≡ before) ⊎ (mid ≡ insert before n.count_id count) → SetLeavesItems {T = T} n before mid name value (Err PowerLost)

@@ -18,8 +18,8 @@ put_all items puts = fold (λ before put. insert before put.0 put.1) items puts
 abbrev pub pair_at_place : Numbering → ℕ → List ℕ → List ℕ → List (ℕ × List ℕ)
 pair_at_place n place name value = (place + n.step, value) ∷ (place, name) ∷ []
 
--- All puts are done; or there is no room, and none is; or power was lost, and the first ones are. No
--- name is one too many.
+-- All puts are done; or there is no room, and none is; or power was lost, and the first ones are.
+-- `TooManyNames` never comes.
 abbrev pub MakesPuts : {T : Type 0} → Items → Items → List (ℕ × List ℕ) → Result T SetFault → Type 0
 MakesPuts before after puts (Ok x) = after ≡ put_all before puts
 MakesPuts before after puts (Err (NoSpace need live)) = after ≡ before
@@ -50,6 +50,7 @@ pub record Raises (n : Numbering) (before : Items) (name value : List ℕ) (puts
     pub absent : IsIdOfName n before name None
     pub full : IsFreeCandidate n before name None
     pub count : List ℕ
+    pub spelled : count ≡ n.count_bytes (count_in n before + 1)
     pub counts : n.is_count (Some count) ≡ true
     pub one_more : n.count_of (Some count) ≡ count_in n before + 1
     pub are : puts ≡ (n.count_id, count) ∷ pair_at_place n (n.first + count_in n before) name value

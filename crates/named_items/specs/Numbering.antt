@@ -6,6 +6,8 @@ pub record Numbering : Type 0 where
   pub count_id : ℕ
   pub count_of : Option (List ℕ) → ℕ
   pub is_count : Option (List ℕ) → Bool
+  -- the bytes of the item when it counts so many names
+  pub count_bytes : ℕ → List ℕ
   -- the id of the first name, and by how much the id of a value is greater than that of its name
   pub first : ℕ
   pub step : ℕ

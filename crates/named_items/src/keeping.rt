@@ -54,7 +54,7 @@ fn is_held<N: IdLayout, S: ItemStore, F: Flash, L: Ledger>(
 }
 
 // Whether the item at an id for names is a part of a setting in effect. The set has the names
-// below, and gets this one. Only where it seems to have it already, the lower ids are looked at.
+// below, and gets this one. The lower ids are searched only if the set seems to have the name.
 fn is_name_kept<N: IdLayout, S: ItemStore, F: Flash, L: Ledger>(
     store: &S,
     flash: &F,

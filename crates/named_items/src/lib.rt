@@ -1,5 +1,5 @@
 //! Settings kept as pairs of items, a name and its value, in a store of numbered items over NVS or
-//! ZMS: look-up, set, delete, and the removal of orphans at mount.
+//! ZMS: look-up, listing, set, delete, and the removal of orphans at mount.
 #![tactic(auto)]
 
 mod candidates;

@@ -48,7 +48,7 @@ fn next_setting<'a, N: IdLayout, S: ItemStore, F: Flash, L: Ledger>(
 }
 
 /// All settings, in the byte order of their names. No item may be an orphan. It makes one index,
-/// and looks each item up by it.
+/// and looks each item up by it. It takes memory for each name.
 ///
 /// # Errors
 /// `NoMemory`.

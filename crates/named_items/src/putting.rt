@@ -34,8 +34,8 @@ pub trait NewNames: IdLayout {
     ///
     /// # Errors
     /// `TooManyNames` exactly if the name would be one too many; nothing was programmed then.
-    /// `NoSpace`: the settings are as before. `PowerLost`: they are as before, or have the value,
-    /// and the store is down.
+    /// `NoSpace`: the settings are as before; the count may stay raised by one. `PowerLost`: they
+    /// are as before, or have the value, and the store is down.
     fn put_name<S: ItemStore, F: Flash, L: Ledger>(
         store: &mut S,
         flash: &mut F,
@@ -200,8 +200,8 @@ pub fn put_new<N: IdLayout, S: ItemStore, F: Flash, L: Ledger>(
 ///
 /// # Errors
 /// `TooManyNames` exactly if the name would be one too many; nothing was programmed then.
-/// `NoSpace`: the settings are as before. `PowerLost`: they are as before, or have the value, and
-/// the store is down.
+/// `NoSpace`: the settings are as before; the count may stay raised by one. `PowerLost`: they are
+/// as before, or have the value, and the store is down.
 pub fn set_value<N: NewNames, S: ItemStore, F: Flash, L: Ledger>(
     store: &mut S,
     flash: &mut F,

@@ -23,7 +23,7 @@ use Rattle.named_items.specs.Leaving.{pair_at_place, MakesPuts, SetLeavesItems}
 use Rattle.named_items.proofs.LeavingSteps.{count-cut, raised-leave}
 use Rattle.named_items.proofs.NewSteps.{not-stored, set-after}
 use Rattle.named_items.proofs.SpendSteps.{spends-some, one-call, spends-both, calls-within, geometry-stays}
-use Rattle.backend_nvs.specs.IdLayout.{count_of, is_count, numbering_of, settings_of, nvs_counted, nvs_room, nvs-counts, nvs-numbering, too_many}
+use Rattle.backend_nvs.specs.IdLayout.{count_bytes, count_of, is_count, numbering_of, settings_of, nvs_counted, nvs_room, nvs-counts, nvs-numbering, too_many}
 use Rattle.backend_nvs.proofs.CountSteps.{few-free, count-leaves, count-refused, raised-same, raised-kept, raised-inside, raised-free}
 use Rattle.flash_map.proofs.Touches.{then}
 use Rattle.named_items.specs.Limits.{limit-least}
@@ -229,9 +229,10 @@ returns-in-Ok-clause-items g c =
     let before : Items = on g.S.ItemStore.contents d own in
     let mid : Items = on g.S.ItemStore.contents b own in
     let bytes : List ℕ = c.bytes_of_count-bytes.result in
+    let spelled : bytes ≡ count_bytes (count_in (numbering_of own) before + 1) = c.bytes_of_count-bytes.ensures.spelled ∙ ap (λ (x : ℕ). count_bytes (x + 1)) c.requires.counted in
     let counts : is_count (Some bytes) ≡ true = ap (λ (x : ℕ). x == 2) c.bytes_of_count-bytes.ensures.two in
     let more : count_of (Some bytes) ≡ count_in (numbering_of own) before + 1 = c.bytes_of_count-bytes.ensures.counts ∙ ap (λ (x : ℕ). x + 1) c.requires.counted in
-    raised-leave (numbering_of own) before c.args.name.now c.args.value.now c.requires.absent c.requires.full bytes counts more mid (on g.S.ItemStore.contents e own) (0x8001 + c.args.count) c.put_new.result c.in-Ok.ensures.ends.items
+    raised-leave (numbering_of own) before c.args.name.now c.args.value.now c.requires.absent c.requires.full bytes counts more spelled mid (on g.S.ItemStore.contents e own) (0x8001 + c.args.count) c.put_new.result c.in-Ok.ensures.ends.items
     (ap (λ (x : ℕ). 0x8001 + x) c.requires.counted)
     (subst (λ (x : Area). MakesPuts (on g.S.ItemStore.contents b x) (on g.S.ItemStore.contents e x) (pair_at_place (numbering_of x) (0x8001 + c.args.count) c.args.name.now c.args.value.now) c.put_new.result) c.in-Ok.ensures.area c.put_new.ensures.items)
 
@@ -243,11 +244,12 @@ returns-in-Err-PowerLost-clause-items g c =
     let before : Items = on g.S.ItemStore.contents d own in
     let mid : Items = on g.S.ItemStore.contents b own in
     let bytes : List ℕ = c.bytes_of_count-bytes.result in
+    let spelled : bytes ≡ count_bytes (count_in (numbering_of own) before + 1) = c.bytes_of_count-bytes.ensures.spelled ∙ ap (λ (x : ℕ). count_bytes (x + 1)) c.requires.counted in
     let counts : is_count (Some bytes) ≡ true = ap (λ (x : ℕ). x == 2) c.bytes_of_count-bytes.ensures.two in
     let more : count_of (Some bytes) ≡ count_in (numbering_of own) before + 1 = c.bytes_of_count-bytes.ensures.counts ∙ ap (λ (x : ℕ). x + 1) c.requires.counted in
     let k : Geometry = geometry_of d own in
     let ended = subst (λ (w : WriteFault). ends.WriteEnds {T = Unit {0}} (g.S.ItemStore.price k) (g.S.ItemStore.cap k) own.sectors d b before mid 0x8000 bytes (Err w)) c.in-Err-PowerLost.field-0-is c.in-Err-PowerLost.ensures.ends in
-    count-cut (numbering_of own) before c.args.name.now c.args.value.now c.requires.absent c.requires.full bytes counts more (Unit {0}) mid ended.items
+    count-cut (numbering_of own) before c.args.name.now c.args.value.now c.requires.absent c.requires.full bytes counts more spelled (Unit {0}) mid ended.items
 
 pub returns-in-Err-NoSpace-clause-items : goal.returns-in-Err-NoSpace-clause-items
 returns-in-Err-NoSpace-clause-items g c =

@@ -42,8 +42,39 @@ returns-in_err-copy_live-clause-touches g c =
     is_err_by c.from_residual-in_err-copy_live.result (Touches (area ∷ []) a d) c.from_residual-in_err-copy_live.ensures.0
     (then c.in_ok-begin_collect.ensures.touches (subst (λ (x : Area). Touches (x ∷ []) b d true) c.in_ok-begin_collect.ensures.begun.area c.in_err-copy_live.ensures.touches))
 
-pub returns-clause-stopped : goal.returns-clause-stopped
-returns-clause-stopped g c = tt
+pub returns : goal.returns
+returns g c =
+    let b : Device = g.F.Flash.device c.begin_collect.new.flash in
+    let one = c.in_ok-begin_collect.ensures.begun in
+    let d : Device = g.F.Flash.device c.copy_live.new.flash in
+    let two = c.in_ok-copy_live.ensures in
+    let e : Device = g.F.Flash.device c.end_collect.new.flash in
+    let three = c.in_ok-end_collect.ensures in
+    let a : Device = g.F.Flash.device c.args.flash.now in
+    let before : Ring = c.args.ring.now in
+    let lawful = g.met.F.Flash.is_lawful c.args.flash.now in
+    let ring : Ring = c.begin_collect.new.self in
+    let now : Ring = c.copy_live.new.ring in
+    let copied : Copied b d ring now = record { banks = two.touches.banks; list = two.only.list; others = two.only.others; area = two.only.area; reserve = two.only.reserve; copies = two.copies } in
+    let after : Ring = c.end_collect.new.self in
+    let ended : Ended d e now after = record { banks = three.touches.banks; others = three.others; area = three.ended.area; reserve = three.ended.reserve; stands = three.ended.stands; ready = three.ended.ready; end = three.ended.end; oldest = three.ended.ends.oldest; used = three.ended.ends.used } in
+    let left : before.used + 1 ≡ before.area.sectors = eqb-true (before.used + 1) before.area.sectors c.requires.left in
+    record {
+      stopped = tt;
+      touches = then (then c.in_ok-begin_collect.ensures.touches (subst (λ (x : Area). Touches (x ∷ []) b d false) one.area two.touches)) (subst (λ (x : Area). Touches (x ∷ []) d e false) (two.only.area ∙ one.area) three.touches);
+      area = three.ended.area ∙ two.only.area ∙ one.area;
+      settings = collected-settings a b d e before ring now after c.requires.ready left lawful one copied ended;
+      undamaged = collected-undamaged a b d e before ring now after c.requires.ready left lawful one copied ended (g.met.F.Flash.is_lawful c.end_collect.new.flash);
+      at_most =
+          let copies = copied-now b d ring now one.stands one.stage two.copies in
+          end-units a b before ring lawful c.requires.ready.stands one one.units d e now copies.0 (g.met.F.Flash.is_lawful c.copy_live.new.flash) two.touches.banks two.only.area copies.1 (spends_most d e 1 three.ended.units);
+      collected = record {
+        ready = collected-ready a b d e before ring now after c.requires.ready left lawful one copied ended (g.met.F.Flash.is_lawful c.end_collect.new.flash);
+        collects = collected a b d e before ring now after c.requires.ready left lawful one copied ended;
+        used = after-used a b d e before ring now after c.requires.ready left lawful one copied ended;
+        reserve = three.ended.reserve ∙ two.only.reserve ∙ one.reserve;
+      };
+    }
 
 pub returns-in_err-begin_collect-clause-settings : goal.returns-in_err-begin_collect-clause-settings
 returns-in_err-begin_collect-clause-settings g c =
@@ -69,29 +100,23 @@ returns-in_err-begin_collect-clause-at_most g c =
     let b : Device = g.F.Flash.device c.begin_collect.new.flash in
     begin-units a b before lawful c.requires.ready.stands c.in_err-begin_collect.ensures.stopped.bound
 
-pub copy_live-requires-clause-undamaged : goal.copy_live-requires-clause-undamaged
-copy_live-requires-clause-undamaged g c =
+pub copy_live-requires : goal.copy_live-requires
+copy_live-requires g c =
     let a : Device = g.F.Flash.device c.args.flash.now in
     let before : Ring = c.args.ring.now in
-    let lawful = g.met.F.Flash.is_lawful c.args.flash.now in
-    let b : Device = g.F.Flash.device c.begin_collect.new.flash in
-    let ring : Ring = c.begin_collect.new.self in
-    let one = c.in_ok-begin_collect.ensures.begun in
-    begun-undamaged a b before ring one lawful (g.met.F.Flash.is_lawful c.begin_collect.new.flash) c.requires.ready
-
-pub copy_live-requires-clause-scratch : goal.copy_live-requires-clause-scratch
-copy_live-requires-clause-scratch g c =
-    let a : Device = g.F.Flash.device c.args.flash.now in
-    let before : Ring = c.args.ring.now in
-    let lawful = g.met.F.Flash.is_lawful c.args.flash.now in
     let b : Device = g.F.Flash.device c.begin_collect.new.flash in
     let ring : Ring = c.begin_collect.new.self in
     let one = c.in_ok-begin_collect.ensures.begun in
     record {
-      stands = one.stands;
-      collecting = one.stage;
-      no_copies = begun-fresh a b before ring one;
-      end = begun-end a b before ring one;
+      undamaged =
+          let lawful = g.met.F.Flash.is_lawful c.args.flash.now in
+          begun-undamaged a b before ring one lawful (g.met.F.Flash.is_lawful c.begin_collect.new.flash) c.requires.ready;
+      scratch = record {
+        stands = one.stands;
+        collecting = one.stage;
+        no_copies = begun-fresh a b before ring one;
+        end = begun-end a b before ring one;
+      };
     }
 
 pub returns-in_err-copy_live-clause-settings : goal.returns-in_err-copy_live-clause-settings
@@ -136,35 +161,19 @@ returns-in_err-copy_live-clause-at_most g c =
     let kept : KeepsEntries a d before.area = keeps-then a b d before.area one.list (subst (λ (x : Area). KeepsEntries b d x) one.area two.only.list) in
     stop-units a b before ring lawful c.requires.ready.stands one one.units d now two.stops
 
-pub end_collect-requires-clause-stands : goal.end_collect-requires-clause-stands
-end_collect-requires-clause-stands g c =
-    let a : Device = g.F.Flash.device c.args.flash.now in
-    let before : Ring = c.args.ring.now in
-    let lawful = g.met.F.Flash.is_lawful c.args.flash.now in
+pub end_collect-requires : goal.end_collect-requires
+end_collect-requires g c =
     let b : Device = g.F.Flash.device c.begin_collect.new.flash in
     let ring : Ring = c.begin_collect.new.self in
     let one = c.in_ok-begin_collect.ensures.begun in
     let d : Device = g.F.Flash.device c.copy_live.new.flash in
     let now : Ring = c.copy_live.new.ring in
     let two = c.in_ok-copy_live.ensures in
-    let copied : Copied b d ring now = record { banks = two.touches.banks; list = two.only.list; others = two.only.others; area = two.only.area; reserve = two.only.reserve; copies = two.copies } in
     let copies = copied-now b d ring now one.stands one.stage two.copies in
-    copies.1.stands
-
-pub end_collect-requires-clause-collecting : goal.end_collect-requires-clause-collecting
-end_collect-requires-clause-collecting g c =
-    let a : Device = g.F.Flash.device c.args.flash.now in
-    let before : Ring = c.args.ring.now in
-    let lawful = g.met.F.Flash.is_lawful c.args.flash.now in
-    let b : Device = g.F.Flash.device c.begin_collect.new.flash in
-    let ring : Ring = c.begin_collect.new.self in
-    let one = c.in_ok-begin_collect.ensures.begun in
-    let d : Device = g.F.Flash.device c.copy_live.new.flash in
-    let now : Ring = c.copy_live.new.ring in
-    let two = c.in_ok-copy_live.ensures in
-    let copied : Copied b d ring now = record { banks = two.touches.banks; list = two.only.list; others = two.only.others; area = two.only.area; reserve = two.only.reserve; copies = two.copies } in
-    let copies = copied-now b d ring now one.stands one.stage two.copies in
-    copies.1.stage
+    record {
+      stands = copies.1.stands;
+      collecting = copies.1.stage;
+    }
 
 pub returns-in_err-end_collect-clause-touches : goal.returns-in_err-end_collect-clause-touches
 returns-in_err-end_collect-clause-touches g c =
@@ -238,131 +247,6 @@ returns-in_err-end_collect-clause-at_most g c =
     let three = c.in_err-end_collect.ensures in
     let kept : KeepsEntries a e before.area = keeps-then a d e before.area (keeps-then a b d before.area one.list (subst (λ (x : Area). KeepsEntries b d x) one.area two.only.list)) (subst (λ (x : Area). KeepsEntries d e x) (two.only.area ∙ one.area) three.stopped.list) in
     end-units a b before ring lawful c.requires.ready.stands one one.units d e now copies.0 (g.met.F.Flash.is_lawful c.copy_live.new.flash) two.touches.banks two.only.area copies.1 three.stopped.bound
-
-pub returns-clause-touches : goal.returns-clause-touches
-returns-clause-touches g c =
-    let a : Device = g.F.Flash.device c.args.flash.now in
-    let before : Ring = c.args.ring.now in
-    let lawful = g.met.F.Flash.is_lawful c.args.flash.now in
-    let b : Device = g.F.Flash.device c.begin_collect.new.flash in
-    let ring : Ring = c.begin_collect.new.self in
-    let one = c.in_ok-begin_collect.ensures.begun in
-    let d : Device = g.F.Flash.device c.copy_live.new.flash in
-    let now : Ring = c.copy_live.new.ring in
-    let two = c.in_ok-copy_live.ensures in
-    let copied : Copied b d ring now = record { banks = two.touches.banks; list = two.only.list; others = two.only.others; area = two.only.area; reserve = two.only.reserve; copies = two.copies } in
-    let copies = copied-now b d ring now one.stands one.stage two.copies in
-    let e : Device = g.F.Flash.device c.end_collect.new.flash in
-    let after : Ring = c.end_collect.new.self in
-    let three = c.in_ok-end_collect.ensures in
-    let ended : Ended d e now after = record { banks = three.touches.banks; others = three.others; area = three.ended.area; reserve = three.ended.reserve; stands = three.ended.stands; ready = three.ended.ready; end = three.ended.end; oldest = three.ended.ends.oldest; used = three.ended.ends.used } in
-    let left : before.used + 1 ≡ before.area.sectors = eqb-true (before.used + 1) before.area.sectors c.requires.left in
-    then (then c.in_ok-begin_collect.ensures.touches (subst (λ (x : Area). Touches (x ∷ []) b d false) one.area two.touches)) (subst (λ (x : Area). Touches (x ∷ []) d e false) (two.only.area ∙ one.area) three.touches)
-
-pub returns-clause-area : goal.returns-clause-area
-returns-clause-area g c =
-    let a : Device = g.F.Flash.device c.args.flash.now in
-    let before : Ring = c.args.ring.now in
-    let lawful = g.met.F.Flash.is_lawful c.args.flash.now in
-    let b : Device = g.F.Flash.device c.begin_collect.new.flash in
-    let ring : Ring = c.begin_collect.new.self in
-    let one = c.in_ok-begin_collect.ensures.begun in
-    let d : Device = g.F.Flash.device c.copy_live.new.flash in
-    let now : Ring = c.copy_live.new.ring in
-    let two = c.in_ok-copy_live.ensures in
-    let copied : Copied b d ring now = record { banks = two.touches.banks; list = two.only.list; others = two.only.others; area = two.only.area; reserve = two.only.reserve; copies = two.copies } in
-    let copies = copied-now b d ring now one.stands one.stage two.copies in
-    let e : Device = g.F.Flash.device c.end_collect.new.flash in
-    let after : Ring = c.end_collect.new.self in
-    let three = c.in_ok-end_collect.ensures in
-    let ended : Ended d e now after = record { banks = three.touches.banks; others = three.others; area = three.ended.area; reserve = three.ended.reserve; stands = three.ended.stands; ready = three.ended.ready; end = three.ended.end; oldest = three.ended.ends.oldest; used = three.ended.ends.used } in
-    let left : before.used + 1 ≡ before.area.sectors = eqb-true (before.used + 1) before.area.sectors c.requires.left in
-    three.ended.area ∙ two.only.area ∙ one.area
-
-pub returns-clause-settings : goal.returns-clause-settings
-returns-clause-settings g c =
-    let a : Device = g.F.Flash.device c.args.flash.now in
-    let before : Ring = c.args.ring.now in
-    let lawful = g.met.F.Flash.is_lawful c.args.flash.now in
-    let b : Device = g.F.Flash.device c.begin_collect.new.flash in
-    let ring : Ring = c.begin_collect.new.self in
-    let one = c.in_ok-begin_collect.ensures.begun in
-    let d : Device = g.F.Flash.device c.copy_live.new.flash in
-    let now : Ring = c.copy_live.new.ring in
-    let two = c.in_ok-copy_live.ensures in
-    let copied : Copied b d ring now = record { banks = two.touches.banks; list = two.only.list; others = two.only.others; area = two.only.area; reserve = two.only.reserve; copies = two.copies } in
-    let copies = copied-now b d ring now one.stands one.stage two.copies in
-    let e : Device = g.F.Flash.device c.end_collect.new.flash in
-    let after : Ring = c.end_collect.new.self in
-    let three = c.in_ok-end_collect.ensures in
-    let ended : Ended d e now after = record { banks = three.touches.banks; others = three.others; area = three.ended.area; reserve = three.ended.reserve; stands = three.ended.stands; ready = three.ended.ready; end = three.ended.end; oldest = three.ended.ends.oldest; used = three.ended.ends.used } in
-    let left : before.used + 1 ≡ before.area.sectors = eqb-true (before.used + 1) before.area.sectors c.requires.left in
-    collected-settings a b d e before ring now after c.requires.ready left lawful one copied ended
-
-pub returns-clause-undamaged : goal.returns-clause-undamaged
-returns-clause-undamaged g c =
-    let a : Device = g.F.Flash.device c.args.flash.now in
-    let before : Ring = c.args.ring.now in
-    let lawful = g.met.F.Flash.is_lawful c.args.flash.now in
-    let b : Device = g.F.Flash.device c.begin_collect.new.flash in
-    let ring : Ring = c.begin_collect.new.self in
-    let one = c.in_ok-begin_collect.ensures.begun in
-    let d : Device = g.F.Flash.device c.copy_live.new.flash in
-    let now : Ring = c.copy_live.new.ring in
-    let two = c.in_ok-copy_live.ensures in
-    let copied : Copied b d ring now = record { banks = two.touches.banks; list = two.only.list; others = two.only.others; area = two.only.area; reserve = two.only.reserve; copies = two.copies } in
-    let copies = copied-now b d ring now one.stands one.stage two.copies in
-    let e : Device = g.F.Flash.device c.end_collect.new.flash in
-    let after : Ring = c.end_collect.new.self in
-    let three = c.in_ok-end_collect.ensures in
-    let ended : Ended d e now after = record { banks = three.touches.banks; others = three.others; area = three.ended.area; reserve = three.ended.reserve; stands = three.ended.stands; ready = three.ended.ready; end = three.ended.end; oldest = three.ended.ends.oldest; used = three.ended.ends.used } in
-    let left : before.used + 1 ≡ before.area.sectors = eqb-true (before.used + 1) before.area.sectors c.requires.left in
-    collected-undamaged a b d e before ring now after c.requires.ready left lawful one copied ended (g.met.F.Flash.is_lawful c.end_collect.new.flash)
-
-pub returns-clause-at_most : goal.returns-clause-at_most
-returns-clause-at_most g c =
-    let a : Device = g.F.Flash.device c.args.flash.now in
-    let before : Ring = c.args.ring.now in
-    let lawful = g.met.F.Flash.is_lawful c.args.flash.now in
-    let b : Device = g.F.Flash.device c.begin_collect.new.flash in
-    let ring : Ring = c.begin_collect.new.self in
-    let one = c.in_ok-begin_collect.ensures.begun in
-    let d : Device = g.F.Flash.device c.copy_live.new.flash in
-    let now : Ring = c.copy_live.new.ring in
-    let two = c.in_ok-copy_live.ensures in
-    let copied : Copied b d ring now = record { banks = two.touches.banks; list = two.only.list; others = two.only.others; area = two.only.area; reserve = two.only.reserve; copies = two.copies } in
-    let copies = copied-now b d ring now one.stands one.stage two.copies in
-    let e : Device = g.F.Flash.device c.end_collect.new.flash in
-    let after : Ring = c.end_collect.new.self in
-    let three = c.in_ok-end_collect.ensures in
-    let ended : Ended d e now after = record { banks = three.touches.banks; others = three.others; area = three.ended.area; reserve = three.ended.reserve; stands = three.ended.stands; ready = three.ended.ready; end = three.ended.end; oldest = three.ended.ends.oldest; used = three.ended.ends.used } in
-    let left : before.used + 1 ≡ before.area.sectors = eqb-true (before.used + 1) before.area.sectors c.requires.left in
-    end-units a b before ring lawful c.requires.ready.stands one one.units d e now copies.0 (g.met.F.Flash.is_lawful c.copy_live.new.flash) two.touches.banks two.only.area copies.1 (spends_most d e 1 three.ended.units)
-
-pub returns-clause-collected : goal.returns-clause-collected
-returns-clause-collected g c =
-    let a : Device = g.F.Flash.device c.args.flash.now in
-    let before : Ring = c.args.ring.now in
-    let lawful = g.met.F.Flash.is_lawful c.args.flash.now in
-    let b : Device = g.F.Flash.device c.begin_collect.new.flash in
-    let ring : Ring = c.begin_collect.new.self in
-    let one = c.in_ok-begin_collect.ensures.begun in
-    let d : Device = g.F.Flash.device c.copy_live.new.flash in
-    let now : Ring = c.copy_live.new.ring in
-    let two = c.in_ok-copy_live.ensures in
-    let copied : Copied b d ring now = record { banks = two.touches.banks; list = two.only.list; others = two.only.others; area = two.only.area; reserve = two.only.reserve; copies = two.copies } in
-    let copies = copied-now b d ring now one.stands one.stage two.copies in
-    let e : Device = g.F.Flash.device c.end_collect.new.flash in
-    let after : Ring = c.end_collect.new.self in
-    let three = c.in_ok-end_collect.ensures in
-    let ended : Ended d e now after = record { banks = three.touches.banks; others = three.others; area = three.ended.area; reserve = three.ended.reserve; stands = three.ended.stands; ready = three.ended.ready; end = three.ended.end; oldest = three.ended.ends.oldest; used = three.ended.ends.used } in
-    let left : before.used + 1 ≡ before.area.sectors = eqb-true (before.used + 1) before.area.sectors c.requires.left in
-    record {
-      ready = collected-ready a b d e before ring now after c.requires.ready left lawful one copied ended (g.met.F.Flash.is_lawful c.end_collect.new.flash);
-      collects = collected a b d e before ring now after c.requires.ready left lawful one copied ended;
-      used = after-used a b d e before ring now after c.requires.ready left lawful one copied ended;
-      reserve = three.ended.reserve ∙ two.only.reserve ∙ one.reserve;
-    }
 
 pub returns-in_err-begin_collect-clause-stopped : goal.returns-in_err-begin_collect-clause-stopped
 returns-in_err-begin_collect-clause-stopped g c =

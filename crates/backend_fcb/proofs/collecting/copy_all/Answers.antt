@@ -15,65 +15,22 @@ nothing = record { at = record { sector = 0; offset = 0; body = 0; len = 0 }; ma
 pub loop-kept-init : goal.loop-kept-init
 loop-kept-init g c = table-start (g.F.Flash.device c.args.flash.now) c.args.ring.now (g.met.F.Flash.is_lawful c.args.flash.now) c.requires.stands c.requires.collecting
 
-pub copy-requires-clause-stands : goal.copy-requires-clause-stands
-copy-requires-clause-stands g c =
+pub copy-requires : goal.copy-requires
+copy-requires g c =
     let a : Device = g.F.Flash.device c.args.flash.now in
     let d : Device = g.F.Flash.device c.loop-kept.flash in
     let before : Ring = c.args.ring.now in
     let now : Ring = c.loop-kept.ring in
     let lawful = g.met.F.Flash.is_lawful c.args.flash.now in
     let lawful-now = g.met.F.Flash.is_lawful c.loop-kept.flash in
-    c.loop-kept.invariant.copies.stands
-
-pub copy-requires-clause-collecting : goal.copy-requires-clause-collecting
-copy-requires-clause-collecting g c =
-    let a : Device = g.F.Flash.device c.args.flash.now in
-    let d : Device = g.F.Flash.device c.loop-kept.flash in
-    let before : Ring = c.args.ring.now in
-    let now : Ring = c.loop-kept.ring in
-    let lawful = g.met.F.Flash.is_lawful c.args.flash.now in
-    let lawful-now = g.met.F.Flash.is_lawful c.loop-kept.flash in
-    c.loop-kept.invariant.copies.stage
-
-pub copy-requires-clause-listed : goal.copy-requires-clause-listed
-copy-requires-clause-listed g c =
-    let a : Device = g.F.Flash.device c.args.flash.now in
-    let d : Device = g.F.Flash.device c.loop-kept.flash in
-    let before : Ring = c.args.ring.now in
-    let now : Ring = c.loop-kept.ring in
-    let lawful = g.met.F.Flash.is_lawful c.args.flash.now in
-    let lawful-now = g.met.F.Flash.is_lawful c.loop-kept.flash in
-    table-listed a d before now c.args.live.now c.loop-kept.kept-index c.loop-kept.invariant lawful lawful-now c.requires.stands nothing c.loop-kept-test.true c.requires.live.kept
-
-pub copy-requires-clause-of_oldest : goal.copy-requires-clause-of_oldest
-copy-requires-clause-of_oldest g c =
-    let a : Device = g.F.Flash.device c.args.flash.now in
-    let d : Device = g.F.Flash.device c.loop-kept.flash in
-    let before : Ring = c.args.ring.now in
-    let now : Ring = c.loop-kept.ring in
-    let lawful = g.met.F.Flash.is_lawful c.args.flash.now in
-    let lawful-now = g.met.F.Flash.is_lawful c.loop-kept.flash in
-    table-oldest a d before now c.args.live.now c.loop-kept.kept-index c.loop-kept.invariant lawful lawful-now c.requires.stands nothing c.loop-kept-test.true c.requires.live.kept c.requires.live.of_oldest
-
-pub copy-requires-clause-short : goal.copy-requires-clause-short
-copy-requires-clause-short g c =
-    let a : Device = g.F.Flash.device c.args.flash.now in
-    let d : Device = g.F.Flash.device c.loop-kept.flash in
-    let before : Ring = c.args.ring.now in
-    let now : Ring = c.loop-kept.ring in
-    let lawful = g.met.F.Flash.is_lawful c.args.flash.now in
-    let lawful-now = g.met.F.Flash.is_lawful c.loop-kept.flash in
-    table-short a d before now c.args.live.now c.loop-kept.kept-index c.loop-kept.invariant lawful lawful-now c.requires.stands nothing c.loop-kept-test.true c.requires.live.kept c.requires.live.short
-
-pub copy-requires-clause-fits : goal.copy-requires-clause-fits
-copy-requires-clause-fits g c =
-    let a : Device = g.F.Flash.device c.args.flash.now in
-    let d : Device = g.F.Flash.device c.loop-kept.flash in
-    let before : Ring = c.args.ring.now in
-    let now : Ring = c.loop-kept.ring in
-    let lawful = g.met.F.Flash.is_lawful c.args.flash.now in
-    let lawful-now = g.met.F.Flash.is_lawful c.loop-kept.flash in
-    table-fits a d before now c.args.live.now c.loop-kept.kept-index c.loop-kept.invariant lawful lawful-now c.requires.stands nothing c.loop-kept-test.true c.requires.live.kept c.requires.live.fits
+    record {
+      stands = c.loop-kept.invariant.copies.stands;
+      collecting = c.loop-kept.invariant.copies.stage;
+      listed = table-listed a d before now c.args.live.now c.loop-kept.kept-index c.loop-kept.invariant lawful lawful-now c.requires.stands nothing c.loop-kept-test.true c.requires.live.kept;
+      of_oldest = table-oldest a d before now c.args.live.now c.loop-kept.kept-index c.loop-kept.invariant lawful lawful-now c.requires.stands nothing c.loop-kept-test.true c.requires.live.kept c.requires.live.of_oldest;
+      short = table-short a d before now c.args.live.now c.loop-kept.kept-index c.loop-kept.invariant lawful lawful-now c.requires.stands nothing c.loop-kept-test.true c.requires.live.kept c.requires.live.short;
+      fits = table-fits a d before now c.args.live.now c.loop-kept.kept-index c.loop-kept.invariant lawful lawful-now c.requires.stands nothing c.loop-kept-test.true c.requires.live.kept c.requires.live.fits;
+    }
 
 pub loop-kept-preserved : goal.loop-kept-preserved
 loop-kept-preserved g c =

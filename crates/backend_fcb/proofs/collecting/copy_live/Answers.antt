@@ -34,69 +34,48 @@ returns-clause-lost g c = tt
 pub loop-at-init : goal.loop-at-init
 loop-at-init g c = copying-start (g.F.Flash.device c.args.flash.now) c.args.ring.now (g.met.F.Flash.is_lawful c.args.flash.now) c.requires.scratch.stands c.requires.scratch.collecting c.next-at.result c.next-at.ensures.next c.next-at.ensures.listed
 
-pub find_live-at-requires-clause-stands : goal.find_live-at-requires-clause-stands
-find_live-at-requires-clause-stands g c =
-    let a : Device = g.F.Flash.device c.args.flash.now in
-    let d : Device = g.F.Flash.device c.loop-at.flash in
-    let before : Ring = c.args.ring.now in
-    let now : Ring = c.loop-at.ring in
+pub find_live-at-requires : goal.find_live-at-requires
+find_live-at-requires g c =
     let so_far : IsCopying (g.F.Flash.device c.args.flash.now) (g.F.Flash.device c.loop-at.flash) c.args.ring.now c.loop-at.ring (Some c.in-Some.from) =
     subst (λ (o : Option RecordAt). IsCopying (g.F.Flash.device c.args.flash.now) (g.F.Flash.device c.loop-at.flash) c.args.ring.now c.loop-at.ring o) c.in-Some.is c.loop-at.invariant in
-    so_far.copies.stands
-
-pub find_live-at-requires-clause-from : goal.find_live-at-requires-clause-from
-find_live-at-requires-clause-from g c =
-    let a : Device = g.F.Flash.device c.args.flash.now in
-    let d : Device = g.F.Flash.device c.loop-at.flash in
-    let before : Ring = c.args.ring.now in
-    let now : Ring = c.loop-at.ring in
-    let so_far : IsCopying (g.F.Flash.device c.args.flash.now) (g.F.Flash.device c.loop-at.flash) c.args.ring.now c.loop-at.ring (Some c.in-Some.from) =
-    subst (λ (o : Option RecordAt). IsCopying (g.F.Flash.device c.args.flash.now) (g.F.Flash.device c.loop-at.flash) c.args.ring.now c.loop-at.ring o) c.in-Some.is c.loop-at.invariant in
-    λ q same. subst (λ (l : List Entry). Contains (record_places l) q) (sym (copying-list a d before now (Some c.in-Some.from) so_far)) (so_far.listed q same)
-
-pub copy_all-requires-clause-stands : goal.copy_all-requires-clause-stands
-copy_all-requires-clause-stands g c =
-    let a : Device = g.F.Flash.device c.args.flash.now in
-    let d : Device = g.F.Flash.device c.loop-at.flash in
-    let before : Ring = c.args.ring.now in
-    let now : Ring = c.loop-at.ring in
-    let so_far : IsCopying (g.F.Flash.device c.args.flash.now) (g.F.Flash.device c.loop-at.flash) c.args.ring.now c.loop-at.ring (Some c.in-Some.from) =
-    subst (λ (o : Option RecordAt). IsCopying (g.F.Flash.device c.args.flash.now) (g.F.Flash.device c.loop-at.flash) c.args.ring.now c.loop-at.ring o) c.in-Some.is c.loop-at.invariant in
-    so_far.copies.stands
-
-pub copy_all-requires-clause-collecting : goal.copy_all-requires-clause-collecting
-copy_all-requires-clause-collecting g c =
-    let a : Device = g.F.Flash.device c.args.flash.now in
-    let d : Device = g.F.Flash.device c.loop-at.flash in
-    let before : Ring = c.args.ring.now in
-    let now : Ring = c.loop-at.ring in
-    let so_far : IsCopying (g.F.Flash.device c.args.flash.now) (g.F.Flash.device c.loop-at.flash) c.args.ring.now c.loop-at.ring (Some c.in-Some.from) =
-    subst (λ (o : Option RecordAt). IsCopying (g.F.Flash.device c.args.flash.now) (g.F.Flash.device c.loop-at.flash) c.args.ring.now c.loop-at.ring o) c.in-Some.is c.loop-at.invariant in
-    so_far.copies.stage
-
-pub copy_all-requires-clause-live : goal.copy_all-requires-clause-live
-copy_all-requires-clause-live g c =
-    let a : Device = g.F.Flash.device c.args.flash.now in
-    let d : Device = g.F.Flash.device c.loop-at.flash in
-    let before : Ring = c.args.ring.now in
-    let now : Ring = c.loop-at.ring in
-    let so_far : IsCopying (g.F.Flash.device c.args.flash.now) (g.F.Flash.device c.loop-at.flash) c.args.ring.now c.loop-at.ring (Some c.in-Some.from) =
-    subst (λ (o : Option RecordAt). IsCopying (g.F.Flash.device c.args.flash.now) (g.F.Flash.device c.loop-at.flash) c.args.ring.now c.loop-at.ring o) c.in-Some.is c.loop-at.invariant in
-    let part : c.oldest-oldest.result ≡ Some c.args.ring.now.oldest = oldest-some a before c.requires.scratch.stands c.requires.scratch.collecting c.oldest-oldest.result c.oldest-oldest.ensures in
-    let found : List Kept = c.find_live-at.new.table.items in
-    let next : Option RecordAt = c.find_live-at.result in
-    let got : FindsLive (g.F.Flash.device c.loop-at.flash) c.loop-at.ring.area (Some c.args.ring.now.oldest) so_far.later c.find_live-at.new.table.items c.find_live-at.result =
-    found_live a d before now c.in-Some.from so_far c.oldest-oldest.result part found next c.find_live-at.ensures.finds_live in
-    let slice : c.as_slice.result.now ≡ c.find_live-at.new.table.items = c.as_slice.ensures.value in
     record {
-      kept = subst (λ (l : List Kept). All (IsKept (g.F.Flash.device c.loop-at.flash) c.loop-at.ring.area) l) (sym c.as_slice.ensures.value) c.find_live-at.ensures.kept;
-      of_oldest =
-          subst (λ (l : List Kept). AreKeptWithin (Some c.loop-at.ring.oldest) l) (sym slice)
-          (subst (λ (o : ℕ). AreKeptWithin (Some o) c.find_live-at.new.table.items) (sym so_far.copies.oldest) (subst (λ (o : Option ℕ). AreKeptWithin o c.find_live-at.new.table.items) part c.find_live-at.ensures.within));
-      short = subst (λ (l : List Kept). AreShort (g.F.Flash.device c.loop-at.flash) c.loop-at.ring.area l) (sym slice) (found_live-short d now.area (Some before.oldest) so_far.later found next got);
-      fits =
-          subst (λ (l : List Kept). now.end + bodies_cost (unit_of d now.area) (bodies_at d now.area l) ≤ sector_size d now.area) (sym slice)
-          (found_live-fits a d before now c.in-Some.from (g.met.F.Flash.is_lawful c.args.flash.now) c.requires.scratch.stands c.requires.scratch.collecting c.requires.undamaged c.requires.scratch.end so_far found next got);
+      stands = so_far.copies.stands;
+      from =
+          let a : Device = g.F.Flash.device c.args.flash.now in
+          let d : Device = g.F.Flash.device c.loop-at.flash in
+          let before : Ring = c.args.ring.now in
+          let now : Ring = c.loop-at.ring in
+          λ q same. subst (λ (l : List Entry). Contains (record_places l) q) (sym (copying-list a d before now (Some c.in-Some.from) so_far)) (so_far.listed q same);
+    }
+
+pub copy_all-requires : goal.copy_all-requires
+copy_all-requires g c =
+    let so_far : IsCopying (g.F.Flash.device c.args.flash.now) (g.F.Flash.device c.loop-at.flash) c.args.ring.now c.loop-at.ring (Some c.in-Some.from) =
+    subst (λ (o : Option RecordAt). IsCopying (g.F.Flash.device c.args.flash.now) (g.F.Flash.device c.loop-at.flash) c.args.ring.now c.loop-at.ring o) c.in-Some.is c.loop-at.invariant in
+    record {
+      stands = so_far.copies.stands;
+      collecting = so_far.copies.stage;
+      live =
+          let a : Device = g.F.Flash.device c.args.flash.now in
+          let d : Device = g.F.Flash.device c.loop-at.flash in
+          let before : Ring = c.args.ring.now in
+          let now : Ring = c.loop-at.ring in
+          let part : c.oldest-oldest.result ≡ Some c.args.ring.now.oldest = oldest-some a before c.requires.scratch.stands c.requires.scratch.collecting c.oldest-oldest.result c.oldest-oldest.ensures in
+          let found : List Kept = c.find_live-at.new.table.items in
+          let next : Option RecordAt = c.find_live-at.result in
+          let got : FindsLive (g.F.Flash.device c.loop-at.flash) c.loop-at.ring.area (Some c.args.ring.now.oldest) so_far.later c.find_live-at.new.table.items c.find_live-at.result =
+          found_live a d before now c.in-Some.from so_far c.oldest-oldest.result part found next c.find_live-at.ensures.finds_live in
+          let slice : c.as_slice.result.now ≡ c.find_live-at.new.table.items = c.as_slice.ensures.value in
+          record {
+            kept = subst (λ (l : List Kept). All (IsKept (g.F.Flash.device c.loop-at.flash) c.loop-at.ring.area) l) (sym c.as_slice.ensures.value) c.find_live-at.ensures.kept;
+            of_oldest =
+                subst (λ (l : List Kept). AreKeptWithin (Some c.loop-at.ring.oldest) l) (sym slice)
+                (subst (λ (o : ℕ). AreKeptWithin (Some o) c.find_live-at.new.table.items) (sym so_far.copies.oldest) (subst (λ (o : Option ℕ). AreKeptWithin o c.find_live-at.new.table.items) part c.find_live-at.ensures.within));
+            short = subst (λ (l : List Kept). AreShort (g.F.Flash.device c.loop-at.flash) c.loop-at.ring.area l) (sym slice) (found_live-short d now.area (Some before.oldest) so_far.later found next got);
+            fits =
+                subst (λ (l : List Kept). now.end + bodies_cost (unit_of d now.area) (bodies_at d now.area l) ≤ sector_size d now.area) (sym slice)
+                (found_live-fits a d before now c.in-Some.from (g.met.F.Flash.is_lawful c.args.flash.now) c.requires.scratch.stands c.requires.scratch.collecting c.requires.undamaged c.requires.scratch.end so_far found next got);
+          };
     }
 
 pub returns-in_err-copy_all-clause-stops : goal.returns-in_err-copy_all-clause-stops

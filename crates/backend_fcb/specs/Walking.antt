@@ -12,7 +12,8 @@ is_up_to name None = true
 is_up_to name (Some most) = is_le (slice_cmp nat_cmp name most)
 
 -- what a record says, if its name is greater than the one and no greater than the other
-abbrev pub setting_between : Option (List ℕ) → Option (List ℕ) → Option (List ℕ × List ℕ) → Option (List ℕ × List ℕ)
+abbrev pub setting_between : Option (List ℕ) → Option (List ℕ) → Option (List ℕ × List ℕ)
+    → Option (List ℕ × List ℕ)
 setting_between after most None = None
 setting_between after most (Some (name, value)) =
     if is_behind after name && is_up_to name most then Some (name, value) else None

@@ -373,9 +373,10 @@ impl<K: Priced> Mirror<K> {
     ///
     /// Whatever the result, the same area is trusted afterwards, and the mirror reads as the same
     /// map. An other area that holds this map is not repaired, even if power is lost: it holds the
-    /// map afterwards too, and the mount spends no unit of a repair. A mount spends at most the units and erases of the selector's mount, one choice, the
-    /// mounts of both areas, and one repair for the map's names. If there is nothing to do, it
-    /// spends nothing.
+    /// map afterwards too, and the mount spends no unit of a repair. A mount spends at most the
+    /// units and erases of the selector's mount, one choice, the mounts of both areas, and one
+    /// repair for the map's names. If there is nothing to do, it spends nothing. It takes memory for
+    /// each name, and a repair for each value too.
     ///
     /// # Errors
     /// `Damaged` exactly if the selector or the trusted area is damaged; no byte of a store area

@@ -24,8 +24,8 @@ pub use answers::Answers;
 pub use carrying::MirrorSession;
 pub use fault::SessionFault;
 pub use laws::{
-    acknowledged_commands_stand, areas_stay_mirrored, line_by_line, lines_fit, named_area_stays,
-    power_follows_losses, two_runs,
+    acknowledged_commands_stand, areas_stay_mirrored, line_by_line, lines_fit, named_area_is_read,
+    named_area_stays, power_follows_losses, two_runs,
 };
 pub use line::Line;
 pub use plan::{is_lost, units_of};

@@ -22,5 +22,5 @@ Saw words name = is_marked words (hash name) ≡ 1
 -- the bits of all lawful names are set that stand as items below this id, at places of names
 abbrev pub SawBelow : Numbering → Items → List ℕ → ℕ → Type 0
 SawBelow n items words id =
-    (place : ℕ) (name : List ℕ) → IsInside n items place → place < id → get items place ≡ Some name → IsName name
-    → Saw words name
+    (place : ℕ) (name : List ℕ) → IsInside n items place → place < id → get items place ≡ Some name
+    → IsName name → Saw words name

@@ -200,7 +200,7 @@ impl<F: Flash> Subsystem<F> {
 
     /// Gives each stored value whose name matches the subtree, or all without one, to the best
     /// handler for it, in byte order of the names, and commits. The answer counts the values that
-    /// were taken, were rejected, and found no handler.
+    /// were taken, were rejected, and found no handler. It takes memory for each stored name.
     ///
     /// # Errors
     /// `Off` exactly where an earlier call answered that power was lost; nothing changes then.

@@ -80,7 +80,8 @@ fn add_name<S: ItemStore, F: Flash, L: Ledger>(
     requires absent { let area = S.mounted_on store.old in
         IsIdOfName (numbering_of area) (on S.contents (F.device flash.old) area) name.now None }
     requires full { let area = S.mounted_on store.old in
-        IsFreeCandidate (numbering_of area) (on S.contents (F.device flash.old) area) name.now None }
+        IsFreeCandidate (numbering_of area) (on S.contents (F.device flash.old) area) name.now
+        None }
     requires counted { let area = S.mounted_on store.old in
         count ≡ count_in (numbering_of area) (on S.contents (F.device flash.old) area) }
     requires few { count < LIMIT }

@@ -1,5 +1,5 @@
 // The backend over ZMS.
-ghost use Rattle.std.specs.Prelude.{◌≡◌, ◌<◌, ◌≤◌, ◌∷◌, [], length, true, false, is_err, None, refl};
+ghost use Rattle.std.specs.Prelude.{◌≡◌, ◌∷◌, [], true, false, is_err, None, refl};
 ghost use Rattle.flash_map.specs.Area.{geometry_of, value_limit};
 ghost use Rattle.flash_map.specs.Lawful.{IsLawfulFor};
 ghost use Rattle.flash_map.specs.On.{on, StandsOn};
@@ -12,6 +12,7 @@ ghost use Rattle.backend_api.specs.Ends.{set_lost, SetEndsOn, DeleteEndsOn};
 ghost use Rattle.backend_api.specs.Room.{command_units};
 ghost use Rattle.backend_api.specs.Written.{StaysWritten};
 ghost use Rattle.named_items.specs.Leaving.{SetLeavesItems, DeleteLeavesItems};
+ghost use Rattle.named_items.specs.Putting.{IsStorable};
 ghost use Rattle.named_items.specs.ZmsStore.{zms_damage, zms_items};
 ghost use Rattle.backend_zms.specs.IdLayout.{numbering_of};
 ghost use Rattle.backend_zms.specs.Members.{room_by, chance_of, TearsBy, area_of, is_running};
@@ -100,8 +101,7 @@ impl Backend for ZmsBackend {
     ) -> Result<(), SetFault>
         requires lawful { IsLawfulFor (F.device flash.old).banks (area_of self.old) }
         requires stands { StandsOn area_of Stands (F.device flash.old) self.old }
-        requires some { 0 < length value.now }
-        requires short { length value.now ≤ value_limit (area_of self.old) }
+        requires value { IsStorable (value_limit (area_of self.old)) value.now }
 
         ensures touches { Touches (area_of self.old ∷ []) (F.device flash.old) (F.device flash.new)
             (set_lost result) }

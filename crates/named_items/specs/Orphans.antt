@@ -65,6 +65,14 @@ pub record SpendsOnOne (most : ℕ) (old new : Device) (before after : Items) (l
   pub at_most : SpendsAtMost old new most
   pub per_item : lost ≡ false → SpendsPerItem most old new before after
 
+-- The removal passed one id: the settings and each item that is kept stay, the id has no orphan any
+-- more, and at most `most` units and erases were spent.
+pub record PassesOne (n : Numbering) (most : ℕ) (old new : Device) (before after : Items) (id : ℕ) (lost : Bool)
+    : Type 0 where
+  pub keeps : KeepsSettings n before after
+  pub ends : LooksAt n old new before after id lost
+  pub units : SpendsOnOne most old new before after lost
+
 -- no orphan is left; or power was lost, and the removal came as far as one id
 abbrev pub RemovalEnds : {T E : Type 0} → Numbering → Items → Items → Result T E → Type 0
 RemovalEnds n before after (Ok x) = HasNoOrphans n after

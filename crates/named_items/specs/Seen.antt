@@ -5,6 +5,7 @@ use Rattle.std.specs.FinMap.{get}
 use Rattle.item_laws.specs.Items.{Items}
 use Rattle.setting_name.specs.Name.{IsName}
 use Rattle.named_items.specs.Numbering.{Numbering}
+use Rattle.named_items.specs.Orphans.{IsCleanBelow}
 use Rattle.named_items.specs.Pairs.{IsInside}
 
 -- a hash of 32 bits
@@ -24,3 +25,8 @@ abbrev pub SawBelow : Numbering → Items → List ℕ → ℕ → Type 0
 SawBelow n items words id =
     (place : ℕ) (name : List ℕ) → IsInside n items place → place < id → get items place ≡ Some name
     → IsName name → Saw words name
+
+-- A walk in rising order has come to this id: below it no orphan is left, and the set has the names.
+pub record HasCome (n : Numbering) (items : Items) (words : List ℕ) (id : ℕ) : Type 0 where
+  pub clean : IsCleanBelow n items id
+  pub saw : SawBelow n items words id

@@ -5,9 +5,8 @@ ghost use Rattle.setting_name.specs.Name.{IsName};
 ghost use Rattle.flash_map.specs.Lawful.{IsLawfulFor};
 ghost use Rattle.flash_map.specs.On.{on, HoldsOn, StandsOn};
 ghost use Rattle.named_items.specs.Looking.{HasIds, IsForName};
-ghost use Rattle.named_items.specs.Orphans.{IsCleanBelow};
 ghost use Rattle.named_items.specs.Pairs.{IsHeld, IsKept};
-ghost use Rattle.named_items.specs.Seen.{SawBelow};
+ghost use Rattle.named_items.specs.Seen.{HasCome, SawBelow};
 
 use crate::lookup::is_value;
 use crate::numbering::IdLayout;
@@ -108,10 +107,8 @@ pub(crate) fn is_kept_next<N: IdLayout, S: ItemStore, F: Flash, L: Ledger>(
     requires describes { HoldsOn (S.describes index.now) (F.device flash.now)
         (S.mounted_on store.now) }
     requires known { id < N.top }
-    requires clean { let area = S.mounted_on store.now in
-        IsCleanBelow (N.numbering area) (on S.contents (F.device flash.now) area) id }
-    requires saw { let area = S.mounted_on store.now in
-        SawBelow (N.numbering area) (on S.contents (F.device flash.now) area) seen.old.words id }
+    requires walked { let area = S.mounted_on store.now in
+        HasCome (N.numbering area) (on S.contents (F.device flash.now) area) seen.old.words id }
     ensures yes_it { let area = S.mounted_on store.now in
         result ≡ true → IsKept (N.numbering area) (on S.contents (F.device flash.now) area) id }
     ensures not_it { let area = S.mounted_on store.now in

@@ -10,9 +10,9 @@ ghost use Rattle.backend_api.specs.Room.{removal_units};
 ghost use Rattle.backend_api.specs.Written.{StaysWritten};
 ghost use Rattle.named_items.specs.Mounted.{StaysMounted};
 ghost use Rattle.named_items.specs.Pairs.{HasNoOrphans, IsKept};
-ghost use Rattle.named_items.specs.Seen.{SawBelow};
+ghost use Rattle.named_items.specs.Seen.{HasCome, SawBelow};
 ghost use Rattle.named_items.specs.Looking.{HasIds};
-ghost use Rattle.named_items.specs.Orphans.{IsCleanBelow, KeepsSettings, LooksAt, RemovalEnds, SpendsOnOne};
+ghost use Rattle.named_items.specs.Orphans.{KeepsSettings, PassesOne, RemovalEnds};
 
 use crate::keeping::is_kept_next;
 use crate::numbering::IdLayout;
@@ -41,17 +41,10 @@ fn remove_orphan<N: IdLayout, S: ItemStore, F: Flash, L: Ledger>(
         (F.device flash.new) (is_err result) }
     ensures store { StaysMounted S.mounted_on S.stands S.runs S.damage (F.device flash.new)
         store.old store.new (is_err result) }
-    ensures keeps { let area = S.mounted_on store.old in
-        KeepsSettings (N.numbering area) (on S.contents (F.device flash.old) area)
-        (on S.contents (F.device flash.new) area) }
-    ensures ends { let d = F.device flash.old in let e = F.device flash.new in
+    ensures one { let d = F.device flash.old in let e = F.device flash.new in
         let area = S.mounted_on store.old in
-        LooksAt (N.numbering area) d e (on S.contents d area) (on S.contents e area) id
-        (is_err result) }
-    ensures units { let d = F.device flash.old in let e = F.device flash.new in
-        let area = S.mounted_on store.old in
-        SpendsOnOne (removal_units (geometry_of d area)) d e (on S.contents d area)
-        (on S.contents e area) (is_err result) }
+        PassesOne (N.numbering area) (removal_units (geometry_of d area)) d e (on S.contents d area)
+        (on S.contents e area) id (is_err result) }
     ensures written { StaysWritten (F.device flash.old) (F.device flash.new)
         (S.mounted_on store.old) }
     ensures describes { is_err result ≡ false
@@ -81,26 +74,17 @@ fn remove_next<N: IdLayout, S: ItemStore, F: Flash, L: Ledger>(
     requires describes { HoldsOn (S.describes index.old) (F.device flash.old)
         (S.mounted_on store.old) }
     requires known { id < N.top }
-    requires clean { let area = S.mounted_on store.old in
-        IsCleanBelow (N.numbering area) (on S.contents (F.device flash.old) area) id }
-    requires saw { let area = S.mounted_on store.old in
-        SawBelow (N.numbering area) (on S.contents (F.device flash.old) area) seen.old.words id }
+    requires walked { let area = S.mounted_on store.old in
+        HasCome (N.numbering area) (on S.contents (F.device flash.old) area) seen.old.words id }
 
     ensures touches { Touches (S.mounted_on store.old ∷ []) (F.device flash.old)
         (F.device flash.new) (is_err result) }
     ensures store { StaysMounted S.mounted_on S.stands S.runs S.damage (F.device flash.new)
         store.old store.new (is_err result) }
-    ensures keeps { let area = S.mounted_on store.old in
-        KeepsSettings (N.numbering area) (on S.contents (F.device flash.old) area)
-        (on S.contents (F.device flash.new) area) }
-    ensures ends { let d = F.device flash.old in let e = F.device flash.new in
+    ensures one { let d = F.device flash.old in let e = F.device flash.new in
         let area = S.mounted_on store.old in
-        LooksAt (N.numbering area) d e (on S.contents d area) (on S.contents e area) id
-        (is_err result) }
-    ensures units { let d = F.device flash.old in let e = F.device flash.new in
-        let area = S.mounted_on store.old in
-        SpendsOnOne (removal_units (geometry_of d area)) d e (on S.contents d area)
-        (on S.contents e area) (is_err result) }
+        PassesOne (N.numbering area) (removal_units (geometry_of d area)) d e (on S.contents d area)
+        (on S.contents e area) id (is_err result) }
     ensures written { StaysWritten (F.device flash.old) (F.device flash.new)
         (S.mounted_on store.old) }
     ensures describes { is_err result ≡ false

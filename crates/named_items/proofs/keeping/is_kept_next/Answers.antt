@@ -24,7 +24,7 @@ is_name_kept-requires g c =
       describes = c.requires.describes;
       known = c.requires.known;
       for_name = for-name n g.N.IdLayout.top ids (c.all_candidates-ids.ensures.ids area) c.args.id one;
-      saw = c.requires.saw;
+      saw = c.requires.walked.saw;
     }
 
 pub returns-then-contains : goal.returns-then-contains
@@ -53,10 +53,10 @@ returns-then-contains-2 g c =
     record {
       yes_it = λ some. subst (IsKept n items) is
           (value-kept n items (g.met.N.IdLayout.is_numbering area) g.N.IdLayout.top ids (c.all_candidates-ids.ensures.ids area) (c.all_candidates-ids.ensures.candidates area) place one
-          (subst (IsCleanBelow n items) (sym is) c.requires.clean) (is-there c.get_by.result (get items place) c.get_by.ensures (sym c.is_some.ensures ∙ some)));
+          (subst (IsCleanBelow n items) (sym is) c.requires.walked.clean) (is-there c.get_by.result (get items place) c.get_by.ensures (sym c.is_some.ensures ∙ some)));
       not_it = λ none kept. value-gone n items (g.met.N.IdLayout.is_numbering area) g.N.IdLayout.top ids (c.all_candidates-ids.ensures.ids area) (c.all_candidates-ids.ensures.candidates area) place one
           (subst (λ (k : ℕ). ¬ IsCandidateId ids k) (sym is) apart) (is-gone c.get_by.result (get items place) c.get_by.ensures (sym c.is_some.ensures ∙ none)) (subst (IsKept n items) (sym is) kept);
-      saw = saw-past n items c.args.seen.now.words c.args.id c.requires.saw ids (c.all_candidates-ids.ensures.candidates area) apart;
+      saw = saw-past n items c.args.seen.now.words c.args.id c.requires.walked.saw ids (c.all_candidates-ids.ensures.candidates area) apart;
     }
 
 pub is_kept-requires : goal.is_kept-requires
@@ -72,5 +72,5 @@ returns g c =
     record {
       yes_it = c.is_kept.ensures.yes_it;
       not_it = c.is_kept.ensures.not_it;
-      saw = saw-past n items c.args.seen.now.words c.args.id c.requires.saw ids (c.all_candidates-ids.ensures.candidates area) apart;
+      saw = saw-past n items c.args.seen.now.words c.args.id c.requires.walked.saw ids (c.all_candidates-ids.ensures.candidates area) apart;
     }

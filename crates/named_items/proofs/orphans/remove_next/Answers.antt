@@ -24,9 +24,11 @@ returns-then-is_kept_next g c =
         up = λ kept. c.requires.stands;
         down = λ lost. absurd (false≢true lost);
       };
-      keeps = keeps-same (g.N.IdLayout.numbering area) items;
-      ends = looks-kept (g.N.IdLayout.numbering area) (g.met.N.IdLayout.is_numbering area) items c.args.id d (c.is_kept_next.ensures.yes_it c.if-is_kept_next.true);
-      units = spends-kept (removal_units (geometry_of d area)) d items;
+      one = record {
+        keeps = keeps-same (g.N.IdLayout.numbering area) items;
+        ends = looks-kept (g.N.IdLayout.numbering area) (g.met.N.IdLayout.is_numbering area) items c.args.id d (c.is_kept_next.ensures.yes_it c.if-is_kept_next.true);
+        units = spends-kept (removal_units (geometry_of d area)) d items;
+      };
       written = λ blank. blank;
       describes = λ kept. c.requires.describes;
       saw = λ kept. c.is_kept_next.ensures.saw;
@@ -38,16 +40,14 @@ returns g c =
     record {
       touches = step.touches;
       store = step.store;
-      keeps = step.keeps;
-      ends = step.ends;
-      units = step.units;
+      one = step.one;
       written = step.written;
       describes = step.describes;
       saw = λ kept.
           let d : Device = g.F.Flash.device c.args.flash.now in
           let e : Device = g.F.Flash.device c.remove_orphan.new.flash in
           let area : Area = g.S.ItemStore.mounted_on c.args.store.now in
-          saw-after (g.N.IdLayout.numbering area) (g.met.N.IdLayout.is_numbering area) (on g.S.ItemStore.contents d area) (on g.S.ItemStore.contents e area) c.args.id step.ends.others (step.gone kept)
+          saw-after (g.N.IdLayout.numbering area) (g.met.N.IdLayout.is_numbering area) (on g.S.ItemStore.contents d area) (on g.S.ItemStore.contents e area) c.args.id step.one.ends.others (step.gone kept)
           (c.is_kept_next.ensures.not_it c.if-is_kept_next.false) c.is_kept_next.new.seen.words c.is_kept_next.ensures.saw;
     }
 
@@ -61,6 +61,5 @@ is_kept_next-requires g c = record {
   stands = c.requires.stands;
   describes = c.requires.describes;
   known = c.requires.known;
-  clean = c.requires.clean;
-  saw = c.requires.saw;
+  walked = c.requires.walked;
 }

@@ -23,44 +23,46 @@ returns g c = record {
     up = λ kept. c.delete.ensures.stands (ap is_err c.in_ok-delete.was);
     down = λ lost. absurd (false≢true lost);
   };
-  keeps = let d : Device = g.F.Flash.device c.args.flash.now in
-      let e : Device = g.F.Flash.device c.delete.new.flash in
-      let area : Area = g.S.ItemStore.mounted_on c.args.store.now in
-      let n : Numbering = g.N.IdLayout.numbering area in
-      let before : Items = on g.S.ItemStore.contents d area in
-      let after : Items = on g.S.ItemStore.contents e area in
-      let orphan : ¬ IsKept n before c.args.id = c.requires.orphan in
-      record {
-        settings = delete-keeps n (g.met.N.IdLayout.is_numbering area) before c.args.id orphan d e after c.delete.result c.delete.ensures.ends;
-        kept = delete-kept n (g.met.N.IdLayout.is_numbering area) before c.args.id orphan d e after c.delete.result c.delete.ensures.ends;
-        gone = delete-gone before after c.args.id d e c.delete.result c.delete.ensures.ends;
-      };
-  ends = let d : Device = g.F.Flash.device c.args.flash.now in
-      let e : Device = g.F.Flash.device c.delete.new.flash in
-      let area : Area = g.S.ItemStore.mounted_on c.args.store.now in
-      let n : Numbering = g.N.IdLayout.numbering area in
-      let before : Items = on g.S.ItemStore.contents d area in
-      let after : Items = on g.S.ItemStore.contents e area in
-      let orphan : ¬ IsKept n before c.args.id = c.requires.orphan in
-      record {
-        others = delete-alters before after c.args.id d e c.delete.result c.delete.ensures.ends;
-        still = delete-still before after c.args.id n (g.met.N.IdLayout.is_numbering area) orphan d e c.delete.result c.delete.ensures.ends;
-        idle = λ kept. absurd (orphan kept);
-        rests = λ clean. delete-rests n (g.met.N.IdLayout.is_numbering area) before c.args.id orphan d e after c.delete.result c.delete.ensures.ends clean;
-        present = λ lost. absurd (false≢true lost);
-        removes = λ kept. delete-removes n (g.met.N.IdLayout.is_numbering area) before c.args.id orphan d e after c.delete.result (ap is_err c.in_ok-delete.was) c.delete.ensures.ends;
-      };
-  units = let d : Device = g.F.Flash.device c.args.flash.now in
-      let e : Device = g.F.Flash.device c.delete.new.flash in
-      let area : Area = g.S.ItemStore.mounted_on c.args.store.now in
-      let n : Numbering = g.N.IdLayout.numbering area in
-      let before : Items = on g.S.ItemStore.contents d area in
-      let after : Items = on g.S.ItemStore.contents e area in
-      let orphan : ¬ IsKept n before c.args.id = c.requires.orphan in
-      record {
-        at_most = c.delete.ensures.removal;
-        per_item = λ kept. delete-per_item (removal_units (geometry_of d area)) d e before after c.args.id c.delete.result (ap is_err c.in_ok-delete.was) c.delete.ensures.ends c.delete.ensures.removal;
-      };
+  one = record {
+    keeps = let d : Device = g.F.Flash.device c.args.flash.now in
+        let e : Device = g.F.Flash.device c.delete.new.flash in
+        let area : Area = g.S.ItemStore.mounted_on c.args.store.now in
+        let n : Numbering = g.N.IdLayout.numbering area in
+        let before : Items = on g.S.ItemStore.contents d area in
+        let after : Items = on g.S.ItemStore.contents e area in
+        let orphan : ¬ IsKept n before c.args.id = c.requires.orphan in
+        record {
+          settings = delete-keeps n (g.met.N.IdLayout.is_numbering area) before c.args.id orphan d e after c.delete.result c.delete.ensures.ends;
+          kept = delete-kept n (g.met.N.IdLayout.is_numbering area) before c.args.id orphan d e after c.delete.result c.delete.ensures.ends;
+          gone = delete-gone before after c.args.id d e c.delete.result c.delete.ensures.ends;
+        };
+    ends = let d : Device = g.F.Flash.device c.args.flash.now in
+        let e : Device = g.F.Flash.device c.delete.new.flash in
+        let area : Area = g.S.ItemStore.mounted_on c.args.store.now in
+        let n : Numbering = g.N.IdLayout.numbering area in
+        let before : Items = on g.S.ItemStore.contents d area in
+        let after : Items = on g.S.ItemStore.contents e area in
+        let orphan : ¬ IsKept n before c.args.id = c.requires.orphan in
+        record {
+          others = delete-alters before after c.args.id d e c.delete.result c.delete.ensures.ends;
+          still = delete-still before after c.args.id n (g.met.N.IdLayout.is_numbering area) orphan d e c.delete.result c.delete.ensures.ends;
+          idle = λ kept. absurd (orphan kept);
+          rests = λ clean. delete-rests n (g.met.N.IdLayout.is_numbering area) before c.args.id orphan d e after c.delete.result c.delete.ensures.ends clean;
+          present = λ lost. absurd (false≢true lost);
+          removes = λ kept. delete-removes n (g.met.N.IdLayout.is_numbering area) before c.args.id orphan d e after c.delete.result (ap is_err c.in_ok-delete.was) c.delete.ensures.ends;
+        };
+    units = let d : Device = g.F.Flash.device c.args.flash.now in
+        let e : Device = g.F.Flash.device c.delete.new.flash in
+        let area : Area = g.S.ItemStore.mounted_on c.args.store.now in
+        let n : Numbering = g.N.IdLayout.numbering area in
+        let before : Items = on g.S.ItemStore.contents d area in
+        let after : Items = on g.S.ItemStore.contents e area in
+        let orphan : ¬ IsKept n before c.args.id = c.requires.orphan in
+        record {
+          at_most = c.delete.ensures.removal;
+          per_item = λ kept. delete-per_item (removal_units (geometry_of d area)) d e before after c.args.id c.delete.result (ap is_err c.in_ok-delete.was) c.delete.ensures.ends c.delete.ensures.removal;
+        };
+  };
   touches = c.in_ok-delete.ensures.touches;
   written = c.delete.ensures.written;
   describes = λ kept. c.fill_index.ensures;
@@ -78,44 +80,46 @@ returns-in_err-delete g c = record {
     up = λ kept. absurd (false≢true (sym kept ∙ c.from_residual.ensures.0));
     down = λ lost. c.delete.ensures.down (ap is_err c.in_err-delete.was);
   };
-  keeps = let d : Device = g.F.Flash.device c.args.flash.now in
-      let e : Device = g.F.Flash.device c.delete.new.flash in
-      let area : Area = g.S.ItemStore.mounted_on c.args.store.now in
-      let n : Numbering = g.N.IdLayout.numbering area in
-      let before : Items = on g.S.ItemStore.contents d area in
-      let after : Items = on g.S.ItemStore.contents e area in
-      let orphan : ¬ IsKept n before c.args.id = c.requires.orphan in
-      record {
-        settings = delete-keeps n (g.met.N.IdLayout.is_numbering area) before c.args.id orphan d e after c.delete.result c.delete.ensures.ends;
-        kept = delete-kept n (g.met.N.IdLayout.is_numbering area) before c.args.id orphan d e after c.delete.result c.delete.ensures.ends;
-        gone = delete-gone before after c.args.id d e c.delete.result c.delete.ensures.ends;
-      };
-  ends = let d : Device = g.F.Flash.device c.args.flash.now in
-      let e : Device = g.F.Flash.device c.delete.new.flash in
-      let area : Area = g.S.ItemStore.mounted_on c.args.store.now in
-      let n : Numbering = g.N.IdLayout.numbering area in
-      let before : Items = on g.S.ItemStore.contents d area in
-      let after : Items = on g.S.ItemStore.contents e area in
-      let orphan : ¬ IsKept n before c.args.id = c.requires.orphan in
-      record {
-        others = delete-alters before after c.args.id d e c.delete.result c.delete.ensures.ends;
-        still = delete-still before after c.args.id n (g.met.N.IdLayout.is_numbering area) orphan d e c.delete.result c.delete.ensures.ends;
-        idle = λ kept. absurd (orphan kept);
-        rests = λ clean. delete-rests n (g.met.N.IdLayout.is_numbering area) before c.args.id orphan d e after c.delete.result c.delete.ensures.ends clean;
-        present = λ lost. delete-present d e before after c.args.id c.delete.result (ap is_err c.in_err-delete.was) c.delete.ensures.ends;
-        removes = λ kept. absurd (false≢true (sym kept ∙ c.from_residual.ensures.0));
-      };
-  units = let d : Device = g.F.Flash.device c.args.flash.now in
-      let e : Device = g.F.Flash.device c.delete.new.flash in
-      let area : Area = g.S.ItemStore.mounted_on c.args.store.now in
-      let n : Numbering = g.N.IdLayout.numbering area in
-      let before : Items = on g.S.ItemStore.contents d area in
-      let after : Items = on g.S.ItemStore.contents e area in
-      let orphan : ¬ IsKept n before c.args.id = c.requires.orphan in
-      record {
-        at_most = c.delete.ensures.removal;
-        per_item = λ kept. absurd (false≢true (sym kept ∙ c.from_residual.ensures.0));
-      };
+  one = record {
+    keeps = let d : Device = g.F.Flash.device c.args.flash.now in
+        let e : Device = g.F.Flash.device c.delete.new.flash in
+        let area : Area = g.S.ItemStore.mounted_on c.args.store.now in
+        let n : Numbering = g.N.IdLayout.numbering area in
+        let before : Items = on g.S.ItemStore.contents d area in
+        let after : Items = on g.S.ItemStore.contents e area in
+        let orphan : ¬ IsKept n before c.args.id = c.requires.orphan in
+        record {
+          settings = delete-keeps n (g.met.N.IdLayout.is_numbering area) before c.args.id orphan d e after c.delete.result c.delete.ensures.ends;
+          kept = delete-kept n (g.met.N.IdLayout.is_numbering area) before c.args.id orphan d e after c.delete.result c.delete.ensures.ends;
+          gone = delete-gone before after c.args.id d e c.delete.result c.delete.ensures.ends;
+        };
+    ends = let d : Device = g.F.Flash.device c.args.flash.now in
+        let e : Device = g.F.Flash.device c.delete.new.flash in
+        let area : Area = g.S.ItemStore.mounted_on c.args.store.now in
+        let n : Numbering = g.N.IdLayout.numbering area in
+        let before : Items = on g.S.ItemStore.contents d area in
+        let after : Items = on g.S.ItemStore.contents e area in
+        let orphan : ¬ IsKept n before c.args.id = c.requires.orphan in
+        record {
+          others = delete-alters before after c.args.id d e c.delete.result c.delete.ensures.ends;
+          still = delete-still before after c.args.id n (g.met.N.IdLayout.is_numbering area) orphan d e c.delete.result c.delete.ensures.ends;
+          idle = λ kept. absurd (orphan kept);
+          rests = λ clean. delete-rests n (g.met.N.IdLayout.is_numbering area) before c.args.id orphan d e after c.delete.result c.delete.ensures.ends clean;
+          present = λ lost. delete-present d e before after c.args.id c.delete.result (ap is_err c.in_err-delete.was) c.delete.ensures.ends;
+          removes = λ kept. absurd (false≢true (sym kept ∙ c.from_residual.ensures.0));
+        };
+    units = let d : Device = g.F.Flash.device c.args.flash.now in
+        let e : Device = g.F.Flash.device c.delete.new.flash in
+        let area : Area = g.S.ItemStore.mounted_on c.args.store.now in
+        let n : Numbering = g.N.IdLayout.numbering area in
+        let before : Items = on g.S.ItemStore.contents d area in
+        let after : Items = on g.S.ItemStore.contents e area in
+        let orphan : ¬ IsKept n before c.args.id = c.requires.orphan in
+        record {
+          at_most = c.delete.ensures.removal;
+          per_item = λ kept. absurd (false≢true (sym kept ∙ c.from_residual.ensures.0));
+        };
+  };
   touches = subst (λ (lost : Bool). Touches (g.S.ItemStore.mounted_on c.args.store.now ∷ []) (g.F.Flash.device c.args.flash.now) (g.F.Flash.device c.delete.new.flash) lost) (sym c.from_residual.ensures.0) c.in_err-delete.ensures.touches;
   written = c.delete.ensures.written;
   describes = λ kept. absurd (false≢true (sym kept ∙ c.from_residual.ensures.0));

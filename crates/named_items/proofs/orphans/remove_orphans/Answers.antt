@@ -56,14 +56,16 @@ remove_next-requires g c = record {
   lawful = moved-lawful (g.S.ItemStore.mounted_on c.args.store.now) (g.S.ItemStore.mounted_on c.loop-at.store) c.loop-at.invariant.area (g.F.Flash.device c.args.flash.now) (g.F.Flash.device c.loop-at.flash) (c.loop-at.invariant.touches.banks) c.requires.lawful;
   stands = c.loop-at.invariant.stands;
   describes = c.loop-at.invariant.describes;
-  clean = let own : Area = g.S.ItemStore.mounted_on c.args.store.now in
-      let b : Device = g.F.Flash.device c.loop-at.flash in
-      subst (λ (x : Area). IsCleanBelow (g.N.IdLayout.numbering x) (on g.S.ItemStore.contents b x) c.in-Some.id) (sym c.loop-at.invariant.area)
-      (subst (λ (o : Option ℕ). HasNoneBefore (g.N.IdLayout.numbering own) (on g.S.ItemStore.contents b own) o) c.in-Some.is c.loop-at.invariant.so_far);
-  saw = let own : Area = g.S.ItemStore.mounted_on c.args.store.now in
-      let b : Device = g.F.Flash.device c.loop-at.flash in
-      subst (λ (x : Area). SawBelow (g.N.IdLayout.numbering x) (on g.S.ItemStore.contents b x) c.loop-at.seen.words c.in-Some.id) (sym c.loop-at.invariant.area)
-      (subst (λ (o : Option ℕ). IfSome o (λ id. SawBelow (g.N.IdLayout.numbering own) (on g.S.ItemStore.contents b own) c.loop-at.seen.words id)) c.in-Some.is c.loop-at.invariant.saw);
+  walked = record {
+    clean = let own : Area = g.S.ItemStore.mounted_on c.args.store.now in
+        let b : Device = g.F.Flash.device c.loop-at.flash in
+        subst (λ (x : Area). IsCleanBelow (g.N.IdLayout.numbering x) (on g.S.ItemStore.contents b x) c.in-Some.id) (sym c.loop-at.invariant.area)
+        (subst (λ (o : Option ℕ). HasNoneBefore (g.N.IdLayout.numbering own) (on g.S.ItemStore.contents b own) o) c.in-Some.is c.loop-at.invariant.so_far);
+    saw = let own : Area = g.S.ItemStore.mounted_on c.args.store.now in
+        let b : Device = g.F.Flash.device c.loop-at.flash in
+        subst (λ (x : Area). SawBelow (g.N.IdLayout.numbering x) (on g.S.ItemStore.contents b x) c.loop-at.seen.words c.in-Some.id) (sym c.loop-at.invariant.area)
+        (subst (λ (o : Option ℕ). IfSome o (λ id. SawBelow (g.N.IdLayout.numbering own) (on g.S.ItemStore.contents b own) c.loop-at.seen.words id)) c.in-Some.is c.loop-at.invariant.saw);
+  };
 }
 
 pub loop-at-preserved : goal.loop-at-preserved
@@ -81,29 +83,29 @@ loop-at-preserved g c =
       stands = step.store.up refl;
       describes = step.describes refl;
       sound = subst (λ (x : Area). on g.S.ItemStore.damage e x ≡ None) kept.area step.store.sound;
-      keeps = subst (λ (x : Area). settings_in (g.N.IdLayout.numbering x) (on g.S.ItemStore.contents e x) ≡ settings_in (g.N.IdLayout.numbering x) (on g.S.ItemStore.contents b x)) kept.area step.keeps.settings ∙ kept.keeps;
+      keeps = subst (λ (x : Area). settings_in (g.N.IdLayout.numbering x) (on g.S.ItemStore.contents e x) ≡ settings_in (g.N.IdLayout.numbering x) (on g.S.ItemStore.contents b x)) kept.area step.one.keeps.settings ∙ kept.keeps;
       kept = stays-more (g.N.IdLayout.numbering own) (on g.S.ItemStore.contents a own) (on g.S.ItemStore.contents b own) (on g.S.ItemStore.contents e own) kept.kept c.in-Some.id
-          (subst (λ (x : Area). Removes (g.N.IdLayout.numbering x) (on g.S.ItemStore.contents b x) (on g.S.ItemStore.contents e x) c.in-Some.id) kept.area (step.ends.removes refl))
-          (subst (λ (x : Area). KeepsEach (g.N.IdLayout.numbering x) (on g.S.ItemStore.contents b x) (on g.S.ItemStore.contents e x)) kept.area step.keeps.kept)
-          (λ is. ap (λ (d : Device). on g.S.ItemStore.contents d own) (step.ends.idle (subst (λ (x : Area). IsKept (g.N.IdLayout.numbering x) (on g.S.ItemStore.contents b x) c.in-Some.id) (sym kept.area) is)));
+          (subst (λ (x : Area). Removes (g.N.IdLayout.numbering x) (on g.S.ItemStore.contents b x) (on g.S.ItemStore.contents e x) c.in-Some.id) kept.area (step.one.ends.removes refl))
+          (subst (λ (x : Area). KeepsEach (g.N.IdLayout.numbering x) (on g.S.ItemStore.contents b x) (on g.S.ItemStore.contents e x)) kept.area step.one.keeps.kept)
+          (λ is. ap (λ (d : Device). on g.S.ItemStore.contents d own) (step.one.ends.idle (subst (λ (x : Area). IsKept (g.N.IdLayout.numbering x) (on g.S.ItemStore.contents b x) c.in-Some.id) (sym kept.area) is)));
       gone = gone-then (on g.S.ItemStore.contents a own) (on g.S.ItemStore.contents b own) (on g.S.ItemStore.contents e own) kept.gone
-          (subst (λ (x : Area). OnlyRemoves (on g.S.ItemStore.contents b x) (on g.S.ItemStore.contents e x)) kept.area step.keeps.gone);
+          (subst (λ (x : Area). OnlyRemoves (on g.S.ItemStore.contents b x) (on g.S.ItemStore.contents e x)) kept.area step.one.keeps.gone);
       ahead = ahead-step (on g.S.ItemStore.contents a own) (on g.S.ItemStore.contents b own) (on g.S.ItemStore.contents e own) c.in-Some.id
-          (subst (λ (x : Area). AltersOnly (on g.S.ItemStore.contents b x) (on g.S.ItemStore.contents e x) c.in-Some.id) kept.area step.ends.others)
+          (subst (λ (x : Area). AltersOnly (on g.S.ItemStore.contents b x) (on g.S.ItemStore.contents e x) c.in-Some.id) kept.area step.one.ends.others)
           (subst (λ (o : Option ℕ). StaysAhead (on g.S.ItemStore.contents a own) (on g.S.ItemStore.contents b own) o) c.in-Some.is kept.ahead)
           c.next_by-at-in-Some.result
           (subst (λ (x : Area). IsNextId (on g.S.ItemStore.contents e x) (Some c.in-Some.id) c.next_by-at-in-Some.result) area c.next_by-at-in-Some.ensures.next);
       same = λ clean.
           let same = kept.same clean in
-          step.ends.rests (subst (λ (x : Area). HasNoOrphans (g.N.IdLayout.numbering x) (on g.S.ItemStore.contents b x)) (sym kept.area) (subst (λ (d : Device). HasNoOrphans (g.N.IdLayout.numbering own) (on g.S.ItemStore.contents d own)) (sym same) clean)) ∙ same;
+          step.one.ends.rests (subst (λ (x : Area). HasNoOrphans (g.N.IdLayout.numbering x) (on g.S.ItemStore.contents b x)) (sym kept.area) (subst (λ (d : Device). HasNoOrphans (g.N.IdLayout.numbering own) (on g.S.ItemStore.contents d own)) (sym same) clean)) ∙ same;
       written = λ blank. kept.written (subst (λ (x : Area). StaysWritten b e x) kept.area step.written blank);
       so_far = orphans-step (g.N.IdLayout.numbering own) (on g.S.ItemStore.contents b own) (on g.S.ItemStore.contents e own) c.in-Some.id c.next_by-at-in-Some.result
-          (subst (λ (x : Area). Removes (g.N.IdLayout.numbering x) (on g.S.ItemStore.contents b x) (on g.S.ItemStore.contents e x) c.in-Some.id) kept.area (step.ends.removes refl))
+          (subst (λ (x : Area). Removes (g.N.IdLayout.numbering x) (on g.S.ItemStore.contents b x) (on g.S.ItemStore.contents e x) c.in-Some.id) kept.area (step.one.ends.removes refl))
           (subst (λ (x : Area). IsNextId (on g.S.ItemStore.contents e x) (Some c.in-Some.id) c.next_by-at-in-Some.result) area c.next_by-at-in-Some.ensures.next)
           (subst (λ (o : Option ℕ). HasNoneBefore (g.N.IdLayout.numbering own) (on g.S.ItemStore.contents b own) o) c.in-Some.is kept.so_far);
       per_item = per-then (removal_units (geometry_of a own)) a b e (on g.S.ItemStore.contents a own) (on g.S.ItemStore.contents b own) kept.per_item (on g.S.ItemStore.contents e own)
           (subst (λ (k : Geometry). SpendsPerItem (removal_units k) b e (on g.S.ItemStore.contents b own) (on g.S.ItemStore.contents e own)) (geometry-stays a b own kept.touches.banks)
-          (subst (λ (x : Area). SpendsPerItem (removal_units (geometry_of b x)) b e (on g.S.ItemStore.contents b x) (on g.S.ItemStore.contents e x)) kept.area (step.units.per_item refl)));
+          (subst (λ (x : Area). SpendsPerItem (removal_units (geometry_of b x)) b e (on g.S.ItemStore.contents b x) (on g.S.ItemStore.contents e x)) kept.area (step.one.units.per_item refl)));
       saw = saw-next (g.N.IdLayout.numbering own) (on g.S.ItemStore.contents e own) c.remove_next.new.seen.words c.in-Some.id c.next_by-at-in-Some.result
           (subst (λ (x : Area). SawBelow (g.N.IdLayout.numbering x) (on g.S.ItemStore.contents e x) c.remove_next.new.seen.words (c.in-Some.id + 1)) kept.area (step.saw refl))
           (subst (λ (x : Area). IsNextId (on g.S.ItemStore.contents e x) (Some c.in-Some.id) c.next_by-at-in-Some.result) area c.next_by-at-in-Some.ensures.next);
@@ -129,16 +131,16 @@ returns-in_err-remove_next g c = record {
       let own : Area = g.S.ItemStore.mounted_on c.args.store.now in
       let kept = c.loop-at.invariant in
       let same = kept.same clean in
-      c.in_err-remove_next.ensures.ends.rests (subst (λ (x : Area). HasNoOrphans (g.N.IdLayout.numbering x) (on g.S.ItemStore.contents b x)) (sym kept.area) (subst (λ (d : Device). HasNoOrphans (g.N.IdLayout.numbering own) (on g.S.ItemStore.contents d own)) (sym same) clean)) ∙ same;
+      c.in_err-remove_next.ensures.one.ends.rests (subst (λ (x : Area). HasNoOrphans (g.N.IdLayout.numbering x) (on g.S.ItemStore.contents b x)) (sym kept.area) (subst (λ (d : Device). HasNoOrphans (g.N.IdLayout.numbering own) (on g.S.ItemStore.contents d own)) (sym same) clean)) ∙ same;
   at_most = let a : Device = g.F.Flash.device c.args.flash.now in
       let b : Device = g.F.Flash.device c.loop-at.flash in
       let e : Device = g.F.Flash.device c.remove_next.new.flash in
       let own : Area = g.S.ItemStore.mounted_on c.args.store.now in
       let kept = c.loop-at.invariant in
       per-cut (removal_units (geometry_of a own)) a b e (on g.S.ItemStore.contents a own) (on g.S.ItemStore.contents b own) kept.per_item c.in-Some.id
-      (subst (λ (x : Area). ¬ (get (on g.S.ItemStore.contents b x) c.in-Some.id ≡ None)) kept.area (c.in_err-remove_next.ensures.ends.present refl))
+      (subst (λ (x : Area). ¬ (get (on g.S.ItemStore.contents b x) c.in-Some.id ≡ None)) kept.area (c.in_err-remove_next.ensures.one.ends.present refl))
       (subst (λ (k : Geometry). SpendsAtMost b e (removal_units k)) (geometry-stays a b own kept.touches.banks)
-      (subst (λ (x : Area). SpendsAtMost b e (removal_units (geometry_of b x))) kept.area c.in_err-remove_next.ensures.units.at_most));
+      (subst (λ (x : Area). SpendsAtMost b e (removal_units (geometry_of b x))) kept.area c.in_err-remove_next.ensures.one.units.at_most));
   written = λ blank.
       let b : Device = g.F.Flash.device c.loop-at.flash in
       let e : Device = g.F.Flash.device c.remove_next.new.flash in
@@ -158,9 +160,9 @@ returns-in_err-remove_next g c = record {
       let kept = c.loop-at.invariant in
       let step = c.in_err-remove_next.ensures in
       record {
-        settings = subst (λ (x : Area). settings_in (g.N.IdLayout.numbering x) (on g.S.ItemStore.contents e x) ≡ settings_in (g.N.IdLayout.numbering x) (on g.S.ItemStore.contents b x)) kept.area step.keeps.settings ∙ kept.keeps;
-        kept = kept-more (g.N.IdLayout.numbering own) (on g.S.ItemStore.contents a own) (on g.S.ItemStore.contents b own) (on g.S.ItemStore.contents e own) kept.kept (subst (λ (x : Area). KeepsEach (g.N.IdLayout.numbering x) (on g.S.ItemStore.contents b x) (on g.S.ItemStore.contents e x)) kept.area c.in_err-remove_next.ensures.keeps.kept);
-        gone = gone-then (on g.S.ItemStore.contents a own) (on g.S.ItemStore.contents b own) (on g.S.ItemStore.contents e own) kept.gone (subst (λ (x : Area). OnlyRemoves (on g.S.ItemStore.contents b x) (on g.S.ItemStore.contents e x)) kept.area c.in_err-remove_next.ensures.keeps.gone);
+        settings = subst (λ (x : Area). settings_in (g.N.IdLayout.numbering x) (on g.S.ItemStore.contents e x) ≡ settings_in (g.N.IdLayout.numbering x) (on g.S.ItemStore.contents b x)) kept.area step.one.keeps.settings ∙ kept.keeps;
+        kept = kept-more (g.N.IdLayout.numbering own) (on g.S.ItemStore.contents a own) (on g.S.ItemStore.contents b own) (on g.S.ItemStore.contents e own) kept.kept (subst (λ (x : Area). KeepsEach (g.N.IdLayout.numbering x) (on g.S.ItemStore.contents b x) (on g.S.ItemStore.contents e x)) kept.area c.in_err-remove_next.ensures.one.keeps.kept);
+        gone = gone-then (on g.S.ItemStore.contents a own) (on g.S.ItemStore.contents b own) (on g.S.ItemStore.contents e own) kept.gone (subst (λ (x : Area). OnlyRemoves (on g.S.ItemStore.contents b x) (on g.S.ItemStore.contents e x)) kept.area c.in_err-remove_next.ensures.one.keeps.gone);
       };
   ends = let a : Device = g.F.Flash.device c.args.flash.now in
       let b : Device = g.F.Flash.device c.loop-at.flash in
@@ -170,10 +172,10 @@ returns-in_err-remove_next g c = record {
       let n = g.N.IdLayout.numbering own in
       let stops : StopsAt n (on g.S.ItemStore.contents a own) (on g.S.ItemStore.contents e own) c.in-Some.id =
       stops-at (on g.S.ItemStore.contents a own) (on g.S.ItemStore.contents b own) (on g.S.ItemStore.contents e own) c.in-Some.id
-      (subst (λ (x : Area). AltersOnly (on g.S.ItemStore.contents b x) (on g.S.ItemStore.contents e x) c.in-Some.id) kept.area c.in_err-remove_next.ensures.ends.others)
+      (subst (λ (x : Area). AltersOnly (on g.S.ItemStore.contents b x) (on g.S.ItemStore.contents e x) c.in-Some.id) kept.area c.in_err-remove_next.ensures.one.ends.others)
       (subst (λ (o : Option ℕ). StaysAhead (on g.S.ItemStore.contents a own) (on g.S.ItemStore.contents b own) o) c.in-Some.is kept.ahead)
       n
-      (subst (λ (x : Area). StaysKept (g.N.IdLayout.numbering x) (on g.S.ItemStore.contents b x) (on g.S.ItemStore.contents e x)) kept.area c.in_err-remove_next.ensures.ends.still)
+      (subst (λ (x : Area). StaysKept (g.N.IdLayout.numbering x) (on g.S.ItemStore.contents b x) (on g.S.ItemStore.contents e x)) kept.area c.in_err-remove_next.ensures.one.ends.still)
       (subst (λ (o : Option ℕ). HasNoneBefore n (on g.S.ItemStore.contents b own) o) c.in-Some.is kept.so_far) in
       removal-cut n (on g.S.ItemStore.contents a own) (on g.S.ItemStore.contents e own) c.from_residual.result c.from_residual.ensures.0 (c.in-Some.id, stops);
 }

@@ -12,7 +12,7 @@ pub set_value-requires-clause-here : goal.set_value-requires-clause-here
 set_value-requires-clause-here g c = record { lawful = c.requires.lawful; up = c.requires.stands.store; clean = c.requires.stands.clean }
 
 pub set_value-requires-clause-value : goal.set_value-requires-clause-value
-set_value-requires-clause-value g c = record { some = c.requires.some; short = c.requires.short }
+set_value-requires-clause-value g c = c.requires.value
 
 pub returns-clause-area : goal.returns-clause-area
 returns-clause-area g c = c.set_value.ensures.store.area

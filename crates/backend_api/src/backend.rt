@@ -1,5 +1,5 @@
 // The trait of a backend.
-ghost use Rattle.std.specs.Prelude.{◌≡◌, ◌<◌, ◌≤◌, ◌∷◌, [], ℕ, Bool, List, length, replicate, true, false, is_err, Option, None, option_map, count_by, map, IfOk, OnOk, OnErr};
+ghost use Rattle.std.specs.Prelude.{◌≡◌, ◌<◌, ◌≤◌, ◌∷◌, [], ℕ, Bool, List, length, replicate, true, false, is_err, Option, None, option_map, count_by, IfOk, OnOk, OnErr};
 ghost use Rattle.std.specs.FinMap as finite;
 ghost use Rattle.flash_sim.specs.Bank.{IsLawful};
 ghost use Rattle.flash_sim.specs.Device.{Device};
@@ -18,6 +18,7 @@ ghost use Rattle.flash_map.specs.Units.{is_written};
 ghost use Rattle.backend_api.specs.Commands.{Command, StopsOn};
 ghost use Rattle.backend_api.specs.Commands.Command.{Put, Del};
 ghost use Rattle.backend_api.specs.Ends.{MountEnds, set_lost, SetEndsOn, DeleteEndsOn};
+ghost use Rattle.backend_api.specs.Listing.{pairs_in};
 ghost use Rattle.backend_api.specs.Map.{Map, IsSettings, next_name};
 ghost use Rattle.flash_map.specs.On.{on, HoldsOn, StandsOn};
 ghost use Rattle.backend_api.specs.Room.{Room, command_units, mount_units};
@@ -220,8 +221,7 @@ pub trait Backend: Drop {
         requires lawful { IsLawfulFor (F.device flash.now).banks (mounted_on self.now) }
         requires stands { StandsOn mounted_on stands (F.device flash.now) self.now }
         ensures { let settings = on contents (F.device flash.now) (mounted_on self.now) in
-            IfOk result (λ found.
-            map (λ pair. (pair.0, pair.1.now)) found.entries ≡ finite.entries settings) };
+            IfOk result (λ found. pairs_in found ≡ finite.entries settings) };
 
     /// Erases each sector that is not all FF. The area then reads as the empty map.
     ///

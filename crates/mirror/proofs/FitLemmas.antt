@@ -11,7 +11,7 @@ use Rattle.std.proofs.lemmas.List.Folds.{list_all-map}
 use Rattle.std.proofs.lemmas.List.Sums.{sum_by-cons}
 use Rattle.std.proofs.lemmas.Bool.Decides.{nat_tests}
 use Rattle.std.proofs.lemmas.List.{length-replicate}
-use Rattle.record_settings.specs.declared.laws.TheConstants.{NAME_LIMIT}
+use Rattle.setting_name.specs.Name.{name_limit}
 use Rattle.backend_api.specs.Map.{Map, IsStored, IsAbsent}
 use Rattle.backend_api.specs.Room.{Room, HasNoRoom}
 use Rattle.backend_api.proofs.LeastLemmas.{cmp}
@@ -119,23 +119,23 @@ never-fits room p m sectors limit cost left is tight left-is cost-is fits =
 -- ---- the greatest cost of one write
 
 module _ (p : Prices) (rises : (short long : ℕ) → short ≤ long → p.price short ≤ p.price long) where
-  most-is : (limit : ℕ) → greatest (room_by p) limit ≡ max p.counted (max (p.price limit) (p.price NAME_LIMIT))
+  most-is : (limit : ℕ) → greatest (room_by p) limit ≡ max p.counted (max (p.price limit) (p.price name_limit))
   most-is limit =
-      let name : List ℕ = replicate NAME_LIMIT 110 in
+      let name : List ℕ = replicate name_limit 110 in
       let value : List ℕ = replicate limit 0 in
-      let long : length name ≡ NAME_LIMIT = length-replicate {A = ℕ} NAME_LIMIT 110 in
+      let long : length name ≡ name_limit = length-replicate {A = ℕ} name_limit 110 in
       let short : length value ≡ limit = length-replicate {A = ℕ} limit 0 in
       ap (λ (t : Bool). cond t (p.price (length value)) (max p.counted (max (p.price (length value)) (p.price (length name))))) (absent-key maps.empty name (maps.get-empty cmp name))
       ∙ ap (λ (n : ℕ). max p.counted (max (p.price n) (p.price (length name)))) short ∙ ap (λ (n : ℕ). max p.counted (max (p.price limit) (p.price n))) long
 
-  largest-most : (limit : ℕ) (m : Map) (name value : List ℕ) → length name ≤ NAME_LIMIT → length value ≤ limit → (room_by p).largest m name value ≤ greatest (room_by p) limit
+  largest-most : (limit : ℕ) (m : Map) (name value : List ℕ) → length name ≤ name_limit → length value ≤ limit → (room_by p).largest m name value ≤ greatest (room_by p) limit
   largest-most limit m name value short small =
       let is = most-is limit in
-      let a = rises (length name) NAME_LIMIT short in
+      let a = rises (length name) name_limit short in
       let b = rises (length value) limit small in
       by (maps.contains_key m name) is a b
     where
-      by : (t : Bool) → greatest (room_by p) limit ≡ max p.counted (max (p.price limit) (p.price NAME_LIMIT)) → p.price (length name) ≤ p.price NAME_LIMIT → p.price (length value) ≤ p.price limit
+      by : (t : Bool) → greatest (room_by p) limit ≡ max p.counted (max (p.price limit) (p.price name_limit)) → p.price (length name) ≤ p.price name_limit → p.price (length value) ≤ p.price limit
           → cond t (p.price (length value)) (max p.counted (max (p.price (length value)) (p.price (length name)))) ≤ greatest (room_by p) limit
       by true is a b = grind (arith, nat_tests, is, a, b)
       by false is a b = grind (arith, nat_tests, is, a, b)
@@ -144,15 +144,15 @@ module _ (p : Prices) (rises : (short long : ℕ) → short ≤ long → p.price
 
 module _ (room : Room) (p : Prices) (is : IsRoomBy room p) (sectors limit : ℕ) where
   greatest-is : greatest room limit ≡ greatest (room_by p) limit
-  greatest-is = is.largest maps.empty (replicate NAME_LIMIT 110) (replicate limit 0)
+  greatest-is = is.largest maps.empty (replicate name_limit 110) (replicate limit 0)
 
-  pub room-is : (sectors - 1) * (p.cap - max p.counted (max (p.price limit) (p.price NAME_LIMIT))) ≡ mirror_room room sectors limit
+  pub room-is : (sectors - 1) * (p.cap - max p.counted (max (p.price limit) (p.price name_limit))) ≡ mirror_room room sectors limit
   room-is =
-      ap (λ (n : ℕ). (sectors - 1) * (n - max p.counted (max (p.price limit) (p.price NAME_LIMIT)))) (sym is.cap)
+      ap (λ (n : ℕ). (sectors - 1) * (n - max p.counted (max (p.price limit) (p.price name_limit)))) (sym is.cap)
       ∙ ap (λ (n : ℕ). (sectors - 1) * (room.cap - n)) (sym (greatest-is ∙ most-is p is.rises limit))
 
   -- a map and a put that cost no more than an area may have find room
-  pub room-for : (m : Map) (name value : List ℕ) → length name ≤ NAME_LIMIT → length value ≤ limit → room.cost m + room.need m name value ≤ mirror_room room sectors limit → ¬ HasNoRoom room sectors m name value
+  pub room-for : (m : Map) (name value : List ℕ) → length name ≤ name_limit → length value ≤ limit → room.cost m + room.need m name value ≤ mirror_room room sectors limit → ¬ HasNoRoom room sectors m name value
   room-for m name value short small fits full =
       let most : room.largest m name value ≤ greatest room limit =
       let a = largest-most p is.rises limit m name value short small in
@@ -166,7 +166,7 @@ module _ (room : Room) (p : Prices) (is : IsRoomBy room p) (sectors limit : ℕ)
   le-from : (a b : ℕ) → ¬ (a < b) → b ≤ a
   le-from a b not = grind (arith, not)
 
-  pub not-tight : (m : Map) (name value : List ℕ) → length name ≤ NAME_LIMIT → length value ≤ limit → ¬ IsTight room sectors limit m name value → ¬ HasNoRoom room sectors m name value
+  pub not-tight : (m : Map) (name value : List ℕ) → length name ≤ name_limit → length value ≤ limit → ¬ IsTight room sectors limit m name value → ¬ HasNoRoom room sectors m name value
   not-tight m name value short small loose = room-for m name value short small (le-from (mirror_room room sectors limit) (room.cost m + room.need m name value) loose)
 
   -- ---- a repair
@@ -202,7 +202,7 @@ module _ (room : Room) (p : Prices) (is : IsRoomBy room p) (sectors limit : ℕ)
         le-of : (a b : ℕ) → leb a b ≡ true → a ≤ b
         le-of a b e = grind (arith, nat_tests)
 
-    pub none-full : ((name value : List ℕ) → IsStored m name value → length name ≤ NAME_LIMIT) → ((name value : List ℕ) → IsStored m name value → length value ≤ limit) → (need live : ℕ) → ¬ HasOneWithoutRoom room sectors m need live
+    pub none-full : ((name value : List ℕ) → IsStored m name value → length name ≤ name_limit) → ((name value : List ℕ) → IsStored m name value → length value ≤ limit) → (need live : ℕ) → ¬ HasOneWithoutRoom room sectors m need live
     none-full names values need live one =
         let b = before m (Some one.name) in
         let part = before-total (pair_cost p.price) m one.name one.value one.stored in

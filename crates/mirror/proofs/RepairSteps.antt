@@ -15,8 +15,7 @@ use Rattle.flash_sim.specs.declared.flash.Bank.{Bank}
 use Rattle.flash_map.specs.Area.{geometry_of, sectors_of, value_limit}
 use Rattle.flash_map.specs.Lawful.{IsLawfulFor}
 use Rattle.flash_map.specs.On.{on, StandsOn}
-use Rattle.setting_name.specs.Name.{IsName}
-use Rattle.record_settings.specs.declared.laws.TheConstants.{NAME_LIMIT}
+use Rattle.setting_name.specs.Name.{IsName, name_limit}
 use Rattle.backend_api.specs.Map.{Map, IsSettings, IsStored}
 use Rattle.backend_api.specs.Room.{Room}
 use Rattle.backend_api.proofs.LeastLemmas.{cmp}
@@ -39,7 +38,7 @@ all-key P (key ∷ keys) name all has = elim (or_cases (eq_by_cmp cmp name key) 
   | inr later ↦ all-key P keys name (All-tail P key keys all) later
 ]
 
-stored-name : (limit : ℕ) (m : Map) (name value : List ℕ) → IsSettings limit m → IsStored m name value → length name ≤ NAME_LIMIT
+stored-name : (limit : ℕ) (m : Map) (name value : List ℕ) → IsSettings limit m → IsStored m name value → length name ≤ name_limit
 stored-name limit m name value lawful stored =
     (all-key IsName (maps.keys m) name lawful.names (sym (maps.contains_key-keys m name) ∙ ap some_of stored)).short
   where

@@ -7,7 +7,7 @@ use Rattle.flash_map.specs.declared.area.Area.{Area}
 use Rattle.flash_map.specs.declared.area.Geometry.{Geometry}
 use Rattle.flash_map.specs.declared.area.Role.TheVariants.{Nvs, Zms}
 use Rattle.flash_map.specs.Area.{geometry_of, value_limit}
-use Rattle.record_settings.specs.declared.laws.TheConstants.{NAME_LIMIT}
+use Rattle.setting_name.specs.Name.{name_limit}
 use Rattle.backend_api.specs.Map.{Map}
 use Rattle.backend_api.specs.Room.{Room}
 use Rattle.named_items.specs.PairRoom.{pair_room}
@@ -55,7 +55,7 @@ IsMirrored area = (area.role ≡ Nvs) ⊎ (area.role ≡ Zms)
 -- the greatest cost of one write: a new name of the greatest length, with a value as long as
 -- the area allows
 abbrev pub greatest : Room → ℕ → ℕ
-greatest room limit = room.largest empty (replicate NAME_LIMIT 0x6E) (replicate limit 0)
+greatest room limit = room.largest empty (replicate name_limit 0x6E) (replicate limit 0)
 
 -- The most that a map may cost in an area of so many sectors. One of the sectors is kept free, and
 -- each of the others has room for one write more as long as it is no fuller than this.

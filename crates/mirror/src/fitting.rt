@@ -16,8 +16,7 @@ use crate::walking::{alike, classes, map_cost, one_if};
 use backend_api::{Backend, SetFault};
 use flash_map::{Area, geometry};
 use flash_sim::{Flash, NoMemory, Steps};
-use record_settings::NAME_LIMIT;
-use setting_name::Name;
+use setting_name::{NAME_LIMIT, Name};
 use std::alloc::Global;
 use std::sync::ledger::Ledger;
 
@@ -28,7 +27,7 @@ pub(crate) fn mirror_room<K: Priced, F: Flash>(flash: &F, area: &Area) -> u64
     ensures { let d = F.device flash.now in
         result ≡ mirror_room (room_on K.room d area.now) area.now.sectors (value_limit area.now) }
 {
-    let name = K::price(flash, area, NAME_LIMIT);
+    let name = K::price(flash, area, NAME_LIMIT as u32);
     let value = K::price(flash, area, area.value_limit());
     let greatest = K::counted(flash, area).max(value.max(name));
     u64::from(area.sectors - 1) * K::cap(flash, area).saturating_sub(greatest)

@@ -1,11 +1,12 @@
 // A mirror: its two stores, and the commands on them.
-ghost use Rattle.std.specs.Prelude.{◌≡◌, ◌+◌, ◌<◌, ◌≤◌, ◌∷◌, ◌&&◌, ◌||◌, [], nat_lt, true, false, is_err, length, map, option_map, IfOk, OnOk};
+ghost use Rattle.std.specs.Prelude.{◌≡◌, ◌+◌, ◌<◌, ◌≤◌, ◌∷◌, ◌&&◌, ◌||◌, [], nat_lt, true, false, is_err, length, option_map, IfOk, OnOk};
 ghost use Rattle.std.specs.FinMap as finite;
 ghost use Rattle.flash_map.specs.Area.{geometry_of, value_limit};
 ghost use Rattle.flash_map.specs.On.{on};
 ghost use Rattle.flash_map.specs.Spending.{SpendsAtMost};
 ghost use Rattle.flash_map.specs.Touches.{Touches};
 ghost use Rattle.backend_api.specs.Ends.{set_lost};
+ghost use Rattle.backend_api.specs.Listing.{pairs_in};
 ghost use Rattle.backend_api.specs.Map.{IsStored};
 ghost use Rattle.setting_name.specs.Name.{IsName};
 ghost use Rattle.backend_api.specs.Room.{command_units};
@@ -199,8 +200,7 @@ impl<K: Priced> Mirror<K> {
             IsMirror K.mounted_on K.stands K.contents K.room K.prices d self.now.trusted
             self.now.other }
         ensures { let settings = on K.contents (F.device flash.now) self.now.trusted.area in
-            IfOk result (λ found.
-            map (λ pair. (pair.0, pair.1.now)) found.entries ≡ finite.entries settings) }
+            IfOk result (λ found. pairs_in found ≡ finite.entries settings) }
     {
         self.trusted.store.settings(alloc, flash, steps)
     }

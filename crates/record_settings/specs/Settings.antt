@@ -2,9 +2,8 @@
 use Rattle.std.specs.Prelude.{ℕ, ◌+◌, not, ◌&&◌, List, ◌∷◌, ◌++◌, length, drop, fold, Option, Some, None, ◌==◌, nat_lt, nat_le, if◌then◌else◌}
 use Rattle.std.specs.List.{take_while}
 use Rattle.std.specs.FinMap.{empty, insert, remove}
-use Rattle.setting_name.specs.Name.{is_name}
+use Rattle.setting_name.specs.Name.{is_name, name_limit}
 use Rattle.backend_api.specs.Map.{Map}
-use Rattle.record_settings.specs.declared.laws.TheConstants.{NAME_LIMIT}
 
 -- the first `=` ends the name
 abbrev pub name_in : List ℕ → List ℕ
@@ -22,7 +21,7 @@ setting_of limit body =
 
 -- the most bytes of such a body: a name, `=` and the value
 abbrev pub longest : ℕ → ℕ
-longest limit = NAME_LIMIT + 1 + limit
+longest limit = name_limit + 1 + limit
 
 -- the body that gives the name this value
 abbrev pub body_of : List ℕ → List ℕ → List ℕ

@@ -7,9 +7,6 @@ ghost use Rattle.record_settings.specs.Live.{live_bodies};
 ghost use Rattle.record_settings.specs.Settings.{setting_of, settings_of};
 ghost use Rattle.record_settings.specs.Torn.{torn_body, IsTornOf};
 
-/// The most bytes of a name.
-pub const NAME_LIMIT: u32 = 64;
-
 /// Garbage collection keeps the settings: the records of the other sectors, followed by the live
 /// records of the victim, the oldest sector, say the same as those of the victim followed by those
 /// of the others. The function does nothing; its contract is the law.

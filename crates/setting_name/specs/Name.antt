@@ -20,10 +20,14 @@ HasNameBytes text = All (λ byte. IsTrue (is_name_byte byte)) text
 abbrev pub HasWholeParts : List ℕ → Type 0
 HasWholeParts text = All (λ part. 1 ≤ length part) (parts_of text)
 
+-- the most bytes of a name
+abbrev pub name_limit : ℕ
+name_limit = 64
+
 -- 1 to 64 bytes, and 1 to 8 parts, of which none is empty
 pub record IsName (text : List ℕ) : Type 0 where
   pub some : 1 ≤ length text
-  pub short : length text ≤ 64
+  pub short : length text ≤ name_limit
   pub bytes : HasNameBytes text
   pub whole : HasWholeParts text
   pub few : length (parts_of text) ≤ 8
@@ -31,5 +35,5 @@ pub record IsName (text : List ℕ) : Type 0 where
 -- whether a text is a name
 unfoldable pub is_name : List ℕ → Bool
 is_name text =
-    nat_le 1 (length text) && nat_le (length text) 64 && list_all is_name_byte text
+    nat_le 1 (length text) && nat_le (length text) name_limit && list_all is_name_byte text
     && list_all (λ part. nat_le 1 (length part)) (parts_of text) && nat_le (length (parts_of text)) 8

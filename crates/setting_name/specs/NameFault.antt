@@ -2,7 +2,7 @@
 use Rattle.std.specs.Prelude.{◌≡◌, ℕ, ◌-◌, ◌<◌, ◌≤◌, Bool, false, ◌&&◌, ◌||◌, not, ◌==◌, IsTrue, List, length, slice_index, position, Option, Some, Result, Ok, Err}
 use Rattle.setting_name.specs.declared.name.NameFault.{NameFault}
 use Rattle.setting_name.specs.declared.name.NameFault.TheVariants.{Empty, TooLong, BadByte, EmptyPart, TooDeep}
-use Rattle.setting_name.specs.Name.{IsName, HasNameBytes, HasWholeParts, is_name_byte, is_slash, parts_of}
+use Rattle.setting_name.specs.Name.{IsName, HasNameBytes, HasWholeParts, is_name_byte, is_slash, name_limit, parts_of}
 
 -- the place of the first byte that no name has
 abbrev pub first_bad_byte : List ℕ → Option ℕ
@@ -22,12 +22,12 @@ abbrev pub IsFirstLack : List ℕ → ℕ → Type 0
 IsFirstLack text place = IsTrue (lacks_part text place) × ((k : ℕ) → k < place → lacks_part text k ≡ false)
 
 abbrev pub HasLength : List ℕ → Type 0
-HasLength text = (1 ≤ length text) × (length text ≤ 64)
+HasLength text = (1 ≤ length text) × (length text ≤ name_limit)
 
 -- Each cause counts only if none above it holds.
 abbrev pub IsFault : List ℕ → NameFault → Type 0
 IsFault text Empty = length text ≡ 0
-IsFault text TooLong = 64 < length text
+IsFault text TooLong = name_limit < length text
 IsFault text (BadByte place) = HasLength text × (first_bad_byte text ≡ Some place)
 IsFault text (EmptyPart place) = HasLength text × HasNameBytes text × IsFirstLack text place
 IsFault text TooDeep = HasLength text × HasNameBytes text × HasWholeParts text × (8 < length (parts_of text))

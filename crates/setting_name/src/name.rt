@@ -6,7 +6,7 @@ ghost use Rattle.std.specs.Str.{bytes_eq};
 ghost use Rattle.std.specs.Cmp.{partial_equiv_from_equiv};
 ghost use Rattle.std.specs.Cmp.Lexicographic.{slice_cmp, nat_list_eq_equiv, nat_list_cmp_total, texts_po, texts_ties};
 ghost use Rattle.setting_name.specs.declared.name.NameFault.TheVariants.{TooLong};
-ghost use Rattle.setting_name.specs.Name.{is_name_byte, HasNameBytes, HasWholeParts, parts_of};
+ghost use Rattle.setting_name.specs.Name.{is_name_byte, name_limit, HasNameBytes, HasWholeParts, parts_of};
 ghost use Rattle.setting_name.specs.NameFault.{IsFault, IsFirstLack, first_bad_byte};
 ghost use Rattle.setting_name.specs.Match.{rest_behind};
 
@@ -15,8 +15,8 @@ use std::alloc::AllocError;
 use std::cmp::Ordering;
 use std::marker::Model;
 
-// The most bytes of a name.
-const MAX_LEN: usize = 64;
+/// The most bytes of a name.
+pub const NAME_LIMIT: usize = 64;
 
 // The most parts of a name.
 const MAX_PARTS: usize = 8;
@@ -42,7 +42,7 @@ pub enum NameFault {
 /// parts.
 #[derive(Debug, Drop)]
 pub struct Name {
-    text: ArrayVec<u8, MAX_LEN>,
+    text: ArrayVec<u8, NAME_LIMIT>,
 }
 
 impl Model for Name {
@@ -119,7 +119,7 @@ impl Name {
         Name { text }
     }
 
-    fn from_text(text: ArrayVec<u8, MAX_LEN>) -> Result<Name, NameFault>
+    fn from_text(text: ArrayVec<u8, NAME_LIMIT>) -> Result<Name, NameFault>
         ensures { Reads text.items result }
     {
         let bytes = text.as_slice();
@@ -140,8 +140,8 @@ impl Name {
 }
 
 // Puts the bytes behind the text, if they fit.
-fn append(text: &mut ArrayVec<u8, MAX_LEN>, bytes: &[u8]) -> Result<(), NameFault>
-    ensures fits { IsOk result ↔ (length text.old.items + length bytes.now ≤ 64) }
+fn append(text: &mut ArrayVec<u8, NAME_LIMIT>, bytes: &[u8]) -> Result<(), NameFault>
+    ensures fits { IsOk result ↔ (length text.old.items + length bytes.now ≤ name_limit) }
     ensures ok { OnOk result (text.new.items ≡ text.old.items ++ bytes.now) }
     ensures fault { IsOkUnless result TooLong }
 {
@@ -150,7 +150,7 @@ fn append(text: &mut ArrayVec<u8, MAX_LEN>, bytes: &[u8]) -> Result<(), NameFaul
 }
 
 // The subtree, a slash and the rest, if they fit.
-fn with_slash(subtree: &[u8], rest: &[u8]) -> Result<ArrayVec<u8, MAX_LEN>, NameFault>
+fn with_slash(subtree: &[u8], rest: &[u8]) -> Result<ArrayVec<u8, NAME_LIMIT>, NameFault>
     ensures { MatchResult result (λ text. text.items ≡ subtree.now ++ 0x2F ∷ rest.now)
         (IsFault (subtree.now ++ 0x2F ∷ rest.now)) }
 {

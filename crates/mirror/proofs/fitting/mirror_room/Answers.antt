@@ -2,7 +2,7 @@ use Rattle.std.proofs.Common.{◌-◌, ◌*◌, ℕ, max, ap, ◌∙◌}
 use Rattle.flash_sim.specs.Device.{Device}
 use Rattle.flash_map.specs.Area.{geometry_of, value_limit}
 use Rattle.migrator.specs.Migrating.{room_on}
-use Rattle.record_settings.specs.declared.laws.TheConstants.{NAME_LIMIT}
+use Rattle.setting_name.specs.Name.{name_limit}
 use Rattle.mirror.specs.Room.{prices_on}
 use Rattle.mirror.proofs.FitLemmas.{room-is}
 use Rattle.mirror.proofs.fitting.mirror_room.Goals as goal

@@ -38,7 +38,7 @@ not_below x y z less not_less =
       | inr other ↦ other
     ]
 
-same_some : {X : Type 0} (x y : X) → Some x ≡ Some y → x ≡ y
+pub same_some : {X : Type 0} (x y : X) → Some x ≡ Some y → x ≡ y
 same_some x y e = cc
 
 -- ---- the least bytes of those that were given
@@ -123,7 +123,7 @@ module _ (least most : ℕ) (items : Items) (after : Option (List ℕ)) where
 -- ---- the last entries of ids
 
 -- the last one of an id has it
-own-id : (id : ℕ) (placed : List Placed) (o : Option Placed) → IfSome o (λ p. p.id ≡ id) → IfSome (fold (λ last p. cond (eqb p.id id) (Some p) last) o placed) (λ p. p.id ≡ id)
+pub own-id : (id : ℕ) (placed : List Placed) (o : Option Placed) → IfSome o (λ p. p.id ≡ id) → IfSome (fold (λ last p. cond (eqb p.id id) (Some p) last) o placed) (λ p. p.id ≡ id)
 own-id id [] o so_far = so_far
 own-id id (p ∷ ps) o so_far = own-id id ps (cond (eqb p.id id) (Some p) o) (here (eqb p.id id) refl)
   where

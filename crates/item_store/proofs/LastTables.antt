@@ -159,7 +159,7 @@ pub still-full : (limit : ℕ) (old new : LastSlots) (before : List Placed) (p :
     → KnowsBelow limit new (before ++ p ∷ []) → Knows limit new (before ++ p ∷ [])
 still-full limit old new before p knows same below = record {
   below = below;
-  full = λ bound is. had-push 801 bound before p (knows.full bound (sym same ∙ is));
+  full = λ bound is. had-push 1025 bound before p (knows.full bound (sym same ∙ is));
 }
 
 -- ---- a table
@@ -195,7 +195,7 @@ knows-passed limit last before p small unknown knows =
 
 -- an entry of an id that it knows, in place of those of the id
 pub knows-put : (limit : ℕ) (old new : LastSlots) (before : List Placed) (p : Placed) (xs mid ys : List Placed) → p.id < limit → IsKnown old.bound p.id → KnowsBelow limit old before
-    → old.entries.items ≡ xs ++ (mid ++ ys) → new.entries.items ≡ xs ++ (held p ++ ys) → new.bound ≡ old.bound → length new.entries.items ≤ 800
+    → old.entries.items ≡ xs ++ (mid ++ ys) → new.entries.items ≡ xs ++ (held p ++ ys) → new.bound ≡ old.bound → length new.entries.items ≤ 1024
     → All (λ q. q.id < p.id) xs → All (λ q. q.id ≡ p.id) mid → All (λ q. p.id < q.id) ys → KnowsBelow limit new (before ++ p ∷ [])
 knows-put limit old new before p xs mid ys small covered knows was is same few less own greater =
     let rises : Rises (xs ++ (mid ++ ys)) = subst (λ (l : List Placed). Rises l) was knows.rises in

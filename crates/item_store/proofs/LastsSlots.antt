@@ -104,7 +104,7 @@ seen-so false bit e is = absurd (false≢true is)
 
 module _ (k : SectorFormat) (law : IsSectorFormat k) (sectors : List (List ℕ)) (current : ℕ) where
   -- what was given of a sector that counts
-  covered-is : (place left : ℕ) → counts_at k.reading sectors current place ≡ true → given_at k sectors current place left ≡ later_at k law sectors current place left
+  pub covered-is : (place left : ℕ) → counts_at k.reading sectors current place ≡ true → given_at k sectors current place left ≡ later_at k law sectors current place left
   covered-is place left counts = ap (λ (t : Bool). cond t (later_from k law sectors current place left) [] ++ behind k sectors current place) counts
 
   module _ (old new : Lasts) (at : IsAt k sectors current old) (some : 0 < old.left) (range : SameRange old new) (place : new.place ≡ old.place) (fewer : new.left ≤ old.left - 1)

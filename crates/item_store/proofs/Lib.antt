@@ -9,6 +9,8 @@ pub mod CollectSteps
 pub mod CopyLoop
 pub mod CostSteps
 mod EntrySteps
+mod FreeSteps
+mod HoldingSteps
 mod LastIds
 mod LastTables
 mod LastsSlots

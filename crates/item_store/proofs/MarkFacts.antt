@@ -1,5 +1,5 @@
 -- gc-done stands before a byte of the victim changes.
-use Rattle.std.proofs.Common.{◌≡◌, ℕ, true, List, length, ap, sym, subst, ◌∙◌, inl, inr}
+use Rattle.std.proofs.Common.{◌≡◌, ℕ, List, length, ap, sym, subst, ◌∙◌, inl, inr}
 use Rattle.flash_sim.specs.Device.{Device}
 use Rattle.flash_map.specs.declared.area.Area.{Area}
 use Rattle.flash_map.specs.declared.area.Geometry.{Geometry}
@@ -9,7 +9,7 @@ use Rattle.item_laws.specs.Forms.{IsRing, Collected}
 use Rattle.item_laws.proofs.Places.{after, after-apart}
 use Rattle.item_store.specs.SectorFormat.{SectorFormat}
 use Rattle.item_store.specs.Steps.{Closes}
-use Rattle.item_store.specs.Collecting.{MarksFirst, GoesOnMarking, RoundMarksFirst}
+use Rattle.item_store.specs.Collecting.{MarksFirst, RoundMarksFirst}
 use Rattle.item_store.proofs.Areas.{only_else, only_length}
 use Rattle.item_store.proofs.CallFacts.{to_geometry}
 

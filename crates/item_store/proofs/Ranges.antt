@@ -1,7 +1,10 @@
 -- What steps one after the other spend, within their ranges.
 use Rattle.std.proofs.Common.{◌≡◌, ℕ, ◌+◌, ◌≤◌, max, Bool, true, false, cond, List, [], ◌∷◌, length, arith}
+use Rattle.std.specs.Prelude.{is_err, Result, Ok, Err, OnOk, OnErr}
+use Rattle.std.proofs.lemmas.Bool.{false≢true}
 use Rattle.std.proofs.lemmas.List.Sums.{sum_by-cons}
 use Rattle.flash_sim.specs.Device.{Device}
+use Rattle.flash_sim.specs.declared.flash.PowerLost.{PowerLost}
 use Rattle.flash_map.proofs.SpendingBounds.{between_then, between_within}
 use Rattle.item_laws.specs.PairRounds.{copies_cost}
 use Rattle.item_laws.specs.Area.{next}
@@ -12,7 +15,27 @@ use Rattle.item_store.specs.declared.entry.Redo.TheVariants.{Nothing, ClearNext,
 use Rattle.item_store.specs.Collecting.{redo_units}
 use Rattle.item_store.specs.SectorFormat.{Range, LiesIn, CoversWhole, SectorFormat, IsSectorFormat, is_clean_at, making_ready}
 use Rattle.item_store.specs.Spending.{none, both, copies, collect_units, ready_units, again_units, has_victim, round_units}
-use Rattle.item_store.specs.Standing.{SpendsIn, SpendsUpTo}
+use Rattle.item_store.specs.Standing.{SpendsBy, SpendsIn, SpendsUpTo}
+
+-- ---- how a call ended
+
+pub by-ends : {T : Type 0} (a b : Device) (range : Range) (r : Result T PowerLost) → OnOk r (SpendsIn a b range) → OnErr r (SpendsUpTo a b range) → SpendsBy a b range r
+by-ends a b range (Ok value) whole cut = whole
+by-ends a b range (Err lost) whole cut = cut
+
+pub by-cut : {T : Type 0} (a b : Device) (range : Range) (r : Result T PowerLost) → is_err r ≡ true → SpendsUpTo a b range → SpendsBy a b range r
+by-cut a b range (Ok value) none cut = absurd (false≢true none)
+by-cut a b range (Err lost) some cut = cut
+
+pub by-whole : {T : Type 0} (a b : Device) (range : Range) (r : Result T PowerLost) → SpendsBy a b range r → OnOk r (SpendsIn a b range)
+by-whole a b range (Ok value) spends = spends
+by-whole a b range (Err lost) spends = tt
+
+pub by-lost : {T : Type 0} (a b : Device) (range : Range) (r : Result T PowerLost) → SpendsBy a b range r → OnErr r (SpendsUpTo a b range)
+by-lost a b range (Ok value) spends = tt
+by-lost a b range (Err lost) spends = spends
+
+-- ---- one step after another
 
 pub both-in : (a b c : Device) (one other : Range) → SpendsIn a b one → SpendsIn b c other → SpendsIn a c (both one other)
 both-in a b c one other first second = between_then first second

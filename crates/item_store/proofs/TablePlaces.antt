@@ -150,13 +150,13 @@ abbrev Less : Placed → Placed → Type 0
 Less p q = p.id < q.id
 
 -- a table that is full, and an entry with bytes of the id that is its bound
-now-full : (limit : ℕ) (last : LastSlots) (placed : List Placed) (q : Placed) → KnowsBelow limit last placed → length last.entries.items ≡ 800
+now-full : (limit : ℕ) (last : LastSlots) (placed : List Placed) (q : Placed) → KnowsBelow limit last placed → length last.entries.items ≡ 1024
     → last.bound ≡ Some q.id → (q.len ≡ 0 → ⊥) → Contains placed q → Knows limit last placed
 now-full limit last placed q below whole is some here =
     let xs : List Placed = last.entries.items in
     let less : All (λ p. p.id < q.id) xs = subst (λ (b : Option ℕ). All (λ p. IsKnown b p.id) xs) is below.within in
     let own = own-among limit last placed below in
-    let had : HadBytes 801 q.id placed = record {
+    let had : HadBytes 1025 q.id placed = record {
       entries = xs ++ q ∷ [];
       long = (let both = length-append xs (q ∷ []) in omega arith);
       rises = pairs-append Less xs (q ∷ []) below.rises (λ i j d lt within. absurd (omega arith))
@@ -167,7 +167,7 @@ now-full limit last placed q below whole is some here =
     } in
     record {
       below = below;
-      full = λ bound same. subst (λ (n : ℕ). HadBytes 801 n placed) (same_some q.id bound (sym is ∙ same)) had;
+      full = λ bound same. subst (λ (n : ℕ). HadBytes 1025 n placed) (same_some q.id bound (sym is ∙ same)) had;
     }
   where
     behind : (P : Placed → Type 0) → All P last.entries.items → P q → All P (last.entries.items ++ q ∷ [])
@@ -197,7 +197,7 @@ module _ (limit : ℕ) (old new : LastSlots) (before : List Placed) (p : Placed)
 
   module _ (low : AllWithin (λ q. q.id < p.id) old.entries.items 0 at) (high : AllWithin (λ q. p.id < q.id) old.entries.items at (length old.entries.items)) (inside : at ≤ length old.entries.items) where
     -- between lesser and greater ones
-    pub put-between : (p.len ≡ 0 → ⊥) → new.entries.items ≡ take at old.entries.items ++ p ∷ drop at old.entries.items → new.bound ≡ old.bound → length old.entries.items < 800 → KnowsBelow limit new (before ++ p ∷ [])
+    pub put-between : (p.len ≡ 0 → ⊥) → new.entries.items ≡ take at old.entries.items ++ p ∷ drop at old.entries.items → new.bound ≡ old.bound → length old.entries.items < 1024 → KnowsBelow limit new (before ++ p ∷ [])
     put-between some is same room =
         let prefix = length-take-le at entries inside in
         let back = length-drop at entries in
@@ -217,7 +217,7 @@ module _ (limit : ℕ) (old new : LastSlots) (before : List Placed) (p : Placed)
         (all-take (λ (q : Placed). q.id < p.id) entries at inside low) (All-nil (λ (q : Placed). q.id ≡ p.id)) (all-drop (λ (q : Placed). p.id < q.id) entries at high)
 
     -- behind all entries of a table, which is full
-    pub put-behind : (p.len ≡ 0 → ⊥) → length old.entries.items ≡ 800 → at ≡ length old.entries.items → new.entries.items ≡ old.entries.items → new.bound ≡ Some p.id → Knows limit new (before ++ p ∷ [])
+    pub put-behind : (p.len ≡ 0 → ⊥) → length old.entries.items ≡ 1024 → at ≡ length old.entries.items → new.entries.items ≡ old.entries.items → new.bound ≡ Some p.id → Knows limit new (before ++ p ∷ [])
     put-behind some whole end is same =
         now-full limit new (before ++ p ∷ []) p (knows-bounded limit old new before p small covered knows is same (λ k d lt. low k d (omega arith) (omega arith)))
         (ap length is ∙ whole) same some (Contains-push before p)
@@ -225,7 +225,7 @@ module _ (limit : ℕ) (old new : LastSlots) (before : List Placed) (p : Placed)
 -- into a full table, out of which the greatest id goes before
 pub put-full : (limit : ℕ) (old mid new : LastSlots) (before : List Placed) (p : Placed) (at : ℕ) → p.id < limit → KnowsBelow limit old before → DropsGreatest old mid
     → AllWithin (λ q. q.id < p.id) old.entries.items 0 at → AllWithin (λ q. p.id < q.id) old.entries.items at (length old.entries.items) → at < length old.entries.items
-    → length old.entries.items ≡ 800 → (p.len ≡ 0 → ⊥) → new.entries.items ≡ take at mid.entries.items ++ p ∷ drop at mid.entries.items → new.bound ≡ mid.bound → Knows limit new (before ++ p ∷ [])
+    → length old.entries.items ≡ 1024 → (p.len ≡ 0 → ⊥) → new.entries.items ≡ take at mid.entries.items ++ p ∷ drop at mid.entries.items → new.bound ≡ mid.bound → Knows limit new (before ++ p ∷ [])
 put-full limit old mid new before p at small knows drops low high inside whole some is same =
     let g : Placed = drops.greatest in
     let most = knows.few in

@@ -42,7 +42,7 @@ pub record KnowsBelow (limit : ℕ) (last : LastSlots) (placed : List Placed) : 
       → last_of_id id last.entries.items ≡ with_bytes (last_of_id id placed)
   pub within : All (λ p. IsKnown last.bound p.id) last.entries.items
   pub rises : Rises last.entries.items
-  pub few : length last.entries.items ≤ 800
+  pub few : length last.entries.items ≤ 1024
   pub known : All (λ p. p.id < limit) placed
 
 -- Among these entries are some with bytes, of so many different ids, none above the greatest.
@@ -54,11 +54,11 @@ pub record HadBytes (ids greatest : ℕ) (placed : List Placed) : Type 0 where
   pub bytes : All (λ p. ¬ (p.len ≡ 0)) entries
   pub among : All (Contains placed) entries
 
--- The same of a table of 800 places. It has a bound only if more ids than it has places had bytes,
+-- The same of a table of 1024 places. It has a bound only if more ids than it has places had bytes,
 -- none of them above the bound; otherwise it knows each id.
 pub record Knows (limit : ℕ) (last : LastSlots) (placed : List Placed) : Type 0 where
   pub below : KnowsBelow limit last placed
-  pub full : (bound : ℕ) → last.bound ≡ Some bound → HadBytes 801 bound placed
+  pub full : (bound : ℕ) → last.bound ≡ Some bound → HadBytes 1025 bound placed
 
 -- the table knows the entries of an area
 abbrev pub KnowsOn : (Geometry → SectorFormat) → Device → Area → LastSlots → Type 0

@@ -3,6 +3,8 @@ pub mod Cached
 pub mod Closing
 pub mod Collecting
 pub mod Ends
+pub mod Free
+pub mod Holding
 pub mod SectorFormat
 pub mod Lasts
 pub mod Latest

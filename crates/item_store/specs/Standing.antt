@@ -1,7 +1,8 @@
 -- When a store stands on the bytes of its area. A format is that of the area's geometry.
-use Rattle.std.specs.Prelude.{◌≡◌, ℕ, List, None}
+use Rattle.std.specs.Prelude.{◌≡◌, ℕ, List, None, Result, Ok, Err}
 use Rattle.flash_sim.specs.Device.{Device}
 use Rattle.flash_sim.specs.declared.flash.Bank.{Bank}
+use Rattle.flash_sim.specs.declared.flash.PowerLost.{PowerLost}
 use Rattle.flash_map.specs.declared.area.Area.{Area}
 use Rattle.flash_map.specs.declared.area.Role.{Role}
 use Rattle.flash_map.specs.Area.{sectors_of}
@@ -55,3 +56,8 @@ SpendsIn old new range = SpendsBetween old new range.least range.most
 -- a call that was cut
 abbrev pub SpendsUpTo : Device → Device → Range → Type 0
 SpendsUpTo old new range = SpendsBetween old new 0 range.lost
+
+-- a call, by how it ended
+abbrev pub SpendsBy : {T : Type 0} → Device → Device → Range → Result T PowerLost → Type 0
+SpendsBy old new range (Ok value) = SpendsIn old new range
+SpendsBy old new range (Err lost) = SpendsUpTo old new range

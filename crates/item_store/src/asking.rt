@@ -1,10 +1,11 @@
-// Looking for bytes among the items.
-ghost use Rattle.std.specs.Prelude.{◌≡◌, ◌+◌, ◌<◌, ◌&&◌, true, false, Some, option_map};
-ghost use Rattle.item_laws.specs.Bytes.{is_behind, IsIdOf, IsNextOf};
+// The next item in the order of bytes.
+ghost use Rattle.std.specs.Prelude.{◌≡◌, ◌+◌, ◌<◌, ◌&&◌, option_map};
+ghost use Rattle.item_laws.specs.Bytes.{is_behind, IsNextOf};
 ghost use Rattle.item_laws.specs.Items.{value_of};
 ghost use Rattle.item_laws.specs.Live.{bytes_of};
 ghost use Rattle.flash_map.specs.Area.{sectors_of};
 ghost use Rattle.item_store.specs.Asking.{is_below, lesser_of};
+ghost use Rattle.item_store.specs.declared.lasts.TheConstants.{MOST_IDS};
 ghost use Rattle.item_store.specs.SectorFormat.{slots};
 ghost use Rattle.item_store.specs.Listed.{format_on, items_on, IsPlacedOn};
 ghost use Rattle.item_store.specs.Stands.{StandsOn};
@@ -28,68 +29,6 @@ fn is_between(bytes: &[u8], after: Option<&[u8]>, least: Option<&[u8]>) -> bool
 }
 
 impl<T: SlotSectors> Store<T> {
-    // Whether an entry gives its id these bytes.
-    fn has_bytes<F: Flash, L: Ledger>(
-        &self,
-        flash: &F,
-        placed: &Placed,
-        bytes: &[u8],
-        steps: &mut Steps<L>,
-    ) -> bool
-        requires stands { StandsOn T.role T.format_of T.kept (F.device flash.now) self.now }
-        requires placed { IsPlacedOn T.format_of (F.device flash.now) self.now.area self.now.current
-            placed.now }
-        ensures yes_it { let d = F.device flash.now in
-            result ≡ true
-            → value_of
-            (bytes_of (slots (format_on T.format_of d self.now.area)) (sectors_of d self.now.area)
-            placed.now) ≡ Some bytes.now }
-        ensures not_it { let d = F.device flash.now in
-            result ≡ false
-            → value_of
-            (bytes_of (slots (format_on T.format_of d self.now.area)) (sectors_of d self.now.area)
-            placed.now) ≡ Some bytes.now → ⊥ }
-    {
-        if placed.len as usize != bytes.len() {
-            return false;
-        }
-        match self.bytes_at(flash, placed, steps) {
-            Some(own) => own == bytes,
-            None => false,
-        }
-    }
-
-    /// An id from `least` to `most` whose item has these bytes; any of them if several have, `None`
-    /// if none has. The range has at most 0x1_0020 ids. This takes one walk over the list at most,
-    /// from its newest entry back.
-    pub fn id_of<F: Flash, L: Ledger>(
-        &self,
-        flash: &F,
-        least: u32,
-        most: u32,
-        bytes: &[u8],
-        steps: &mut Steps<L>,
-    ) -> Option<u32>
-        requires stands { StandsOn T.role T.format_of T.kept (F.device flash.now) self.now }
-        requires range { most < least + 0x1_0020 }
-        ensures { IsIdOf least most (items_on T.format_of (F.device flash.now) self.now.area)
-            bytes.now
-            result }
-    {
-        let on = OpenArea {
-            area: &self.area,
-            current: self.current,
-            opened: self.opened,
-        };
-        let mut lasts = Lasts::start(flash, &on, least, most, steps);
-        while let Some(placed) = lasts.next(flash, &on, steps) {
-            if self.has_bytes(flash, &placed, bytes, steps) {
-                return Some(placed.id);
-            }
-        }
-        None
-    }
-
     // The bytes of an entry if they are greater than `after` and less than `least`; else `least`.
     fn lesser_bytes<'a, F: Flash, L: Ledger>(
         &self,
@@ -122,8 +61,8 @@ impl<T: SlotSectors> Store<T> {
     }
 
     /// The least bytes of an item with an id from `least` to `most`: of those greater than `after`,
-    /// or of all if `after` is not given; `None` if there are none. The range has at most 0x1_0020
-    /// ids. This takes one walk over the list.
+    /// or of all if `after` is not given; `None` if there are none. The range has at most
+    /// `MOST_IDS` ids. This takes one walk over the list.
     pub fn next_of<'a, F: Flash, L: Ledger>(
         &self,
         flash: &'a F,
@@ -133,7 +72,7 @@ impl<T: SlotSectors> Store<T> {
         steps: &mut Steps<L>,
     ) -> Option<&'a [u8]>
         requires stands { StandsOn T.role T.format_of T.kept (F.device flash.now) self.now }
-        requires range { most < least + 0x1_0020 }
+        requires range { most < least + MOST_IDS }
         ensures { IsNextOf least most (items_on T.format_of (F.device flash.now) self.now.area)
             (option_map (λ other. other.now) after.entry) (option_map (λ bytes. bytes.now) result) }
     {

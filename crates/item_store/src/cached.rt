@@ -7,7 +7,7 @@ ghost use Rattle.item_store.specs.Listed.{format_on};
 ghost use Rattle.item_store.specs.Standing.{IsStoreArea};
 
 use crate::entry::Placed;
-use crate::noting::{Notes, note_among, note_sector};
+use crate::noting::{Notes, note_all, note_sector};
 use crate::open_area::OpenArea;
 use crate::sectors::SlotSectors;
 use flash_map::Area;
@@ -19,7 +19,7 @@ use std::sync::ledger::Ledger;
 pub const CACHE_SLOTS: usize = 64;
 
 impl Notes for Cache {
-    ghost noted = { λ limit cache placed. IsCacheOf cache placed };
+    ghost noted = { λ start limit cache placed. IsCacheOf cache placed };
 
     fn note(&mut self, placed: &Placed) {
         Cache::note(self, placed.id, placed.sector, placed.slot);
@@ -39,9 +39,7 @@ pub fn fill<T: SlotSectors, F: Flash, L: Ledger>(
     ensures { IsCacheOn T.format_of (F.device flash.now) on.now.area.now cache.new }
 {
     cache.clear();
-    let older = on.current + 1;
-    note_among(flash, on, older, on.area.sectors, cache, steps);
-    note_among(flash, on, 0, older, cache, steps);
+    note_all(flash, on, cache, steps);
 }
 
 /// Updates the cache after a round that opened this sector. It forgets the places in the next

@@ -13,7 +13,7 @@ ghost use Rattle.item_store.specs.Listed.{format_on};
 ghost use Rattle.item_store.specs.Seen.{holds_live};
 ghost use Rattle.item_store.specs.Collecting.{HasBegun, HasCopied, StopsCopying, CollectsAt, KeepsOrCollects, MarksFirst, RoundMarksFirst, redo_of};
 ghost use Rattle.item_store.specs.Spending.{copies, collect_units, ready_units, again_units};
-ghost use Rattle.item_store.specs.Standing.{IsStoreArea, KeepsItems, SpendsIn, SpendsUpTo};
+ghost use Rattle.item_store.specs.Standing.{IsStoreArea, KeepsItems, SpendsBy, SpendsIn, SpendsUpTo};
 ghost use Rattle.item_store.specs.Steps.{Keeps, StopsClearing};
 ghost use Rattle.item_store.specs.Written.{IsWritten};
 
@@ -149,13 +149,9 @@ fn collect<T: SlotSectors, F: Flash, L: Ledger>(
     ensures kept { let d = F.device flash.old in let e = F.device flash.new in
         OnOk result (IsKeptAfter T.kept d e area.now current opened.new) }
     ensures spends { let d = F.device flash.old in let e = F.device flash.new in
-        OnOk result
-        (SpendsIn d e (collect_units (format_on T.format_of d area.now) (sectors_of d area.now)
-        current)) }
-    ensures spends_lost { let d = F.device flash.old in let e = F.device flash.new in
-        OnErr result
-        (SpendsUpTo d e
-        (collect_units (format_on T.format_of d area.now) (sectors_of d area.now) current)) }
+        SpendsBy d e
+        (collect_units (format_on T.format_of d area.now) (sectors_of d area.now) current)
+        result }
     ensures marks { let d = F.device flash.old in let e = F.device flash.new in
         let k = format_on T.format_of d area.now in
         MarksFirst k (sectors_of d area.now) (sectors_of e area.now) current }

@@ -1,4 +1,4 @@
-// Entries at their places, and what a mount has to do.
+// Entries at their places, ranges of ids, and what a mount has to do.
 
 /// An entry of a sector's list. The format of the sector says where its bytes lie.
 #[derive(Clone, Copy, Debug, PartialEq, Eq)]
@@ -22,6 +22,15 @@ pub struct Placed {
     pub id: u32,
     /// Bytes of the value; 0 is a delete.
     pub len: u32,
+}
+
+/// The ids from `least` to `most`, both included.
+#[derive(Clone, Copy, Debug, PartialEq, Eq)]
+pub struct IdRange {
+    /// The first id of the range.
+    pub least: u32,
+    /// The last id of the range.
+    pub most: u32,
 }
 
 /// What a mount has to do before the area is at rest.

@@ -14,10 +14,10 @@ use flash_sim::{Flash, Steps};
 use std::sync::ledger::Ledger;
 
 impl<T: SlotSectors> Store<T> {
-    /// Makes a table of the last entries of ids: of 800 ids at most, the least that have bytes. It
-    /// knows each id if at most 800 ids ever had bytes in the list. It is valid as long as the area
-    /// stays as it is. This takes one walk over the list, and a search for each id that shares its
-    /// key.
+    /// Makes a table of the last entries of ids: of 1024 ids at most, the least that have bytes. It
+    /// knows each id if at most 1024 ids ever had bytes in the list. It is valid as long as the
+    /// area stays as it is. This takes one walk over the list, and a search for each id that shares
+    /// its key.
     pub fn fill_last_slots<F: Flash, L: Ledger>(
         &self,
         flash: &F,

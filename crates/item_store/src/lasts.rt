@@ -18,7 +18,10 @@ use flash_map::Area;
 use flash_sim::{Flash, Steps};
 use std::sync::ledger::Ledger;
 
-// A bit for each of 0x1_0020 ids, as many as a range may have.
+/// The most ids of a range whose last entries are walked over.
+pub const MOST_IDS: u32 = 0x1_0020;
+
+// A bit for each of them.
 const BYTES: usize = 0x2004;
 
 /// A walk over the last entries of the ids in a range, from the newest back. Each id is given once.
@@ -74,7 +77,7 @@ impl Lasts {
         steps: &mut Steps<L>,
     ) -> Lasts
         requires on { IsOpenAt T.role T.format_of T.kept (F.device flash.now) on.now }
-        requires range { most < least + 0x1_0020 }
+        requires range { most < least + MOST_IDS }
         ensures at { let d = F.device flash.now in let area = on.now.area.now in
             IsAt (format_on T.format_of d area) (sectors_of d area) on.now.current result }
         ensures none { let d = F.device flash.now in let area = on.now.area.now in
@@ -95,7 +98,7 @@ impl Lasts {
 
     // Whether an id is in the range and was not noted before. It is noted then.
     fn is_new(&mut self, id: u32) -> bool
-        requires { self.old.most < self.old.least + 0x1_0020 }
+        requires { self.old.most < self.old.least + MOST_IDS }
         ensures new { result
             ≡ (in_range self.old.least self.old.most id
             && not (has_bit self.old.seen (id - self.old.least))) }

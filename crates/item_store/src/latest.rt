@@ -27,7 +27,7 @@ use flash_sim::{Flash, Steps};
 use std::sync::ledger::Ledger;
 
 // The most entries of a table, of 16 bytes each.
-const ENTRIES: usize = 800;
+const ENTRIES: usize = 1024;
 
 /// A table of last entries: for each id below its bound, the last entry of the id, if that has
 /// bytes. It has a bound only if more ids had bytes than it has places.

@@ -9,8 +9,10 @@ mod cached;
 mod collecting;
 mod costs;
 mod entry;
+mod free;
 #[tactic(auto, using(flash_map::proofs::Touches::then))]
 mod gc_pass;
+mod holding;
 mod indexed;
 mod lasts;
 mod latest;
@@ -30,7 +32,8 @@ mod walking;
 #[tactic(auto, using(flash_map::proofs::Touches::then))]
 mod writing;
 
-pub use entry::{Entry, Placed, Redo};
+pub use entry::{Entry, IdRange, Placed, Redo};
+pub use lasts::MOST_IDS;
 pub use latest::LastSlots;
 pub use sectors::SlotSectors;
 pub use store::Store;

@@ -9,12 +9,13 @@ ghost use Rattle.flash_map.specs.Units.{IsUnit};
 ghost use Rattle.item_laws.specs.Area.{is_closed_at};
 ghost use Rattle.item_laws.specs.Live.{last_in, bytes_of};
 ghost use Rattle.item_store.specs.SectorFormat.{SectorFormat, IsSectorFormat, placed_at, slots, fits};
+ghost use Rattle.item_store.specs.Holding.{FindsBytes};
 ghost use Rattle.item_store.specs.Lasts.{AreOthers};
 ghost use Rattle.item_store.specs.Listed.{IsListedOn, IsWithinOn, format_on};
 ghost use Rattle.item_store.specs.OnSector.{BeginEnds, CloseEnds, IsMarked, StopsMarking, IsOpenSector, IsCollecting, IsSource, PutEnds, sector_on, free_on, bytes_on, IsKeptOn, IsKeptAfter, IsSoundOn, IsOpenOn, NextIsNotClosedOn, FitsOn, HasCopyRoomOn, ChangesOnlyOn, KeepsMarksOn, AddsOn, ClearsOn, StopsClearingOn};
 ghost use Rattle.item_store.specs.Standing.{IsStoreArea, SpendsIn, SpendsUpTo};
 
-use crate::entry::Placed;
+use crate::entry::{IdRange, Placed};
 use flash_map::{Area, Damaged, Geometry};
 use flash_sim::{Flash, PowerLost, Steps};
 use std::sync::ledger::Ledger;
@@ -249,6 +250,43 @@ pub trait SlotSectors: Copy {
             AreOthers (format_on format_of d area.now) (sector_on d area.now place) result
             slots least
             most };
+
+    /// The first entry behind the first so many slots of a sector's list that gives an id of the
+    /// range these bytes; `None` if there is none. It compares ids and bytes before CRCs.
+    fn find_bytes<F: Flash, L: Ledger>(
+        flash: &F,
+        area: &Area,
+        place: u32,
+        skipped: u32,
+        ids: &IdRange,
+        bytes: &[u8],
+        steps: &mut Steps<L>,
+    ) -> Option<Placed>
+        requires area { IsStoreArea role (F.device flash.now).banks area.now }
+        requires inside { place < area.now.sectors }
+        requires listed { let d = F.device flash.now in
+            skipped ≤ (format_on format_of d area.now).count (sector_on d area.now place) }
+        requires within { IsWithinOn format_of (F.device flash.now) area.now place }
+        ensures found { let d = F.device flash.now in
+            FindsBytes (format_on format_of d area.now) (sector_on d area.now place) place ids.now
+            bytes.now skipped result }
+        ensures small { IfSome result (λ p. p.slot < 2 ^ 16) };
+
+    /// Whether a slot behind the first so many of a sector's list may have an entry of the id:
+    /// `false` only if none has. It reads the id fields alone.
+    fn may_have<F: Flash, L: Ledger>(
+        flash: &F,
+        area: &Area,
+        place: u32,
+        skipped: u32,
+        id: u32,
+        steps: &mut Steps<L>,
+    ) -> bool
+        requires area { IsStoreArea role (F.device flash.now).banks area.now }
+        requires inside { place < area.now.sectors }
+        ensures { let d = F.device flash.now in let k = format_on format_of d area.now in
+            let b = sector_on d area.now place in
+            result ≡ false → AreOthers k b skipped (k.count b) id id };
 
     // ---- steps in the open sector
 

@@ -93,7 +93,7 @@ impl Seen {
 }
 
 impl Notes for Seen {
-    ghost noted = { λ limit seen placed. HasSeen limit seen placed };
+    ghost noted = { λ start limit seen placed. HasSeen limit seen placed };
 
     fn note(&mut self, placed: &Placed) {
         self.add(placed.id);

@@ -12,11 +12,11 @@ use Rattle.item_laws.proofs.AreaReads.{next_there}
 use Rattle.item_laws.specs.Forms.{to_copy}
 use Rattle.item_store.specs.SectorFormat.{SectorFormat, IsSectorFormat}
 use Rattle.item_store.specs.Standing.{IsStoreArea}
-use Rattle.item_store.specs.Spending.{both, copies}
+use Rattle.item_store.specs.Spending.{both, copies, collect_units}
 use Rattle.item_store.proofs.Areas.{unit_is, only_then, stopped-keeps}
 use Rattle.item_store.proofs.CopyLoop.{either}
 use Rattle.item_store.proofs.ListSteps.{stopped-list}
-use Rattle.item_store.proofs.Ranges.{first-lost}
+use Rattle.item_store.proofs.Ranges.{by-cut, by-ends, first-lost}
 use Rattle.item_store.proofs.SlotFacts.{current_within}
 use Rattle.item_store.proofs.CallFacts.{to_geometry, from_geometry, mark_opened, mark_collecting, mark_has_room, mark_lost, mark_lost_list, mark_spends_lost, cleared, cleared_keeps, clear_lost, clear_lost_list, open_same, spends_all, spends_all_lost}
 use Rattle.item_store.proofs.WrittenSteps.{stopped-written}
@@ -97,15 +97,15 @@ returns-in_err-mark_done-clause-items g c =
     let e : Device = g.F.Flash.device c.mark_done.new.flash in
     mark_lost g.T.SlotSectors.format_of g.T.SlotSectors.role a area place law (g.met.F.Flash.is_lawful c.args.flash.now) c.requires.area c.requires.collecting d did.touches.banks did.copies e c.in_err-mark_done.ensures.only c.in_err-mark_done.ensures.err.lost
 
-pub returns-in_err-copy_live-clause-spends_lost : goal.returns-in_err-copy_live-clause-spends_lost
-returns-in_err-copy_live-clause-spends_lost g c =
+pub returns-in_err-copy_live-clause-spends : goal.returns-in_err-copy_live-clause-spends
+returns-in_err-copy_live-clause-spends g c =
     let a : Device = g.F.Flash.device c.args.flash.now in
     let k : SectorFormat = g.T.SlotSectors.format_of (geometry_of a c.args.area.now) in
-    on_err c.from_residual.result
+    by-cut a (g.F.Flash.device c.copy_live.new.flash) (collect_units (g.T.SlotSectors.format_of (geometry_of a c.args.area.now)) (sectors_of a c.args.area.now) c.args.current) c.from_residual.result c.from_residual.ensures.0
     (first-lost a (g.F.Flash.device c.copy_live.new.flash) (copies k (to_copy k.reading (sectors_of a c.args.area.now) c.args.current)) (both k.units.any_done k.units.any_clear) c.in_err-copy_live.ensures.spends_lost)
 
-pub returns-in_err-mark_done-clause-spends_lost : goal.returns-in_err-mark_done-clause-spends_lost
-returns-in_err-mark_done-clause-spends_lost g c =
+pub returns-in_err-mark_done-clause-spends : goal.returns-in_err-mark_done-clause-spends
+returns-in_err-mark_done-clause-spends g c =
     let a : Device = g.F.Flash.device c.args.flash.now in
     let area : Area = c.args.area.now in
     let place : ℕ = c.args.current in
@@ -113,7 +113,8 @@ returns-in_err-mark_done-clause-spends_lost g c =
     let d : Device = g.F.Flash.device c.copy_live.new.flash in
     let did = c.in_ok-copy_live.ensures in
     let e : Device = g.F.Flash.device c.mark_done.new.flash in
-    on_err c.from_residual-in_err-mark_done.result (mark_spends_lost g.T.SlotSectors.format_of g.T.SlotSectors.role a area place law (g.met.F.Flash.is_lawful c.args.flash.now) c.requires.area c.requires.collecting d did.touches.banks did.copies e did.spends c.in_err-mark_done.ensures.err.spends_lost)
+    by-cut a e (collect_units (g.T.SlotSectors.format_of (geometry_of a area)) (sectors_of a area) c.args.current) c.from_residual-in_err-mark_done.result c.from_residual-in_err-mark_done.ensures.0
+    (mark_spends_lost g.T.SlotSectors.format_of g.T.SlotSectors.role a area place law (g.met.F.Flash.is_lawful c.args.flash.now) c.requires.area c.requires.collecting d did.touches.banks did.copies e did.spends c.in_err-mark_done.ensures.err.spends_lost)
 
 pub returns-clause-touches : goal.returns-clause-touches
 returns-clause-touches g c =
@@ -164,22 +165,9 @@ returns-clause-spends g c =
     let marked = c.in_ok-mark_done.ensures in
     let z : Device = g.F.Flash.device c.clear.new.flash in
     let at : c.next-victim.result ≡ next (sectors_of a area) place = c.next-victim.ensures.value ∙ next_there a area place in
-    on_ok_weaker c.clear.result (λ s. spends_all g.T.SlotSectors.format_of g.T.SlotSectors.role a area place law (g.met.F.Flash.is_lawful c.args.flash.now) c.requires.area c.requires.collecting d did.touches.banks did.copies e both.banks marked.only marked.ok.marks c.next-victim.result at z did.spends marked.ok.spends s) c.clear.ensures.spends
-
-pub returns-clause-spends_lost : goal.returns-clause-spends_lost
-returns-clause-spends_lost g c =
-    let a : Device = g.F.Flash.device c.args.flash.now in
-    let area : Area = c.args.area.now in
-    let place : ℕ = c.args.current in
-    let law : IsSectorFormat (g.T.SlotSectors.format_of (geometry_of a area)) = g.met.T.SlotSectors.lawful (geometry_of a area) (unit_is a area (g.met.F.Flash.is_lawful c.args.flash.now) c.requires.area.lawful) in
-    let d : Device = g.F.Flash.device c.copy_live.new.flash in
-    let did = c.in_ok-copy_live.ensures in
-    let e : Device = g.F.Flash.device c.mark_done.new.flash in
-    let both = then did.touches c.in_ok-mark_done.ensures.touches in
-    let marked = c.in_ok-mark_done.ensures in
-    let z : Device = g.F.Flash.device c.clear.new.flash in
-    let at : c.next-victim.result ≡ next (sectors_of a area) place = c.next-victim.ensures.value ∙ next_there a area place in
-    on_err_weaker c.clear.result (λ s. spends_all_lost g.T.SlotSectors.format_of g.T.SlotSectors.role a area place law (g.met.F.Flash.is_lawful c.args.flash.now) c.requires.area c.requires.collecting d did.touches.banks did.copies e both.banks marked.only marked.ok.marks c.next-victim.result at z did.spends marked.ok.spends s) c.clear.ensures.spends_lost
+    by-ends a z (collect_units (g.T.SlotSectors.format_of (geometry_of a area)) (sectors_of a area) c.args.current) c.clear.result
+    (on_ok_weaker c.clear.result (λ s. spends_all g.T.SlotSectors.format_of g.T.SlotSectors.role a area place law (g.met.F.Flash.is_lawful c.args.flash.now) c.requires.area c.requires.collecting d did.touches.banks did.copies e both.banks marked.only marked.ok.marks c.next-victim.result at z did.spends marked.ok.spends s) c.clear.ensures.spends)
+    (on_err_weaker c.clear.result (λ s. spends_all_lost g.T.SlotSectors.format_of g.T.SlotSectors.role a area place law (g.met.F.Flash.is_lawful c.args.flash.now) c.requires.area c.requires.collecting d did.touches.banks did.copies e both.banks marked.only marked.ok.marks c.next-victim.result at z did.spends marked.ok.spends s) c.clear.ensures.spends_lost)
 
 pub returns-in_err-copy_live-clause-written : goal.returns-in_err-copy_live-clause-written
 returns-in_err-copy_live-clause-written g c =

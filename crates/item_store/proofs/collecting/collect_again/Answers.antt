@@ -8,7 +8,7 @@ use Rattle.item_store.specs.SectorFormat.{SectorFormat, IsSectorFormat}
 use Rattle.item_store.specs.Spending.{collect_units, ready_units}
 use Rattle.item_store.proofs.Areas.{unit_is, stopped-keeps}
 use Rattle.item_store.proofs.ListSteps.{stopped-list}
-use Rattle.item_store.proofs.Ranges.{first-lost}
+use Rattle.item_store.proofs.Ranges.{by-lost, by-whole, first-lost}
 use Rattle.item_store.proofs.SlotFacts.{current_within}
 use Rattle.item_store.proofs.CallFacts.{to_geometry, not_closed, prepare_stops, again_form, again_none, again_collected, again_keeps, again_lists, again_spends, again_spends_lost}
 use Rattle.item_store.specs.Written.{IsWritten}
@@ -99,7 +99,7 @@ returns-clause-spends g c =
     let d : Device = g.F.Flash.device c.prepare.new.flash in
     let did = c.in_ok-prepare.ensures in
     let e : Device = g.F.Flash.device c.collect.new.flash in
-    on_ok_weaker c.collect.result (λ s. again_spends g.T.SlotSectors.format_of g.T.SlotSectors.role a area place law (g.met.F.Flash.is_lawful c.args.flash.now) c.requires.area c.requires.collecting d did.touches.banks did.begun e did.spends s) c.collect.ensures.spends
+    on_ok_weaker c.collect.result (λ s. again_spends g.T.SlotSectors.format_of g.T.SlotSectors.role a area place law (g.met.F.Flash.is_lawful c.args.flash.now) c.requires.area c.requires.collecting d did.touches.banks did.begun e did.spends s) (by-whole d e (collect_units (g.T.SlotSectors.format_of (geometry_of d area)) (sectors_of d area) place) c.collect.result c.collect.ensures.spends)
 
 pub returns-clause-spends_lost : goal.returns-clause-spends_lost
 returns-clause-spends_lost g c =
@@ -110,7 +110,7 @@ returns-clause-spends_lost g c =
     let d : Device = g.F.Flash.device c.prepare.new.flash in
     let did = c.in_ok-prepare.ensures in
     let e : Device = g.F.Flash.device c.collect.new.flash in
-    on_err_weaker c.collect.result (λ s. again_spends_lost g.T.SlotSectors.format_of g.T.SlotSectors.role a area place law (g.met.F.Flash.is_lawful c.args.flash.now) c.requires.area c.requires.collecting d did.touches.banks did.begun e did.spends s) c.collect.ensures.spends_lost
+    on_err_weaker c.collect.result (λ s. again_spends_lost g.T.SlotSectors.format_of g.T.SlotSectors.role a area place law (g.met.F.Flash.is_lawful c.args.flash.now) c.requires.area c.requires.collecting d did.touches.banks did.begun e did.spends s) (by-lost d e (collect_units (g.T.SlotSectors.format_of (geometry_of d area)) (sectors_of d area) place) c.collect.result c.collect.ensures.spends)
 
 pub returns-in_err-prepare-clause-written : goal.returns-in_err-prepare-clause-written
 returns-in_err-prepare-clause-written g c =

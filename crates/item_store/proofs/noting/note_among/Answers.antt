@@ -14,10 +14,10 @@ loop-place-init g c =
     let area : Area = c.args.on.now.area.now in
     let k : SectorFormat = g.T.SlotSectors.format_of (geometry_of d area) in
     let sectors : List (List ℕ) = sectors_of d area in
-    λ before seen.
+    λ start before seen.
     let none : 0 ≡ c.args.first - c.args.first = omega arith in
-    subst (λ (n : ℕ). g.N.Notes.noted k.ids c.args.notes.now (before ++ among (slots k) sectors c.args.on.now.current c.args.first n)) none
-    (subst (g.N.Notes.noted k.ids c.args.notes.now) (sym (append-nil before)) seen)
+    subst (λ (n : ℕ). g.N.Notes.noted start k.ids c.args.notes.now (before ++ among (slots k) sectors c.args.on.now.current c.args.first n)) none
+    (subst (g.N.Notes.noted start k.ids c.args.notes.now) (sym (append-nil before)) seen)
 
 pub loop-place-preserved : goal.loop-place-preserved
 loop-place-preserved g c =
@@ -25,9 +25,9 @@ loop-place-preserved g c =
     let area : Area = c.args.on.now.area.now in
     let k : SectorFormat = g.T.SlotSectors.format_of (geometry_of d area) in
     let sectors : List (List ℕ) = sectors_of d area in
-    λ before seen.
-    seen_sector k (g.N.Notes.noted k.ids c.note_counting.new.notes) before sectors c.args.on.now.current c.args.first c.loop-place.place (omega arith)
-    (c.note_counting.ensures (before ++ among (slots k) sectors c.args.on.now.current c.args.first (c.loop-place.place - c.args.first)) (c.loop-place.invariant before seen))
+    λ start before seen.
+    seen_sector k (g.N.Notes.noted start k.ids c.note_counting.new.notes) before sectors c.args.on.now.current c.args.first c.loop-place.place (omega arith)
+    (c.note_counting.ensures start (before ++ among (slots k) sectors c.args.on.now.current c.args.first (c.loop-place.place - c.args.first)) (c.loop-place.invariant start before seen))
 
 pub returns : goal.returns
 returns g c =
@@ -35,6 +35,6 @@ returns g c =
     let area : Area = c.args.on.now.area.now in
     let k : SectorFormat = g.T.SlotSectors.format_of (geometry_of d area) in
     let sectors : List (List ℕ) = sectors_of d area in
-    λ before seen.
+    λ start before seen.
     let at : c.loop-place.place ≡ c.args.end = omega arith in
-    subst (λ (n : ℕ). g.N.Notes.noted k.ids c.loop-place.notes (before ++ among (slots k) sectors c.args.on.now.current c.args.first (n - c.args.first))) at (c.loop-place.invariant before seen)
+    subst (λ (n : ℕ). g.N.Notes.noted start k.ids c.loop-place.notes (before ++ among (slots k) sectors c.args.on.now.current c.args.first (n - c.args.first))) at (c.loop-place.invariant start before seen)

@@ -8,5 +8,5 @@ use Rattle.item_store.proofs.noting.note_among.Given as goal
 
 abbrev pub invariant-loop-place : goal.invariant-loop-place
 invariant-loop-place g l =
-    (before : List Placed) → g.N.Notes.noted (format_on g.T.SlotSectors.format_of (g.F.Flash.device l.flash) l.on.area.now).ids l.initial.notes before
-    → g.N.Notes.noted (format_on g.T.SlotSectors.format_of (g.F.Flash.device l.flash) l.on.area.now).ids l.notes (before ++ among (slots (format_on g.T.SlotSectors.format_of (g.F.Flash.device l.flash) l.on.area.now)) (sectors_of (g.F.Flash.device l.flash) l.on.area.now) l.on.current l.first (l.place - l.first))
+    (start : g.row.N.Denot) (before : List Placed) → g.N.Notes.noted start (format_on g.T.SlotSectors.format_of (g.F.Flash.device l.flash) l.on.area.now).ids l.initial.notes before
+    → g.N.Notes.noted start (format_on g.T.SlotSectors.format_of (g.F.Flash.device l.flash) l.on.area.now).ids l.notes (before ++ among (slots (format_on g.T.SlotSectors.format_of (g.F.Flash.device l.flash) l.on.area.now)) (sectors_of (g.F.Flash.device l.flash) l.on.area.now) l.on.current l.first (l.place - l.first))

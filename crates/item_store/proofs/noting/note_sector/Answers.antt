@@ -18,10 +18,10 @@ loop-slot-init g c =
     let area : Area = c.args.area.now in
     let k : SectorFormat = g.T.SlotSectors.format_of (geometry_of d area) in
     let sectors : List (List ℕ) = sectors_of d area in
-    λ before seen.
+    λ start before seen.
     let none : 0 ≡ c.first_slot-first.result - c.first_slot-first.result = omega arith in
-    subst (λ (n : ℕ). g.N.Notes.noted k.ids c.args.notes.now (before ++ placed_to k (sector_at sectors c.args.place) c.args.place n)) none
-    (subst (g.N.Notes.noted k.ids c.args.notes.now) (sym (append-nil before)) seen)
+    subst (λ (n : ℕ). g.N.Notes.noted start k.ids c.args.notes.now (before ++ placed_to k (sector_at sectors c.args.place) c.args.place n)) none
+    (subst (g.N.Notes.noted start k.ids c.args.notes.now) (sym (append-nil before)) seen)
 
 pub note_slot-requires-clause-listed : goal.note_slot-requires-clause-listed
 note_slot-requires-clause-listed g c =
@@ -41,9 +41,9 @@ loop-slot-preserved g c =
     let sectors : List (List ℕ) = sectors_of d area in
     let count : c.slots-slots.result ≡ k.count (sector_at sectors c.args.place) = c.slots-slots.ensures.value in
     let first : c.first_slot-first.result ≡ k.first = c.first_slot-first.ensures.value (geometry_of d area) in
-    λ before seen.
-    seen_slot k (g.N.Notes.noted k.ids c.note_slot.new.notes) before (sector_at sectors c.args.place) c.args.place (c.loop-slot.slot - c.first_slot-first.result) (c.loop-slot.slot + 1 - c.first_slot-first.result) c.loop-slot.slot (omega arith) (omega arith)
-    (c.note_slot.ensures (before ++ placed_to k (sector_at sectors c.args.place) c.args.place (c.loop-slot.slot - c.first_slot-first.result)) (c.loop-slot.invariant before seen))
+    λ start before seen.
+    seen_slot k (g.N.Notes.noted start k.ids c.note_slot.new.notes) before (sector_at sectors c.args.place) c.args.place (c.loop-slot.slot - c.first_slot-first.result) (c.loop-slot.slot + 1 - c.first_slot-first.result) c.loop-slot.slot (omega arith) (omega arith)
+    (c.note_slot.ensures start (before ++ placed_to k (sector_at sectors c.args.place) c.args.place (c.loop-slot.slot - c.first_slot-first.result)) (c.loop-slot.invariant start before seen))
 
 pub returns : goal.returns
 returns g c =
@@ -53,6 +53,6 @@ returns g c =
     let sectors : List (List ℕ) = sectors_of d area in
     let count : c.slots-slots.result ≡ k.count (sector_at sectors c.args.place) = c.slots-slots.ensures.value in
     let first : c.first_slot-first.result ≡ k.first = c.first_slot-first.ensures.value (geometry_of d area) in
-    λ before seen.
+    λ start before seen.
     let all : c.loop-slot.slot - c.first_slot-first.result ≡ k.count (sector_at sectors c.args.place) = omega arith in
-    subst (λ (n : ℕ). g.N.Notes.noted k.ids c.loop-slot.notes (before ++ placed_to k (sector_at sectors c.args.place) c.args.place n)) all (c.loop-slot.invariant before seen)
+    subst (λ (n : ℕ). g.N.Notes.noted start k.ids c.loop-slot.notes (before ++ placed_to k (sector_at sectors c.args.place) c.args.place n)) all (c.loop-slot.invariant start before seen)

@@ -7,5 +7,5 @@ use Rattle.item_store.proofs.noting.note_sector.Given as goal
 
 abbrev pub invariant-loop-slot : goal.invariant-loop-slot
 invariant-loop-slot g l =
-    (before : List Placed) → g.N.Notes.noted (format_on g.T.SlotSectors.format_of (g.F.Flash.device l.flash) l.area).ids l.initial.notes before
-    → g.N.Notes.noted (format_on g.T.SlotSectors.format_of (g.F.Flash.device l.flash) l.area).ids l.notes (before ++ placed_to (format_on g.T.SlotSectors.format_of (g.F.Flash.device l.flash) l.area) (sector_at (sectors_of (g.F.Flash.device l.flash) l.area) l.place) l.place (l.slot - l.first))
+    (start : g.row.N.Denot) (before : List Placed) → g.N.Notes.noted start (format_on g.T.SlotSectors.format_of (g.F.Flash.device l.flash) l.area).ids l.initial.notes before
+    → g.N.Notes.noted start (format_on g.T.SlotSectors.format_of (g.F.Flash.device l.flash) l.area).ids l.notes (before ++ placed_to (format_on g.T.SlotSectors.format_of (g.F.Flash.device l.flash) l.area) (sector_at (sectors_of (g.F.Flash.device l.flash) l.area) l.place) l.place (l.slot - l.first))

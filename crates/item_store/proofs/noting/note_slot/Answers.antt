@@ -13,7 +13,7 @@ returns-in-Some g c =
     let area : Area = c.args.area.now in
     let k : SectorFormat = g.T.SlotSectors.format_of (geometry_of d area) in
     let sectors : List (List ℕ) = sectors_of d area in
-    λ before seen. seen_some (g.N.Notes.noted k.ids c.note.new.self) before c.in-Some.placed (option_map (placed_at c.args.place) (k.in_slot (sector_at sectors c.args.place) c.args.slot)) (sym c.in-Some.is ∙ c.entry_in.ensures.entry) (c.note.ensures k.ids before c.in-Some.ensures.small seen)
+    λ start before seen. seen_some (g.N.Notes.noted start k.ids c.note.new.self) before c.in-Some.placed (option_map (placed_at c.args.place) (k.in_slot (sector_at sectors c.args.place) c.args.slot)) (sym c.in-Some.is ∙ c.entry_in.ensures.entry) (c.note.ensures start k.ids before c.in-Some.ensures.small seen)
 
 pub returns-in-None : goal.returns-in-None
 returns-in-None g c =
@@ -21,4 +21,4 @@ returns-in-None g c =
     let area : Area = c.args.area.now in
     let k : SectorFormat = g.T.SlotSectors.format_of (geometry_of d area) in
     let sectors : List (List ℕ) = sectors_of d area in
-    λ before seen. seen_same (g.N.Notes.noted k.ids c.args.notes.now) before (option_map (placed_at c.args.place) (k.in_slot (sector_at sectors c.args.place) c.args.slot)) (sym c.in-None.is ∙ c.entry_in.ensures.entry) seen
+    λ start before seen. seen_same (g.N.Notes.noted start k.ids c.args.notes.now) before (option_map (placed_at c.args.place) (k.in_slot (sector_at sectors c.args.place) c.args.slot)) (sym c.in-None.is ∙ c.entry_in.ensures.entry) seen

@@ -19,7 +19,7 @@ returns-then-place-on g c =
     let area : Area = c.args.on.now.area.now in
     let k : SectorFormat = g.T.SlotSectors.format_of (geometry_of d area) in
     let sectors : List (List ℕ) = sectors_of d area in
-    λ seen. subst (HasSeen k.ids c.note_among.new.notes) (behind_near k sectors c.args.on.now.current c.args.place c.if-place-on.true) (c.note_among.ensures [] seen)
+    λ seen. subst (HasSeen k.ids c.note_among.new.notes) (behind_near k sectors c.args.on.now.current c.args.place c.if-place-on.true) (c.note_among.ensures c.args.seen.now [] seen)
 
 pub returns : goal.returns
 returns g c =
@@ -28,4 +28,4 @@ returns g c =
     let k : SectorFormat = g.T.SlotSectors.format_of (geometry_of d area) in
     let sectors : List (List ℕ) = sectors_of d area in
     λ seen. subst (HasSeen k.ids c.note_among-3.new.notes) (behind_far k sectors c.args.on.now.current c.args.place area.sectors (omega arith) (sym (length-sectors d area)))
-    (c.note_among-3.ensures (among (slots k) sectors c.args.on.now.current (c.args.place + 1) (area.sectors - (c.args.place + 1))) (c.note_among-2.ensures [] seen))
+    (c.note_among-3.ensures c.args.seen.now (among (slots k) sectors c.args.on.now.current (c.args.place + 1) (area.sectors - (c.args.place + 1))) (c.note_among-2.ensures c.args.seen.now [] seen))

@@ -5,6 +5,6 @@ use Rattle.item_store.proofs.cached.CacheNotes.note.Goals as goal
 
 pub returns : goal.returns
 returns c =
-    λ limit before small is.
+    λ start limit before small is.
     subst (λ (cache : List (Option (ℕ × ℕ))). IsCacheOf cache (before ++ c.args.placed.now ∷ [])) (sym c.note.ensures)
     (cache-noted c.args.self.now before c.args.placed.now is)

@@ -1,0 +1,245 @@
+-- Looking for an item by its bytes: entries that hold them, and what stands behind these.
+use Rattle.std.proofs.Common.{◌≡◌, ℕ, ◌+◌, ◌-◌, ◌<◌, ◌≤◌, Bool, true, false, not, ◌&&◌, eqb, leb, List, ◌∷◌, length, Option, Some, None, refl, sym, ap, subst, ◌∙◌, inl, inr, arith}
+use Rattle.std.specs.Prelude.{IfSome}
+use Rattle.std.specs.FinMap.{get}
+use Rattle.std.specs.Option.{option_eq, option_map, option_or}
+use Rattle.std.proofs.lemmas.Bool.{false≢true, cases_eq, cases_lt, eq-eqb, ne_eqb, le-leb, cond-true, cond-false}
+use Rattle.flash_sim.specs.Bank.{IsLawful}
+use Rattle.flash_sim.specs.Device.{Device}
+use Rattle.flash_map.specs.declared.area.Role.{Role}
+use Rattle.flash_map.specs.declared.area.Geometry.{Geometry}
+use Rattle.flash_map.specs.Area.{geometry_of, sector_at, sectors_of}
+use Rattle.item_laws.specs.Bytes.{HasBytes, IsIdOf}
+use Rattle.item_laws.specs.Items.{Items, value_of}
+use Rattle.item_laws.specs.Live.{all_placed, last_of, last_placed, bytes_of}
+use Rattle.item_laws.specs.RoundParts.{places_after}
+use Rattle.item_laws.proofs.AreaReads.{length-sectors}
+use Rattle.item_laws.proofs.LiveLemmas.{option_cases, some_none}
+use Rattle.item_laws.proofs.Places.{after, before, after-last, after-inner, after-within, before-first, before-inner}
+use Rattle.item_store.specs.declared.entry.Entry.{Entry}
+use Rattle.item_store.specs.declared.entry.IdRange.{IdRange}
+use Rattle.item_store.specs.declared.entry.Placed.{Placed}
+use Rattle.item_store.specs.declared.store.Store.{Store}
+use Rattle.item_store.specs.Asking.{NoneIsItem}
+use Rattle.item_store.specs.Holding.{Holds, NoneHolds, IsFirstHolder}
+use Rattle.item_store.specs.SectorFormat.{SectorFormat, IsSectorFormat, placed_at, slots}
+use Rattle.item_store.specs.Lasts.{in_range, IsOther, AreOthers, given_at}
+use Rattle.item_store.specs.Latest.{last_of_id}
+use Rattle.item_store.specs.Listed.{IsPlaced, items_on}
+use Rattle.item_store.specs.Seen.{AreBehind, behind}
+use Rattle.item_store.specs.Stands.{StandsOn}
+use Rattle.item_store.proofs.AskingSteps.{own-id, same_some}
+use Rattle.item_store.proofs.CostSteps.{before-after, start_seen, more_seen}
+use Rattle.item_store.proofs.LastsSlots.{covered-is}
+use Rattle.item_store.proofs.LastsWalk.{begun-last, covered-all}
+use Rattle.item_store.proofs.LiveSteps.{own-last, later_at, stand_behind}
+use Rattle.item_store.proofs.ReadFacts.{counts_on, current_on, last_placed_on, value_by}
+
+-- ---- places
+
+before-next : (count place : ℕ) → place < count → before count (after count place) ≡ place
+before-next count place lt =
+    elim (cases_eq (place + 1) count) [
+      | inl last ↦ let one : count - 1 ≡ place = omega arith in ap (before count) (after-last count place last) ∙ before-first count ∙ one
+      | inr other ↦
+          let back : place + 1 - 1 ≡ place = omega arith in
+          ap (before count) (after-inner count place (omega (arith, other))) ∙ before-inner count (place + 1) (omega arith) ∙ back
+    ]
+
+-- only the oldest sector comes behind the open one
+next-apart : (count current place : ℕ) → current < count → place < count → (place ≡ current → ⊥) → after count place ≡ after count current → ⊥
+next-apart count current place low high apart same = apart (sym (before-next count place high) ∙ ap (before count) same ∙ before-next count current low)
+
+-- fewer sectors stand behind the next one
+pub fewer-behind : (count current at next : ℕ) → current < count → at < count → (at ≡ current → ⊥) → next ≡ after count at → length (places_after count current next) < length (places_after count current at)
+fewer-behind count current at next low high apart is =
+    let back : at ≡ before count next = sym (ap (before count) is ∙ before-next count at high) in
+    let inside : next < count = subst (λ (n : ℕ). n < count) (sym is) (after-within count at high) in
+    let long : length (places_after count current at) ≡ length (next ∷ places_after count current next) =
+    ap (λ (j : ℕ). length (places_after count current j)) back ∙ ap length (before-after count current next low inside (λ e. next-apart count current at low high apart (sym is ∙ e))) in
+    omega (arith, long)
+
+-- ---- no entry behind a place has an id
+
+itself : (id : ℕ) → in_range id id id ≡ true
+itself id = let same : id ≤ id = omega arith in ap (λ (t : Bool). t && leb id id) (le-leb id id same) ∙ le-leb id id same
+
+module _ (k : SectorFormat) (sectors : List (List ℕ)) (current id : ℕ) (low : current < length sectors) where
+  -- no slot from one on has the id: the sectors behind it decide
+  pub none-from : (place skipped : ℕ) → skipped ≤ k.count (sector_at sectors place) → AreOthers k (sector_at sectors place) skipped (k.count (sector_at sectors place)) id id
+      → last_of_id id (given_at k sectors current place skipped) ≡ last_of_id id (behind k sectors current place)
+  none-from place skipped few others = begun-last k sectors current place skipped id id few (λ _. others) id (itself id)
+
+  -- nor has one of the next sector
+  pub none-next : (at next : ℕ) → at < length sectors → (at ≡ current → ⊥) → next ≡ after (length sectors) at → AreOthers k (sector_at sectors next) 0 (k.count (sector_at sectors next)) id id
+      → last_of_id id (behind k sectors current at) ≡ last_of_id id (behind k sectors current next)
+  none-next at next high apart is others =
+      let back : at ≡ before (length sectors) next = sym (ap (before (length sectors)) is ∙ before-next (length sectors) at high) in
+      let inside : next < length sectors = subst (λ (n : ℕ). n < length sectors) (sym is) (after-within (length sectors) at high) in
+      ap (λ (j : ℕ). last_of_id id (behind k sectors current j)) back
+      ∙ ap (last_of_id id) (sym (covered-all k sectors current next ∙ more_seen k sectors current low next inside (λ e. next-apart (length sectors) current at low high apart (sym is ∙ e))))
+      ∙ none-from next 0 (omega arith) others
+
+  pub none-left : last_of_id id (behind k sectors current current) ≡ None
+  none-left = ap (last_of_id id) (start_seen k sectors current low)
+
+-- ---- bytes
+
+-- what an entry gives its id, where it gives it these bytes
+given-bytes : (own bytes : List ℕ) → value_of own ≡ Some bytes → (own ≡ bytes) × (0 < length bytes)
+given-bytes own bytes is =
+    elim (cases_eq (length own) 0) [
+      | inl none ↦ absurd (some_none bytes (sym is ∙ cond-true (eqb (length own) 0) None (Some own) (eq-eqb (length own) 0 none)))
+      | inr some ↦
+          let same : own ≡ bytes = same_some own bytes (sym (cond-false (eqb (length own) 0) None (Some own) (ne_eqb (length own) 0 some)) ∙ is) in
+          (same, subst (λ (xs : List ℕ). 0 < length xs) same (omega (arith, some)))
+    ]
+
+one_entry : (x y : Entry) → Some x ≡ Some y → x ≡ y
+one_entry x y e = cc
+
+one_placed : (x y : Placed) → Some x ≡ Some y → x ≡ y
+one_placed x y e = cc
+
+-- the id that was kept
+pub is-kept : (o : Option ℕ) (id : ℕ) → not (option_eq eqb o (Some id)) ≡ false → o ≡ Some id
+is-kept None id e = absurd (false≢true (sym e))
+is-kept (Some kept) id e =
+    elim (cases_eq kept id) [
+      | inl same ↦ ap (λ (n : ℕ). Some n) same
+      | inr apart ↦ absurd (false≢true (sym e ∙ ap not (ne_eqb kept id apart)))
+    ]
+
+-- ---- entries of one sector that hold the bytes
+
+module _ (k : SectorFormat) (b : List ℕ) (items : Items) (ids : IdRange) (bytes : List ℕ) (place skipped : ℕ) (so_far : NoneIsItem k b items ids bytes k.first (k.first + skipped)) where
+  -- one more, whose item does not have them
+  pub none-step : (p : Placed) (up : ℕ) → IsFirstHolder k b place ids bytes (k.first + skipped) p → up ≡ p.slot - k.first + 1 → (get items p.id ≡ Some bytes → ⊥) → NoneIsItem k b items ids bytes k.first (k.first + up)
+  none-step p up holder is other = λ slot e from to read holds has.
+      elim (cases_lt slot (k.first + skipped)) [
+        | inl before ↦ so_far slot e from before read holds has
+        | inr behind ↦ elim (cases_eq slot p.slot) [
+          | inl same ↦
+              let entry : holder.entry ≡ e = one_entry holder.entry e (sym holder.read ∙ ap (k.in_slot b) (sym same) ∙ read) in
+              let id : p.id ≡ e.id = ap (λ (q : Placed). q.id) holder.is ∙ ap (λ (q : Entry). q.id) entry in
+              other (ap (get items) id ∙ has)
+          | inr apart ↦ holder.first slot e behind (let from = holder.from in omega (arith, apart)) read holds
+        ]
+      ]
+
+  -- there is no other
+  pub none-end : NoneHolds k b ids bytes (k.first + skipped) (k.first + k.count b) → NoneIsItem k b items ids bytes k.first (k.first + k.count b)
+  none-end none = λ slot e from to read holds has.
+      elim (cases_lt slot (k.first + skipped)) [
+        | inl before ↦ so_far slot e from before read holds has
+        | inr behind ↦ none slot e behind to read holds
+      ]
+
+-- ---- a store on its area
+
+module _ {T : Type 0} (role : Role) (format_of : Geometry → SectorFormat) (kept : Geometry → List ℕ → T) (d : Device) (store : Store T) (law : IsSectorFormat (format_of (geometry_of d store.area))) (lawful : IsLawful d.banks d.bytes) (on : StandsOn role format_of kept d store) where
+  abbrev k : SectorFormat
+  k = format_of (geometry_of d store.area)
+
+  abbrev here : List (List ℕ)
+  here = sectors_of d store.area
+
+  module _ (p : Placed) (reach : ℕ) (placed : IsPlaced (format_of (geometry_of d store.area)) (sectors_of d store.area) store.current p)
+      (others : let k = format_of (geometry_of d store.area) in let b = sector_at (sectors_of d store.area) p.sector in AreOthers k b reach (k.count b) p.id p.id) where
+    -- it is the last of its id where none behind it has the id
+    pub value-last : reach ≤ p.slot - (format_of (geometry_of d store.area)).first + 1 → last_of_id p.id (behind (format_of (geometry_of d store.area)) (sectors_of d store.area) store.current p.sector) ≡ None
+        → get (items_on format_of d store.area) p.id ≡ value_of (bytes_of (slots (format_of (geometry_of d store.area))) (sectors_of d store.area) p)
+    value-last last_here none =
+        let from = placed.listed.from in
+        let listed = placed.listed.listed in
+        let slot : p.slot ≡ k.first + (p.slot - k.first) = omega arith in
+        let more : p.slot - k.first < k.count (sector_at here p.sector) = omega arith in
+        let low : store.current < length here = omega (arith, length-sectors d store.area, current_on role format_of kept d store law lawful on) in
+        let read : option_map (placed_at p.sector) (k.in_slot (sector_at here p.sector) (k.first + (p.slot - k.first))) ≡ Some p =
+        ap (λ (m : ℕ). option_map (placed_at p.sector) (k.in_slot (sector_at here p.sector) m)) (sym slot) ∙ placed.listed.read in
+        let at : AreBehind k here p (later_at k law here store.current p.sector (p.slot - k.first + 1)) =
+        stand_behind k law here store.current p.sector (sym on.current) low placed.listed.within placed.counts (p.slot - k.first) more p read in
+        let given : last_of_id p.id (given_at k here store.current p.sector (p.slot - k.first + 1)) ≡ None =
+        none-from k here store.current p.id low p.sector (p.slot - k.first + 1) (omega arith) (λ slot over high. others slot (omega arith) high) ∙ none in
+        let free : last_of (slots k) p.id (later_at k law here store.current p.sector (p.slot - k.first + 1)) ≡ None =
+        ap (last_of_id p.id) (sym (covered-is k law here store.current p.sector (p.slot - k.first + 1) placed.counts)) ∙ given in
+        let last : last_placed (slots k) here p.id ≡ Some p =
+        own-last k here p (later_at k law here store.current p.sector (p.slot - k.first + 1)) at ∙ ap (λ (o : Option Placed). option_or (option_or o (Some p)) (last_of (slots k) p.id at.prefix)) free in
+        value_by role format_of kept d store law lawful on (Some p) p.id (sym last)
+
+  module _ (ids : IdRange) (bytes : List ℕ) (place start : ℕ) (p : Placed) (inside : place < store.area.sectors) (low : (format_of (geometry_of d store.area)).first ≤ start)
+      (holder : IsFirstHolder (format_of (geometry_of d store.area)) (sector_at (sectors_of d store.area) place) place ids bytes start p) where
+    slot-is : p.slot ≡ holder.entry.slot
+    slot-is = ap (λ (q : Placed). q.slot) holder.is
+
+    id-is : p.id ≡ holder.entry.id
+    id-is = ap (λ (q : Placed). q.id) holder.is
+
+    -- one that holds bytes stands in its slot
+    pub holder-placed : IsPlaced (format_of (geometry_of d store.area)) (sectors_of d store.area) store.current p
+    holder-placed =
+        let from = holder.from in
+        let low_slot : k.first ≤ p.slot = omega arith in
+        subst (IsPlaced k here store.current) (sym holder.is) (record {
+          listed = record {
+            within = omega (arith, length-sectors d store.area);
+            from = subst (λ (n : ℕ). k.first ≤ n) slot-is low_slot;
+            listed = subst (λ (n : ℕ). n < k.first + k.count (sector_at here place)) slot-is holder.listed;
+            read = ap (option_map (placed_at place)) (subst (λ (n : ℕ). k.in_slot (sector_at here place) n ≡ Some holder.entry) slot-is holder.read);
+          };
+          counts = counts_on role format_of kept d store law lawful on place;
+        })
+
+    pub holder-gives : 0 < length bytes → value_of (bytes_of (slots (format_of (geometry_of d store.area))) (sectors_of d store.area) p) ≡ Some bytes
+    holder-gives some =
+        ap (λ (q : Placed). value_of (bytes_of (slots k) here q)) holder.is ∙ ap value_of holder.holds.bytes
+        ∙ cond-false (eqb (length bytes) 0) None (Some bytes) (ne_eqb (length bytes) 0 (λ (e : length bytes ≡ 0). absurd (omega arith)))
+
+    pub holder-item : get (items_on format_of d store.area) p.id ≡ Some bytes → HasBytes ids.least ids.most (items_on format_of d store.area) p.id bytes
+    holder-item has = record {
+      from = subst (λ (n : ℕ). ids.least ≤ n) (sym id-is) holder.holds.from;
+      to = subst (λ (n : ℕ). n ≤ ids.most) (sym id-is) holder.holds.to;
+      has = has;
+    }
+
+  -- the bytes of an item are those of its last entry
+  item-last : (id : ℕ) (bytes : List ℕ) → get (items_on format_of d store.area) id ≡ Some bytes
+      → (p : Placed) × IsPlaced (format_of (geometry_of d store.area)) (sectors_of d store.area) store.current p × (p.id ≡ id) × (value_of (bytes_of (slots (format_of (geometry_of d store.area))) (sectors_of d store.area) p) ≡ Some bytes)
+  item-last id bytes has = at (last_placed (slots k) here id) refl (own-id id (all_placed (slots k) here) None tt)
+    where
+      at : (o : Option Placed) → last_placed (slots (format_of (geometry_of d store.area))) (sectors_of d store.area) id ≡ o → IfSome o (λ p. p.id ≡ id)
+          → (p : Placed) × IsPlaced (format_of (geometry_of d store.area)) (sectors_of d store.area) store.current p × (p.id ≡ id) × (value_of (bytes_of (slots (format_of (geometry_of d store.area))) (sectors_of d store.area) p) ≡ Some bytes)
+      at None none own = absurd (some_none bytes (sym has ∙ value_by role format_of kept d store law lawful on None id (sym none)))
+      at (Some p) some own = (p, last_placed_on role format_of kept d store law lawful on (Some p) id (sym some), own, sym (value_by role format_of kept d store law lawful on (Some p) id (sym some)) ∙ has)
+
+  -- no item has no bytes
+  pub no-empty : (least most : ℕ) (bytes : List ℕ) → length bytes ≡ 0 → IsIdOf least most (items_on format_of d store.area) bytes None
+  no-empty least most bytes none = λ id has.
+      let last = item-last id bytes has.has in
+      let given = given-bytes (bytes_of (slots k) here last.0) bytes last.3 in
+      let some = given.1 in
+      absurd (omega arith)
+
+  -- an item of the range has an entry that holds its bytes
+  pub no-item : (ids : IdRange) (bytes : List ℕ) → ((place : ℕ) → place < store.area.sectors → let k = format_of (geometry_of d store.area) in let b = sector_at (sectors_of d store.area) place in
+      NoneIsItem k b (items_on format_of d store.area) ids bytes k.first (k.first + k.count b))
+      → IsIdOf ids.least ids.most (items_on format_of d store.area) bytes None
+  no-item ids bytes none = λ id has.
+      let last = item-last id bytes has.has in
+      let p : Placed = last.0 in
+      let listed = last.1.listed in
+      let inside = listed.within in
+      elim (option_cases (k.in_slot (sector_at here last.0.sector) last.0.slot)) [
+        | inl empty ↦ absurd (some_none last.0 (sym listed.read ∙ ap (option_map (placed_at last.0.sector)) empty))
+        | inr (e, read) ↦
+            let same : placed_at last.0.sector e ≡ last.0 = one_placed (placed_at last.0.sector e) last.0 (sym (ap (option_map (placed_at last.0.sector)) read) ∙ listed.read) in
+            let own : e.id ≡ id = ap (λ (q : Placed). q.id) same ∙ last.2 in
+            let given = given-bytes (bytes_of (slots k) here last.0) bytes last.3 in
+            let bytes_are : k.bytes (sector_at here last.0.sector) e.slot ≡ bytes = ap (λ (q : Placed). k.bytes (sector_at here last.0.sector) q.slot) same ∙ given.0 in
+            let holds : Holds k (sector_at here last.0.sector) ids bytes e = record {
+              from = subst (λ (n : ℕ). ids.least ≤ n) (sym own) has.from;
+              to = subst (λ (n : ℕ). n ≤ ids.most) (sym own) has.to;
+              bytes = bytes_are;
+            } in
+            none last.0.sector (omega (arith, length-sectors d store.area)) last.0.slot e listed.from listed.listed read holds (ap (get (items_on format_of d store.area)) own ∙ has.has)
+      ]

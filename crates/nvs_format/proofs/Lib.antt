@@ -1,4 +1,5 @@
 pub mod FindLemmas
 pub mod FormatLemmas
+pub mod HolderLemmas
 pub mod StepLemmas
 mod UnitRows

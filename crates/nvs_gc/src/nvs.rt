@@ -11,6 +11,7 @@ ghost use Rattle.item_laws.specs.Bytes.{IsIdOf, IsNextOf};
 ghost use Rattle.item_laws.specs.NextIds.{IsNextId};
 ghost use Rattle.nvs_format.specs.Formats.{format_of, placed_of};
 ghost use Rattle.item_store.specs.Cached.{latest_on};
+ghost use Rattle.item_store.specs.Free.{IsLeastFree};
 ghost use Rattle.item_store.specs.Latest.{IsKnown, KnowsOn};
 ghost use Rattle.item_store.specs.Older.{IsNextOlder, newest_before};
 ghost use Rattle.nvs_gc.specs.Ends.{MountEnds, MarksFirst, RoundEnds, WriteEnds, DeleteEnds, KeepsWritten, SameOrWritten, sector_units};
@@ -19,7 +20,7 @@ ghost use Rattle.nvs_gc.specs.Standing.{IsNvsArea, StandsOn, format_on, KeepsIte
 use crate::sectors::{NvsOpen, read_again};
 use flash_map::{Area, MountFault, WriteFault};
 use flash_sim::{Flash, PowerLost, Steps};
-use item_store::{LastSlots, Store};
+use item_store::{IdRange, LastSlots, Store};
 use nvs_store::Found;
 use std::alloc::Global;
 use std::sync::ledger::Ledger;
@@ -166,9 +167,9 @@ impl Nvs {
         self.store.may_hold(id as u32)
     }
 
-    /// Makes a table of the last entries of ids: of 800 ids at most, the least that have bytes. It
-    /// knows each id if at most 800 ids ever had bytes in the list. It is valid as long as the area
-    /// stays as it is. This takes one walk over the list.
+    /// Makes a table of the last entries of ids: of 1024 ids at most, the least that have bytes. It
+    /// knows each id if at most 1024 ids ever had bytes in the list. It is valid as long as the
+    /// area stays as it is. This takes one walk over the list.
     pub fn fill_last_slots<F: Flash, L: Ledger>(
         &self,
         flash: &F,
@@ -261,7 +262,7 @@ impl Nvs {
     }
 
     /// An id from `least` to `most` whose item has these bytes; any of them if several have, `None`
-    /// if none has. This takes one walk over the list at most, from its newest entry back.
+    /// if none has. This looks at each entry once, and compares ids and bytes before CRCs.
     pub fn id_of<F: Flash, L: Ledger>(
         &self,
         flash: &F,
@@ -278,6 +279,23 @@ impl Nvs {
             self.store
                 .id_of(flash, least as u32, most as u32, bytes, steps),
         )
+    }
+
+    /// The least id of the range that has no item, and whose id `step` above it has none; `None` if
+    /// there is none. The range has at most 512 ids. This takes one walk over the list.
+    pub fn least_free<F: Flash, L: Ledger>(
+        &self,
+        flash: &F,
+        ids: &IdRange,
+        step: u32,
+        steps: &mut Steps<L>,
+    ) -> Option<u32>
+        requires stands { StandsOn (F.device flash.now) self.now }
+        requires range { ids.now.most < ids.now.least + 512 }
+        ensures { IsLeastFree ids.now step (items_on (F.device flash.now) self.now.store.area)
+            result }
+    {
+        self.store.least_free(flash, ids, step, steps)
     }
 
     /// The least bytes of an item with an id from `least` to `most`: of those greater than `after`,

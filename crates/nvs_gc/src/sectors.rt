@@ -17,10 +17,11 @@ ghost use Rattle.item_store.specs.Standing.{IsStoreArea};
 
 use flash_map::{Area, Damaged, Geometry, area_erase, geometry, sector_view};
 use flash_sim::{Flash, PowerLost, Steps};
-use item_store::{Placed, SlotSectors};
+use item_store::{IdRange, Placed, SlotSectors};
 use nvs_store::{
-    Found, Redo, Scan, append, capacity, copy_entry, cost, counting_entry, find_in, is_blank,
-    is_closed, mount_scan, put_close, put_done, scan_sector, slot_size, used_count,
+    Found, Redo, Scan, append, capacity, copy_entry, cost, counting_entry, find_holder, find_in,
+    has_named, is_blank, is_closed, mount_scan, put_close, put_done, scan_sector, slot_size,
+    used_count,
 };
 use std::sync::ledger::Ledger;
 
@@ -329,6 +330,35 @@ impl SlotSectors for NvsOpen {
             least,
             most,
         )
+    }
+
+    fn find_bytes<F: Flash, L: Ledger>(
+        flash: &F,
+        area: &Area,
+        place: u32,
+        skipped: u32,
+        ids: &IdRange,
+        bytes: &[u8],
+        steps: &mut Steps<L>,
+    ) -> Option<Placed> {
+        let unit = geometry(flash, area).unit;
+        let sector = sector_view(flash, area, place, steps);
+        match find_holder(sector, unit, skipped, ids.least, ids.most, bytes) {
+            Some(found) => Some(placed(found.at(place))),
+            None => None,
+        }
+    }
+
+    fn may_have<F: Flash, L: Ledger>(
+        flash: &F,
+        area: &Area,
+        place: u32,
+        skipped: u32,
+        id: u32,
+        steps: &mut Steps<L>,
+    ) -> bool {
+        let unit = geometry(flash, area).unit;
+        has_named(sector_view(flash, area, place, steps), unit, skipped, id)
     }
 
     fn begin<F: Flash, L: Ledger>(

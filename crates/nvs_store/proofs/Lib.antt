@@ -6,6 +6,7 @@ mod CallFacts
 mod Cuts
 pub mod EntryBytes
 mod Examples
+pub mod Holders
 mod IgnoredSectors
 pub mod InArea
 pub mod LastLemmas

@@ -1,5 +1,5 @@
 -- What the code's functions on slots need.
-use Rattle.std.proofs.Common.{◌≡◌, ℕ, ◌+◌, ◌-◌, ◌*◌, ◌/◌, ◌<◌, ◌≤◌, max, min, Bool, true, false, cond, eqb, ltb, ◌||◌, List, [], ◌++◌, length, map, take, Option, Some, None, refl, sym, ap, subst, ◌∙◌, inl, inr, not, arith}
+use Rattle.std.proofs.Common.{◌≡◌, ℕ, ◌+◌, ◌-◌, ◌*◌, ◌/◌, ◌<◌, ◌≤◌, max, min, Bool, true, cond, eqb, ltb, ◌||◌, List, [], ◌++◌, length, map, take, Option, Some, None, refl, sym, ap, subst, ◌∙◌, inl, inr, not, arith}
 use Rattle.std.specs.Prelude.{fold, sum_by}
 use Rattle.std.specs.Option.{option_and_then}
 use Rattle.std.specs.List.{filter_map, cons_option, list_any, suffix_len}
@@ -59,8 +59,8 @@ used_more unit b used before this k low high =
       | inr ge ↦ let e : used + 1 ≡ k = omega arith in subst (λ (j : ℕ). is_used (slot_at unit b j) ≡ true) e this
     ]
 
-pub is_used-erased : (unit : ℕ) (b : List ℕ) (k used : ℕ) (bytes : List ℕ) → used + 1 ≡ k → bytes ≡ (slot_at unit b k).bytes → is_erased bytes ≡ true → is_used (slot_at unit b (used + 1)) ≡ false
-is_used-erased unit b k used bytes at same erased = ap (λ (j : ℕ). is_used (slot_at unit b j)) at ∙ ap (λ (x : List ℕ). not (is_erased x)) (sym same) ∙ ap not erased
+pub used_read : (unit : ℕ) (b : List ℕ) (k : ℕ) (bytes : List ℕ) (used : Bool) → bytes ≡ (slot_at unit b k).bytes → used ≡ not (is_erased bytes) → is_used (slot_at unit b k) ≡ used
+used_read unit b k bytes used same read = ap (λ (x : List ℕ). not (is_erased x)) (sym same) ∙ sym read
 
 -- the entries of the first so many used slots
 pub entries_to_within : (unit : ℕ) (b : List ℕ) (n index : ℕ) → index ≡ min (length (used_slots unit b)) n → entries_to unit b index ≡ entries_within unit b n

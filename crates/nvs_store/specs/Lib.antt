@@ -1,5 +1,6 @@
 pub mod Entries
 pub mod Geometry
+pub mod Holding
 pub mod Images
 pub mod On
 pub mod Scans

@@ -1,7 +1,7 @@
 // The slots of one sector, over its bytes. Slot k starts k + 1 slots before the sector's end.
-ghost use Rattle.std.specs.Prelude.{◌≡◌, ◌+◌, ◌-◌, ◌*◌, ◌%◌, ◌^◌, ◌≤◌, ◌<◌, length, ◌==◌};
+ghost use Rattle.std.specs.Prelude.{◌≡◌, ◌+◌, ◌-◌, ◌*◌, ◌%◌, ◌^◌, ◌≤◌, ◌<◌, length, not, ◌==◌};
 ghost use Rattle.std.specs.Option.{option_map_or};
-ghost use Rattle.flash_map.specs.Units.{IsUnit, padded};
+ghost use Rattle.flash_map.specs.Units.{IsUnit, is_erased, padded};
 ghost use Rattle.nvs_store.specs.Geometry.{slot_size};
 ghost use Rattle.nvs_store.specs.Entries.{decoded};
 ghost use Rattle.nvs_store.specs.Sector.{slot_at, used_slots, counts, counting_entry, is_gc_done, entry_end};
@@ -34,6 +34,14 @@ pub fn slot_of(bytes: &[u8], unit: u32, index: u32) -> &[u8]
     &bytes[start..start + size]
 }
 
+/// Whether a slot is used. Most used slots begin with another byte than FF, which is fast to see.
+pub fn is_used(slot: &[u8]) -> bool
+    requires { 8 ≤ length slot.now }
+    ensures { result ≡ not (is_erased slot.now) }
+{
+    slot[0] != 0xFF || !is_erased(slot)
+}
+
 /// How many slots are used, from slot 1 down to the fence.
 pub fn used_count(bytes: &[u8], unit: u32) -> u32
     requires unit { IsUnit unit }
@@ -44,7 +52,7 @@ pub fn used_count(bytes: &[u8], unit: u32) -> u32
     let count = bytes.len() as u32 / slot_size(unit);
     let mut used = 0;
     for index in 1..count {
-        if is_erased(slot_of(bytes, unit, index)) {
+        if !is_used(slot_of(bytes, unit, index)) {
             return used;
         }
         used += 1;

@@ -6,9 +6,11 @@ pub mod CopyCalls
 mod EmptyCalls
 mod Ends
 mod EntryCalls
+pub mod EntryReads
 pub mod ErasedSlots
 pub mod Frames
 pub mod GuardUnits
+mod HoldingSteps
 mod Marks
 mod OverwrittenValue
 mod PairCalls

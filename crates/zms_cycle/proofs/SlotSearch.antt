@@ -1,8 +1,9 @@
 -- What a slot says before its CRC is looked at: of which cycle and id its entry is, if it has one.
-use Rattle.std.proofs.Common.{◌≡◌, ℕ, ◌+◌, ◌-◌, ◌*◌, ◌/◌, ◌<◌, ◌≤◌, Bool, true, false, ◌⊎◌, cond, eqb, List, length, drop, Option, Some, None, refl, sym, ap, subst, ◌∙◌, inl, inr, arith}
+use Rattle.std.proofs.Common.{◌≡◌, ℕ, ◌+◌, ◌-◌, ◌*◌, ◌/◌, ◌<◌, ◌≤◌, Bool, true, false, ◌⊎◌, cond, eqb, List, length, take, drop, Option, Some, None, refl, sym, ap, subst, ◌∙◌, inl, inr, arith}
 use Rattle.std.specs.Prelude.{slice_index}
-use Rattle.std.proofs.lemmas.Bool.{cases_lt, false≢true, ne_eqb}
+use Rattle.std.proofs.lemmas.Bool.{cases_lt, false≢true, cond-true, cond-false, eq-eqb, ne_eqb}
 use Rattle.std.proofs.lemmas.List.FromFn.{get_or-map-range_with_len}
+use Rattle.std.proofs.lemmas.List.{length-drop, take_all}
 use Rattle.std.proofs.lemmas.List.Sums.{prefix_len_passes}
 use Rattle.item_laws.specs.Slots.{Slot, slot_at, slots, used_slots}
 use Rattle.item_laws.proofs.SlotCounts.{used_count_is, used_count_fits}
@@ -11,7 +12,7 @@ use Rattle.crc8_entry.specs.Crc.{crc}
 use Rattle.zms_cycle.specs.declared.entry.ZEntry.{ZEntry}
 use Rattle.zms_cycle.specs.declared.reading.SlotEntry.{SlotEntry}
 use Rattle.zms_cycle.specs.Entries.{entry_of, decoded, is_special}
-use Rattle.zms_cycle.specs.Sector.{slot_of, is_valid, cycle_of, valid_slots, entry_in}
+use Rattle.zms_cycle.specs.Sector.{slot_of, is_valid_under, is_valid, cycle_of, valid_slots, entry_in}
 use Rattle.zms_cycle.specs.Searches.{names}
 use Rattle.zms_cycle.proofs.Slots16.{valid-is, entry_in-is, not_valid}
 
@@ -119,3 +120,17 @@ pub listed_inside : (b : List ℕ) (k : ℕ) → 2 ≤ k → k < length (valid_s
 listed_inside b k from below =
     let fits = used_count_fits (is_valid (cycle_of b)) 2 16 b in
     omega arith
+
+-- a slot that names the cycle is valid if its CRC matches
+pub valid_checked : (cycle : ℕ) (slot : Slot) (t : Bool) → (entry_of slot.bytes).cycle ≡ cycle → (t ≡ true → crc 255 (drop 1 slot.bytes) ≡ slice_index slot.bytes 0) → (crc 255 (drop 1 slot.bytes) ≡ slice_index slot.bytes 0 → t ≡ true) → t ≡ is_valid_under cycle slot
+unfolding decoded
+valid_checked cycle slot true own checks back =
+    let read : decoded slot.bytes ≡ Some (entry_of slot.bytes) = cond-true (eqb (crc 255 (drop 1 slot.bytes)) (slice_index slot.bytes 0)) (Some (entry_of slot.bytes)) None (eq-eqb (crc 255 (drop 1 slot.bytes)) (slice_index slot.bytes 0) (checks refl)) in
+    sym (valid-is cycle slot (Some (entry_of slot.bytes)) read ∙ eq-eqb (entry_of slot.bytes).cycle cycle own)
+valid_checked cycle slot false own checks back =
+    let read : decoded slot.bytes ≡ None = cond-false (eqb (crc 255 (drop 1 slot.bytes)) (slice_index slot.bytes 0)) (Some (entry_of slot.bytes)) None (ne_eqb (crc 255 (drop 1 slot.bytes)) (slice_index slot.bytes 0) (λ e. false≢true (back e))) in
+    sym (valid-is cycle slot None read)
+
+-- all but the first, as a range
+pub take_drop_all : (xs : List ℕ) → take (length xs - 1) (drop 1 xs) ≡ drop 1 xs
+take_drop_all xs = take_all (length xs - 1) (drop 1 xs) (let left = length-drop 1 xs in omega arith)

@@ -1,5 +1,6 @@
 pub mod Areas
 pub mod Entries
+pub mod Holding
 pub mod Searches
 pub mod Sector
 pub mod States

@@ -9,6 +9,7 @@ mod copying;
 mod entry;
 #[tactic(auto, using(flash_map::proofs::Touches::then))]
 mod guarding;
+mod holding;
 #[tactic(auto, using(flash_map::proofs::Touches::then))]
 mod marking;
 mod reading;
@@ -18,6 +19,7 @@ pub use appending::{put_done, put_done_at, put_entry, put_entry_at};
 pub use copying::{copy_entry, copy_entry_at};
 pub use entry::{ZEntry, decode_zentry, encode_zentry, fill_unit, zentry_fields};
 pub use guarding::guard;
+pub use holding::{find_bytes, may_have};
 pub use marking::{close, close_at, empty_sector};
 pub use reading::{
     FIRST, Opened, SLOT, SectorState, SlotEntry, TAIL, TAIL_AT, can_close, capacity, cost,

@@ -10,6 +10,7 @@ ghost use Rattle.zms_cycle.specs.Sector.{slot_of, is_valid_under, is_valid, cycl
 ghost use Rattle.zms_cycle.specs.States.{state_of, IsOpenedOn};
 
 use crate::{ZEntry, decode_zentry, zentry_fields};
+use crc8_entry::checks;
 use flash_map::{Area, area_view, geometry, is_erased, padded, trimmed_len};
 use flash_sim::{Flash, Kind, Steps};
 use std::sync::ledger::Ledger;
@@ -135,11 +136,16 @@ pub(crate) fn cycle_of(sector: &[u8]) -> Option<u8>
     }
 }
 
+// Whether a slot has an entry of this cycle. The cycle is compared before the CRC.
 fn is_valid(sector: &[u8], slot: u32, cycle: u8) -> bool
     requires { (slot + 1) * 16 ≤ length sector.now }
     ensures { result ≡ is_valid_under cycle (slot_of sector.now slot) }
 {
-    is_of_cycle(&entry_at(sector, slot), cycle)
+    let fields = slot_of(sector, slot);
+    if fields[1] != cycle {
+        return false;
+    }
+    checks(&fields[1..], fields[0])
 }
 
 // Whether slot 1 closes a sector of this cycle.
@@ -155,13 +161,15 @@ pub(crate) fn is_closed(sector: &[u8], cycle: u8) -> bool
 }
 
 // How many of the first so many slots from slot 2 on are valid under the cycle, before the first
-// that is not.
-pub(crate) fn valid_within(sector: &[u8], cycle: u8, limit: u32) -> u32
+// that is not. The first `known` are valid and not checked again.
+pub(crate) fn valid_within(sector: &[u8], cycle: u8, known: u32, limit: u32) -> u32
     requires short { length sector.now ≤ 2 ^ 15 }
     requires inside { (limit + 2) * 16 ≤ length sector.now }
+    requires known { known ≤ length (used_slots (is_valid (Some cycle)) 2 16 sector.now) }
+    requires fewer { known ≤ limit }
     ensures { result ≡ min limit (length (used_slots (is_valid (Some cycle)) 2 16 sector.now)) }
 {
-    for valid in 0..limit {
+    for valid in known..limit {
         if !is_valid(sector, FIRST + valid, cycle) {
             return valid;
         }
@@ -176,7 +184,7 @@ pub(crate) fn valid_count(sector: &[u8], cycle: u8) -> u32
     ensures count { result ≡ length (used_slots (is_valid (Some cycle)) 2 16 sector.now) }
     ensures fits { (result + 2) * 16 ≤ length sector.now }
 {
-    valid_within(sector, cycle, sector.len() as u32 / SLOT - FIRST)
+    valid_within(sector, cycle, 0, sector.len() as u32 / SLOT - FIRST)
 }
 
 // The entry of a slot, unless it is a special one.

@@ -32,7 +32,7 @@ pub fn listed_slots(sector: &[u8]) -> u32
 }
 
 // Whether the id field of a slot is from `least` to `most`. The CRC is not checked.
-fn names(slot: &[u8], least: u32, most: u32) -> bool
+pub(crate) fn names(slot: &[u8], least: u32, most: u32) -> bool
     requires { length slot.now ≡ 16 }
     ensures { result ≡ (nat_le least (entry_of slot.now).id && nat_le (entry_of slot.now).id most) }
 {
@@ -79,7 +79,7 @@ pub fn reach_in(sector: &[u8], least: u32, most: u32) -> u32
         → names least most (slot_of sector.now k) ≡ false }
 {
     match cycle_of(sector) {
-        Some(cycle) => valid_within(sector, cycle, reach_of(sector, cycle, least, most)),
+        Some(cycle) => valid_within(sector, cycle, 0, reach_of(sector, cycle, least, most)),
         None => 0,
     }
 }

@@ -12,7 +12,7 @@ use Rattle.zms_cycle.specs.Entries.{is_special, is_done, mark_of}
 use Rattle.zms_cycle.specs.Sector.{valid_slots, entry_in, entries, has_gc_done, holds_done, data_len, cost, capacity, data_end, free, fits, is_sound, pairs, entry_cost}
 use Rattle.zms_cycle.proofs.Frames.{end_of-above}
 use Rattle.zms_cycle.proofs.Slots16.{entry_in-is}
-use Rattle.zms_format.proofs.EntryReads.{is_read}
+use Rattle.zms_cycle.proofs.EntryReads.{is_read}
 use Rattle.zms_format.proofs.Roomy.{costs_are}
 
 -- a slot with an entry holds no gc-done

@@ -21,7 +21,7 @@ use Rattle.zms_cycle.proofs.GuardUnits.{emptied_guard}
 use Rattle.zms_format.specs.Area.{may_close, is_unused, is_clean}
 use Rattle.zms_format.proofs.Roomy.{IsRoomy, roomy_of, clean_unused, unused_clean, clean_end, not_clean_cycle}
 use Rattle.zms_format.proofs.Damages.{ring_undamaged, undamaged_ring}
-use Rattle.zms_format.proofs.EntryReads.{bytes_len}
+use Rattle.zms_cycle.proofs.EntryReads.{bytes_len}
 use Rattle.zms_format.proofs.Erased.{cycle_none}
 use Rattle.flash_map.proofs.ErasedBytes.{erased_is}
 use Rattle.zms_format.proofs.Sectors.{laws, read_room, unused_slots}

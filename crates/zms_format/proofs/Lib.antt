@@ -1,5 +1,4 @@
 pub mod Damages
-pub mod EntryReads
 pub mod Erased
 mod Examples
 mod FitCosts

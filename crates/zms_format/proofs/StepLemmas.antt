@@ -36,7 +36,7 @@ use Rattle.item_store.proofs.ReadLemmas as own
 use Rattle.zms_cycle.specs.declared.reading.SlotEntry.{SlotEntry}
 use Rattle.zms_cycle.specs.Sector.{entry_in, value_of, pair_of, pair_at, can_close, has_guard, holds_too_much}
 use Rattle.zms_format.specs.Area.{placed_at as zms_placed_at, last_in}
-use Rattle.zms_format.proofs.EntryReads.{bytes_len}
+use Rattle.zms_cycle.proofs.EntryReads.{bytes_len}
 use Rattle.zms_format.proofs.FitCosts.{fits-costs}
 use Rattle.zms_format.proofs.Sectors.{read_room}
 use Rattle.zms_format.proofs.ZmsEntries.{are_zms}

@@ -6,7 +6,7 @@ use Rattle.item_laws.specs.Entries.{AreEntries}
 use Rattle.item_laws.proofs.SlotEntries.{read-slots}
 use Rattle.zms_cycle.specs.Sector.{slot_of, is_valid, cycle_of, entry_in}
 use Rattle.zms_format.specs.Area.{zms}
-use Rattle.zms_format.proofs.EntryReads.{is_read, bytes_len}
+use Rattle.zms_cycle.proofs.EntryReads.{is_read, bytes_len}
 use Rattle.zms_format.proofs.Sectors.{read_room}
 
 pub are_zms : (kind : Kind) → AreEntries (zms kind)

@@ -1,3 +1,4 @@
+mod Holding
 mod OpenLemmas
 mod Places
 mod RoomLemmas

@@ -6,7 +6,9 @@ ghost use Rattle.flash_sim.specs.Device.{Device};
 ghost use Rattle.flash_map.specs.Area.{sectors_of, sector_at};
 ghost use Rattle.item_laws.specs.Bytes.{IsIdOf, IsNextOf};
 ghost use Rattle.item_laws.specs.NextIds.{IsNextId};
+ghost use Rattle.item_store.specs.declared.lasts.TheConstants.{MOST_IDS};
 ghost use Rattle.item_store.specs.Cached.{latest_on};
+ghost use Rattle.item_store.specs.Free.{IsLeastFree};
 ghost use Rattle.item_store.specs.Latest.{IsKnown, KnowsOn};
 ghost use Rattle.item_store.specs.Listed.{IsListedOn};
 ghost use Rattle.item_store.specs.Older.{IsNextOlder, newest_before};
@@ -17,7 +19,7 @@ ghost use Rattle.zms_store.specs.Standing.{IsZmsArea, StandsOn, IsPlacedOn, form
 use crate::store::Zms;
 use flash_map::{Area, sector_view};
 use flash_sim::{Flash, Steps};
-use item_store::LastSlots;
+use item_store::{IdRange, LastSlots};
 use std::sync::ledger::Ledger;
 use zms_cycle::entry_in;
 use zms_format::Found;
@@ -78,10 +80,10 @@ impl Zms {
         self.store.may_hold(id)
     }
 
-    /// Makes a table of the last entries of ids: of 800 ids at most, the least that have bytes. It
-    /// knows each id if at most 800 ids ever had bytes in the list. It is valid as long as the area
-    /// stays as it is. This takes one walk over the list, and a search for each id that shares its
-    /// key.
+    /// Makes a table of the last entries of ids: of 1024 ids at most, the least that have bytes. It
+    /// knows each id if at most 1024 ids ever had bytes in the list. It is valid as long as the
+    /// area stays as it is. This takes one walk over the list, and a search for each id that shares
+    /// its key.
     pub fn fill_last_slots<F: Flash, L: Ledger>(
         &self,
         flash: &F,
@@ -148,8 +150,7 @@ impl Zms {
     }
 
     /// An id from `least` to `most` whose item has these bytes; any of them if several have, `None`
-    /// if none has. The range has at most 0x1_0020 ids. This takes one walk over the list at most,
-    /// from its newest entry back.
+    /// if none has. This looks at each entry once, and compares ids and bytes before CRCs.
     pub fn id_of<F: Flash, L: Ledger>(
         &self,
         flash: &F,
@@ -159,16 +160,32 @@ impl Zms {
         steps: &mut Steps<L>,
     ) -> Option<u32>
         requires stands { StandsOn (F.device flash.now) self.now }
-        requires range { most < least + 0x1_0020 }
         ensures { IsIdOf least most (items_on (F.device flash.now) self.now.store.area) bytes.now
             result }
     {
         self.store.id_of(flash, least, most, bytes, steps)
     }
 
+    /// The least id of the range that has no item, and whose id `step` above it has none; `None` if
+    /// there is none. The range has at most 512 ids. This takes one walk over the list.
+    pub fn least_free<F: Flash, L: Ledger>(
+        &self,
+        flash: &F,
+        ids: &IdRange,
+        step: u32,
+        steps: &mut Steps<L>,
+    ) -> Option<u32>
+        requires stands { StandsOn (F.device flash.now) self.now }
+        requires range { ids.now.most < ids.now.least + 512 }
+        ensures { IsLeastFree ids.now step (items_on (F.device flash.now) self.now.store.area)
+            result }
+    {
+        self.store.least_free(flash, ids, step, steps)
+    }
+
     /// The least bytes of an item with an id from `least` to `most`: of those greater than `after`,
-    /// or of all if `after` is not given; `None` if there are none. The range has at most 0x1_0020
-    /// ids. This takes one walk over the list.
+    /// or of all if `after` is not given; `None` if there are none. The range has at most
+    /// `MOST_IDS` ids. This takes one walk over the list.
     pub fn next_of<'a, F: Flash, L: Ledger>(
         &self,
         flash: &'a F,
@@ -178,7 +195,7 @@ impl Zms {
         steps: &mut Steps<L>,
     ) -> Option<&'a [u8]>
         requires stands { StandsOn (F.device flash.now) self.now }
-        requires range { most < least + 0x1_0020 }
+        requires range { most < least + MOST_IDS }
         ensures { IsNextOf least most (items_on (F.device flash.now) self.now.store.area)
             (option_map (λ other. other.now) after.entry) (option_map (λ bytes. bytes.now) result) }
     {

@@ -10,12 +10,12 @@ ghost use Rattle.item_store.specs.SectorFormat.{placed_at};
 
 use flash_map::{Area, Damaged, Geometry, geometry, sector_view};
 use flash_sim::{Flash, Kind, PowerLost, Steps};
-use item_store::{Placed, SlotSectors};
+use item_store::{IdRange, Placed, SlotSectors};
 use std::sync::ledger::Ledger;
 use zms_cycle::{
     FIRST, Opened, SLOT, SectorState, SlotEntry, TAIL, TAIL_AT, capacity, close_at, copy_entry_at,
-    cost, empty_sector, has_close, listed_entry, listed_slots, offset_of, put_done_at,
-    put_entry_at, reach_in, reach_within, state,
+    cost, empty_sector, find_bytes, has_close, listed_entry, listed_slots, may_have, offset_of,
+    put_done_at, put_entry_at, reach_in, reach_within, state,
 };
 use zms_format::{find_in, is_clean, scan};
 
@@ -287,6 +287,33 @@ impl SlotSectors for ZmsOpen {
         steps: &mut Steps<L>,
     ) -> u32 {
         reach_within(sector_view(flash, area, place, steps), slots, least, most)
+    }
+
+    fn find_bytes<F: Flash, L: Ledger>(
+        flash: &F,
+        area: &Area,
+        place: u32,
+        skipped: u32,
+        ids: &IdRange,
+        bytes: &[u8],
+        steps: &mut Steps<L>,
+    ) -> Option<Placed> {
+        let sector = sector_view(flash, area, place, steps);
+        match find_bytes(sector, skipped, ids.least, ids.most, bytes) {
+            Some(found) => Some(placed(found, place)),
+            None => None,
+        }
+    }
+
+    fn may_have<F: Flash, L: Ledger>(
+        flash: &F,
+        area: &Area,
+        place: u32,
+        skipped: u32,
+        id: u32,
+        steps: &mut Steps<L>,
+    ) -> bool {
+        may_have(sector_view(flash, area, place, steps), skipped, id)
     }
 
     fn begin<F: Flash, L: Ledger>(

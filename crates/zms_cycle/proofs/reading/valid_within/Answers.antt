@@ -1,11 +1,11 @@
 use Rattle.std.proofs.Common.{◌≡◌, ℕ, ◌+◌, true, Some, sym, subst, ◌∙◌, inl, inr, arith}
 use Rattle.std.proofs.lemmas.Bool.{cases_lt}
 use Rattle.zms_cycle.specs.Sector.{slot_of, is_valid}
-use Rattle.zms_cycle.proofs.SlotSearch.{valid_before, valid_after}
+use Rattle.zms_cycle.proofs.SlotSearch.{used_passes, valid_before, valid_after}
 use Rattle.zms_cycle.proofs.reading.valid_within.Goals as goal
 
 pub loop-valid-init : goal.loop-valid-init
-loop-valid-init c = record { passed = λ k from lt. absurd (omega arith) }
+loop-valid-init c = record { passed = λ k from lt. used_passes (is_valid (Some c.args.cycle)) 2 16 c.args.sector.now k from (omega (arith, lt, c.requires.known)) }
 
 pub returns-then-not-is_valid : goal.returns-then-not-is_valid
 returns-then-not-is_valid c =

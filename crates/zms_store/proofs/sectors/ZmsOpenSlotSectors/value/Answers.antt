@@ -4,7 +4,7 @@ use Rattle.flash_map.specs.Area.{sectors_of, sector_at}
 use Rattle.item_laws.proofs.AreaReads.{length-sectors}
 use Rattle.zms_cycle.specs.Entries.{offset_of}
 use Rattle.zms_cycle.specs.Sector.{slot_of, valid_slots, entry_in}
-use Rattle.zms_format.proofs.EntryReads.{long_inside}
+use Rattle.zms_cycle.proofs.EntryReads.{long_inside}
 use Rattle.zms_format.proofs.Sectors.{read_room}
 use Rattle.zms_store.proofs.sectors.ZmsOpenSlotSectors.value.Goals as goal
 

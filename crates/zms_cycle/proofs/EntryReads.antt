@@ -45,7 +45,7 @@ entry_cases slot = cases (entry_in slot) refl
     cases None is = inl is
     cases (Some f) is = inr (f, is, (is_read slot f is).slot_is)
 
-entry_bytes : (bytes : List ℕ) (e : ZEntry) → decoded bytes ≡ Some e → entry_of bytes ≡ e
+pub entry_bytes : (bytes : List ℕ) (e : ZEntry) → decoded bytes ≡ Some e → entry_of bytes ≡ e
 unfolding decoded
 entry_bytes bytes e is =
     elim (cases_Bool (eqb (crc 0xFF (drop 1 bytes)) (slice_index bytes 0))) [
@@ -53,7 +53,7 @@ entry_bytes bytes e is =
       | inr fails ↦ absurd (none_some (sym (cond-false (eqb (crc 0xFF (drop 1 bytes)) (slice_index bytes 0)) (Some (entry_of bytes)) None fails) ∙ is))
     ]
 
-take_take : (n m : ℕ) (xs : List ℕ) → n ≤ m → take n (take m xs) ≡ take n xs
+pub take_take : (n m : ℕ) (xs : List ℕ) → n ≤ m → take n (take m xs) ≡ take n xs
 take_take zero m xs le = refl
 take_take (suc n) zero xs le = absurd (omega arith)
 take_take (suc n) (suc m) [] le = refl

@@ -9,7 +9,7 @@ use Rattle.backend_api.specs.Map.{Map, IsStored}
 use Rattle.backend_api.specs.Ends.{FindsNoSpace}
 use Rattle.named_items.specs.StoreEnds as stored
 use Rattle.named_items.specs.PairRoom.{pair_room}
-use Rattle.named_items.specs.Candidates.{IsFreeCandidate}
+use Rattle.named_items.specs.Candidates.{IsFreeCandidate, CandidatesAre}
 use Rattle.named_items.specs.Ends.{IsFree}
 use Rattle.backend_nvs.specs.IdLayout.{nvs_numbering, nvs-numbering, nvs-counts, count_of, count-few, is_count, too_many}
 use Rattle.named_items.specs.Cost.{item_cost, pair_cost, settings_cost}
@@ -26,6 +26,18 @@ none_some : {A : Type 0} (x : A) → None ≡ Some x → ⊥
 none_some x e = cc
 
 -- ---- how many names
+
+-- any name may stand at each place that the count allows
+pub count-candidates : (limit : ℕ) (items : Items) (name : List ℕ) (count : ℕ) → count ≡ count_in (nvs_numbering limit) items → CandidatesAre (nvs_numbering limit) items name 0x8001 count
+count-candidates limit items name count is = record {
+  low = omega arith;
+  high = omega arith;
+  candidate = λ place from to. refl;
+  only = λ place inside candidate.
+      let from : 0x8001 ≤ place = inside.from in
+      let to : place < 0x8001 + count_in (nvs_numbering limit) items = inside.to in
+      (from, omega arith);
+}
 
 pub few-free : (settings : Map) (name : List ℕ) → len settings < 511 → too_many settings name ≡ false
 few-free settings name few = by (contains_key settings name)

@@ -1,15 +1,15 @@
 // Look-ups of names.
-ghost use Rattle.std.specs.Prelude.{◌≡◌, ◌+◌, ◌<◌, ◌≤◌, ℕ, List, false};
+ghost use Rattle.std.specs.Prelude.{◌≡◌, ◌+◌, ◌<◌, ◌≤◌, ℕ, List, option_map};
 ghost use Rattle.std.specs.Bool.{MatchBool};
 ghost use Rattle.flash_map.specs.Lawful.{IsLawfulFor};
 ghost use Rattle.flash_map.specs.On.{on, HoldsOn, StandsOn};
 ghost use Rattle.named_items.specs.Candidates.{IsFreeCandidate};
 ghost use Rattle.named_items.specs.Pairs.{count_in, pair_at, HasName, IsIdOfName};
 ghost use Rattle.named_items.specs.Looking.{HasIds};
-ghost use Rattle.backend_nvs.specs.IdLayout.{number_of, numbering_of};
+ghost use Rattle.backend_nvs.specs.IdLayout.{count_of, number_of, numbering_of};
 
 use flash_sim::{Flash, Steps};
-use named_items::{ItemStore, is_at, is_free};
+use named_items::{IdRange, ItemStore, is_at};
 use setting_name::Name;
 use std::sync::ledger::Ledger;
 
@@ -35,8 +35,35 @@ fn number_of(bytes: &[u8]) -> u32
     }
 }
 
-// How many names the count allows.
+// How many names the item of the count allows; 0 if there is none.
+fn count_of(found: Option<&[u8]>) -> u32
+    ensures count { result ≡ count_of (option_map (λ bytes. bytes.now) found.entry) }
+    ensures few { result ≤ LIMIT }
+{
+    match found {
+        Some(bytes) => number_of(bytes),
+        None => 0,
+    }
+}
+
+// How many names the count allows. It makes no index.
 pub(crate) fn read_count<S: ItemStore, F: Flash, L: Ledger>(
+    store: &S,
+    flash: &F,
+    steps: &mut Steps<L>,
+) -> u32
+    requires ids { HasIds TOP S.is_id }
+    requires lawful { IsLawfulFor (F.device flash.now).banks (S.mounted_on store.now) }
+    requires stands { StandsOn S.mounted_on S.stands (F.device flash.now) store.now }
+    ensures count { let area = S.mounted_on store.now in
+        result ≡ count_in (numbering_of area) (on S.contents (F.device flash.now) area) }
+    ensures few { result ≤ LIMIT }
+{
+    count_of(store.get(flash, COUNT, steps))
+}
+
+// How many names the count allows, as `read_count` gives it, found by the index.
+pub(crate) fn read_count_by<S: ItemStore, F: Flash, L: Ledger>(
     store: &S,
     flash: &F,
     index: &S::Index,
@@ -51,29 +78,7 @@ pub(crate) fn read_count<S: ItemStore, F: Flash, L: Ledger>(
         result ≡ count_in (numbering_of area) (on S.contents (F.device flash.now) area) }
     ensures few { result ≤ LIMIT }
 {
-    match store.get_by(flash, index, COUNT, steps) {
-        Some(bytes) => number_of(bytes),
-        None => 0,
-    }
-}
-
-// Whether the count may allow names: if the answer is `false`, it allows none. It makes no index.
-pub(crate) fn has_count<S: ItemStore, F: Flash, L: Ledger>(
-    store: &S,
-    flash: &F,
-    steps: &mut Steps<L>,
-) -> bool
-    requires ids { HasIds TOP S.is_id }
-    requires lawful { IsLawfulFor (F.device flash.now).banks (S.mounted_on store.now) }
-    requires stands { StandsOn S.mounted_on S.stands (F.device flash.now) store.now }
-    ensures { let area = S.mounted_on store.now in
-        result ≡ false → count_in (numbering_of area)
-        (on S.contents (F.device flash.now) area) ≡ 0 }
-{
-    match store.get(flash, COUNT, steps) {
-        Some(bytes) => number_of(bytes) > 0,
-        None => false,
-    }
+    count_of(store.get_by(flash, index, COUNT, steps))
 }
 
 // Whether this id has the name, with a value.
@@ -115,7 +120,7 @@ pub(crate) fn place_of<S: ItemStore, F: Flash, L: Ledger>(
     ensures { let area = S.mounted_on store.now in
         IsIdOfName (numbering_of area) (on S.contents (F.device flash.now) area) name.now result }
 {
-    let count = read_count(store, flash, index, steps);
+    let count = read_count_by(store, flash, index, steps);
     for place in FIRST..FIRST + count {
         if is_here(store, flash, index, name, place, steps) {
             return Some(place);
@@ -124,27 +129,26 @@ pub(crate) fn place_of<S: ItemStore, F: Flash, L: Ledger>(
     None
 }
 
-// The least place that the count allows with neither a name nor a value. Any name may stand there.
+// The least id that the count allows for a name with neither a name nor a value. Any name may
+// stand there.
 pub(crate) fn free_candidate<S: ItemStore, F: Flash, L: Ledger>(
     store: &S,
     flash: &F,
-    index: &S::Index,
+    count: u32,
     steps: &mut Steps<L>,
 ) -> Option<u32>
-    requires ids { HasIds TOP S.is_id }
     requires lawful { IsLawfulFor (F.device flash.now).banks (S.mounted_on store.now) }
     requires stands { StandsOn S.mounted_on S.stands (F.device flash.now) store.now }
-    requires describes { HoldsOn (S.describes index.now) (F.device flash.now)
-        (S.mounted_on store.now) }
+    requires counted { let area = S.mounted_on store.now in
+        count ≡ count_in (numbering_of area) (on S.contents (F.device flash.now) area) }
+    requires few { count ≤ LIMIT }
     ensures { let area = S.mounted_on store.now in
         let items = on S.contents (F.device flash.now) area in
         (name : List ℕ) → IsFreeCandidate (numbering_of area) items name result }
 {
-    let count = read_count(store, flash, index, steps);
-    for place in FIRST..FIRST + count {
-        if is_free(store, flash, index, place, place + STEP, steps) {
-            return Some(place);
-        }
-    }
-    None
+    let ids = IdRange {
+        least: FIRST,
+        most: FIRST + count - 1,
+    };
+    store.least_free(flash, &ids, STEP, steps)
 }

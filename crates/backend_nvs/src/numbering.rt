@@ -7,7 +7,7 @@ ghost use Rattle.backend_nvs.specs.declared.lookup.TheConstants.{TOP};
 use crate::lookup::{FIRST, LIMIT, STEP};
 use crate::{kept, lookup, putting};
 use flash_sim::{Flash, Steps};
-use named_items::{IdLayout, Ids, ItemStore};
+use named_items::{IdLayout, IdRange, ItemStore};
 use setting_name::Name;
 use std::sync::ledger::Ledger;
 
@@ -40,12 +40,12 @@ impl IdLayout for NvsIdLayout {
         STEP
     }
 
-    fn candidates_of(_name: &Name) -> Ids {
+    fn candidates_of(_name: &Name) -> IdRange {
         NvsIdLayout::all_candidates()
     }
 
-    fn all_candidates() -> Ids {
-        Ids {
+    fn all_candidates() -> IdRange {
+        IdRange {
             least: FIRST,
             most: FIRST + (LIMIT - 1),
         }
@@ -57,7 +57,7 @@ impl IdLayout for NvsIdLayout {
         _name: &Name,
         steps: &mut Steps<L>,
     ) -> bool {
-        lookup::has_count(store, flash, steps)
+        lookup::read_count(store, flash, steps) > 0
     }
 
     fn end_of_names<S: ItemStore, F: Flash, L: Ledger>(
@@ -66,7 +66,7 @@ impl IdLayout for NvsIdLayout {
         index: &S::Index,
         steps: &mut Steps<L>,
     ) -> u32 {
-        FIRST + lookup::read_count(store, flash, index, steps)
+        FIRST + lookup::read_count_by(store, flash, index, steps)
     }
 
     fn place_of<S: ItemStore, F: Flash, L: Ledger>(

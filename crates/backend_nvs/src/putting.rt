@@ -122,12 +122,10 @@ impl NewNames for NvsIdLayout {
         value: &[u8],
         steps: &mut Steps<L>,
     ) -> Result<(), SetFault> {
-        let mut index = S::new_index();
-        store.fill_index(flash, &mut index, steps);
-        match free_candidate(store, flash, &index, steps) {
+        let count = read_count(store, flash, steps);
+        match free_candidate(store, flash, count, steps) {
             Some(free) => put_new::<NvsIdLayout, S, F, L>(store, flash, free, name, value, steps),
             None => {
-                let count = read_count(store, flash, &index, steps);
                 if is_full(count) {
                     Err(SetFault::TooManyNames)
                 } else {

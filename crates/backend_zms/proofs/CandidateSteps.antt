@@ -6,13 +6,12 @@ use Rattle.setting_name.specs.Name.{IsName}
 use Rattle.item_laws.specs.Costs.{items_cost}
 use Rattle.item_laws.specs.Items.{Items}
 use Rattle.named_items.specs.Cost.{item_cost, settings_cost}
-use Rattle.named_items.specs.Candidates.{IsFreeCandidate, CandidatesAre}
+use Rattle.named_items.specs.Candidates.{CandidatesAre}
 use Rattle.named_items.specs.Numbering.{Numbering}
 use Rattle.named_items.specs.Pairs.{pair_at, settings_in, HasName, IsAt, IsKept, IsIdOfName, HasNoOrphans}
 use Rattle.named_items.proofs.CostLemmas.{clean-cost}
-use Rattle.named_items.proofs.CandidateLemmas.{least-candidate, free-here, nowhere-candidate}
+use Rattle.named_items.proofs.CandidateLemmas.{least-candidate, nowhere-candidate}
 use Rattle.named_items.proofs.PairLemmas.{pair-made}
-use Rattle.named_items.specs.Ends.{IsFree}
 use Rattle.named_items.specs.Looking.{StandsHere}
 use Rattle.named_items.proofs.LookupSteps.{at-lawful, here-has}
 use Rattle.named_items.proofs.OrphanSteps.{named-at}
@@ -42,10 +41,6 @@ module _ (limit : ℕ) (items : Items) where
         nowhere-candidate n items name from 16 candidates (λ place low high has.
         let made = pair-made n place name (get items place) (get items (place + 0x40000000)) has in
         some_none name (sym made.is_name ∙ none place low high))
-
-    -- the least that is free
-    pub free-at : (place : ℕ) → from ≤ place → place < from + 16 → IsFree items place (place + 0x40000000) → ((k : ℕ) → from ≤ k → k < place → ¬ IsFree items k (k + n.step)) → IsFreeCandidate n items name (Some place)
-    free-at place low high bare none = free-here n items name from 16 candidates place low high bare none
 
   -- names stand below the values
   place-low : (name : List ℕ) (place : ℕ) → IsAt n items name place → place < 0x80010000

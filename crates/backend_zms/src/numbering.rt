@@ -1,5 +1,5 @@
 // The layout of ids by the hash of the name.
-ghost use Rattle.std.specs.Prelude.{◌≡◌, ◌+◌, ◌<◌, ◌≤◌, ℕ, List, None, true, false, IfSome};
+ghost use Rattle.std.specs.Prelude.{◌≡◌, ◌+◌, ◌-◌, ◌<◌, ◌≤◌, ℕ, List, None, true, false, IfSome};
 ghost use Rattle.std.proofs.Common.{refl, lit<};
 ghost use Rattle.flash_sim.specs.Bank.{IsLawful};
 ghost use Rattle.flash_sim.specs.Device.{Device};
@@ -10,12 +10,13 @@ ghost use Rattle.named_items.specs.Candidates.{IsFreeCandidate};
 ghost use Rattle.named_items.specs.Pairs.{IsAt, IsIdOfName};
 ghost use Rattle.named_items.specs.Looking.{HasIds};
 ghost use Rattle.backend_zms.specs.declared.hash.TheConstants.{GROUP_BITS};
+ghost use Rattle.backend_zms.specs.Hash.{first_of};
 ghost use Rattle.backend_zms.specs.IdLayout.{numbering_of, top, too_many, zms-numbering, zms-within, no-count, stored-one};
 
 use crate::hash::{FIRST, GROUP_BITS, GROUP_SIZE, STEP, first_of};
 use backend_api::SetFault;
 use flash_sim::{Flash, Steps};
-use named_items::{IdLayout, Ids, ItemStore, NewNames, is_at, is_free, name_in, put_new};
+use named_items::{IdLayout, IdRange, ItemStore, NewNames, is_at, name_in, put_new};
 use setting_name::Name;
 use std::sync::ledger::Ledger;
 
@@ -48,16 +49,12 @@ impl IdLayout for ZmsIdLayout {
         STEP
     }
 
-    fn candidates_of(name: &Name) -> Ids {
-        let first = first_of(name.bytes());
-        Ids {
-            least: first,
-            most: first + (GROUP_SIZE - 1),
-        }
+    fn candidates_of(name: &Name) -> IdRange {
+        group_of(name)
     }
 
-    fn all_candidates() -> Ids {
-        Ids {
+    fn all_candidates() -> IdRange {
+        IdRange {
             least: FIRST,
             most: FIRST + GROUP_BITS + (GROUP_SIZE - 1),
         }
@@ -119,12 +116,22 @@ impl NewNames for ZmsIdLayout {
         value: &[u8],
         steps: &mut Steps<L>,
     ) -> Result<(), SetFault> {
-        let mut index = S::new_index();
-        store.fill_index(flash, &mut index, steps);
-        match free_candidate(store, flash, &index, name, steps) {
+        match free_candidate(store, flash, name, steps) {
             Some(free) => put_new::<ZmsIdLayout, S, F, L>(store, flash, free, name, value, steps),
             None => Err(SetFault::TooManyNames),
         }
+    }
+}
+
+// The ids of the name's group.
+fn group_of(name: &Name) -> IdRange
+    ensures least { result.least ≡ first_of name.now }
+    ensures most { result.most ≡ first_of name.now + (GROUP_SIZE - 1) }
+{
+    let first = first_of(name.bytes());
+    IdRange {
+        least: first,
+        most: first + (GROUP_SIZE - 1),
     }
 }
 
@@ -207,25 +214,14 @@ fn stands_at<S: ItemStore, F: Flash, L: Ledger>(
 fn free_candidate<S: ItemStore, F: Flash, L: Ledger>(
     store: &S,
     flash: &F,
-    index: &S::Index,
     name: &Name,
     steps: &mut Steps<L>,
 ) -> Option<u32>
-    requires ids { HasIds top S.is_id }
     requires lawful { IsLawfulFor (F.device flash.now).banks (S.mounted_on store.now) }
     requires stands { StandsOn S.mounted_on S.stands (F.device flash.now) store.now }
-    requires describes { HoldsOn (S.describes index.now) (F.device flash.now)
-        (S.mounted_on store.now) }
-    ensures place { let area = S.mounted_on store.now in
+    ensures { let area = S.mounted_on store.now in
         IsFreeCandidate (numbering_of area) (on S.contents (F.device flash.now) area) name.now
         result }
-    ensures below { IfSome result (λ place. place < FIRST + GROUP_BITS + GROUP_SIZE) }
 {
-    let start = first_of(name.bytes());
-    for place in start..start + GROUP_SIZE {
-        if is_free(store, flash, index, place, place + STEP, steps) {
-            return Some(place);
-        }
-    }
-    None
+    store.least_free(flash, &group_of(name), STEP, steps)
 }

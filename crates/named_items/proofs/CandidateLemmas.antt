@@ -10,6 +10,8 @@ use Rattle.item_laws.specs.Items.{Items}
 use Rattle.setting_name.specs.Name.{is_name}
 use Rattle.backend_api.specs.Map.{Map}
 use Rattle.named_items.specs.Candidates.{IsCandidate, IsFreeCandidate, CandidatesAre}
+use Rattle.item_store.specs.Free.{IsLeastFree}
+use Rattle.item_store.specs.declared.entry.IdRange.{IdRange}
 use Rattle.named_items.specs.Numbering.{Numbering, IsNumbering}
 use Rattle.named_items.specs.Pairs.{count_in, pair_at, settings_in, HasName, IsInside, IsAt, IsIdOfName, HasNoOrphans}
 use Rattle.named_items.proofs.RangePairs.{Pair, pairs_on, map_on, range-append}
@@ -121,11 +123,23 @@ module _ (n : Numbering) (items : Items) where
 
     -- ---- bare places
 
-    pub no-free : ((place : ℕ) → from ≤ place → place < from + count → ¬ IsFree items place (place + n.step)) → IsFreeCandidate n items name None
-    no-free none place here = let its = candidates.only place here.inside here.candidate in none place its.0 its.1
-
-    pub free-here : (place : ℕ) → from ≤ place → place < from + count → IsFree items place (place + n.step) → ((other : ℕ) → from ≤ other → other < place → ¬ IsFree items other (other + n.step)) → IsFreeCandidate n items name (Some place)
-    free-here place a b bare none = (candidate-here place a b, bare, λ other here less. let its = candidates.only other here.inside here.candidate in none other its.0 less)
+    -- the least free id of the range that they are is the least free place
+    pub least-free : (ids : IdRange) → ids.least ≡ from → ids.most + 1 ≡ from + count → (o : Option ℕ) → IsLeastFree ids n.step items o → IsFreeCandidate n items name o
+    least-free ids least most None none = λ place here bare.
+        let its = candidates.only place here.inside here.candidate in
+        let low : from ≤ place = its.0 in
+        let high : place < from + count = its.1 in
+        none place (omega arith) (omega arith) (record { lower = bare.0; upper = bare.1 })
+    least-free ids least most (Some free) is =
+        let low : ids.least ≤ free = is.0 in
+        let high : free ≤ ids.most = is.1 in (
+          candidate-here free (omega arith) (omega arith),
+          (is.2.lower, is.2.upper),
+          λ place here less bare.
+              let its = candidates.only place here.inside here.candidate in
+              let from_low : from ≤ place = its.0 in
+              is.3 place (omega arith) less (record { lower = bare.0; upper = bare.1 }),
+        )
 
     -- ---- how many of them have a setting
 

@@ -6,7 +6,7 @@ use Rattle.std.specs.Option.{is_some, option_map}
 use Rattle.std.proofs.lemmas.Bool.{cases_eq, cases_lt, false≢true}
 use Rattle.item_laws.specs.Items.{Items}
 use Rattle.setting_name.specs.Name.{IsName}
-use Rattle.named_items.specs.declared.candidates.Ids.{Ids}
+use Rattle.item_store.specs.declared.entry.IdRange.{IdRange}
 use Rattle.named_items.specs.CandidateIds.{AreOfNames, HasCandidates, HasOnlyCandidates, HasAllCandidates, IsCandidateId}
 use Rattle.named_items.specs.Looking.{is_value, IsForName, IsHere}
 use Rattle.named_items.specs.Numbering.{Numbering, IsNumbering}
@@ -36,7 +36,7 @@ is-gone None item e none = sym e
 is-gone (Some bytes) item e none = absurd (false≢true (sym none))
 
 -- each place of a name is an id for names
-pub for-name : (n : Numbering) (top : ℕ) (ids : Ids) → AreOfNames n top ids → (place : ℕ) → IsCandidateId ids place → IsForName n place
+pub for-name : (n : Numbering) (top : ℕ) (ids : IdRange) → AreOfNames n top ids → (place : ℕ) → IsCandidateId ids place → IsForName n place
 for-name n top ids of_names place one =
     let low : n.first ≤ ids.least = of_names.from in
     let high : ids.most < n.first + n.step = of_names.to in
@@ -47,7 +47,7 @@ for-name n top ids of_names place one =
 module _ (n : Numbering) (items : Items) where
   -- ---- a setting of a name, in effect or not
 
-  module _ (name : List ℕ) (ids : Ids) (top : ℕ) (of_names : AreOfNames n top ids) (id : ℕ) where
+  module _ (name : List ℕ) (ids : IdRange) (top : ℕ) (of_names : AreOfNames n top ids) (id : ℕ) where
     pub held-here : IsCandidateId ids id → HasOnlyCandidates n name ids → id < n.first + count_in n items → IsName name → IsHere n.longest (get items id) (get items (id + n.step)) name → IsHeld n items name id
     held-here one only less lawful here =
         let low : n.first ≤ ids.least = of_names.from in
@@ -60,7 +60,7 @@ module _ (n : Numbering) (items : Items) where
   pub held-parts : (name : List ℕ) (id : ℕ) → IsHeld n items name id → IsHere n.longest (get items id) (get items (id + n.step)) name
   held-parts name id held = has-here n id name (get items id) (get items (id + n.step)) held.here
 
-  pub held-id : (name : List ℕ) (ids : Ids) (id : ℕ) → HasCandidates n name ids → IsHeld n items name id → IsCandidateId ids id
+  pub held-id : (name : List ℕ) (ids : IdRange) (id : ℕ) → HasCandidates n name ids → IsHeld n items name id → IsCandidateId ids id
   held-id name ids id candidates held =
       let made : Makes n id name (get items id) (get items (id + n.step)) = pair-made n id name (get items id) (get items (id + n.step)) held.here in
       candidates items id held.inside (pair-candidate n id name made.value made.passes)
@@ -109,7 +109,7 @@ module _ (n : Numbering) (items : Items) where
 
     -- ---- a value
 
-    module _ (top : ℕ) (ids : Ids) (of_names : AreOfNames n top ids) (all : HasAllCandidates n ids) (place : ℕ) (one : IsCandidateId ids place) where
+    module _ (top : ℕ) (ids : IdRange) (of_names : AreOfNames n top ids) (all : HasAllCandidates n ids) (place : ℕ) (one : IsCandidateId ids place) where
       -- the name's item is still there, so it is kept
       pub value-kept : IsCleanBelow n items (place + n.step) → ¬ (get items place ≡ None) → IsKept n items (place + n.step)
       value-kept clean some =
@@ -155,7 +155,7 @@ module _ (n : Numbering) (items : Items) where
     ]
 
     -- it is no id of a name
-    pub saw-past : (ids : Ids) → HasAllCandidates n ids → ¬ IsCandidateId ids id → SawBelow n items words (id + 1)
+    pub saw-past : (ids : IdRange) → HasAllCandidates n ids → ¬ IsCandidateId ids id → SawBelow n items words (id + 1)
     saw-past ids all apart place name inside less is lawful = elim (cases_eq place id) [
       | inl e ↦ absurd (apart (subst (IsCandidateId ids) e (all items place inside)))
       | inr other ↦ saw place name inside (omega arith) is lawful

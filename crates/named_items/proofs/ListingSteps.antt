@@ -14,7 +14,7 @@ use Rattle.named_items.specs.Numbering.{Numbering, IsNumbering}
 use Rattle.named_items.specs.Pairs.{count_in, pair_at, settings_in, IsAt, HasNoOrphans}
 use Rattle.named_items.specs.StoreEnds.{IsNextId}
 use Rattle.named_items.specs.Walking.{IsNameIn}
-use Rattle.named_items.specs.declared.candidates.Ids.{Ids}
+use Rattle.item_store.specs.declared.entry.IdRange.{IdRange}
 use Rattle.named_items.proofs.LookupSteps.{at-known, at-lawful, named-as}
 use Rattle.named_items.proofs.NameLemmas.{get-at, get-nowhere, at-value}
 use Rattle.named_items.proofs.OrphanLemmas.{seek, kept-place}
@@ -37,7 +37,7 @@ module _ (n : Numbering) (items : Items) (after : ℕ) where
       ]
 
   -- the next item is above the ids of names
-  pub past-names : (ids : Ids) → HasAllCandidates n ids → (next : ℕ) → IsNextId items (Some after) (Some next) → ids.most < next → IsPastAll n items after
+  pub past-names : (ids : IdRange) → HasAllCandidates n ids → (next : ℕ) → IsNextId items (Some after) (Some next) → ids.most < next → IsPastAll n items after
   past-names ids candidates next is high name place at =
       let to : place ≤ ids.most = (candidates items place at.inside).to in
       elim (cases_lt after place) [
@@ -46,7 +46,7 @@ module _ (n : Numbering) (items : Items) (after : ℕ) where
       ]
 
 -- the next item is at an id of names
-module _ (n : Numbering) (laws : IsNumbering n) (items : Items) (clean : HasNoOrphans n items) (top : ℕ) (ids : Ids) (own : AreOfNames n top ids)
+module _ (n : Numbering) (laws : IsNumbering n) (items : Items) (clean : HasNoOrphans n items) (top : ℕ) (ids : IdRange) (own : AreOfNames n top ids)
     (after next : ℕ) (from : n.first ≤ after + 1) (is : IsNextId items (Some after) (Some next)) (to : next ≤ ids.most) where
   for-name : IsForName n next
   for-name =
@@ -117,7 +117,7 @@ pub record HasListed (n : Numbering) (items : Items) (found : List ℕ → Optio
 
 module _ (n : Numbering) (items : Items) where
   -- at first it is empty
-  pub listed-none : (ids : Ids) → HasAllCandidates n ids → 0 < ids.least → (found : List ℕ → Option (List ℕ)) → ((name : List ℕ) → found name ≡ None) → HasListed n items found (ids.least - 1)
+  pub listed-none : (ids : IdRange) → HasAllCandidates n ids → 0 < ids.least → (found : List ℕ → Option (List ℕ)) → ((name : List ℕ) → found name ≡ None) → HasListed n items found (ids.least - 1)
   listed-none ids candidates some found none = record {
     here = λ name place at low. let from : ids.least ≤ place = (candidates items place at.inside).from in absurd (omega arith);
     only = λ name all. none name;

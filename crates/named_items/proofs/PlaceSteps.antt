@@ -15,7 +15,7 @@ use Rattle.named_items.proofs.NameLemmas.{get-at, at-value, get-nowhere}
 use Rattle.named_items.proofs.OrphanLemmas.{seek}
 use Rattle.named_items.specs.CandidateIds.{AreOfNames, IsCandidateId, HasCandidates, HasAllCandidates}
 use Rattle.named_items.specs.Looking.{IsForName}
-use Rattle.named_items.specs.declared.candidates.Ids.{Ids}
+use Rattle.item_store.specs.declared.entry.IdRange.{IdRange}
 use Rattle.named_items.proofs.LookupSteps.{at-lawful, has-here, named-as}
 use Rattle.named_items.proofs.OrphanSteps.{named-at}
 
@@ -30,7 +30,7 @@ past-behind (Some text) name = refl
 -- ---- also where items are orphans
 
 -- each of these ids is for names
-among-own : (n : Numbering) (top : ℕ) (ids : Ids) → AreOfNames n top ids → (id : ℕ) → ids.least ≤ id → id < ids.most + 1 → IsForName n id
+among-own : (n : Numbering) (top : ℕ) (ids : IdRange) → AreOfNames n top ids → (id : ℕ) → ids.least ≤ id → id < ids.most + 1 → IsForName n id
 among-own n top ids own id low high =
     let first : n.first ≤ ids.least = own.from in
     let last : ids.most < n.first + n.step = own.to in
@@ -60,7 +60,7 @@ module _ (n : Numbering) (items : Items) where
 
 -- ---- where none is
 
-module _ (n : Numbering) (laws : IsNumbering n) (items : Items) (clean : HasNoOrphans n items) (top : ℕ) (ids : Ids) (own : AreOfNames n top ids) where
+module _ (n : Numbering) (laws : IsNumbering n) (items : Items) (clean : HasNoOrphans n items) (top : ℕ) (ids : IdRange) (own : AreOfNames n top ids) where
   -- it is neither a count nor a value
   name-is : (id : ℕ) (bytes : List ℕ) → HasBytes ids.least ids.most items id bytes → IsAt n items bytes id
   name-is id bytes has =

@@ -4,37 +4,38 @@ use Rattle.item_laws.specs.Items.{Items}
 use Rattle.named_items.specs.Numbering.{Numbering}
 use Rattle.named_items.specs.Candidates.{IsCandidate}
 use Rattle.named_items.specs.Pairs.{IsInside}
-use Rattle.named_items.specs.declared.candidates.Ids.{Ids}
+use Rattle.item_store.specs.declared.lasts.TheConstants.{MOST_IDS}
+use Rattle.item_store.specs.declared.entry.IdRange.{IdRange}
 
 -- These ids are for names, not for a count or a value, and all are below `top`. A store can be
 -- asked for bytes in a range of so many.
-pub record AreOfNames (n : Numbering) (top : ℕ) (ids : Ids) : Type 0 where
+pub record AreOfNames (n : Numbering) (top : ℕ) (ids : IdRange) : Type 0 where
   pub from : n.first ≤ ids.least
   pub to : ids.most < n.first + n.step
   pub least : ids.least < top
   pub most : ids.most < top
-  pub few : ids.most < ids.least + 0x1_0020
+  pub few : ids.most < ids.least + MOST_IDS
 
 -- the place is one of these ids
-pub record IsCandidateId (ids : Ids) (place : ℕ) : Type 0 where
+pub record IsCandidateId (ids : IdRange) (place : ℕ) : Type 0 where
   pub from : ids.least ≤ place
   pub to : place ≤ ids.most
 
 -- each place at which the name may stand, up to the count, is one of these
-abbrev pub HasCandidates : Numbering → List ℕ → Ids → Type 0
+abbrev pub HasCandidates : Numbering → List ℕ → IdRange → Type 0
 HasCandidates n name ids =
     (items : Items) (place : ℕ) → IsInside n items place → n.is_candidate place name ≡ true
     → IsCandidateId ids place
 
 -- each place of a name up to the count is one of these
-abbrev pub HasAllCandidates : Numbering → Ids → Type 0
+abbrev pub HasAllCandidates : Numbering → IdRange → Type 0
 HasAllCandidates n ids = (items : Items) (place : ℕ) → IsInside n items place → IsCandidateId ids place
 
 -- at each of these ids the name may stand, by the count of some items
-abbrev pub HasOnlyCandidates : Numbering → List ℕ → Ids → Type 0
+abbrev pub HasOnlyCandidates : Numbering → List ℕ → IdRange → Type 0
 HasOnlyCandidates n name ids = (place : ℕ) → IsCandidateId ids place
     → (items : Items) × IsCandidate n items name place
 
 -- each of these ids is a place of names, by the count of some items
-abbrev pub HasOnlyPlaces : Numbering → Ids → Type 0
+abbrev pub HasOnlyPlaces : Numbering → IdRange → Type 0
 HasOnlyPlaces n ids = (place : ℕ) → IsCandidateId ids place → (items : Items) × IsInside n items place

@@ -67,8 +67,8 @@ pub record SpendsOnOne (most : ℕ) (old new : Device) (before after : Items) (l
 
 -- The removal passed one id: the settings and each item that is kept stay, the id has no orphan any
 -- more, and at most `most` units and erases were spent.
-pub record PassesOne (n : Numbering) (most : ℕ) (old new : Device) (before after : Items) (id : ℕ) (lost : Bool)
-    : Type 0 where
+pub record PassesOne (n : Numbering) (most : ℕ) (old new : Device) (before after : Items) (id : ℕ)
+    (lost : Bool) : Type 0 where
   pub keeps : KeepsSettings n before after
   pub ends : LooksAt n old new before after id lost
   pub units : SpendsOnOne most old new before after lost

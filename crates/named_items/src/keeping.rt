@@ -8,6 +8,7 @@ ghost use Rattle.named_items.specs.Looking.{HasIds, IsForName};
 ghost use Rattle.named_items.specs.Pairs.{IsHeld, IsKept};
 ghost use Rattle.named_items.specs.Seen.{HasCome, SawBelow};
 
+use crate::candidates::contains;
 use crate::lookup::is_value;
 use crate::numbering::IdLayout;
 use crate::seen::SeenNames;
@@ -42,7 +43,7 @@ fn is_held<N: IdLayout, S: ItemStore, F: Flash, L: Ledger>(
         let items = on S.contents (F.device flash.now) area in
         result ≡ false → IsHeld (N.numbering area) items name.now id → ⊥ }
 {
-    if !N::candidates_of(name).contains(id) {
+    if !contains(&N::candidates_of(name), id) {
         return false;
     }
     if N::end_of_names(store, flash, index, steps) <= id {
@@ -120,10 +121,10 @@ pub(crate) fn is_kept_next<N: IdLayout, S: ItemStore, F: Flash, L: Ledger>(
 {
     let ids = N::all_candidates();
     let step = N::step();
-    if ids.contains(id) {
+    if contains(&ids, id) {
         return is_name_kept::<N, S, F, L>(store, flash, index, seen, id, steps);
     }
-    if step <= id && ids.contains(id - step) {
+    if step <= id && contains(&ids, id - step) {
         return store.get_by(flash, index, id - step, steps).is_some();
     }
     N::is_kept(store, flash, index, id, steps)

@@ -18,9 +18,9 @@ mod walking;
 mod writing;
 mod zms;
 
-pub use candidates::Ids;
+pub use item_store::IdRange;
 pub use listing::all_settings;
-pub use lookup::{id_of_name, is_at, is_free, is_named, is_value, standing_value, value_of};
+pub use lookup::{id_of_name, is_at, is_named, is_value, standing_value, value_of};
 pub use mounting::mount_store;
 pub use numbering::IdLayout;
 pub use orphans::remove_orphans;

@@ -1,8 +1,9 @@
 // All settings of a store.
-ghost use Rattle.std.specs.Prelude.{◌≡◌, ◌+◌, ◌≤◌, map, option_map, IfOk};
+ghost use Rattle.std.specs.Prelude.{◌≡◌, ◌+◌, ◌≤◌, option_map, IfOk};
 ghost use Rattle.std.specs.FinMap as finite;
 ghost use Rattle.flash_map.specs.Lawful.{IsLawfulFor};
 ghost use Rattle.flash_map.specs.On.{on, HoldsOn, StandsOn};
+ghost use Rattle.backend_api.specs.Listing.{pairs_in};
 ghost use Rattle.named_items.specs.Listing.{IsNextSetting};
 ghost use Rattle.named_items.specs.Looking.{HasIds};
 ghost use Rattle.named_items.specs.Pairs.{settings_in, HasNoOrphans};
@@ -65,7 +66,7 @@ pub fn all_settings<'a, N: IdLayout, S: ItemStore, F: Flash, L: Ledger>(
         HasNoOrphans (N.numbering area) (on S.contents (F.device flash.now) area) }
     ensures { let area = S.mounted_on store.now in
         IfOk result
-        (λ found. map (λ pair. (pair.0, pair.1.now)) found.entries
+        (λ found. pairs_in found
         ≡ finite.entries (settings_in (N.numbering area)
         (on S.contents (F.device flash.now) area))) }
 {

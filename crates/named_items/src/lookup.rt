@@ -1,13 +1,11 @@
 // Look-ups: two items as a name and its value.
 ghost use Rattle.std.specs.Prelude.{◌≡◌, true, false, Some, option_map};
-ghost use Rattle.std.specs.Bool.{MatchBool};
 ghost use Rattle.std.specs.FinMap as finite;
 ghost use Rattle.setting_name.specs.Name.{IsName};
 ghost use Rattle.flash_map.specs.Area.{value_limit};
 ghost use Rattle.flash_map.specs.Lawful.{IsLawfulFor};
 ghost use Rattle.flash_map.specs.On.{on, HoldsOn, StandsOn};
 ghost use Rattle.named_items.specs.Pairs.{settings_in, HasNoOrphans, IsIdOfName};
-ghost use Rattle.named_items.specs.Ends.{IsFree};
 ghost use Rattle.named_items.specs.Looking.{is_value, HasIds, StandsHere};
 
 use crate::numbering::IdLayout;
@@ -74,32 +72,8 @@ pub fn is_at<S: ItemStore, F: Flash, L: Ledger>(
     is_value(store.get_by(flash, index, second, steps), longest)
 }
 
-/// Whether neither of the two ids has an item.
-pub fn is_free<S: ItemStore, F: Flash, L: Ledger>(
-    store: &S,
-    flash: &F,
-    index: &S::Index,
-    first: u32,
-    second: u32,
-    steps: &mut Steps<L>,
-) -> bool
-    requires lawful { IsLawfulFor (F.device flash.now).banks (S.mounted_on store.now) }
-    requires stands { StandsOn S.mounted_on S.stands (F.device flash.now) store.now }
-    requires describes { HoldsOn (S.describes index.now) (F.device flash.now)
-        (S.mounted_on store.now) }
-    requires first { S.is_id first }
-    requires second { S.is_id second }
-    ensures { let items = on S.contents (F.device flash.now) (S.mounted_on store.now) in
-        MatchBool result (IsFree items first second) (¬ IsFree items first second) }
-{
-    if store.get_by(flash, index, first, steps).is_some() {
-        return false;
-    }
-    store.get_by(flash, index, second, steps).is_none()
-}
-
 /// The id at which the setting of a name stands; `None` if the name has no value. No item may be an
-/// orphan. It walks over the store's entries at most once, and makes no index.
+/// orphan. It looks at each of the store's entries once, and makes no index.
 pub fn id_of_name<N: IdLayout, S: ItemStore, F: Flash, L: Ledger>(
     store: &S,
     flash: &F,

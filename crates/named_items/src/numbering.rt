@@ -13,9 +13,9 @@ ghost use Rattle.named_items.specs.CandidateIds.{AreOfNames, HasCandidates, HasO
 ghost use Rattle.named_items.specs.Looking.{HasIds};
 ghost use Rattle.named_items.specs.Putting.{room_in};
 
-use crate::candidates::Ids;
 use crate::store::ItemStore;
 use flash_sim::{Flash, Steps};
+use item_store::IdRange;
 use setting_name::Name;
 use std::sync::ledger::Ledger;
 
@@ -38,13 +38,13 @@ pub trait IdLayout {
         ensures { (area : area_type) → (numbering area).step ≡ result };
 
     /// The ids at which a name may stand.
-    fn candidates_of(name: &Name) -> Ids
+    fn candidates_of(name: &Name) -> IdRange
         ensures ids { (area : area_type) → AreOfNames (numbering area) top result }
         ensures candidates { (area : area_type) → HasCandidates (numbering area) name.now result }
         ensures only { (area : area_type) → HasOnlyCandidates (numbering area) name.now result };
 
     /// The ids at which any name may stand.
-    fn all_candidates() -> Ids
+    fn all_candidates() -> IdRange
         ensures ids { (area : area_type) → AreOfNames (numbering area) top result }
         ensures candidates { (area : area_type) → HasAllCandidates (numbering area) result }
         ensures only { (area : area_type) → HasOnlyPlaces (numbering area) result };

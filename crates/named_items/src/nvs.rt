@@ -8,7 +8,7 @@ ghost use Rattle.named_items.specs.NvsStore.{nvs_damage, nvs_items, nvs_rests, n
 use crate::store::ItemStore;
 use flash_map::{Area, MountFault, WriteFault, geometry};
 use flash_sim::{Flash, PowerLost, Steps};
-use item_store::LastSlots;
+use item_store::{IdRange, LastSlots};
 use nvs_gc::Nvs;
 use nvs_store::cost;
 use std::alloc::Global;
@@ -133,6 +133,16 @@ impl ItemStore for Nvs {
         steps: &mut Steps<L>,
     ) -> Option<&'a [u8]> {
         Nvs::next_of(self, flash, least as u16, most as u16, after, steps)
+    }
+
+    fn least_free<F: Flash, L: Ledger>(
+        &self,
+        flash: &F,
+        ids: &IdRange,
+        step: u32,
+        steps: &mut Steps<L>,
+    ) -> Option<u32> {
+        Nvs::least_free(self, flash, ids, step, steps)
     }
 
     fn write<F: Flash, L: Ledger>(

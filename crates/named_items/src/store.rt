@@ -14,14 +14,17 @@ ghost use Rattle.flash_map.specs.Touches.{Touches};
 ghost use Rattle.item_laws.specs.Bytes.{IsIdOf, IsNextOf};
 ghost use Rattle.item_laws.specs.Costs.{items_cost};
 ghost use Rattle.item_laws.specs.Items.{Items};
+ghost use Rattle.item_store.specs.declared.lasts.TheConstants.{MOST_IDS};
 ghost use Rattle.backend_api.specs.Ends.{MountEnds};
 ghost use Rattle.backend_api.specs.Room.{removal_units};
 ghost use Rattle.backend_api.specs.Written.{StaysWritten};
 ghost use Rattle.flash_map.specs.On.{on, HoldsOn, StandsOn};
+ghost use Rattle.item_store.specs.Free.{IsLeastFree};
 ghost use Rattle.named_items.specs.StoreEnds.{most_items, item_units, IsNextId, WriteEnds, DeleteEnds};
 
 use flash_map::{Area, MountFault, WriteFault};
 use flash_sim::{Flash, PowerLost, Steps};
+use item_store::IdRange;
 use std::alloc::Global;
 use std::sync::ledger::Ledger;
 
@@ -148,9 +151,8 @@ pub trait ItemStore: Drop {
         ensures { option_map (λ bytes. bytes.now) result
             ≡ finite.get (on contents (F.device flash.now) (mounted_on self.now)) id };
 
-    /// The id of an item that has these bytes, from `least` to `most`; `None` if there is none.
-    /// The range has at most 0x1_0020 ids. It walks over the store's entries at most once, and
-    /// makes no index.
+    /// The id of an item that has these bytes, from `least` to `most`; `None` if there is none. It
+    /// looks at each of the store's entries once, and makes no index.
     fn id_of<F: Flash, L: Ledger>(
         &self,
         flash: &F,
@@ -163,13 +165,12 @@ pub trait ItemStore: Drop {
         requires stands { StandsOn mounted_on stands (F.device flash.now) self.now }
         requires least { is_id least }
         requires most { is_id most }
-        requires range { most < least + 0x1_0020 }
         ensures { IsIdOf least most (on contents (F.device flash.now) (mounted_on self.now))
             bytes.now result };
 
     /// The least bytes of an item that are greater than `after`, or the least of all if `after` is
     /// `None`; `None` if there are none. Only the ids from `least` to `most` count, at most
-    /// 0x1_0020 of them. It walks over the store's entries once, and makes no index.
+    /// `MOST_IDS` of them. It walks over the store's entries once, and makes no index.
     fn next_of<'a, F: Flash, L: Ledger>(
         &self,
         flash: &'a F,
@@ -182,10 +183,26 @@ pub trait ItemStore: Drop {
         requires stands { StandsOn mounted_on stands (F.device flash.now) self.now }
         requires least { is_id least }
         requires most { is_id most }
-        requires range { most < least + 0x1_0020 }
+        requires range { most < least + MOST_IDS }
         ensures { IsNextOf least most (on contents (F.device flash.now) (mounted_on self.now))
             (option_map (λ other. other.now) after.entry)
             (option_map (λ bytes. bytes.now) result) };
+
+    /// The least id of a range that has no item, and neither has the id `step` above it; `None` if
+    /// there is none. The range has at most 512 ids. It walks over the store's entries once, and
+    /// makes no index.
+    fn least_free<F: Flash, L: Ledger>(
+        &self,
+        flash: &F,
+        ids: &IdRange,
+        step: u32,
+        steps: &mut Steps<L>,
+    ) -> Option<u32>
+        requires lawful { IsLawfulFor (F.device flash.now).banks (mounted_on self.now) }
+        requires stands { StandsOn mounted_on stands (F.device flash.now) self.now }
+        requires range { ids.now.most < ids.now.least + 512 }
+        ensures { IsLeastFree ids.now step (on contents (F.device flash.now) (mounted_on self.now))
+            result };
 
     /// Sets an item. If it has these bytes already, nothing is programmed. It spends at most
     /// `item_units` units and erases.

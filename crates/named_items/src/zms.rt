@@ -8,7 +8,7 @@ ghost use Rattle.named_items.specs.ZmsStore.{zms_damage, zms_items, zms_rests, z
 use crate::store::ItemStore;
 use flash_map::{Area, MountFault, WriteFault};
 use flash_sim::{Flash, PowerLost, Steps};
-use item_store::LastSlots;
+use item_store::{IdRange, LastSlots};
 use std::alloc::Global;
 use std::sync::ledger::Ledger;
 use zms_cycle::cost;
@@ -120,6 +120,16 @@ impl ItemStore for Zms {
         steps: &mut Steps<L>,
     ) -> Option<&'a [u8]> {
         Zms::next_of(self, flash, least, most, after, steps)
+    }
+
+    fn least_free<F: Flash, L: Ledger>(
+        &self,
+        flash: &F,
+        ids: &IdRange,
+        step: u32,
+        steps: &mut Steps<L>,
+    ) -> Option<u32> {
+        Zms::least_free(self, flash, ids, step, steps)
     }
 
     fn write<F: Flash, L: Ledger>(

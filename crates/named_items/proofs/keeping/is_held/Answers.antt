@@ -6,7 +6,7 @@ use Rattle.flash_map.specs.declared.area.Area.{Area}
 use Rattle.flash_map.specs.Area.{value_limit}
 use Rattle.flash_map.specs.On.{on}
 use Rattle.item_laws.specs.Items.{Items}
-use Rattle.named_items.specs.declared.candidates.Ids.{Ids}
+use Rattle.item_store.specs.declared.entry.IdRange.{IdRange}
 use Rattle.named_items.specs.CandidateIds.{IsCandidateId}
 use Rattle.named_items.specs.Looking.{is_value}
 use Rattle.named_items.specs.Numbering.{Numbering}
@@ -19,7 +19,7 @@ returns g c =
     let area : Area = g.S.ItemStore.mounted_on c.args.store.now in
     let n : Numbering = g.N.IdLayout.numbering area in
     let items : Items = on g.S.ItemStore.contents (g.F.Flash.device c.args.flash.now) area in
-    let ids : Ids = c.candidates_of.result in
+    let ids : IdRange = c.candidates_of.result in
     let one : IsCandidateId ids c.args.id = c.if-not-contains.ensures in
     let less : c.args.id < n.first + count_in n items = subst (λ (k : ℕ). c.args.id < k) c.end_of_names.ensures c.if-end_of_names-id.false in
     let same : c.is_value.result ≡ is_value n.longest (get items (c.args.id + n.step)) =
@@ -35,7 +35,7 @@ pub returns-then-not-contains : goal.returns-then-not-contains
 returns-then-not-contains g c =
     let area : Area = g.S.ItemStore.mounted_on c.args.store.now in
     let items : Items = on g.S.ItemStore.contents (g.F.Flash.device c.args.flash.now) area in
-    let ids : Ids = c.candidates_of.result in
+    let ids : IdRange = c.candidates_of.result in
     record {
       yes_it = λ is. absurd (false≢true is);
       not_it = λ is held. c.if-not-contains.ensures (held-id (g.N.IdLayout.numbering area) items c.args.name.now ids c.args.id (c.candidates_of.ensures.candidates area) held);

@@ -3,7 +3,7 @@ use Rattle.std.specs.FinMap.{get}
 use Rattle.flash_map.specs.declared.area.Area.{Area}
 use Rattle.flash_map.specs.On.{on}
 use Rattle.item_laws.specs.Items.{Items}
-use Rattle.named_items.specs.declared.candidates.Ids.{Ids}
+use Rattle.item_store.specs.declared.entry.IdRange.{IdRange}
 use Rattle.named_items.specs.CandidateIds.{IsCandidateId}
 use Rattle.named_items.specs.Numbering.{Numbering}
 use Rattle.named_items.specs.Orphans.{IsCleanBelow}
@@ -15,7 +15,7 @@ pub is_name_kept-requires : goal.is_name_kept-requires
 is_name_kept-requires g c =
     let area : Area = g.S.ItemStore.mounted_on c.args.store.now in
     let n : Numbering = g.N.IdLayout.numbering area in
-    let ids : Ids = c.all_candidates-ids.result in
+    let ids : IdRange = c.all_candidates-ids.result in
     let one : IsCandidateId ids c.args.id = c.if-contains.ensures in
     record {
       ids = c.requires.ids;
@@ -43,7 +43,7 @@ returns-then-contains-2 g c =
     let area : Area = g.S.ItemStore.mounted_on c.args.store.now in
     let n : Numbering = g.N.IdLayout.numbering area in
     let items : Items = on g.S.ItemStore.contents (g.F.Flash.device c.args.flash.now) area in
-    let ids : Ids = c.all_candidates-ids.result in
+    let ids : IdRange = c.all_candidates-ids.result in
     let place : ℕ = c.args.id - c.step-step.result in
     let apart : ¬ IsCandidateId ids c.args.id = c.if-contains.ensures in
     let one : IsCandidateId ids place = c.if-contains-2.ensures in
@@ -67,7 +67,7 @@ returns g c =
     let area : Area = g.S.ItemStore.mounted_on c.args.store.now in
     let n : Numbering = g.N.IdLayout.numbering area in
     let items : Items = on g.S.ItemStore.contents (g.F.Flash.device c.args.flash.now) area in
-    let ids : Ids = c.all_candidates-ids.result in
+    let ids : IdRange = c.all_candidates-ids.result in
     let apart : ¬ IsCandidateId ids c.args.id = c.if-contains.ensures in
     record {
       yes_it = c.is_kept.ensures.yes_it;

@@ -6,7 +6,7 @@ use Rattle.flash_map.specs.On.{on}
 use Rattle.item_laws.specs.Bytes.{IsNextOf}
 use Rattle.item_laws.specs.Items.{Items}
 use Rattle.named_items.specs.Numbering.{Numbering}
-use Rattle.named_items.specs.declared.candidates.Ids.{Ids}
+use Rattle.item_store.specs.declared.entry.IdRange.{IdRange}
 use Rattle.named_items.proofs.PlaceSteps.{next-found, next-lawful}
 use Rattle.named_items.proofs.walking.next_name.Goals as goal
 
@@ -24,7 +24,7 @@ returns-in_err-next_of g c =
     let area : Area = g.S.ItemStore.mounted_on c.args.store.now in
     let n : Numbering = g.N.IdLayout.numbering area in
     let items : Items = on g.S.ItemStore.contents (g.F.Flash.device c.args.flash.now) area in
-    let ids : Ids = c.all_candidates-ids.result in
+    let ids : IdRange = c.all_candidates-ids.result in
     let after : Option (List ℕ) = option_map (λ name. name.now) c.args.after in
     let same : option_map {T = Bor (List ℕ)} {U = List ℕ} (λ other. other.now) c.map-after.result ≡ option_map {T = Bor (List ℕ)} {U = List ℕ} (λ name. name.now) c.args.after = search rules in
     let next : IsNextOf ids.least ids.most items after None = subst (λ (o : Option (List ℕ)). IsNextOf ids.least ids.most items o None) same c.in_err-next_of.ensures in
@@ -36,7 +36,7 @@ returns-in-Ok g c =
     let area : Area = g.S.ItemStore.mounted_on c.args.store.now in
     let n : Numbering = g.N.IdLayout.numbering area in
     let items : Items = on g.S.ItemStore.contents (g.F.Flash.device c.args.flash.now) area in
-    let ids : Ids = c.all_candidates-ids.result in
+    let ids : IdRange = c.all_candidates-ids.result in
     let after : Option (List ℕ) = option_map (λ name. name.now) c.args.after in
     let text : List ℕ = c.in_ok-next_of.field-0.now in
     let same : option_map {T = Bor (List ℕ)} {U = List ℕ} (λ other. other.now) c.map-after.result ≡ option_map {T = Bor (List ℕ)} {U = List ℕ} (λ name. name.now) c.args.after = search rules in
@@ -49,7 +49,7 @@ returns-in-Err g c =
     let area : Area = g.S.ItemStore.mounted_on c.args.store.now in
     let n : Numbering = g.N.IdLayout.numbering area in
     let items : Items = on g.S.ItemStore.contents (g.F.Flash.device c.args.flash.now) area in
-    let ids : Ids = c.all_candidates-ids.result in
+    let ids : IdRange = c.all_candidates-ids.result in
     let after : Option (List ℕ) = option_map (λ name. name.now) c.args.after in
     let text : List ℕ = c.in_ok-next_of.field-0.now in
     let same : option_map {T = Bor (List ℕ)} {U = List ℕ} (λ other. other.now) c.map-after.result ≡ option_map {T = Bor (List ℕ)} {U = List ℕ} (λ name. name.now) c.args.after = search rules in

@@ -70,5 +70,5 @@ returns-then-is_full-clause-items g c = refl
 pub add_name-requires-clause-full : goal.add_name-requires-clause-full
 add_name-requires-clause-full g c = c.in-None.ensures c.args.name.now
 
-pub returns-clause-items : goal.returns-clause-items
-returns-clause-items g c = c.add_name.ensures.items
+pub returns-else-is_full-clause-items : goal.returns-else-is_full-clause-items
+returns-else-is_full-clause-items g c = c.add_name.ensures.items

@@ -20,25 +20,25 @@ put_new-requires-clause-place g c =
     let before : Items = on g.S.ItemStore.contents (g.F.Flash.device c.args.flash.now) area in
     record {
       absent = c.requires.absent;
-      few = group-free (value_limit area) before c.args.name.now c.requires.here.clean c.in-Some.free c.in-Some.ensures.place;
-      inside = c.in-Some.ensures.place.0.inside;
-      candidate = c.in-Some.ensures.place.0.candidate;
-      free = c.in-Some.ensures.place.1;
+      few = group-free (value_limit area) before c.args.name.now c.requires.here.clean c.in-Some.free c.in-Some.ensures;
+      inside = c.in-Some.ensures.0.inside;
+      candidate = c.in-Some.ensures.0.candidate;
+      free = c.in-Some.ensures.1;
     }
 
 -- there is none
-pub returns-clause-ends : goal.returns-clause-ends
-returns-clause-ends g c =
+pub returns-in-None-clause-ends : goal.returns-in-None-clause-ends
+returns-in-None-clause-ends g c =
     let area : Area = g.S.ItemStore.mounted_on c.args.store.now in
     let before : Items = on g.S.ItemStore.contents (g.F.Flash.device c.args.flash.now) area in
     record {
-      ends = (group-full (value_limit area) before c.args.name.now c.requires.here.clean c.requires.absent c.in-None.ensures.place, refl);
+      ends = (group-full (value_limit area) before c.args.name.now c.requires.here.clean c.requires.absent c.in-None.ensures, refl);
       cut = λ lost. absurd {A = IsPut (settings_in (numbering_of area) before) (settings_in (numbering_of area) before) c.args.name.now c.args.value.now} (false≢true lost);
       clean = λ kept. c.requires.here.clean;
     }
 
-pub returns-clause-store : goal.returns-clause-store
-returns-clause-store g c =
+pub returns-in-None-clause-store : goal.returns-in-None-clause-store
+returns-in-None-clause-store g c =
     let d : Device = g.F.Flash.device c.args.flash.now in
     let area : Area = g.S.ItemStore.mounted_on c.args.store.now in
     record {
@@ -55,7 +55,7 @@ returns-in-Some-clause-items g c =
     let area : Area = g.S.ItemStore.mounted_on c.args.store.now in
     let before : Items = on g.S.ItemStore.contents (g.F.Flash.device c.args.flash.now) area in
     puts-leave (numbering_of area) before c.args.name.now c.args.value.now (on g.S.ItemStore.contents e area) (pair_at_place (numbering_of area) c.in-Some.free c.args.name.now c.args.value.now) c.put_new.result
-    (takes (numbering_of area) before c.args.name.now c.args.value.now c.in-Some.free c.requires.absent c.in-Some.ensures.place) c.put_new.ensures.items
+    (takes (numbering_of area) before c.args.name.now c.args.value.now c.in-Some.free c.requires.absent c.in-Some.ensures) c.put_new.ensures.items
 
-pub returns-clause-items : goal.returns-clause-items
-returns-clause-items g c = refl
+pub returns-in-None-clause-items : goal.returns-in-None-clause-items
+returns-in-None-clause-items g c = refl

@@ -11,6 +11,7 @@ use Rattle.std.proofs.lemmas.Cmp.{nat_list_eq_equiv}
 use Rattle.fcb_ring.specs.declared.record.RecordAt.{RecordAt}
 use Rattle.fcb_ring.specs.Entries.{bodies}
 use Rattle.fcb_ring.specs.Standing.{IsNext}
+use Rattle.backend_api.specs.Listing.{pairs_in}
 use Rattle.backend_api.specs.Map.{Map}
 use Rattle.backend_api.proofs.ListedPairs.{listed-settings}
 use Rattle.record_settings.specs.Last.{stored}
@@ -18,7 +19,6 @@ use Rattle.record_settings.specs.Settings.{setting_of, with_setting, settings_of
 use Rattle.record_settings.proofs.BodyLemmas.{settings-push}
 use Rattle.record_settings.proofs.LastLemmas.{tie, get-with}
 use Rattle.record_settings.proofs.PrefixLemmas.{entries-none}
-use Rattle.backend_fcb.specs.Listing.{pairs_in}
 use Rattle.backend_fcb.proofs.LookupSteps.{Reads}
 use Rattle.backend_fcb.proofs.SectorLists.{bodies-append}
 use Rattle.backend_fcb.proofs.WalkLemmas.{Entry, IsAt, start, step, first-of, body-is, all-done}

@@ -8,6 +8,7 @@ use Rattle.std.proofs.lemmas.Option.{none-some}
 use Rattle.setting_name.specs.Name.{is_name, IsName}
 use Rattle.setting_name.proofs.NameTest.{is_name-sound, is_name-complete}
 use Rattle.record_settings.specs.Settings.{name_in, value_in, setting_of}
+use Rattle.backend_fcb.specs.Parts.{if_named}
 
 abbrev pub equals_at : List ℕ → Option ℕ
 equals_at body = position (λ byte. eqb byte 0x3D) body
@@ -74,29 +75,38 @@ name-is body place e = ap (λ (n : ℕ). take n body) (sym (equals-some body pla
 pub value-is : (body : List ℕ) (place : ℕ) → equals_at body ≡ Some place → drop (place + 1) body ≡ value_in body
 value-is body place e = ap (λ (n : ℕ). drop (n + 1) body) (sym (long body ∙ (equals-some body place e).is))
 
--- a name that cannot be read says nothing
-pub says-unnamed : {T E : Type 0} (limit : ℕ) (body name : List ℕ) (r : Result T E) → name ≡ name_in body → is_err r ≡ true → (IsName name → IsOk r) → setting_of limit body ≡ None
-says-unnamed {T} {E} limit body name r is err ok = elim (cases_Bool (is_name (name_in body))) [
-  | inl named ↦ absurd (refused r err (ok (subst IsName (sym is) (is_name-sound (name_in body) named))))
-  | inr other ↦ by-parts limit body false (ltb (length (name_in body)) (length body)) (leb (length (value_in body)) limit) other refl refl ∙ none-by false (ltb (length (name_in body)) (length body)) (leb (length (value_in body)) limit) body (inl refl)
-]
-  where
-    refused : {T E : Type 0} (r : Result T E) → is_err r ≡ true → IsOk r → ⊥
-    refused (Ok x) e ok = both_ways false refl e
-    refused (Err x) e ok = both_ways false refl ok
-
--- nor does a value that is too long
+-- nor does one with a value that is too long
 pub says-long : (limit : ℕ) (body value : List ℕ) → value ≡ value_in body → limit < length value → setting_of limit body ≡ None
 says-long limit body value is more =
     let e : leb (length (value_in body)) limit ≡ false = ap (λ (v : List ℕ). leb (length v) limit) (sym is) ∙ lt-leb (length value) limit more in
     by-parts limit body (is_name (name_in body)) (ltb (length (name_in body)) (length body)) false refl refl e ∙ none-by (is_name (name_in body)) (ltb (length (name_in body)) (length body)) false body (inr (inr refl))
 
-pub says-some : {T E : Type 0} (limit : ℕ) (body name value : List ℕ) (place : ℕ) (r : Result T E) → equals_at body ≡ Some place → name ≡ name_in body → value ≡ value_in body → is_err r ≡ false → (IsOk r → IsName name) → length value ≤ limit → setting_of limit body ≡ Some (name, value)
-says-some {T} {E} limit body name value place r e n v ok named short =
+chosen : (b : Bool) (x y : Option (List ℕ × List ℕ)) → cond (b && (true && true)) x y ≡ cond b x y
+chosen true x y = refl
+chosen false x y = refl
+
+-- any other says what its parts say
+pub says-parts : (limit : ℕ) (body name value : List ℕ) (place : ℕ) → equals_at body ≡ Some place → name ≡ name_in body → value ≡ value_in body → length value ≤ limit → setting_of limit body ≡ if_named (Some (name, value))
+says-parts limit body name value place e n v short =
     let has = equals-some body place e in
-    by-parts limit body true true true (is_name-complete (name_in body) (subst IsName n (named (read r ok)))) (ap (λ (m : ℕ). ltb m (length body)) (long body) ∙ has.within) (le-leb (length (value_in body)) limit (subst (λ (x : List ℕ). length x ≤ limit) v short))
-    ∙ ap (λ (x : List ℕ). Some (x, value_in body)) (sym n) ∙ ap (λ (x : List ℕ). Some (name, x)) (sym v)
+    by-parts limit body (is_name name) true true (ap is_name (sym n)) (ap (λ (m : ℕ). ltb m (length body)) (long body) ∙ has.within) (le-leb (length (value_in body)) limit (subst (λ (x : List ℕ). length x ≤ limit) v short))
+    ∙ chosen (is_name name) (Some (name_in body, value_in body)) None
+    ∙ ap (λ (x : List ℕ). cond (is_name name) (Some (x, value_in body)) None) (sym n) ∙ ap (λ (x : List ℕ). cond (is_name name) (Some (name, x)) None) (sym v)
+
+-- whether the first part is a name, by what reading it answers
+pub named : (name value : List ℕ) → IsName name → if_named (Some (name, value)) ≡ Some (name, value)
+named name value lawful = ap (λ (b : Bool). cond b (Some (name, value)) None) (is_name-complete name lawful)
+
+pub is_ok : {T E : Type 0} (r : Result T E) → is_err r ≡ false → IsOk r
+is_ok (Ok x) e = refl
+is_ok (Err x) e = absurd (both_ways true e refl)
+
+pub unnamed : {T E : Type 0} (name value : List ℕ) (r : Result T E) → is_err r ≡ true → (IsName name → IsOk r) → if_named (Some (name, value)) ≡ None
+unnamed {T} {E} name value r err ok = elim (cases_Bool (is_name name)) [
+  | inl is ↦ absurd (refused r err (ok (is_name-sound name is)))
+  | inr other ↦ ap (λ (b : Bool). cond b (Some (name, value)) None) other
+]
   where
-    read : {T E : Type 0} (r : Result T E) → is_err r ≡ false → IsOk r
-    read (Ok x) e = refl
-    read (Err x) e = absurd (both_ways true e refl)
+    refused : {T E : Type 0} (r : Result T E) → is_err r ≡ true → IsOk r → ⊥
+    refused (Ok x) e ok = both_ways false refl e
+    refused (Err x) e ok = both_ways false refl ok

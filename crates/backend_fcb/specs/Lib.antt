@@ -2,8 +2,8 @@ pub mod Changing
 pub mod Exact
 pub mod Compaction
 pub mod Laws
-pub mod Listing
 pub mod Members
+pub mod Parts
 pub mod Reading
 pub mod Standing
 pub mod Tearing

@@ -3,12 +3,12 @@ ghost use Rattle.std.specs.Prelude.{◌≡◌, IfOk, OnOk};
 ghost use Rattle.std.specs.FinMap.{entries};
 ghost use Rattle.flash_map.specs.Area.{value_limit};
 ghost use Rattle.fcb_ring.specs.Standing.{StandsOn as RingStandsOn};
+ghost use Rattle.backend_api.specs.Listing.{pairs_in};
 ghost use Rattle.backend_api.specs.Map.{Map};
 ghost use Rattle.record_settings.specs.Settings.{setting_of, with_setting};
-ghost use Rattle.backend_fcb.specs.Listing.{pairs_in};
 ghost use Rattle.backend_fcb.specs.Standing.{settings_on};
 
-use crate::record::setting_in;
+use crate::record::parts_of;
 use fcb_ring::Ring;
 use flash_sim::{Flash, NoMemory, Steps};
 use setting_name::Name;
@@ -27,17 +27,17 @@ fn apply<'a>(
         → pairs_in found.new
         ≡ entries (with_setting settings (setting_of (value_limit ring.now.area) body.now))) }
 {
-    let Some(setting) = setting_in(ring, body) else {
+    let Some(parts) = parts_of(ring, body) else {
         return Ok(());
     };
-    let Ok(name) = Name::read(setting.name) else {
-        unreachable!();
+    let Ok(name) = Name::read(parts.name) else {
+        return Ok(());
     };
-    if setting.value.is_empty() {
+    if parts.value.is_empty() {
         found.remove(&name);
         return Ok(());
     }
-    match found.insert(name, setting.value) {
+    match found.insert(name, parts.value) {
         Ok(_) => Ok(()),
         Err(_) => Err(NoMemory),
     }

@@ -27,7 +27,7 @@ use crate::all::all_settings;
 use crate::lookup::{last_value, live_cost};
 use crate::mounting::first_overfull;
 use crate::names::next_name;
-use crate::record::{body_of, reserve};
+use crate::record::{BODY, reserve, start_of, write_body};
 use crate::writing::put;
 use backend_api::{Backend, SetFault};
 use fcb_ring::{AppendFault, Ring, record_cost};
@@ -189,11 +189,12 @@ impl Backend for FcbBackend {
             return Ok(());
         }
         let geometry = geometry(flash, self.ring.area());
-        let body = body_of(name, value);
+        let mut buffer = [0; BODY];
+        let len = write_body(&mut buffer, name, value);
         match put(
             &mut self.ring,
             flash,
-            body.as_slice(),
+            &buffer[..len],
             false,
             geometry.sectors - 1,
             steps,
@@ -202,7 +203,7 @@ impl Backend for FcbBackend {
             Err(AppendFault::PowerLost) => Err(SetFault::PowerLost),
             Err(AppendFault::TooLong) => unreachable!(),
             Err(AppendFault::Full) => Err(SetFault::NoSpace {
-                need: u64::from(record_cost(geometry.unit, body.len() as u32)),
+                need: u64::from(record_cost(geometry.unit, len as u32)),
                 live: live_cost(&self.ring, flash, steps),
             }),
         }
@@ -239,7 +240,7 @@ impl Backend for FcbBackend {
         if self.get(flash, name, steps).is_none() {
             return Ok(());
         }
-        let body = body_of(name, &[]);
+        let body = start_of(name);
         match put(&mut self.ring, flash, body.as_slice(), true, 1, steps) {
             Ok(()) => Ok(()),
             Err(AppendFault::PowerLost) => Err(PowerLost),

@@ -12,7 +12,7 @@ ghost use Rattle.backend_fcb.specs.Compaction.{IsKept, bodies_at};
 ghost use Rattle.backend_fcb.specs.declared.compaction.TheConstants.{TABLE};
 
 use crate::compaction::{Kept, Table, find_live};
-use crate::record::{body_of, put_cost, setting_in};
+use crate::record::{put_cost, setting_in, start_of};
 use fcb_ring::Ring;
 use flash_map::geometry;
 use flash_sim::{Flash, Steps};
@@ -43,7 +43,7 @@ pub(crate) fn last_value<'a, F: Flash, L: Ledger>(
         ≡ last_value_of (value_limit ring.now.area) name.now
         (bodies_on (F.device flash.now) ring.now.area) }
 {
-    let start = body_of(name, &[]);
+    let start = start_of(name);
     let prefix = start.as_slice();
     let mut found = None;
     let mut at = ring.next_with(flash, None, prefix, steps);

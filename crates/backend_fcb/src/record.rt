@@ -1,5 +1,5 @@
 // The bodies of records.
-ghost use Rattle.std.specs.Prelude.{◌≡◌, ◌==◌, ◌<◌, ◌≤◌, length, position, option_map, IfSome};
+ghost use Rattle.std.specs.Prelude.{◌≡◌, ◌+◌, take, ◌==◌, ◌<◌, ◌≤◌, length, position, option_map, IfSome, []};
 ghost use Rattle.flash_sim.specs.declared.flash.TheConstants.{PROGRAM_LIMIT};
 ghost use Rattle.flash_map.specs.Area.{value_limit};
 ghost use Rattle.flash_map.specs.Units.{IsUnit};
@@ -7,14 +7,18 @@ ghost use Rattle.flash_map.specs.declared.area.TheConstants.{LONG_VALUE_LIMIT};
 ghost use Rattle.setting_name.specs.Name.{IsName};
 ghost use Rattle.record_settings.specs.Numbers.{reserve, cap, put_cost};
 ghost use Rattle.record_settings.specs.Settings.{setting_of, body_of};
+ghost use Rattle.backend_fcb.specs.Parts.{if_named};
+ghost use Rattle.backend_fcb.specs.declared.record.TheConstants.{BODY};
 
 use arrayvec::ArrayVec;
 use fcb_ring::{Ring, record_cost};
 use flash_map::{Geometry, LONG_VALUE_LIMIT, padded};
-use record_settings::NAME_LIMIT;
-use setting_name::Name;
+use setting_name::{NAME_LIMIT, Name};
 
-// The most bytes of a body: the longest name, `=` and the longest value.
+/// The most bytes of a name and `=`: 64 and 1.
+const START: usize = 65;
+
+/// The most bytes of a body: 64 of a name, 1 of `=`, and 2,048 of a value.
 pub(crate) const BODY: usize = 2113;
 
 // What a record says: the name has the value. No bytes are a delete.
@@ -39,32 +43,59 @@ fn value_limit(ring: &Ring) -> usize
     ring.area().value_limit() as usize
 }
 
-// What a body says in the ring's area, if it is a lawful name, `=` and a value.
-pub(crate) fn setting_in<'a>(ring: &Ring, body: &'a [u8]) -> Option<Setting<'a>>
-    ensures { option_map (λ setting. (setting.name.now, setting.value.now)) result
-        ≡ setting_of (value_limit ring.now.area) body.now }
+// The bytes before the first `=` of a body, which may be no name, and those behind it; `None` if
+// there is no `=`, or if the value is too long for the ring's area.
+pub(crate) fn parts_of<'a>(ring: &Ring, body: &'a [u8]) -> Option<Setting<'a>>
+    ensures { setting_of (value_limit ring.now.area) body.now
+        ≡ if_named (option_map (λ parts. (parts.name.now, parts.value.now)) result) }
 {
     let limit = value_limit(ring);
     let end = first_equals(body)?;
     let name = &body[..end];
     let value = &body[end + 1..];
-    if Name::read(name).is_err() || value.len() > limit {
+    if value.len() > limit {
         return None;
     }
     Some(Setting { name, value })
 }
 
-// The name, `=` and the value.
-pub(crate) fn body_of(name: &Name, value: &[u8]) -> ArrayVec<u8, BODY>
-    requires { length value.now ≤ LONG_VALUE_LIMIT }
-    ensures items { result.items ≡ body_of name.now value.now }
+// What a body says in the ring's area, if it is a lawful name, `=` and a value.
+pub(crate) fn setting_in<'a>(ring: &Ring, body: &'a [u8]) -> Option<Setting<'a>>
+    ensures { option_map (λ setting. (setting.name.now, setting.value.now)) result
+        ≡ setting_of (value_limit ring.now.area) body.now }
+{
+    let parts = parts_of(ring, body)?;
+    if Name::read(parts.name).is_err() {
+        return None;
+    }
+    Some(parts)
+}
+
+// The name and `=`, with which each record of the name begins.
+pub(crate) fn start_of(name: &Name) -> ArrayVec<u8, START>
+    ensures items { result.items ≡ body_of name.now [] }
     ensures name { IsName name.now }
 {
-    let mut body = ArrayVec::new();
-    let _name_fits = body.try_extend_from_slice(name.bytes());
-    body.push(b'=');
-    let _value_fits = body.try_extend_from_slice(value);
-    body
+    let mut start = ArrayVec::new();
+    let _name_fits = start.try_extend_from_slice(name.bytes());
+    start.push(b'=');
+    start
+}
+
+// Writes the name, `=` and the value to the start of a buffer. Returns how many bytes these are.
+pub(crate) fn write_body(buffer: &mut [u8; BODY], name: &Name, value: &[u8]) -> usize
+    requires { length value.now ≤ LONG_VALUE_LIMIT }
+    ensures body { take result buffer.new ≡ body_of name.now value.now }
+    ensures len { result ≡ length name.now + 1 + length value.now }
+    ensures within { result ≤ BODY }
+    ensures name { IsName name.now }
+{
+    let end = name.bytes().len();
+    let len = end + 1 + value.len();
+    buffer[..end].copy_from_slice(name.bytes());
+    buffer[end] = b'=';
+    buffer[end + 1..len].copy_from_slice(value);
+    len
 }
 
 // What a record with this body costs, in bytes, if it puts a value.
@@ -84,7 +115,7 @@ pub(crate) fn reserve(unit: u32) -> u32
     requires { IsUnit unit }
     ensures { result ≡ reserve unit }
 {
-    record_cost(unit, NAME_LIMIT + 1)
+    record_cost(unit, NAME_LIMIT as u32 + 1)
 }
 
 // What the header and the reserve leave of a sector.

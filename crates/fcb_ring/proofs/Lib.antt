@@ -1,4 +1,5 @@
 pub mod RecordLemmas
+pub mod PrefixBytes
 pub mod WalkLemmas
 pub mod Walks
 pub mod PlaceLemmas

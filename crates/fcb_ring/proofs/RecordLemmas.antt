@@ -10,9 +10,10 @@ use Rattle.crc8_entry.specs.Crc.{crc}
 use Rattle.crc8_entry.proofs.Bytes.{by_bytes, crc-by_bytes, zeros, zeros-small}
 use Rattle.flash_map.specs.Units.{IsUnit, padded}
 use Rattle.flash_map.proofs.Rounding.{by_unit, padding}
+use Rattle.fcb_ring.specs.declared.record.Extent.{Extent}
 use Rattle.fcb_ring.specs.declared.record.Record.{Record}
 use Rattle.std.specs.Option.{option_map}
-use Rattle.fcb_ring.specs.Records.{body_len, field_width, has_record, record_of, record_at, with_prefix}
+use Rattle.fcb_ring.specs.Records.{body_len, field_width, has_record, record_of, record_at, extent_of}
 use Rattle.fcb_ring.proofs.Walks.{Advances}
 
 by_bytes-append : (r : ℕ) (xs ys : List ℕ) → by_bytes r (xs ++ ys) ≡ by_bytes (by_bytes r xs) ys
@@ -54,34 +55,6 @@ crc_by_parts sector at width body len first second fits w one two =
     two ∙ ap (λ (n : ℕ). crc n (slice_range sector body (body + len))) one
     ∙ crc_of_two 255 (slice_range sector at (at + width)) (slice_range sector body (body + len)) (omega arith) (range_bytes sector at (at + width) fits) (range_bytes sector body (body + len) fits)
     ∙ ap (λ (n : ℕ). crc 255 (slice_range sector at (at + n) ++ slice_range sector body (body + len))) w
-
--- every body begins with no bytes
-pub with-any : (sector : List ℕ) (o : Option Record) → option_map (with_prefix sector []) o ≡ o
-with-any sector None = refl
-with-any sector (Some r) = refl
-
--- the record from which `with_prefix` made this one
-pub record IsWith (sector prefix : List ℕ) (o : Option Record) (q : Record) : Type 0 where
-  pub r : Record
-  pub some : o ≡ Some r
-  pub is : with_prefix sector prefix r ≡ q
-
-pub read-with : (sector prefix : List ℕ) (o : Option Record) (q : Record) → option_map (with_prefix sector prefix) o ≡ Some q → IsWith sector prefix o q
-read-with sector prefix None q e = absurd (clash e)
-  where
-    clash : None ≡ Some q → ⊥
-    clash e = cc
-read-with sector prefix (Some r) q e = record { r = r; some = refl; is = same e }
-  where
-    same : Some (with_prefix sector prefix r) ≡ Some q → with_prefix sector prefix r ≡ q
-    same e = cc
-
-pub none-with : (sector prefix : List ℕ) (o : Option Record) → option_map (with_prefix sector prefix) o ≡ None → o ≡ None
-none-with sector prefix None e = refl
-none-with sector prefix (Some r) e = absurd (clash e)
-  where
-    clash : Some (with_prefix sector prefix r) ≡ None → ⊥
-    clash e = cc
 
 -- What a record that is read is.
 pub record IsRead (unit : ℕ) (sector : List ℕ) (at : ℕ) (r : Record) : Type 0 where
@@ -161,3 +134,67 @@ unit_there = by_unit (λ unit. (size at : ℕ) → size % unit ≡ 0 → at % un
 pub header_fits : (unit : ℕ) → IsUnit unit → (padded unit 8 % unit ≡ 0) × (8 ≤ padded unit 8) × (padded unit 8 ≤ 16)
 unfolding padded
 header_fits = by_unit (λ unit. (padded unit 8 % unit ≡ 0) × (8 ≤ padded unit 8) × (padded unit 8 ≤ 16)) (refl, omega arith, omega arith) (refl, omega arith, omega arith) (refl, omega arith, omega arith)
+
+pub unit_least : (unit : ℕ) → IsUnit unit → 4 ≤ unit
+unit_least = by_unit (λ unit. 4 ≤ unit) (omega arith) (omega arith) (omega arith)
+
+-- how far a record goes that reads
+pub record IsExtent (unit : ℕ) (sector : List ℕ) (at : ℕ) (extent : Extent) : Type 0 where
+  pub some : record_at unit sector at ≡ Some (record_of unit sector at)
+  pub same : extent_of (record_of unit sector at) ≡ extent
+  pub no_less : unit + 1 ≤ extent.end - at
+  pub at_most : extent.end ≤ length sector
+  pub body : at + unit + extent.len ≤ length sector
+  pub crc_at : extent.end - unit ≡ at + unit + padded unit extent.len
+
+extent_same : (x extent : Extent) → Some x ≡ Some extent → x ≡ extent
+extent_same x extent e = cc
+
+extent_clash : (extent : Extent) → None ≡ Some extent → ⊥
+extent_clash extent e = cc
+
+pub extent : (unit : ℕ) (sector : List ℕ) (at : ℕ) (q : Extent) → IsUnit unit → option_map extent_of (record_at unit sector at) ≡ Some q → IsExtent unit sector at q
+extent unit sector at q is_unit e = by (record_at unit sector at) refl
+  where
+    by : (o : Option Record) → record_at unit sector at ≡ o → IsExtent unit sector at q
+    by None is = absurd (extent_clash q (sym (ap (λ (o : Option Record). option_map extent_of o) is) ∙ e))
+    by (Some r) is =
+        let h = read unit sector at r is in
+        let same : extent_of r ≡ q = extent_same (extent_of r) q (sym (ap (λ (o : Option Record). option_map extent_of o) is) ∙ e) in
+        let this = record_of unit sector at in
+        let len : this.len ≡ q.len = ap (λ (r : Record). r.len) (sym h.is) ∙ ap (λ (q : Extent). q.len) same in
+        let end : this.end ≡ q.end = ap (λ (r : Record). r.end) (sym h.is) ∙ ap (λ (q : Extent). q.end) same in
+        let fits = h.fits in
+        let r_end : r.end ≡ q.end = ap (λ (q : Extent). q.end) same in
+        let body = body-of unit sector at in
+        let all : q.end ≡ at + unit + padded unit q.len + unit = sym end ∙ end-fields unit sector at ∙ ap (λ (n : ℕ). this.body + padded unit n + unit) len ∙ ap (λ (n : ℕ). n + padded unit q.len + unit) body in
+        let pad = padding unit is_unit in
+        let positive = pad.positive in
+        let longer = pad.no_less q.len in
+        record {
+          some = is ∙ ap (λ (r : Record). Some r) h.is;
+          same = ap extent_of (sym h.is) ∙ same;
+          no_less = omega (arith, all, positive);
+          at_most = omega (arith, fits, r_end);
+          body = omega (arith, all, longer, fits, r_end);
+          crc_at = omega (arith, all);
+        }
+
+pub no_extent : (unit : ℕ) (sector : List ℕ) (at : ℕ) → option_map extent_of (record_at unit sector at) ≡ None → record_at unit sector at ≡ None
+no_extent unit sector at e = by (record_at unit sector at) e
+  where
+    clash : (r : Record) → Some (extent_of r) ≡ None → ⊥
+    clash r e = cc
+
+    by : (o : Option Record) → option_map extent_of o ≡ None → o ≡ None
+    by None e = refl
+    by (Some r) e = absurd (clash r e)
+
+-- the record of this extent
+pub made : (unit : ℕ) (sector : List ℕ) (at : ℕ) (q : Extent) (checks is : Bool) → extent_of (record_of unit sector at) ≡ q → checks ≡ is
+    → ◌≡◌ {A = Record} (record { offset = at; body = at + unit; len = q.len; end = q.end; checks = checks }) (record (record_of unit sector at) { checks = is })
+unfolding record_of
+made unit sector at q checks is same e =
+    let this = record_of unit sector at in
+    let with : (Extent → Bool → Record) = λ q b. record { offset = at; body = at + unit; len = q.len; end = q.end; checks = b } in
+    sym (ap (λ (q : Extent). with q checks) same) ∙ ap (λ (b : Bool). with (extent_of this) b) e

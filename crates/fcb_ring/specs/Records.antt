@@ -6,6 +6,7 @@ use Rattle.std.specs.Option.{option_map, option_map_or}
 use Rattle.crc8_entry.specs.Crc.{crc}
 use Rattle.flash_map.specs.Units.{padded}
 use Rattle.fcb_ring.specs.declared.record.Record.{Record}
+use Rattle.fcb_ring.specs.declared.record.Extent.{Extent}
 
 -- A first byte below 128 is the length. Otherwise it has the low seven bits, and the second byte
 -- has the rest.
@@ -48,6 +49,10 @@ unfoldable pub record_at : ℕ → List ℕ → ℕ → Option Record
 record_at unit sector at =
     if has_record sector at
     && nat_le (record_of unit sector at).end (length sector) then Some (record_of unit sector at) else None
+
+-- how far it goes
+abbrev pub extent_of : Record → Extent
+extent_of r = record { len = r.len; end = r.end }
 
 -- its body begins with these bytes, and it checks
 abbrev pub passes : List ℕ → List ℕ → Record → Bool

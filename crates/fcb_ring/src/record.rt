@@ -1,8 +1,9 @@
 // Reading records.
-ghost use Rattle.std.specs.Prelude.{◌≡◌, ◌+◌, ◌-◌, ◌*◌, ◌%◌, ◌<◌, ◌≤◌, ◌^◌, length, option_map, IsTrue};
+ghost use Rattle.std.specs.Prelude.{◌≡◌, ◌+◌, ◌-◌, ◌*◌, ◌%◌, ◌<◌, ◌≤◌, ◌^◌, length, option_map, IsTrue, Some, nat_eq};
+ghost use Rattle.std.specs.List.{starts_with};
 ghost use Rattle.flash_map.specs.Units.{IsUnit, padded};
 ghost use Rattle.fcb_ring.specs.SectorStates.{IsSector};
-ghost use Rattle.fcb_ring.specs.Records.{body_len, field_width, has_record, checks_at, record_at, records_end, first_passing, with_prefix};
+ghost use Rattle.fcb_ring.specs.Records.{body_len, field_width, has_record, checks_at, record_of, record_at, records_end, first_passing, passes, extent_of};
 
 use crc8_entry::{START, crc8};
 use flash_map::padded;
@@ -69,6 +70,31 @@ pub(crate) fn has_record(sector: &[u8], at: usize) -> bool
     at < sector.len() && !(sector[at] == 0xFF && sector[at + 1] == 0xFF)
 }
 
+// How far a record goes.
+#[derive(Clone, Copy)]
+pub(crate) struct Extent {
+    // The bytes of the body, without their padding.
+    len: u32,
+    // Where the next record would start.
+    end: u32,
+}
+
+// A length rounded up to the unit. A division by a constant is fast.
+fn padded_len(unit: u32, len: u32) -> u32
+    requires unit { IsUnit unit }
+    requires len { len < 2 ^ 15 }
+    ensures value { result ≡ padded unit len }
+    ensures at_most { result ≤ len + 15 }
+{
+    if unit == 4 {
+        return (len + 3) / 4 * 4;
+    }
+    if unit == 8 {
+        return (len + 7) / 8 * 8;
+    }
+    (len + 15) / 16 * 16
+}
+
 // Whether the CRC at its place matches the length field and the body.
 fn checks_at(sector: &[u8], at: usize, body: usize, len: usize, crc_at: usize) -> bool
     requires field { at + 2 ≤ length sector.now }
@@ -80,38 +106,77 @@ fn checks_at(sector: &[u8], at: usize, body: usize, len: usize, crc_at: usize) -
     crc8(crc8(START, field), &sector[body..body + len]) == sector[crc_at]
 }
 
-// The record at a place; `None` if the records end there, or if it would pass the sector's end. If
-// its body does not begin with the prefix, it is taken as one that does not check, and its CRC is
-// not computed.
+// Whether a body begins with the prefix. Prefixes differ at their end, mostly in the byte before
+// the last, so that byte is compared first, then the others from the last on.
+fn begins_with(body: &[u8], prefix: &[u8]) -> bool
+    ensures { result ≡ starts_with nat_eq body.now prefix.now }
+{
+    let count = prefix.len();
+    if body.len() < count {
+        return false;
+    }
+    if count >= 2 && body[count - 2] != prefix[count - 2] {
+        return false;
+    }
+    let mut left = count;
+    while left > 0 {
+        left -= 1;
+        if body[left] != prefix[left] {
+            return false;
+        }
+    }
+    true
+}
+
+// How far the record at a place goes; `None` if the records end there, or if it would pass the
+// sector's end.
 #[tactic(auto, unfolding(crate::specs::Records::record_at, crate::specs::Records::record_of))]
-fn record_with(sector: &[u8], unit: u32, at: u32, prefix: &[u8]) -> Option<Record>
+fn extent_at(sector: &[u8], unit: u32, at: u32) -> Option<Extent>
     requires unit { IsUnit unit }
     requires short { length sector.now ≤ 32768 }
     requires room { at < length sector.now → at + unit ≤ length sector.now }
     requires at { at ≤ length sector.now }
-    ensures value { result
-        ≡ option_map (with_prefix sector.now prefix.now) (record_at unit sector.now at) }
+    ensures { result ≡ option_map extent_of (record_at unit sector.now at) }
 {
     let start = at as usize;
     if !has_record(sector, start) {
         return None;
     }
     let len = body_len(sector[start], sector[start + 1]);
-    let body = at + unit;
-    let crc_at = body + padded(unit, len);
-    let end = crc_at + unit;
+    let end = at + unit + padded_len(unit, len) + unit;
     if end as usize > sector.len() {
         return None;
     }
-    let begins = sector[body as usize..(body + len) as usize].starts_with(prefix);
-    let checks = begins && checks_at(sector, start, body as usize, len as usize, crc_at as usize);
-    Some(Record {
-        offset: at,
-        body,
-        len,
-        end,
-        checks,
-    })
+    Some(Extent { len, end })
+}
+
+// Whether the CRC of the record at a place matches.
+fn checks(sector: &[u8], unit: u32, at: u32, extent: Extent) -> bool
+    requires unit { IsUnit unit }
+    requires short { length sector.now ≤ 32768 }
+    requires extent { option_map extent_of (record_at unit sector.now at) ≡ Some extent }
+    ensures { result ≡ (record_of unit sector.now at).checks }
+{
+    let crc_at = extent.end - unit;
+    checks_at(
+        sector,
+        at as usize,
+        (at + unit) as usize,
+        extent.len as usize,
+        crc_at as usize,
+    )
+}
+
+// Whether the record at a place checks, and its body begins with the prefix.
+fn passes(sector: &[u8], unit: u32, at: u32, extent: Extent, prefix: &[u8]) -> bool
+    requires unit { IsUnit unit }
+    requires short { length sector.now ≤ 32768 }
+    requires extent { option_map extent_of (record_at unit sector.now at) ≡ Some extent }
+    ensures { result ≡ passes sector.now prefix.now (record_of unit sector.now at) }
+{
+    let body = (at + unit) as usize;
+    begins_with(&sector[body..body + extent.len as usize], prefix)
+        && checks(sector, unit, at, extent)
 }
 
 // The record at a place; `None` if the records end there, or if it would pass the sector's end.
@@ -122,7 +187,14 @@ pub(crate) fn record_at(sector: &[u8], unit: u32, at: u32) -> Option<Record>
     requires at { at ≤ length sector.now }
     ensures value { result ≡ record_at unit sector.now at }
 {
-    record_with(sector, unit, at, &[])
+    let extent = extent_at(sector, unit, at)?;
+    Some(Record {
+        offset: at,
+        body: at + unit,
+        len: extent.len,
+        end: extent.end,
+        checks: checks(sector, unit, at, extent),
+    })
 }
 
 // Where the records of a sector end.
@@ -147,11 +219,17 @@ pub(crate) fn next_checked(sector: &[u8], unit: u32, from: u32, prefix: &[u8]) -
     ensures { result ≡ first_passing unit sector.now prefix.now from }
 {
     let mut at = from;
-    while let Some(record) = record_with(sector, unit, at, prefix) {
-        if record.checks {
-            return Some(record);
+    while let Some(extent) = extent_at(sector, unit, at) {
+        if passes(sector, unit, at, extent, prefix) {
+            return Some(Record {
+                offset: at,
+                body: at + unit,
+                len: extent.len,
+                end: extent.end,
+                checks: true,
+            });
         }
-        at = record.end;
+        at = extent.end;
     }
     None
 }

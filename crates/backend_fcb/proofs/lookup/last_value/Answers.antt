@@ -14,7 +14,7 @@ pub loop-at-init : goal.loop-at-init
 loop-at-init g c =
     let list = entries_on (g.F.Flash.device c.args.flash.now) c.args.ring.now.area in
     finds-start (value_limit c.args.ring.now.area) list c.args.name.now c.next_with-at.result
-    (subst (λ (prefix : List ℕ). IsNextWith list prefix None c.next_with-at.result) (c.as_slice-prefix.ensures.value ∙ c.body_of-start.ensures.items) c.next_with-at.ensures.next)
+    (subst (λ (prefix : List ℕ). IsNextWith list prefix None c.next_with-at.result) (c.as_slice-prefix.ensures.value ∙ c.start_of-start.ensures.items) c.next_with-at.ensures.next)
 
 pub body-requires-clause-record : goal.body-requires-clause-record
 body-requires-clause-record g c =
@@ -39,7 +39,7 @@ loop-at-preserved g c =
     let so_far : Finds (value_limit c.args.ring.now.area) (entries_on (g.F.Flash.device c.args.flash.now) c.args.ring.now.area) c.args.name.now (Some c.in-Some.entry) (option_map (λ value. value.now) c.loop-at.found) =
     subst (λ (o : Option RecordAt). Finds (value_limit c.args.ring.now.area) (entries_on (g.F.Flash.device c.args.flash.now) c.args.ring.now.area) c.args.name.now o (option_map (λ value. value.now) c.loop-at.found)) c.in-Some.is c.loop-at.invariant in
     let next = finds-step (value_limit c.args.ring.now.area) list c.args.name.now c.in-Some.entry (option_map (λ value. value.now) c.loop-at.found) so_far c.body.result.now c.body.ensures.body c.next_with-at-in-Some.result
-    (subst (λ (prefix : List ℕ). IsNextWith list prefix (Some c.in-Some.entry) c.next_with-at-in-Some.result) (c.as_slice-prefix.ensures.value ∙ c.body_of-start.ensures.items) c.next_with-at-in-Some.ensures.next)
+    (subst (λ (prefix : List ℕ). IsNextWith list prefix (Some c.in-Some.entry) c.next_with-at-in-Some.result) (c.as_slice-prefix.ensures.value ∙ c.start_of-start.ensures.items) c.next_with-at-in-Some.ensures.next)
     (option_map (λ value. value.now) c.value_for-value.result) (c.value_for-value.ensures ∙ ap (λ (n : List ℕ). value_for n (setting_of (value_limit c.args.ring.now.area) c.body.result.now)) c.bytes.ensures.value) in
     let found : option_map (λ value. value.now) c.or-found.result ≡ option_or (option_map (λ value. value.now) c.value_for-value.result) (option_map (λ value. value.now) c.loop-at.found) =
     ap (λ o. option_map (λ value. value.now) o) c.or-found.ensures ∙ map-or (λ value. value.now) c.value_for-value.result c.loop-at.found in

@@ -54,14 +54,14 @@ returns-then-is_none g c =
 pub put-requires : goal.put-requires
 put-requires g c = record {
   ready = stands-ready (g.F.Flash.device c.args.flash.now) c.args.self.now c.requires.lawful c.requires.stands;
-  some = some-bytes c.as_slice.result.now c.args.name.now [] (c.as_slice.ensures.value ∙ c.body_of-body.ensures.items);
-  short = few-bytes c.as_slice.result.now c.args.name.now [] (value_limit c.args.self.now.ring.area) (c.as_slice.ensures.value ∙ c.body_of-body.ensures.items) c.body_of-body.ensures.name (none-least (value_limit c.args.self.now.ring.area));
+  some = some-bytes c.as_slice.result.now c.args.name.now [] (c.as_slice.ensures.value ∙ c.start_of-body.ensures.items);
+  short = few-bytes c.as_slice.result.now c.args.name.now [] (value_limit c.args.self.now.ring.area) (c.as_slice.ensures.value ∙ c.start_of-body.ensures.items) c.start_of-body.ensures.name (none-least (value_limit c.args.self.now.ring.area));
   few = c.requires.lawful.several;
   no_put =
       let d : Device = g.F.Flash.device c.args.flash.now in
       let area : Area = c.args.self.now.ring.area in
-      let body : c.as_slice.result.now ≡ body_of c.args.name.now [] = c.as_slice.ensures.value ∙ c.body_of-body.ensures.items in
-      λ into. ap (put_cost (value_limit c.args.self.now.ring.area) (unit_of d area)) body ∙ delete-cost (value_limit c.args.self.now.ring.area) (unit_of d area) c.args.name.now c.body_of-body.ensures.name;
+      let body : c.as_slice.result.now ≡ body_of c.args.name.now [] = c.as_slice.ensures.value ∙ c.start_of-body.ensures.items in
+      λ into. ap (put_cost (value_limit c.args.self.now.ring.area) (unit_of d area)) body ∙ delete-cost (value_limit c.args.self.now.ring.area) (unit_of d area) c.args.name.now c.start_of-body.ensures.name;
 }
 
 pub returns-in-Ok : goal.returns-in-Ok
@@ -70,13 +70,13 @@ returns-in-Ok g c =
     let e : Device = g.F.Flash.device c.put.new.flash in
     let ring : Ring = c.args.self.now.ring in
     let area : Area = ring.area in
-    let body : c.as_slice.result.now ≡ body_of c.args.name.now [] = c.as_slice.ensures.value ∙ c.body_of-body.ensures.items in
+    let body : c.as_slice.result.now ≡ body_of c.args.name.now [] = c.as_slice.ensures.value ∙ c.start_of-body.ensures.items in
     let ends = c.in-Ok.ensures.ends in
     record {
       touches = c.in-Ok.ensures.touches;
       area = c.in-Ok.ensures.area;
       ends =
-          deletes-one d e area c.args.name.now c.body_of-body.ensures.name (absent-not (λ b. b.now) c.get.result (finite.get (settings_on d area) c.args.name.now) c.get.ensures (c.is_none.ensures ∙ ap not c.if-is_none.false))
+          deletes-one d e area c.args.name.now c.start_of-body.ensures.name (absent-not (λ b. b.now) c.get.result (finite.get (settings_on d area) c.args.name.now) c.get.ensures (c.is_none.ensures ∙ ap not c.if-is_none.false))
           (ends.1 ∙ ap (λ (b : List ℕ). with_setting (settings_on d area) (setting_of (value_limit area) b)) body) ends.3;
       sound = ready-undamaged e c.put.new.ring area c.in-Ok.ensures.area ends.0;
       cut = λ on lost. absurd (false≢true lost);
@@ -97,14 +97,14 @@ returns-in-Err-PowerLost g c =
     let e : Device = g.F.Flash.device c.put.new.flash in
     let ring : Ring = c.args.self.now.ring in
     let area : Area = ring.area in
-    let body : c.as_slice.result.now ≡ body_of c.args.name.now [] = c.as_slice.ensures.value ∙ c.body_of-body.ensures.items in
+    let body : c.as_slice.result.now ≡ body_of c.args.name.now [] = c.as_slice.ensures.value ∙ c.start_of-body.ensures.items in
     let ends : PutEnds {T = Unit {0}} d e ring c.put.new.ring c.as_slice.result.now 0 1 (Err PowerLost) = rw c.in-Err-PowerLost.field-0-is at c.in-Err-PowerLost.ensures.ends in
     record {
       touches = rw c.in-Err-PowerLost.field-0-is at c.in-Err-PowerLost.ensures.touches;
       area = c.in-Err-PowerLost.ensures.area;
       ends = absent-not (λ b. b.now) c.get.result (finite.get (settings_on d area) c.args.name.now) c.get.ensures (c.is_none.ensures ∙ ap not c.if-is_none.false);
       sound = ends.0.undamaged;
-      cut = λ on lost. stops-at d e area c.as_slice.result.now (Del c.args.name.now) body (takes-value (value_limit area) (settings_on d area) c.args.name.now c.body_of-body.ensures.name) (ends.0.stops on);
+      cut = λ on lost. stops-at d e area c.as_slice.result.now (Del c.args.name.now) body (takes-value (value_limit area) (settings_on d area) c.args.name.now c.start_of-body.ensures.name) (ends.0.stops on);
       stands = λ up. absurd (true≢false up);
       down = λ lost. ends.0.down;
       written = λ other. absurd (other c.requires.stands.role);
@@ -126,8 +126,8 @@ unreachable-requires-in-Err-Full g c =
     let area : Area = c.args.self.now.ring.area in
     let name : List ℕ = c.args.name.now in
     let e : Device = g.F.Flash.device c.put.new.flash in
-    let body : c.as_slice.result.now ≡ body_of c.args.name.now [] = c.as_slice.ensures.value ∙ c.body_of-body.ensures.items in
+    let body : c.as_slice.result.now ≡ body_of c.args.name.now [] = c.as_slice.ensures.value ∙ c.start_of-body.ensures.items in
     let few = two-rounds d ring c.requires.lawful.several in
     let full : HasNoPlace d e ring c.put.new.ring (length c.as_slice.result.now) 0 1 = rw c.in-Err-Full.field-0-is at c.in-Err-Full.ensures.ends in
     delete-fits d e ring c.put.new.ring (length c.as_slice.result.now) (g.met.F.Flash.is_lawful c.args.flash.now) (stands-ready d c.args.self.now c.requires.lawful c.requires.stands) c.in-Err-Full.ensures.touches.banks c.in-Err-Full.ensures.area
-    (omega (arith, ap length body, length-body_of name [], c.body_of-body.ensures.name.short)) full
+    (omega (arith, ap length body, length-body_of name [], c.start_of-body.ensures.name.short)) full

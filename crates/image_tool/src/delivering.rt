@@ -13,6 +13,7 @@ use zs_host::{Host, HostFault};
 /// Prints the text, and then writes the file, if there is one. The file is written only after all
 /// of the text was printed. If the host fails or memory runs out, a part of the text may be
 /// printed, or the file may hold anything; no other file changes.
+#[inline(never)]
 pub fn deliver<H: Host>(alloc: Global, host: &mut H, outcome: &Outcome<'_>) -> Status
     ensures delivers { Delivers (H.outside host.old) (H.outside host.new) outcome.now.text.items
         (file_of outcome.now.file) result }

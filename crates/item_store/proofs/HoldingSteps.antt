@@ -1,39 +1,43 @@
 -- Looking for an item by its bytes: entries that hold them, and what stands behind these.
-use Rattle.std.proofs.Common.{◌≡◌, ℕ, ◌+◌, ◌-◌, ◌<◌, ◌≤◌, Bool, true, false, not, ◌&&◌, eqb, leb, List, ◌∷◌, length, Option, Some, None, refl, sym, ap, subst, ◌∙◌, inl, inr, arith}
+use Rattle.std.proofs.Common.{◌≡◌, ℕ, ◌+◌, ◌-◌, ◌<◌, ◌≤◌, Bool, true, false, not, ◌&&◌, eqb, leb, List, [], ◌∷◌, ◌++◌, ◌||◌, length, Option, Some, None, refl, sym, ap, subst, ◌∙◌, inl, inr, arith}
 use Rattle.std.specs.Prelude.{IfSome}
 use Rattle.std.specs.FinMap.{get}
-use Rattle.std.specs.Option.{option_eq, option_map, option_or}
+use Rattle.std.specs.List.{flat_map}
+use Rattle.std.specs.Option.{option_eq, option_map, option_or, option_to_list}
 use Rattle.std.proofs.lemmas.Bool.{false≢true, cases_eq, cases_lt, eq-eqb, ne_eqb, le-leb, cond-true, cond-false}
 use Rattle.flash_sim.specs.Bank.{IsLawful}
 use Rattle.flash_sim.specs.Device.{Device}
 use Rattle.flash_map.specs.declared.area.Role.{Role}
 use Rattle.flash_map.specs.declared.area.Geometry.{Geometry}
 use Rattle.flash_map.specs.Area.{geometry_of, sector_at, sectors_of}
-use Rattle.item_laws.specs.Bytes.{HasBytes, IsIdOf}
+use Rattle.item_laws.specs.Bytes.{HasBytes}
 use Rattle.item_laws.specs.Items.{Items, value_of}
-use Rattle.item_laws.specs.Live.{all_placed, last_of, last_placed, bytes_of}
-use Rattle.item_laws.specs.RoundParts.{places_after}
+use Rattle.item_laws.specs.Live.{all_placed, counted_in, last_of, last_placed, bytes_of}
+use Rattle.item_laws.specs.RoundParts.{places_after, places_before}
 use Rattle.item_laws.proofs.AreaReads.{length-sectors}
 use Rattle.item_laws.proofs.LiveLemmas.{option_cases, some_none}
+use Rattle.item_laws.proofs.Newest.{last-append}
 use Rattle.item_laws.proofs.Places.{after, before, after-last, after-inner, after-within, before-first, before-inner}
 use Rattle.item_store.specs.declared.entry.Entry.{Entry}
 use Rattle.item_store.specs.declared.entry.IdRange.{IdRange}
 use Rattle.item_store.specs.declared.entry.Placed.{Placed}
 use Rattle.item_store.specs.declared.store.Store.{Store}
 use Rattle.item_store.specs.Asking.{NoneIsItem}
-use Rattle.item_store.specs.Holding.{Holds, NoneHolds, IsFirstHolder}
+use Rattle.item_store.specs.Holding.{Holds, NoneHolds, IsFirstHolder, NoneLater}
 use Rattle.item_store.specs.SectorFormat.{SectorFormat, IsSectorFormat, placed_at, slots}
-use Rattle.item_store.specs.Lasts.{in_range, IsOther, AreOthers, given_at}
+use Rattle.item_store.specs.Lasts.{in_range, AreOthers, counted_from, given_at}
 use Rattle.item_store.specs.Latest.{last_of_id}
-use Rattle.item_store.specs.Listed.{IsPlaced, items_on}
+use Rattle.item_store.specs.Listed.{IsListed, IsPlaced, items_on}
 use Rattle.item_store.specs.Seen.{AreBehind, behind}
 use Rattle.item_store.specs.Stands.{StandsOn}
 use Rattle.item_store.proofs.AskingSteps.{own-id, same_some}
 use Rattle.item_store.proofs.CostSteps.{before-after, start_seen, more_seen}
 use Rattle.item_store.proofs.LastsSlots.{covered-is}
 use Rattle.item_store.proofs.LastsWalk.{begun-last, covered-all}
-use Rattle.item_store.proofs.LiveSteps.{own-last, later_at, stand_behind}
+use Rattle.item_store.proofs.IndexSteps.{prefix-other}
+use Rattle.item_store.proofs.LiveSteps.{own-last, later_at, later_step, stand_behind}
 use Rattle.item_store.proofs.ReadFacts.{counts_on, current_on, last_placed_on, value_by}
+use Rattle.item_store.proofs.SearchSteps.{up-to-enough}
 
 -- ---- places
 
@@ -61,6 +65,10 @@ fewer-behind count current at next low high apart is =
 
 -- ---- no entry behind a place has an id
 
+or-first-none : {X : Type 0} (o rest : Option X) → option_or o rest ≡ None → o ≡ None
+or-first-none None rest e = refl
+or-first-none (Some x) rest e = e
+
 itself : (id : ℕ) → in_range id id id ≡ true
 itself id = let same : id ≤ id = omega arith in ap (λ (t : Bool). t && leb id id) (le-leb id id same) ∙ le-leb id id same
 
@@ -82,6 +90,25 @@ module _ (k : SectorFormat) (sectors : List (List ℕ)) (current id : ℕ) (low 
 
   pub none-left : last_of_id id (behind k sectors current current) ≡ None
   none-left = ap (last_of_id id) (start_seen k sectors current low)
+
+  -- none in its sector behind it has the id, nor one in the sectors behind that
+  pub none-later : (p : Placed) (up : ℕ) → IsListed k sectors p → up ≡ p.slot - k.first + 1 → AreOthers k (sector_at sectors p.sector) up (k.count (sector_at sectors p.sector)) id id
+      → last_of_id id (behind k sectors current p.sector) ≡ None → NoneLater k sectors current p id
+  none-later p up listed is others none =
+      let from = listed.from in
+      let to = listed.listed in
+      none-from p.sector (p.slot - k.first + 1) (omega arith) (subst (λ (n : ℕ). AreOthers k (sector_at sectors p.sector) n (k.count (sector_at sectors p.sector)) id id) is others) ∙ none
+
+  -- then the sectors behind it have none
+  pub later-behind : (p : Placed) → NoneLater k sectors current p id → last_of_id id (behind k sectors current p.sector) ≡ None
+  later-behind p none =
+      or-first-none (last_of_id id (behind k sectors current p.sector)) (last_of_id id (counted_from k sectors current p.sector (p.slot - k.first + 1)))
+      (sym (last-append (λ (q : Placed). eqb q.id id) (counted_from k sectors current p.sector (p.slot - k.first + 1)) (behind k sectors current p.sector)) ∙ none)
+
+-- two answers of which neither rules out more than it may
+pub or-rules-out : (one other both : Bool) → both ≡ (one || other) → both ≡ false → (one ≡ false) × (other ≡ false)
+or-rules-out true other both is none = absurd (false≢true (sym none ∙ is))
+or-rules-out false other both is none = (refl, sym is ∙ none)
 
 -- ---- bytes
 
@@ -144,28 +171,63 @@ module _ {T : Type 0} (role : Role) (format_of : Geometry → SectorFormat) (kep
   abbrev here : List (List ℕ)
   here = sectors_of d store.area
 
-  module _ (p : Placed) (reach : ℕ) (placed : IsPlaced (format_of (geometry_of d store.area)) (sectors_of d store.area) store.current p)
-      (others : let k = format_of (geometry_of d store.area) in let b = sector_at (sectors_of d store.area) p.sector in AreOthers k b reach (k.count b) p.id p.id) where
+  module _ (p : Placed) (placed : IsPlaced (format_of (geometry_of d store.area)) (sectors_of d store.area) store.current p) where
+    -- how many slots stand before it in its sector
+    abbrev n : ℕ
+    n = p.slot - k.first
+
+    low-on : store.current < length here
+    low-on = omega (arith, length-sectors d store.area, current_on role format_of kept d store law lawful on)
+
+    more : n < k.count (sector_at here p.sector)
+    more = let from = placed.listed.from in let listed = placed.listed.listed in omega arith
+
+    slot-at : k.first + n ≡ p.slot
+    slot-at = let from = placed.listed.from in omega arith
+
+    read-at : option_map (placed_at p.sector) (k.in_slot (sector_at here p.sector) (k.first + n)) ≡ Some p
+    read-at = ap (λ (m : ℕ). option_map (placed_at p.sector) (k.in_slot (sector_at here p.sector) m)) slot-at ∙ placed.listed.read
+
+    -- the entries behind an entry of its sector
+    at-slot : (m : ℕ) (q : Placed) → m < k.count (sector_at here p.sector) → option_map (placed_at p.sector) (k.in_slot (sector_at here p.sector) (k.first + m)) ≡ Some q
+        → AreBehind k here q (later_at k law here store.current p.sector (m + 1))
+    at-slot m q few read = stand_behind k law here store.current p.sector (sym on.current) low-on placed.listed.within placed.counts m few q read
+
+    none-at : (id : ℕ) → NoneLater k here store.current p id → last_of_id id (later_at k law here store.current p.sector (n + 1)) ≡ None
+    none-at id none = ap (last_of_id id) (sym (covered-is k law here store.current p.sector (n + 1) placed.counts)) ∙ none
+
+    last-at : (q : Placed) (later : List Placed) → AreBehind k here q later → last_of_id q.id later ≡ None → last_placed (slots k) here q.id ≡ Some q
+    last-at q later at none = own-last k here q later at ∙ ap (λ (o : Option Placed). option_or (option_or o (Some q)) (last_of (slots k) q.id at.prefix)) none
+
     -- it is the last of its id where none behind it has the id
-    pub value-last : reach ≤ p.slot - (format_of (geometry_of d store.area)).first + 1 → last_of_id p.id (behind (format_of (geometry_of d store.area)) (sectors_of d store.area) store.current p.sector) ≡ None
+    pub value-last : NoneLater (format_of (geometry_of d store.area)) (sectors_of d store.area) store.current p p.id
         → get (items_on format_of d store.area) p.id ≡ value_of (bytes_of (slots (format_of (geometry_of d store.area))) (sectors_of d store.area) p)
-    value-last last_here none =
-        let from = placed.listed.from in
-        let listed = placed.listed.listed in
-        let slot : p.slot ≡ k.first + (p.slot - k.first) = omega arith in
-        let more : p.slot - k.first < k.count (sector_at here p.sector) = omega arith in
-        let low : store.current < length here = omega (arith, length-sectors d store.area, current_on role format_of kept d store law lawful on) in
-        let read : option_map (placed_at p.sector) (k.in_slot (sector_at here p.sector) (k.first + (p.slot - k.first))) ≡ Some p =
-        ap (λ (m : ℕ). option_map (placed_at p.sector) (k.in_slot (sector_at here p.sector) m)) (sym slot) ∙ placed.listed.read in
-        let at : AreBehind k here p (later_at k law here store.current p.sector (p.slot - k.first + 1)) =
-        stand_behind k law here store.current p.sector (sym on.current) low placed.listed.within placed.counts (p.slot - k.first) more p read in
-        let given : last_of_id p.id (given_at k here store.current p.sector (p.slot - k.first + 1)) ≡ None =
-        none-from k here store.current p.id low p.sector (p.slot - k.first + 1) (omega arith) (λ slot over high. others slot (omega arith) high) ∙ none in
-        let free : last_of (slots k) p.id (later_at k law here store.current p.sector (p.slot - k.first + 1)) ≡ None =
-        ap (last_of_id p.id) (sym (covered-is k law here store.current p.sector (p.slot - k.first + 1) placed.counts)) ∙ given in
-        let last : last_placed (slots k) here p.id ≡ Some p =
-        own-last k here p (later_at k law here store.current p.sector (p.slot - k.first + 1)) at ∙ ap (λ (o : Option Placed). option_or (option_or o (Some p)) (last_of (slots k) p.id at.prefix)) free in
-        value_by role format_of kept d store law lawful on (Some p) p.id (sym last)
+    value-last none =
+        value_by role format_of kept d store law lawful on (Some p) p.id (sym (last-at p (later_at k law here store.current p.sector (n + 1)) (at-slot n p more read-at) (none-at p.id none)))
+
+    -- the entry in the slot before it is the last of its id where neither it nor one behind it has the id
+    pub last-before : (id slot : ℕ) (q : Placed) → (p.id ≡ id → ⊥) → NoneLater (format_of (geometry_of d store.area)) (sectors_of d store.area) store.current p id
+        → (format_of (geometry_of d store.area)).first < p.slot → slot ≡ p.slot - 1
+        → Some q ≡ option_map (placed_at p.sector) ((format_of (geometry_of d store.area)).in_slot (sector_at (sectors_of d store.area) p.sector) slot) → q.id ≡ id
+        → Some q ≡ last_placed (slots (format_of (geometry_of d store.area))) (sectors_of d store.area) id
+    last-before id slot q other none behind-first is found own =
+        let back : slot ≡ k.first + (n - 1) = omega arith in
+        let up : n - 1 + 1 ≡ n = omega arith in
+        let read : option_map (placed_at p.sector) (k.in_slot (sector_at here p.sector) (k.first + (n - 1))) ≡ Some q =
+        sym (found ∙ ap (λ (m : ℕ). option_map (placed_at p.sector) (k.in_slot (sector_at here p.sector) m)) back) in
+        let at : AreBehind k here q (later_at k law here store.current p.sector n) =
+        subst (λ (m : ℕ). AreBehind k here q (later_at k law here store.current p.sector m)) up (at-slot (n - 1) q (omega (arith, more)) read) in
+        let next : p ∷ later_at k law here store.current p.sector (n + 1) ≡ later_at k law here store.current p.sector n =
+        ap (λ (o : Option Placed). option_to_list o ++ later_at k law here store.current p.sector (n + 1)) (sym read-at) ∙ later_step k law here store.current p.sector n more in
+        let free : last_of_id id (later_at k law here store.current p.sector n) ≡ None =
+        ap (last_of_id id) (sym next) ∙ prefix-other id p (later_at k law here store.current p.sector (n + 1)) (ne_eqb p.id id other) ∙ none-at id none in
+        sym (ap (last_placed (slots k) here) (sym own) ∙ last-at q (later_at k law here store.current p.sector n) at (ap (λ (j : ℕ). last_of_id j (later_at k law here store.current p.sector n)) own ∙ free))
+
+    -- a search up to its sector is enough where none behind it has the id
+    pub last-up-to : (id : ℕ) → NoneLater (format_of (geometry_of d store.area)) (sectors_of d store.area) store.current p id
+        → last_of (slots (format_of (geometry_of d store.area))) id (flat_map (counted_in (slots (format_of (geometry_of d store.area))) (sectors_of d store.area) store.current) (places_before (length (sectors_of d store.area)) store.current p.sector ++ p.sector ∷ []))
+        ≡ last_placed (slots (format_of (geometry_of d store.area))) (sectors_of d store.area) id
+    last-up-to id none = up-to-enough k here store.current p.sector on.current low-on placed.listed.within id (later-behind k here store.current id low-on p none)
 
   module _ (ids : IdRange) (bytes : List ℕ) (place start : ℕ) (p : Placed) (inside : place < store.area.sectors) (low : (format_of (geometry_of d store.area)).first ≤ start)
       (holder : IsFirstHolder (format_of (geometry_of d store.area)) (sector_at (sectors_of d store.area) place) place ids bytes start p) where
@@ -213,7 +275,7 @@ module _ {T : Type 0} (role : Role) (format_of : Geometry → SectorFormat) (kep
       at (Some p) some own = (p, last_placed_on role format_of kept d store law lawful on (Some p) id (sym some), own, sym (value_by role format_of kept d store law lawful on (Some p) id (sym some)) ∙ has)
 
   -- no item has no bytes
-  pub no-empty : (least most : ℕ) (bytes : List ℕ) → length bytes ≡ 0 → IsIdOf least most (items_on format_of d store.area) bytes None
+  pub no-empty : (least most : ℕ) (bytes : List ℕ) → length bytes ≡ 0 → (id : ℕ) → ¬ HasBytes least most (items_on format_of d store.area) id bytes
   no-empty least most bytes none = λ id has.
       let last = item-last id bytes has.has in
       let given = given-bytes (bytes_of (slots k) here last.0) bytes last.3 in
@@ -223,7 +285,7 @@ module _ {T : Type 0} (role : Role) (format_of : Geometry → SectorFormat) (kep
   -- an item of the range has an entry that holds its bytes
   pub no-item : (ids : IdRange) (bytes : List ℕ) → ((place : ℕ) → place < store.area.sectors → let k = format_of (geometry_of d store.area) in let b = sector_at (sectors_of d store.area) place in
       NoneIsItem k b (items_on format_of d store.area) ids bytes k.first (k.first + k.count b))
-      → IsIdOf ids.least ids.most (items_on format_of d store.area) bytes None
+      → (id : ℕ) → ¬ HasBytes ids.least ids.most (items_on format_of d store.area) id bytes
   no-item ids bytes none = λ id has.
       let last = item-last id bytes has.has in
       let p : Placed = last.0 in

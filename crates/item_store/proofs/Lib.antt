@@ -34,7 +34,7 @@ pub mod RoomSteps
 mod RoundFacts
 mod RoundSteps
 mod SearchSteps
-mod SeenSteps
+pub mod SeenSteps
 mod SlotFacts
 mod Standings
 mod TableFacts

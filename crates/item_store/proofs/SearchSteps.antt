@@ -16,6 +16,7 @@ use Rattle.item_store.specs.declared.entry.Placed.{Placed}
 use Rattle.item_store.specs.Cached.{latest_of}
 use Rattle.item_store.specs.SectorFormat.{SectorFormat, IsSectorFormat, slots}
 use Rattle.item_store.specs.Latest.{last_of_id}
+use Rattle.item_store.specs.Seen.{behind}
 use Rattle.item_store.proofs.CacheSteps.{latest-none}
 use Rattle.item_store.proofs.LiveSteps.{elsewhere}
 
@@ -44,37 +45,40 @@ up-far count current place le =
 
 -- ---- no entry behind them has the id
 
-module _ (k : SectorFormat) (law : IsSectorFormat k) (sectors : List (List ℕ)) (current place id : ℕ) (is : current ≡ open_sector k.reading sectors) (low : current < length sectors) (high : place < length sectors)
-    (p : Placed) (latest : latest_of (id % 64) (all_placed (slots k) sectors) ≡ Some p) (at : p.sector ≡ place) where
+module _ (k : SectorFormat) (sectors : List (List ℕ)) (current place : ℕ) (is : current ≡ open_sector k.reading sectors) (low : current < length sectors) (high : place < length sectors) where
   abbrev prefix : List Placed
   prefix = flat_map (counted_in (slots k) sectors current) (places_before (length sectors) current place ++ place ∷ [])
 
-  abbrev tail : List Placed
-  tail = flat_map (counted_in (slots k) sectors current) (places_after (length sectors) current place)
-
-  all-split : all_placed (slots k) sectors ≡ prefix ++ tail
+  all-split : all_placed (slots k) sectors ≡ prefix ++ behind k sectors current place
   all-split =
       ap (λ (j : ℕ). flat_map (counted_in (slots k) sectors j) (round (length sectors) j)) (sym is)
       ∙ ap (flat_map (counted_in (slots k) sectors current)) ((round-at (length sectors) current place low high).split ∙ sym (append_assoc (places_before (length sectors) current place) (place ∷ []) (places_after (length sectors) current place)))
       ∙ flat_map-append (counted_in (slots k) sectors current) (places_before (length sectors) current place ++ place ∷ []) (places_after (length sectors) current place)
 
-  none-behind : latest_of (id % 64) tail ≡ None
-  none-behind =
-      elim (option_cases (latest_of (id % 64) tail)) [
-        | inl none ↦ none
-        | inr (q, some) ↦
-            let found : latest_of (id % 64) (all_placed (slots k) sectors) ≡ Some q =
-            ap (latest_of (id % 64)) all-split ∙ last-append (λ (r : Placed). eqb (r.id % 64) (id % 64)) prefix tail ∙ ap (λ (o : Option Placed). option_or o (latest_of (id % 64) prefix)) some in
-            let same : q ≡ p = same_some q p (sym found ∙ latest) in
-            let apart : q.sector ≡ place → ⊥ =
-            subst (λ (o : Option Placed). IfSome o (λ r. r.sector ≡ place → ⊥)) some
-            (last-all (λ (r : Placed). eqb (r.id % 64) (id % 64)) (λ (r : Placed). r.sector ≡ place → ⊥) tail None tt (elsewhere k law sectors current place (places_after (length sectors) current place) (round-at (length sectors) current place low high).behind)) in
-            absurd (apart (ap (λ (r : Placed). r.sector) same ∙ at))
-      ]
-    where
-      same_some : (x y : Placed) → Some x ≡ Some y → x ≡ y
-      same_some x y e = cc
+  -- a search up to this sector is enough
+  pub up-to-enough : (id : ℕ) → last_of_id id (behind k sectors current place) ≡ None
+      → last_of (slots k) id (flat_map (counted_in (slots k) sectors current) (places_before (length sectors) current place ++ place ∷ [])) ≡ last_placed (slots k) sectors id
+  up-to-enough id none =
+      sym (ap (last_of_id id) all-split ∙ last-append (λ (r : Placed). eqb r.id id) prefix (behind k sectors current place) ∙ ap (λ (o : Option Placed). option_or o (last_of_id id prefix)) none)
 
-  pub search-enough : last_of (slots k) id (flat_map (counted_in (slots k) sectors current) (places_before (length sectors) current place ++ place ∷ [])) ≡ last_placed (slots k) sectors id
-  search-enough =
-      sym (ap (last_of_id id) all-split ∙ last-append (λ (r : Placed). eqb r.id id) prefix tail ∙ ap (λ (o : Option Placed). option_or o (last_of_id id prefix)) (latest-none id tail none-behind))
+  -- the latest entry of the id's cache slot stands in it
+  module _ (law : IsSectorFormat k) (id : ℕ) (p : Placed) (latest : latest_of (id % 64) (all_placed (slots k) sectors) ≡ Some p) (at : p.sector ≡ place) where
+    none-behind : latest_of (id % 64) (behind k sectors current place) ≡ None
+    none-behind =
+        elim (option_cases (latest_of (id % 64) (behind k sectors current place))) [
+          | inl none ↦ none
+          | inr (q, some) ↦
+              let found : latest_of (id % 64) (all_placed (slots k) sectors) ≡ Some q =
+              ap (latest_of (id % 64)) all-split ∙ last-append (λ (r : Placed). eqb (r.id % 64) (id % 64)) prefix (behind k sectors current place) ∙ ap (λ (o : Option Placed). option_or o (latest_of (id % 64) prefix)) some in
+              let same : q ≡ p = same_some q p (sym found ∙ latest) in
+              let apart : q.sector ≡ place → ⊥ =
+              subst (λ (o : Option Placed). IfSome o (λ r. r.sector ≡ place → ⊥)) some
+              (last-all (λ (r : Placed). eqb (r.id % 64) (id % 64)) (λ (r : Placed). r.sector ≡ place → ⊥) (behind k sectors current place) None tt (elsewhere k law sectors current place (places_after (length sectors) current place) (round-at (length sectors) current place low high).behind)) in
+              absurd (apart (ap (λ (r : Placed). r.sector) same ∙ at))
+        ]
+      where
+        same_some : (x y : Placed) → Some x ≡ Some y → x ≡ y
+        same_some x y e = cc
+
+    pub search-enough : last_of (slots k) id (flat_map (counted_in (slots k) sectors current) (places_before (length sectors) current place ++ place ∷ [])) ≡ last_placed (slots k) sectors id
+    search-enough = up-to-enough id (latest-none id (behind k sectors current place) none-behind)

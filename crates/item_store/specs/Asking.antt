@@ -1,12 +1,13 @@
 -- The least of some bytes that are greater than others, and items by entries that hold their bytes.
-use Rattle.std.specs.Prelude.{◌≡◌, ℕ, ◌+◌, ◌<◌, ◌≤◌, Bool, true, ◌&&◌, List, Option, Some, None, if◌then◌else◌}
+use Rattle.std.specs.Prelude.{◌≡◌, ℕ, ◌+◌, ◌<◌, ◌≤◌, Bool, true, ◌&&◌, List, Option, Some, None, option_map, if◌then◌else◌}
 use Rattle.std.specs.FinMap.{get}
 use Rattle.std.specs.Ordering.{nat_cmp, is_lt}
 use Rattle.std.specs.Cmp.Lexicographic.{slice_cmp}
-use Rattle.item_laws.specs.Bytes.{is_behind, HasBytes}
+use Rattle.item_laws.specs.Bytes.{is_behind, IsIdOf}
 use Rattle.item_laws.specs.Items.{Items}
 use Rattle.item_store.specs.declared.entry.Entry.{Entry}
 use Rattle.item_store.specs.declared.entry.IdRange.{IdRange}
+use Rattle.item_store.specs.declared.holding.Holder.{Holder}
 use Rattle.item_store.specs.Holding.{Holds}
 use Rattle.item_store.specs.SectorFormat.{SectorFormat}
 
@@ -29,7 +30,21 @@ NoneIsItem k b items ids bytes from to =
     (slot : ℕ) (e : Entry) → from ≤ slot → slot < to → k.in_slot b slot ≡ Some e → Holds k b ids bytes e
     → get items e.id ≡ Some bytes → ⊥
 
--- an id of the range whose item has these bytes; none if no entry of the sector gives its item them
-abbrev pub FindsItem : SectorFormat → List ℕ → Items → IdRange → List ℕ → Option ℕ → Type 0
-FindsItem k b items ids bytes None = NoneIsItem k b items ids bytes k.first (k.first + k.count b)
-FindsItem k b items ids bytes (Some id) = HasBytes ids.least ids.most items id bytes
+-- an id of the range whose item has these bytes, with the item a step above it; none if no item has
+abbrev pub IsHolderOf : IdRange → ℕ → Items → List ℕ → Option Holder → Type 0
+IsHolderOf ids step items bytes None = IsIdOf ids.least ids.most items bytes None
+IsHolderOf ids step items bytes (Some holder) =
+    IsIdOf ids.least ids.most items bytes (Some holder.id)
+    × (option_map (λ above. above.now) holder.above ≡ get items (holder.id + step))
+
+-- the same by the entries of one sector: none if no entry of the sector gives its item these bytes
+abbrev pub FindsHolderIn : SectorFormat → List ℕ → Items → IdRange → ℕ → List ℕ → Option Holder → Type 0
+FindsHolderIn k b items ids step bytes None = NoneIsItem k b items ids bytes k.first (k.first + k.count b)
+FindsHolderIn k b items ids step bytes (Some holder) = IsHolderOf ids step items bytes (Some holder)
+
+-- the item of this id, which has these bytes, with the item a step above it; none if it does not
+abbrev pub IsHolderAt : ℕ → ℕ → Items → List ℕ → Option Holder → Type 0
+IsHolderAt id step items bytes None = ¬ (get items id ≡ Some bytes)
+IsHolderAt id step items bytes (Some holder) =
+    (holder.id ≡ id) × (get items id ≡ Some bytes)
+    × (option_map (λ above. above.now) holder.above ≡ get items (id + step))

@@ -7,7 +7,8 @@ ghost use Rattle.item_store.specs.Listed.{format_on};
 ghost use Rattle.item_store.specs.Standing.{IsStoreArea};
 
 use crate::entry::Placed;
-use crate::noting::{Notes, note_all, note_sector};
+use crate::notes::Notes;
+use crate::noting::note_all;
 use crate::open_area::OpenArea;
 use crate::sectors::SlotSectors;
 use flash_map::Area;
@@ -61,5 +62,5 @@ pub fn follow_round<T: SlotSectors, F: Flash, L: Ledger>(
 {
     let victim = area.next(newest);
     cache.forget_sector(victim);
-    note_sector::<T, Cache, F, L>(flash, area, newest, cache, steps);
+    T::note_sector(flash, area, newest, cache, steps);
 }

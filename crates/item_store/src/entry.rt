@@ -1,4 +1,4 @@
-// Entries at their places, ranges of ids, and what a mount has to do.
+// Entries at their places, ranges and pairs of ids, and what a mount has to do.
 
 /// An entry of a sector's list. The format of the sector says where its bytes lie.
 #[derive(Clone, Copy, Debug, PartialEq, Eq)]
@@ -31,6 +31,24 @@ pub struct IdRange {
     pub least: u32,
     /// The last id of the range.
     pub most: u32,
+}
+
+/// An id and one above it: that of a name and that of its value, say.
+#[derive(Clone, Copy)]
+pub struct IdPair {
+    /// The id.
+    pub lower: u32,
+    /// The id above it.
+    pub upper: u32,
+}
+
+/// Which of two ids some slots may have. `false` rules an id out; `true` promises nothing.
+#[derive(Clone, Copy)]
+pub struct MayHave {
+    /// Whether a slot may have the lower id.
+    pub lower: bool,
+    /// Whether a slot may have the upper id.
+    pub upper: bool,
 }
 
 /// What a mount has to do before the area is at rest.

@@ -1,6 +1,7 @@
 // The least free id of a range, by one walk over the list that notes a bit for each candidate.
 ghost use Rattle.std.specs.Prelude.{◌≡◌, ◌+◌, ◌<◌, ◌≤◌, ◌&&◌, ◌==◌, ℕ, [], not, if◌then◌else◌};
 ghost use Rattle.item_store.specs.OnSector.{IsOpenAt};
+ghost use Rattle.item_store.specs.declared.free.TheConstants.{MOST_CANDIDATES};
 ghost use Rattle.item_store.specs.Free.{is_unmarked, HasMarks, HasTaken, IsFirstUnmarked, IsLeastFree};
 ghost use Rattle.item_store.specs.Listed.{entries_on, items_on};
 ghost use Rattle.item_store.specs.Seen.{has_bit};
@@ -8,19 +9,21 @@ ghost use Rattle.item_store.specs.Stands.{StandsOn};
 
 use crate::bits::{has_bit, put_bit};
 use crate::entry::{IdRange, Placed};
-use crate::noting::{Notes, note_all};
+use crate::notes::Notes;
+use crate::noting::note_all;
 use crate::open_area::OpenArea;
 use crate::sectors::SlotSectors;
 use crate::store::Store;
 use flash_sim::{Flash, Steps};
 use std::sync::ledger::Ledger;
 
-// The most ids of a range.
-const MOST_CANDIDATES: u64 = 512;
+/// The most ids of a range.
+pub const MOST_CANDIDATES: u32 = 512;
+
 // A bit for each of them.
 const BYTES: usize = 64;
 
-/// A bit for each of 512 ids: whether it has an item.
+/// A bit for each of `MOST_CANDIDATES` ids: whether it has an item.
 #[derive(Drop)]
 pub struct Marks {
     // the id of the first bit
@@ -40,10 +43,10 @@ impl Marks {
         }
     }
 
-    // Notes whether an id has an item, if it is one of the 512.
+    // Notes whether an id has an item, if it is one of these.
     fn note(&mut self, id: u32, has_item: bool)
         ensures first { self.new.first ≡ self.old.first }
-        ensures bits { (n : ℕ) → n < 512
+        ensures bits { (n : ℕ) → n < MOST_CANDIDATES
             → has_bit self.new.bits n
             ≡ (if id == self.old.first + n then has_item else has_bit self.old.bits n) }
     {
@@ -52,7 +55,7 @@ impl Marks {
             return;
         }
         let n = id - self.first;
-        if n >= MOST_CANDIDATES {
+        if n >= u64::from(MOST_CANDIDATES) {
             return;
         }
         put_bit(&mut self.bits, n as u32, has_item);
@@ -92,7 +95,7 @@ impl Taken {
 
     // Whether neither the id so far above the least one nor the one a step above it has an item.
     fn is_free(&self, n: u32) -> bool
-        requires { n < 512 }
+        requires { n < MOST_CANDIDATES }
         ensures { result ≡ is_unmarked self.now n }
     {
         !has_bit(&self.lower.bits, n) && !has_bit(&self.upper.bits, n)
@@ -100,7 +103,7 @@ impl Taken {
 
     // How far the least free id of the first `count` is above the least one of all.
     fn first_free(&self, count: u32) -> Option<u32>
-        requires { count ≤ 512 }
+        requires { count ≤ MOST_CANDIDATES }
         ensures { IsFirstUnmarked self.now count result }
     {
         for n in 0..count {
@@ -114,7 +117,7 @@ impl Taken {
 
 impl<T: SlotSectors> Store<T> {
     /// The least id of the range that has no item, and whose id `step` above it has none; `None` if
-    /// there is none. The range has at most 512 ids. This takes one walk over the list.
+    /// there is none. The range has at most `MOST_CANDIDATES` ids. This takes one walk over the list.
     pub fn least_free<F: Flash, L: Ledger>(
         &self,
         flash: &F,
@@ -123,7 +126,7 @@ impl<T: SlotSectors> Store<T> {
         steps: &mut Steps<L>,
     ) -> Option<u32>
         requires stands { StandsOn T.role T.format_of T.kept (F.device flash.now) self.now }
-        requires range { ids.now.most < ids.now.least + 512 }
+        requires range { ids.now.most < ids.now.least + MOST_CANDIDATES }
         ensures { IsLeastFree ids.now step
             (items_on T.format_of (F.device flash.now) self.now.area) result }
     {

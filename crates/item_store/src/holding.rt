@@ -1,50 +1,72 @@
 // Looking for an item by its bytes: ids and bytes are compared before CRCs.
-ghost use Rattle.std.specs.Prelude.{◌≡◌, ◌<◌, ◌≤◌, ◌^◌, true, false, Some, None, length};
+ghost use Rattle.std.specs.Prelude.{◌≡◌, ◌+◌, ◌<◌, ◌^◌, ◌||◌, true, false, Some, length, option_map};
 ghost use Rattle.std.specs.FinMap as map;
 ghost use Rattle.flash_map.specs.Area.{sectors_of};
-ghost use Rattle.item_laws.specs.Bytes.{IsIdOf};
 ghost use Rattle.item_laws.specs.Items.{value_of};
-ghost use Rattle.item_laws.specs.Live.{bytes_of};
-ghost use Rattle.item_store.specs.Asking.{FindsItem};
-ghost use Rattle.item_store.specs.Latest.{last_of_id};
+ghost use Rattle.item_laws.specs.Live.{bytes_of, last_placed};
+ghost use Rattle.item_store.specs.Asking.{FindsHolderIn, IsHolderAt, IsHolderOf};
+ghost use Rattle.item_store.specs.Holding.{NoneLater, RulesOutBehind, RulesOutLater};
 ghost use Rattle.item_store.specs.Listed.{format_on, items_on, IsPlacedOn};
 ghost use Rattle.item_store.specs.OnSector.{sector_on, IsOpenAt};
-ghost use Rattle.item_store.specs.Seen.{behind};
 ghost use Rattle.item_store.specs.SectorFormat.{slots};
 ghost use Rattle.item_store.specs.Stands.{StandsOn};
 
-use crate::entry::{IdRange, Placed};
+use crate::entry::{IdPair, IdRange, MayHave, Placed};
 use crate::lookup::find;
 use crate::open_area::OpenArea;
+use crate::searching::find_up_to;
 use crate::sectors::SlotSectors;
 use crate::store::Store;
 use flash_sim::{Flash, Steps};
 use std::sync::ledger::Ledger;
 
-// `true` only if no entry in the sectors behind a place, in the round to the open one, has the id.
-// It reads the id fields alone.
-fn has_none_behind<T: SlotSectors, F: Flash, L: Ledger>(
+/// An item that has the bytes that were looked for, and the item a step above it.
+#[derive(Clone, Copy)]
+pub struct Holder<'a> {
+    /// The id of the item.
+    pub id: u32,
+    /// The bytes of the item a step above it; `None` if that id has no item.
+    pub above: Option<&'a [u8]>,
+}
+
+impl MayHave {
+    // What neither of two answers rules out.
+    fn or(self, other: MayHave) -> MayHave
+        ensures lower { result.lower ≡ (self.lower || other.lower) }
+        ensures upper { result.upper ≡ (self.upper || other.upper) }
+    {
+        MayHave {
+            lower: self.lower || other.lower,
+            upper: self.upper || other.upper,
+        }
+    }
+}
+
+// Which of two ids the entries in the sectors behind a place, in the round to the open one, may
+// have.
+fn may_have_behind<T: SlotSectors, F: Flash, L: Ledger>(
     flash: &F,
     on: &OpenArea<'_, T>,
     place: u32,
-    id: u32,
+    ids: &IdPair,
     steps: &mut Steps<L>,
-) -> bool
+) -> MayHave
     requires on { IsOpenAt T.role T.format_of T.kept (F.device flash.now) on.now }
     requires inside { place < on.now.area.now.sectors }
     ensures { let d = F.device flash.now in let area = on.now.area.now in
-        result ≡ true
-        → last_of_id id
-        (behind (format_on T.format_of d area) (sectors_of d area) on.now.current place) ≡ None }
+        RulesOutBehind (format_on T.format_of d area) (sectors_of d area) on.now.current place
+        ids.now result }
 {
+    let mut may = MayHave {
+        lower: false,
+        upper: false,
+    };
     let mut at = place;
     while at != on.current {
         at = on.area.next(at);
-        if T::may_have(flash, on.area, at, 0, id, steps) {
-            return false;
-        }
+        may = may.or(T::may_have(flash, on.area, at, 0, ids, steps));
     }
-    true
+    may
 }
 
 impl<T: SlotSectors> Store<T> {
@@ -79,12 +101,42 @@ impl<T: SlotSectors> Store<T> {
         }
     }
 
+    // Which of two ids the entries behind this one may have.
+    fn may_have_later<F: Flash, L: Ledger>(
+        &self,
+        flash: &F,
+        holder: &Placed,
+        ids: &IdPair,
+        steps: &mut Steps<L>,
+    ) -> MayHave
+        requires stands { StandsOn T.role T.format_of T.kept (F.device flash.now) self.now }
+        requires placed { IsPlacedOn T.format_of (F.device flash.now) self.now.area self.now.current
+            holder.now }
+        requires small { holder.now.slot < 2 ^ 16 }
+        ensures { let d = F.device flash.now in
+            RulesOutLater (format_on T.format_of d self.now.area) (sectors_of d self.now.area)
+            self.now.current holder.now ids.now result }
+    {
+        let on = OpenArea {
+            area: &self.area,
+            current: self.current,
+            opened: self.opened,
+        };
+        let up_to = holder.slot - T::first_slot() + 1;
+        let here = T::may_have(flash, &self.area, holder.sector, up_to, ids, steps);
+        if here.lower && here.upper {
+            return here;
+        }
+        here.or(may_have_behind(flash, &on, holder.sector, ids, steps))
+    }
+
     // Whether the item of an entry's id has the bytes that the entry gives it. The list is searched
     // only if an entry behind this one may have the id.
     fn gives_item<F: Flash, L: Ledger>(
         &self,
         flash: &F,
         holder: &Placed,
+        may_be_later: bool,
         bytes: &[u8],
         steps: &mut Steps<L>,
     ) -> bool
@@ -95,7 +147,10 @@ impl<T: SlotSectors> Store<T> {
             value_of
             (bytes_of (slots (format_on T.format_of d self.now.area)) (sectors_of d self.now.area)
             holder.now) ≡ Some bytes.now }
-        requires small { holder.now.slot < 2 ^ 16 }
+        requires none { let d = F.device flash.now in
+            may_be_later ≡ false
+            → NoneLater (format_on T.format_of d self.now.area) (sectors_of d self.now.area)
+            self.now.current holder.now holder.now.id }
         ensures yes_it { result ≡ true
             → map.get (items_on T.format_of (F.device flash.now) self.now.area) holder.now.id
             ≡ Some bytes.now }
@@ -103,38 +158,141 @@ impl<T: SlotSectors> Store<T> {
             → map.get (items_on T.format_of (F.device flash.now) self.now.area) holder.now.id
             ≡ Some bytes.now → ⊥ }
     {
+        if !may_be_later {
+            return true;
+        }
         let on = OpenArea {
             area: &self.area,
             current: self.current,
             opened: self.opened,
         };
-        let up_to = holder.slot - T::first_slot() + 1;
-        let is_last_here = !T::may_have(flash, &self.area, holder.sector, up_to, holder.id, steps);
-        if is_last_here && has_none_behind(flash, &on, holder.sector, holder.id, steps) {
-            return true;
-        }
         match find(flash, &on, holder.id, steps) {
             Some(last) => self.has_bytes(flash, &last, bytes, steps),
             None => false,
         }
     }
 
-    // An id of the range whose item has these bytes, by the entries of one sector that hold them.
-    // Of several in a row with one id, the first decides.
-    fn id_in<F: Flash, L: Ledger>(
+    // The last entry of another id. If no entry behind this one may have it, the slot before is
+    // looked at first: there a new name has its value.
+    fn last_near<F: Flash, L: Ledger>(
         &self,
         flash: &F,
-        place: u32,
-        ids: &IdRange,
+        holder: &Placed,
+        may_be_later: bool,
+        id: u32,
+        steps: &mut Steps<L>,
+    ) -> Option<Placed>
+        requires stands { StandsOn T.role T.format_of T.kept (F.device flash.now) self.now }
+        requires placed { IsPlacedOn T.format_of (F.device flash.now) self.now.area self.now.current
+            holder.now }
+        requires other { holder.now.id ≡ id → ⊥ }
+        requires none { let d = F.device flash.now in
+            may_be_later ≡ false
+            → NoneLater (format_on T.format_of d self.now.area) (sectors_of d self.now.area)
+            self.now.current holder.now id }
+        ensures { let d = F.device flash.now in let area = self.now.area in
+            result ≡ last_placed (slots (format_on T.format_of d area)) (sectors_of d area) id }
+    {
+        let on = OpenArea {
+            area: &self.area,
+            current: self.current,
+            opened: self.opened,
+        };
+        if may_be_later {
+            return find(flash, &on, id, steps);
+        }
+        if holder.slot > T::first_slot() {
+            let slot = holder.slot - 1;
+            if let Some(placed) = T::entry_in(flash, &self.area, holder.sector, slot, steps) {
+                if placed.id == id {
+                    return Some(placed);
+                }
+            }
+        }
+        find_up_to(flash, &on, holder.sector, id, steps)
+    }
+
+    // The bytes of the item of another id, in the same way.
+    fn item_near<'a, F: Flash, L: Ledger>(
+        &self,
+        flash: &'a F,
+        holder: &Placed,
+        may_be_later: bool,
+        id: u32,
+        steps: &mut Steps<L>,
+    ) -> Option<&'a [u8]>
+        requires stands { StandsOn T.role T.format_of T.kept (F.device flash.now) self.now }
+        requires placed { IsPlacedOn T.format_of (F.device flash.now) self.now.area self.now.current
+            holder.now }
+        requires other { holder.now.id ≡ id → ⊥ }
+        requires none { let d = F.device flash.now in
+            may_be_later ≡ false
+            → NoneLater (format_on T.format_of d self.now.area) (sectors_of d self.now.area)
+            self.now.current holder.now id }
+        ensures { option_map (λ bytes. bytes.now) result
+            ≡ map.get (items_on T.format_of (F.device flash.now) self.now.area) id }
+    {
+        let placed = self.last_near(flash, holder, may_be_later, id, steps)?;
+        self.bytes_at(flash, &placed, steps)
+    }
+
+    // The item of an entry that holds the bytes, and the item a step above it; `None` if the item
+    // of the id does not have these bytes.
+    fn holder_at<'a, F: Flash, L: Ledger>(
+        &self,
+        flash: &'a F,
+        holder: &Placed,
+        step: u32,
         bytes: &[u8],
         steps: &mut Steps<L>,
-    ) -> Option<u32>
+    ) -> Option<Holder<'a>>
+        requires stands { StandsOn T.role T.format_of T.kept (F.device flash.now) self.now }
+        requires placed { IsPlacedOn T.format_of (F.device flash.now) self.now.area self.now.current
+            holder.now }
+        requires holds { let d = F.device flash.now in
+            value_of
+            (bytes_of (slots (format_on T.format_of d self.now.area)) (sectors_of d self.now.area)
+            holder.now) ≡ Some bytes.now }
+        requires small { holder.now.slot < 2 ^ 16 }
+        requires step { 0 < step }
+        requires top { holder.now.id + step < 2 ^ 32 }
+        ensures { IsHolderAt holder.now.id step
+            (items_on T.format_of (F.device flash.now) self.now.area) bytes.now result }
+    {
+        let ids = IdPair {
+            lower: holder.id,
+            upper: holder.id + step,
+        };
+        let may = self.may_have_later(flash, holder, &ids, steps);
+        if !self.gives_item(flash, holder, may.lower, bytes, steps) {
+            return None;
+        }
+        let above = self.item_near(flash, holder, may.upper, ids.upper, steps);
+        Some(Holder {
+            id: holder.id,
+            above,
+        })
+    }
+
+    // An id of the range whose item has these bytes, by the entries of one sector that hold them,
+    // and the item a step above it. Of several in a row with one id, the first decides.
+    fn holder_in<'a, F: Flash, L: Ledger>(
+        &self,
+        flash: &'a F,
+        place: u32,
+        ids: &IdRange,
+        step: u32,
+        bytes: &[u8],
+        steps: &mut Steps<L>,
+    ) -> Option<Holder<'a>>
         requires stands { StandsOn T.role T.format_of T.kept (F.device flash.now) self.now }
         requires inside { place < self.now.area.sectors }
         requires some_bytes { 0 < length bytes.now }
+        requires step { 0 < step }
+        requires top { ids.now.most + step < 2 ^ 32 }
         ensures { let d = F.device flash.now in
-            FindsItem (format_on T.format_of d self.now.area) (sector_on d self.now.area place)
-            (items_on T.format_of d self.now.area) ids.now bytes.now result }
+            FindsHolderIn (format_on T.format_of d self.now.area) (sector_on d self.now.area place)
+            (items_on T.format_of d self.now.area) ids.now step bytes.now result }
     {
         let first = T::first_slot();
         let mut skipped = 0;
@@ -143,8 +301,9 @@ impl<T: SlotSectors> Store<T> {
             flash, &self.area, place, skipped, ids, bytes, steps,
         ) {
             if dead != Some(holder.id) {
-                if self.gives_item(flash, &holder, bytes, steps) {
-                    return Some(holder.id);
+                let found = self.holder_at(flash, &holder, step, bytes, steps);
+                if found.is_some() {
+                    return found;
                 }
                 dead = Some(holder.id);
             }
@@ -153,29 +312,30 @@ impl<T: SlotSectors> Store<T> {
         None
     }
 
-    /// An id from `least` to `most` whose item has these bytes; any of them if several have, `None`
-    /// if none has. It looks at each entry once, and compares ids and bytes before CRCs. An entry
-    /// that holds the bytes is checked against the id fields behind it; the list is searched only
-    /// if one of these may have its id.
-    pub fn id_of<F: Flash, L: Ledger>(
+    /// An id of the range whose item has these bytes, with the item `step` above it; any of them if
+    /// several have, `None` if none has. It searches sector after sector, and compares ids and
+    /// bytes before CRCs. It then reads the ids behind an entry that holds the bytes. The list is
+    /// searched only for an id that these may have, and for the item above if that does not stand
+    /// in the slot before the entry.
+    pub fn holder_of<'a, F: Flash, L: Ledger>(
         &self,
-        flash: &F,
-        least: u32,
-        most: u32,
+        flash: &'a F,
+        ids: &IdRange,
+        step: u32,
         bytes: &[u8],
         steps: &mut Steps<L>,
-    ) -> Option<u32>
+    ) -> Option<Holder<'a>>
         requires stands { StandsOn T.role T.format_of T.kept (F.device flash.now) self.now }
-        ensures { IsIdOf least most (items_on T.format_of (F.device flash.now) self.now.area)
-            bytes.now
-            result }
+        requires step { 0 < step }
+        requires top { ids.now.most + step < 2 ^ 32 }
+        ensures { IsHolderOf ids.now step (items_on T.format_of (F.device flash.now) self.now.area)
+            bytes.now result }
     {
         if bytes.is_empty() {
             return None;
         }
-        let ids = IdRange { least, most };
         for place in 0..self.area.sectors {
-            let found = self.id_in(flash, place, &ids, bytes, steps);
+            let found = self.holder_in(flash, place, ids, step, bytes, steps);
             if found.is_some() {
                 return found;
             }

@@ -19,6 +19,7 @@ mod latest;
 pub mod laws;
 mod live;
 mod lookup;
+mod notes;
 mod noting;
 mod open_area;
 mod reading;
@@ -32,8 +33,11 @@ mod walking;
 #[tactic(auto, using(flash_map::proofs::Touches::then))]
 mod writing;
 
-pub use entry::{Entry, IdRange, Placed, Redo};
+pub use entry::{Entry, IdPair, IdRange, MayHave, Placed, Redo};
+pub use free::MOST_CANDIDATES;
+pub use holding::Holder;
 pub use lasts::MOST_IDS;
 pub use latest::LastSlots;
+pub use notes::Notes;
 pub use sectors::SlotSectors;
 pub use store::Store;

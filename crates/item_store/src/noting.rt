@@ -1,82 +1,19 @@
 // Noting the entries of the list, sector by sector.
-ghost use Rattle.std.specs.Prelude.{◌-◌, ◌<◌, ◌≤◌, ℕ, List, [], ◌∷◌, ◌++◌, map};
+ghost use Rattle.std.specs.Prelude.{◌-◌, ◌<◌, ◌≤◌, ℕ, List, [], ◌++◌};
 ghost use Rattle.std.specs.List.{flat_map, range_with_len};
-ghost use Rattle.std.specs.Option.{option_map, option_to_list};
 ghost use Rattle.flash_map.specs.Area.{sectors_of};
 ghost use Rattle.item_laws.specs.Live.{counted_in};
-ghost use Rattle.item_store.specs.OnSector.{sector_on, IsKeptAt, IsOpenAt};
+ghost use Rattle.item_store.specs.OnSector.{IsKeptAt, IsOpenAt};
 ghost use Rattle.item_store.specs.declared.entry.Placed.{Placed as PlacedEntry};
-ghost use Rattle.item_store.specs.SectorFormat.{placed_at, slots};
-ghost use Rattle.item_store.specs.Listed.{format_on, entries_on, HasSlotOn};
-ghost use Rattle.item_store.specs.Standing.{IsStoreArea};
+ghost use Rattle.item_store.specs.SectorFormat.{slots};
+ghost use Rattle.item_store.specs.Listed.{format_on, entries_on};
 
-use crate::entry::Placed;
 use crate::lookup::counts;
+use crate::notes::Notes;
 use crate::open_area::OpenArea;
 use crate::sectors::SlotSectors;
-use flash_map::Area;
 use flash_sim::{Flash, Steps};
 use std::sync::ledger::Ledger;
-
-/// Notes on entries, taken one after the other.
-pub trait Notes {
-    /// From this state on these entries were noted, which gave that state. Their ids are below the
-    /// limit.
-    ghost noted: { Self → ℕ → Self → List PlacedEntry → Type 0 };
-
-    /// Notes one more entry, behind those noted so far.
-    fn note(&mut self, placed: &Placed)
-        ensures { (start : Self) (limit : ℕ) (before : List PlacedEntry) → placed.now.id < limit
-            → noted start limit self.old before
-            → noted start limit self.new (before ++ placed.now ∷ []) };
-}
-
-// Notes the entry in a slot, if there is one.
-fn note_slot<T: SlotSectors, N: Notes, F: Flash, L: Ledger>(
-    flash: &F,
-    area: &Area,
-    place: u32,
-    slot: u32,
-    notes: &mut N,
-    steps: &mut Steps<L>,
-)
-    requires area { IsStoreArea T.role (F.device flash.now).banks area.now }
-    requires inside { place < area.now.sectors }
-    requires listed { HasSlotOn T.format_of (F.device flash.now) area.now place slot }
-    ensures { let d = F.device flash.now in let k = format_on T.format_of d area.now in
-        (start : N) (before : List PlacedEntry) → N.noted start k.ids notes.old before
-        → N.noted start k.ids notes.new
-        (before
-        ++ option_to_list
-        (option_map (placed_at place) (k.in_slot (sector_on d area.now place) slot))) }
-{
-    match T::entry_in(flash, area, place, slot, steps) {
-        Some(placed) => notes.note(&placed),
-        None => {}
-    }
-}
-
-/// Notes the entries of a sector.
-pub fn note_sector<T: SlotSectors, N: Notes, F: Flash, L: Ledger>(
-    flash: &F,
-    area: &Area,
-    place: u32,
-    notes: &mut N,
-    steps: &mut Steps<L>,
-)
-    requires area { IsStoreArea T.role (F.device flash.now).banks area.now }
-    requires inside { place < area.now.sectors }
-    ensures { let d = F.device flash.now in let k = format_on T.format_of d area.now in
-        (start : N) (before : List PlacedEntry) → N.noted start k.ids notes.old before
-        → N.noted start k.ids notes.new
-        (before ++ map (placed_at place) ((slots k).entries (sector_on d area.now place))) }
-{
-    let slots = T::slots(flash, area, place, steps);
-    let first = T::first_slot();
-    for slot in first..first + slots {
-        note_slot::<T, N, F, L>(flash, area, place, slot, notes, steps);
-    }
-}
 
 // Notes the entries of a sector if it counts with `current` open.
 fn note_counting<T: SlotSectors, N: Notes, F: Flash, L: Ledger>(
@@ -95,7 +32,7 @@ fn note_counting<T: SlotSectors, N: Notes, F: Flash, L: Ledger>(
         (before ++ counted_in (slots k) (sectors_of d area) on.now.current place) }
 {
     if counts(flash, on, place, steps) {
-        note_sector::<T, N, F, L>(flash, on.area, place, notes, steps);
+        T::note_sector(flash, on.area, place, notes, steps);
     }
 }
 

@@ -1,5 +1,5 @@
 // The trait of a sector format.
-ghost use Rattle.std.specs.Prelude.{◌≡◌, ℕ, ◌+◌, ◌*◌, ◌^◌, ◌<◌, ◌≤◌, ◌∷◌, [], false, List, length, Some, None, is_err, Option, IfOk, IfErr, IfSome, IsTrue, OnOk, OnErr};
+ghost use Rattle.std.specs.Prelude.{◌≡◌, ℕ, ◌+◌, ◌*◌, ◌^◌, ◌<◌, ◌≤◌, ◌∷◌, [], ◌++◌, false, List, length, map, Some, None, is_err, Option, IfOk, IfErr, IfSome, IsTrue, OnOk, OnErr};
 ghost use Rattle.std.specs.Option.{option_map};
 ghost use Rattle.flash_map.specs.declared.area.Geometry.{Geometry as geometry_type};
 ghost use Rattle.flash_map.specs.declared.area.Role.{Role as role_type};
@@ -9,13 +9,15 @@ ghost use Rattle.flash_map.specs.Units.{IsUnit};
 ghost use Rattle.item_laws.specs.Area.{is_closed_at};
 ghost use Rattle.item_laws.specs.Live.{last_in, bytes_of};
 ghost use Rattle.item_store.specs.SectorFormat.{SectorFormat, IsSectorFormat, placed_at, slots, fits};
-ghost use Rattle.item_store.specs.Holding.{FindsBytes};
+ghost use Rattle.item_store.specs.declared.entry.Placed.{Placed as PlacedEntry};
+ghost use Rattle.item_store.specs.Holding.{FindsBytes, RulesOut};
 ghost use Rattle.item_store.specs.Lasts.{AreOthers};
 ghost use Rattle.item_store.specs.Listed.{IsListedOn, IsWithinOn, format_on};
 ghost use Rattle.item_store.specs.OnSector.{BeginEnds, CloseEnds, IsMarked, StopsMarking, IsOpenSector, IsCollecting, IsSource, PutEnds, sector_on, free_on, bytes_on, IsKeptOn, IsKeptAfter, IsSoundOn, IsOpenOn, NextIsNotClosedOn, FitsOn, HasCopyRoomOn, ChangesOnlyOn, KeepsMarksOn, AddsOn, ClearsOn, StopsClearingOn};
 ghost use Rattle.item_store.specs.Standing.{IsStoreArea, SpendsIn, SpendsUpTo};
 
-use crate::entry::{IdRange, Placed};
+use crate::entry::{IdPair, IdRange, MayHave, Placed};
+use crate::notes::Notes;
 use flash_map::{Area, Damaged, Geometry};
 use flash_sim::{Flash, PowerLost, Steps};
 use std::sync::ledger::Ledger;
@@ -120,8 +122,7 @@ pub trait SlotSectors: Copy {
         ensures { let d = F.device flash.now in
             result ≡ (format_on format_of d area.now).free (sector_on d area.now place) };
 
-    /// How many slots the list of the sector has, as `slots` gives it, by what is kept of the
-    /// sector.
+    /// How many slots the list of the sector has, as `slots` gives it: by what is kept of the sector.
     fn own_slots<F: Flash, L: Ledger>(
         &self,
         flash: &F,
@@ -163,8 +164,7 @@ pub trait SlotSectors: Copy {
         ensures short { IfSome result (λ p. p.len < 2 ^ 16) }
         ensures step { steps.new ≤ steps.old + 1 };
 
-    /// The id in a slot of a sector's list: that of its entry, if it has one. This takes at most
-    /// one step.
+    /// The id in a slot of a sector's list: that of its entry, if any. This takes at most one step.
     fn id_in<F: Flash, L: Ledger>(
         flash: &F,
         area: &Area,
@@ -272,21 +272,36 @@ pub trait SlotSectors: Copy {
             bytes.now skipped result }
         ensures small { IfSome result (λ p. p.slot < 2 ^ 16) };
 
-    /// Whether a slot behind the first so many of a sector's list may have an entry of the id:
-    /// `false` only if none has. It reads the id fields alone.
+    /// Which of two ids the slots behind the first so many of a sector's list may have. It compares
+    /// the id fields, and checks no CRC of these slots.
     fn may_have<F: Flash, L: Ledger>(
         flash: &F,
         area: &Area,
         place: u32,
         skipped: u32,
-        id: u32,
+        ids: &IdPair,
         steps: &mut Steps<L>,
-    ) -> bool
+    ) -> MayHave
         requires area { IsStoreArea role (F.device flash.now).banks area.now }
         requires inside { place < area.now.sectors }
         ensures { let d = F.device flash.now in let k = format_on format_of d area.now in
             let b = sector_on d area.now place in
-            result ≡ false → AreOthers k b skipped (k.count b) id id };
+            RulesOut k b skipped ids.now result };
+
+    /// Notes the entries of a sector, in the order of its list.
+    fn note_sector<N: Notes, F: Flash, L: Ledger>(
+        flash: &F,
+        area: &Area,
+        place: u32,
+        notes: &mut N,
+        steps: &mut Steps<L>,
+    )
+        requires area { IsStoreArea role (F.device flash.now).banks area.now }
+        requires inside { place < area.now.sectors }
+        ensures { let d = F.device flash.now in let k = format_on format_of d area.now in
+            (start : N) (before : List PlacedEntry) → N.noted start k.ids notes.old before
+            → N.noted start k.ids notes.new
+            (before ++ map (placed_at place) ((slots k).entries (sector_on d area.now place))) };
 
     // ---- steps in the open sector
 

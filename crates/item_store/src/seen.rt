@@ -7,7 +7,8 @@ ghost use Rattle.item_store.specs.Seen.{key_of, usual_id, has_bit, HasSeen, IsEx
 
 use crate::bits::{has_bit, set_bit};
 use crate::entry::Placed;
-use crate::noting::{Notes, note_among};
+use crate::notes::Notes;
+use crate::noting::note_among;
 use crate::open_area::OpenArea;
 use crate::sectors::SlotSectors;
 use flash_sim::{Flash, Steps};

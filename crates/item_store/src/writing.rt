@@ -185,6 +185,53 @@ impl<T: SlotSectors> Store<T> {
         }
     }
 
+    /// Gives an item bytes that it does not have. It is `write` for a caller that has looked.
+    ///
+    /// # Errors
+    /// As `write`.
+    pub fn write_changed<F: Flash, L: Ledger>(
+        &mut self,
+        flash: &mut F,
+        id: u32,
+        bytes: &[u8],
+        steps: &mut Steps<L>,
+    ) -> Result<(), WriteFault>
+        requires stands { StandsOn T.role T.format_of T.kept (F.device flash.old) self.old }
+        requires ordinary { id < (format_on T.format_of (F.device flash.old) self.old.area).ids }
+        requires some { 0 < length bytes.now }
+        requires differs { let d = F.device flash.old in let area = self.old.area in
+            ¬ Holds (format_on T.format_of d area) d area id bytes.now }
+
+        ensures touches { let d = F.device flash.old in let e = F.device flash.new in
+            Touches (self.old.area ∷ []) d e (write_lost result) }
+        ensures area { self.new.area ≡ self.old.area }
+        ensures written { let d = F.device flash.old in let e = F.device flash.new in
+            let k = format_on T.format_of d self.old.area in
+            IsWritten k (sectors_of d self.old.area) → IsWritten k (sectors_of e self.old.area) }
+        ensures ends { let d = F.device flash.old in let e = F.device flash.new in
+            WriteEnds (format_on T.format_of d self.old.area) d e self.old.area id bytes.now
+            result }
+        ensures undamaged { let d = F.device flash.old in let e = F.device flash.new in
+            (format_on T.format_of d self.old.area).damage (sectors_of e self.old.area) ≡ None }
+        ensures stands { write_lost result ≡ false
+            → StandsOn T.role T.format_of T.kept (F.device flash.new) self.new }
+        ensures down { write_lost result ≡ true → self.new.up ≡ false }
+    {
+        let g = geometry(flash, &self.area);
+        if is_too_long::<T>(&g, bytes.len()) {
+            return Err(WriteFault::TooLong);
+        }
+        match self.append(flash, id, bytes, steps) {
+            Err(_) => Err(WriteFault::PowerLost),
+            Ok(true) => Ok(()),
+            Ok(false) => {
+                let need = T::cost(&g, bytes.len() as u32);
+                let live = self.live_cost(flash, steps);
+                Err(WriteFault::NoSpace { need, live })
+            }
+        }
+    }
+
     /// Sets an item. If the item has these bytes already, nothing is programmed.
     ///
     /// # Errors
@@ -225,15 +272,7 @@ impl<T: SlotSectors> Store<T> {
         if self.holds(flash, id, bytes, steps) {
             return Ok(());
         }
-        match self.append(flash, id, bytes, steps) {
-            Err(_) => Err(WriteFault::PowerLost),
-            Ok(true) => Ok(()),
-            Ok(false) => {
-                let need = T::cost(&g, bytes.len() as u32);
-                let live = self.live_cost(flash, steps);
-                Err(WriteFault::NoSpace { need, live })
-            }
-        }
+        self.write_changed(flash, id, bytes, steps)
     }
 
     /// Deletes an item. If the id has none, nothing is programmed. A delete always finds room.

@@ -1,4 +1,4 @@
-use Rattle.std.proofs.Common.{◌≡◌, ℕ, ◌+◌, ◌-◌, Some, None, sym, ap, ◌∙◌, arith}
+use Rattle.std.proofs.Common.{Some, None, sym, ◌∙◌}
 use Rattle.flash_sim.specs.Device.{Device}
 use Rattle.flash_map.specs.declared.area.Area.{Area}
 use Rattle.flash_map.specs.Area.{geometry_of}
@@ -6,31 +6,15 @@ use Rattle.item_laws.proofs.LiveLemmas.{some_none}
 use Rattle.item_store.specs.SectorFormat.{IsSectorFormat}
 use Rattle.item_store.proofs.Areas.{unit_is}
 use Rattle.item_store.proofs.HoldingSteps.{value-last}
-use Rattle.item_store.proofs.ReadFacts.{last_placed_on, placed_inside, value_by}
+use Rattle.item_store.proofs.ReadFacts.{last_placed_on, value_by}
 use Rattle.item_store.proofs.store.Store.gives_item.Goals as goal
 
-pub may_have-is_last_here-requires-clause-inside : goal.may_have-is_last_here-requires-clause-inside
-may_have-is_last_here-requires-clause-inside g c =
+pub returns-then-not-may_be_later-clause-yes_it : goal.returns-then-not-may_be_later-clause-yes_it
+returns-then-not-may_be_later-clause-yes_it g c =
     let d : Device = g.F.Flash.device c.args.flash.now in
     let area : Area = c.args.self.now.area in
     let law : IsSectorFormat (g.T.SlotSectors.format_of (geometry_of d area)) = g.met.T.SlotSectors.lawful (geometry_of d area) (unit_is d area (g.met.F.Flash.is_lawful c.args.flash.now) c.requires.stands.area.lawful) in
-    placed_inside g.T.SlotSectors.role g.T.SlotSectors.format_of g.T.SlotSectors.kept d c.args.self.now law (g.met.F.Flash.is_lawful c.args.flash.now) c.requires.stands c.args.holder.now c.requires.placed
-
-pub has_none_behind-requires-clause-inside : goal.has_none_behind-requires-clause-inside
-has_none_behind-requires-clause-inside g c =
-    let d : Device = g.F.Flash.device c.args.flash.now in
-    let area : Area = c.args.self.now.area in
-    let law : IsSectorFormat (g.T.SlotSectors.format_of (geometry_of d area)) = g.met.T.SlotSectors.lawful (geometry_of d area) (unit_is d area (g.met.F.Flash.is_lawful c.args.flash.now) c.requires.stands.area.lawful) in
-    placed_inside g.T.SlotSectors.role g.T.SlotSectors.format_of g.T.SlotSectors.kept d c.args.self.now law (g.met.F.Flash.is_lawful c.args.flash.now) c.requires.stands c.args.holder.now c.requires.placed
-
-pub returns-then-has_none_behind-clause-yes_it : goal.returns-then-has_none_behind-clause-yes_it
-returns-then-has_none_behind-clause-yes_it g c =
-    let d : Device = g.F.Flash.device c.args.flash.now in
-    let area : Area = c.args.self.now.area in
-    let law : IsSectorFormat (g.T.SlotSectors.format_of (geometry_of d area)) = g.met.T.SlotSectors.lawful (geometry_of d area) (unit_is d area (g.met.F.Flash.is_lawful c.args.flash.now) c.requires.stands.area.lawful) in
-    let up : c.args.holder.now.slot - c.first_slot.result + 1 ≡ c.args.holder.now.slot - (g.T.SlotSectors.format_of (geometry_of d area)).first + 1 = ap (λ (n : ℕ). c.args.holder.now.slot - n + 1) (c.first_slot.ensures.value (geometry_of d area)) in
-    λ _. value-last g.T.SlotSectors.role g.T.SlotSectors.format_of g.T.SlotSectors.kept d c.args.self.now law (g.met.F.Flash.is_lawful c.args.flash.now) c.requires.stands c.args.holder.now (c.args.holder.now.slot - c.first_slot.result + 1) c.requires.placed (c.may_have-is_last_here.ensures c.if-is_last_here.true) (omega (arith, up)) (c.has_none_behind.ensures c.if-has_none_behind.true)
-    ∙ c.requires.holds
+    λ _. value-last g.T.SlotSectors.role g.T.SlotSectors.format_of g.T.SlotSectors.kept d c.args.self.now law (g.met.F.Flash.is_lawful c.args.flash.now) c.requires.stands c.args.holder.now c.requires.placed (c.requires.none c.if-not-may_be_later.true) ∙ c.requires.holds
 
 pub has_bytes-requires-clause-placed : goal.has_bytes-requires-clause-placed
 has_bytes-requires-clause-placed g c =

@@ -50,7 +50,7 @@ returns-in_err-placed g c =
     subst (λ (o : Option Placed). IfSome o (IsPlaced k sectors (open_sector k.reading sectors))) (sym c.requires.latest) (latest-placed k law sectors (c.args.id % 64) (some_sectors g.T.SlotSectors.role g.T.SlotSectors.format_of g.T.SlotSectors.kept d c.args.self.now law (g.met.F.Flash.is_lawful c.args.flash.now) c.requires.stands)) in
     let within = stands.listed.within in
     let enough : last_of (slots k) c.args.id (flat_map (counted_in (slots k) sectors c.args.self.now.current) (places_before (length sectors) c.args.self.now.current c.args.latest.now.sector ++ c.args.latest.now.sector ∷ [])) ≡ last_placed (slots k) sectors c.args.id =
-    search-enough k law sectors c.args.self.now.current c.args.latest.now.sector c.args.id c.requires.stands.current (let low = current_on g.T.SlotSectors.role g.T.SlotSectors.format_of g.T.SlotSectors.kept d c.args.self.now law (g.met.F.Flash.is_lawful c.args.flash.now) c.requires.stands in omega (arith, length-sectors d area)) within c.args.latest.now (sym c.requires.latest) refl in
+    search-enough k sectors c.args.self.now.current c.args.latest.now.sector c.requires.stands.current (let low = current_on g.T.SlotSectors.role g.T.SlotSectors.format_of g.T.SlotSectors.kept d c.args.self.now law (g.met.F.Flash.is_lawful c.args.flash.now) c.requires.stands in omega (arith, length-sectors d area)) within law c.args.id c.args.latest.now (sym c.requires.latest) refl in
     ap (option_map (λ bytes. bytes.now)) c.from_residual.ensures
     ∙ sym (value_by g.T.SlotSectors.role g.T.SlotSectors.format_of g.T.SlotSectors.kept d c.args.self.now law (g.met.F.Flash.is_lawful c.args.flash.now) c.requires.stands None c.args.id (c.in_err-placed.ensures ∙ enough))
 
@@ -65,7 +65,7 @@ bytes_at-requires-clause-placed g c =
     subst (λ (o : Option Placed). IfSome o (IsPlaced k sectors (open_sector k.reading sectors))) (sym c.requires.latest) (latest-placed k law sectors (c.args.id % 64) (some_sectors g.T.SlotSectors.role g.T.SlotSectors.format_of g.T.SlotSectors.kept d c.args.self.now law (g.met.F.Flash.is_lawful c.args.flash.now) c.requires.stands)) in
     let within = stands.listed.within in
     let enough : last_of (slots k) c.args.id (flat_map (counted_in (slots k) sectors c.args.self.now.current) (places_before (length sectors) c.args.self.now.current c.args.latest.now.sector ++ c.args.latest.now.sector ∷ [])) ≡ last_placed (slots k) sectors c.args.id =
-    search-enough k law sectors c.args.self.now.current c.args.latest.now.sector c.args.id c.requires.stands.current (let low = current_on g.T.SlotSectors.role g.T.SlotSectors.format_of g.T.SlotSectors.kept d c.args.self.now law (g.met.F.Flash.is_lawful c.args.flash.now) c.requires.stands in omega (arith, length-sectors d area)) within c.args.latest.now (sym c.requires.latest) refl in
+    search-enough k sectors c.args.self.now.current c.args.latest.now.sector c.requires.stands.current (let low = current_on g.T.SlotSectors.role g.T.SlotSectors.format_of g.T.SlotSectors.kept d c.args.self.now law (g.met.F.Flash.is_lawful c.args.flash.now) c.requires.stands in omega (arith, length-sectors d area)) within law c.args.id c.args.latest.now (sym c.requires.latest) refl in
     last_placed_on g.T.SlotSectors.role g.T.SlotSectors.format_of g.T.SlotSectors.kept d c.args.self.now law (g.met.F.Flash.is_lawful c.args.flash.now) c.requires.stands (Some c.in_ok-placed.placed) c.args.id (c.in_ok-placed.ensures ∙ enough)
 
 pub returns : goal.returns
@@ -79,6 +79,6 @@ returns g c =
     subst (λ (o : Option Placed). IfSome o (IsPlaced k sectors (open_sector k.reading sectors))) (sym c.requires.latest) (latest-placed k law sectors (c.args.id % 64) (some_sectors g.T.SlotSectors.role g.T.SlotSectors.format_of g.T.SlotSectors.kept d c.args.self.now law (g.met.F.Flash.is_lawful c.args.flash.now) c.requires.stands)) in
     let within = stands.listed.within in
     let enough : last_of (slots k) c.args.id (flat_map (counted_in (slots k) sectors c.args.self.now.current) (places_before (length sectors) c.args.self.now.current c.args.latest.now.sector ++ c.args.latest.now.sector ∷ [])) ≡ last_placed (slots k) sectors c.args.id =
-    search-enough k law sectors c.args.self.now.current c.args.latest.now.sector c.args.id c.requires.stands.current (let low = current_on g.T.SlotSectors.role g.T.SlotSectors.format_of g.T.SlotSectors.kept d c.args.self.now law (g.met.F.Flash.is_lawful c.args.flash.now) c.requires.stands in omega (arith, length-sectors d area)) within c.args.latest.now (sym c.requires.latest) refl in
+    search-enough k sectors c.args.self.now.current c.args.latest.now.sector c.requires.stands.current (let low = current_on g.T.SlotSectors.role g.T.SlotSectors.format_of g.T.SlotSectors.kept d c.args.self.now law (g.met.F.Flash.is_lawful c.args.flash.now) c.requires.stands in omega (arith, length-sectors d area)) within law c.args.id c.args.latest.now (sym c.requires.latest) refl in
     c.bytes_at.ensures.value
     ∙ sym (value_by g.T.SlotSectors.role g.T.SlotSectors.format_of g.T.SlotSectors.kept d c.args.self.now law (g.met.F.Flash.is_lawful c.args.flash.now) c.requires.stands (Some c.in_ok-placed.placed) c.args.id (c.in_ok-placed.ensures ∙ enough))

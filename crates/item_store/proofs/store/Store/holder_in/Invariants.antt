@@ -4,7 +4,7 @@ use Rattle.std.specs.FinMap.{get}
 use Rattle.flash_map.specs.Area.{sectors_of, sector_at}
 use Rattle.item_store.specs.Asking.{NoneIsItem}
 use Rattle.item_store.specs.Listed.{format_on, items_on}
-use Rattle.item_store.proofs.store.Store.id_in.Given as goal
+use Rattle.item_store.proofs.store.Store.holder_in.Given as goal
 
 abbrev pub invariant-loop-holder : goal.invariant-loop-holder
 invariant-loop-holder g l =

@@ -8,11 +8,11 @@ use Rattle.item_store.specs.Latest.{last_of_id}
 use Rattle.item_store.specs.SectorFormat.{SectorFormat}
 use Rattle.item_store.specs.Seen.{behind}
 use Rattle.item_store.proofs.Areas.{open_inside}
-use Rattle.item_store.proofs.HoldingSteps.{fewer-behind, none-next, none-left}
-use Rattle.item_store.proofs.holding.has_none_behind.Goals as goal
+use Rattle.item_store.proofs.HoldingSteps.{fewer-behind, none-next, none-left, or-rules-out}
+use Rattle.item_store.proofs.holding.may_have_behind.Goals as goal
 
 pub loop-at-init : goal.loop-at-init
-loop-at-init g c = record { within = c.requires.inside; none = refl }
+loop-at-init g c = record { within = c.requires.inside; lower = λ _. refl; upper = λ _. refl }
 
 pub next-at-requires : goal.next-at-requires
 next-at-requires g c = c.loop-at.invariant.within
@@ -39,7 +39,12 @@ loop-at-preserved g c =
     let next : c.next-at.result ≡ after (length sectors) c.loop-at.at = c.next-at.ensures.value ∙ ap (λ (n : ℕ). after n c.loop-at.at) (sym long) in
     record {
       within = c.next-at.ensures.within;
-      none = c.loop-at.invariant.none ∙ none-next k sectors c.args.on.now.current c.args.id low c.loop-at.at c.next-at.result high c.loop-at-test.true next (c.may_have.ensures c.if-may_have.false);
+      lower = λ none.
+          let both = or-rules-out c.loop-at.may.lower c.may_have.result.lower c.or-may.result.lower c.or-may.ensures.lower none in
+          c.loop-at.invariant.lower both.0 ∙ none-next k sectors c.args.on.now.current c.args.ids.now.lower low c.loop-at.at c.next-at.result high c.loop-at-test.true next (c.may_have.ensures.lower both.1);
+      upper = λ none.
+          let both = or-rules-out c.loop-at.may.upper c.may_have.result.upper c.or-may.result.upper c.or-may.ensures.upper none in
+          c.loop-at.invariant.upper both.0 ∙ none-next k sectors c.args.on.now.current c.args.ids.now.upper low c.loop-at.at c.next-at.result high c.loop-at-test.true next (c.may_have.ensures.upper both.1);
     }
 
 pub returns : goal.returns
@@ -51,4 +56,7 @@ returns g c =
     let long = length-sectors d area in
     let within = open_inside k d area c.args.on.now.current c.requires.on.area.lawful c.requires.on.current in
     let low : c.args.on.now.current < length sectors = omega arith in
-    λ _. c.loop-at.invariant.none ∙ ap (λ (n : ℕ). last_of_id c.args.id (behind k sectors c.args.on.now.current n)) c.loop-at-test.false ∙ none-left k sectors c.args.on.now.current c.args.id low
+    record {
+      lower = λ none. c.loop-at.invariant.lower none ∙ ap (λ (n : ℕ). last_of_id c.args.ids.now.lower (behind k sectors c.args.on.now.current n)) c.loop-at-test.false ∙ none-left k sectors c.args.on.now.current c.args.ids.now.lower low;
+      upper = λ none. c.loop-at.invariant.upper none ∙ ap (λ (n : ℕ). last_of_id c.args.ids.now.upper (behind k sectors c.args.on.now.current n)) c.loop-at-test.false ∙ none-left k sectors c.args.on.now.current c.args.ids.now.upper low;
+    }

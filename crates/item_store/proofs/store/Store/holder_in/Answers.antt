@@ -1,20 +1,22 @@
-use Rattle.std.proofs.Common.{◌≡◌, ℕ, ◌+◌, ◌-◌, ◌^◌, ◌<◌, List, Option, Some, sym, ap, subst, ◌∙◌, arith}
+use Rattle.std.proofs.Common.{◌≡◌, ℕ, ◌+◌, ◌-◌, ◌^◌, ◌<◌, List, Option, Some, None, sym, ap, subst, ◌∙◌, arith}
 use Rattle.std.specs.Prelude.{IfSome}
 use Rattle.std.specs.FinMap.{get}
 use Rattle.flash_sim.specs.Device.{Device}
 use Rattle.flash_map.specs.declared.area.Area.{Area}
 use Rattle.flash_map.specs.Area.{geometry_of, sectors_of, sector_at}
+use Rattle.flash_map.proofs.MapLemmas.{not_some}
 use Rattle.item_laws.specs.Items.{Items}
 use Rattle.item_store.specs.declared.entry.Placed.{Placed}
+use Rattle.item_store.specs.Asking.{IsHolderAt}
 use Rattle.item_store.specs.Holding.{IsFirstHolder, FindsBytes}
 use Rattle.item_store.specs.Listed.{items_on}
 use Rattle.item_store.specs.SectorFormat.{SectorFormat, IsSectorFormat}
 use Rattle.item_store.proofs.Areas.{unit_is}
 use Rattle.item_store.proofs.HoldingSteps.{is-kept, none-step, none-end, holder-placed}
 use Rattle.item_store.proofs.ReadFacts.{within_on}
-use Rattle.item_store.proofs.store.Store.id_in.Given.{Over}
-use Rattle.item_store.proofs.store.Store.id_in.Goals.{then-ne+else-gives_item, else-ne}
-use Rattle.item_store.proofs.store.Store.id_in.Goals as goal
+use Rattle.item_store.proofs.store.Store.holder_in.Given.{Over}
+use Rattle.item_store.proofs.store.Store.holder_in.Goals.{then-ne+else-is_some, else-ne}
+use Rattle.item_store.proofs.store.Store.holder_in.Goals as goal
 
 pub loop-holder-init : goal.loop-holder-init
 loop-holder-init g c = record { listed = omega arith; none = λ slot e from to read holds has. absurd (omega arith); dead = tt }
@@ -29,8 +31,8 @@ find_bytes-requires-clause-within g c =
     let law : IsSectorFormat (g.T.SlotSectors.format_of (geometry_of d area)) = g.met.T.SlotSectors.lawful (geometry_of d area) (unit_is d area (g.met.F.Flash.is_lawful c.args.flash.now) c.requires.stands.area.lawful) in
     within_on g.T.SlotSectors.role g.T.SlotSectors.format_of g.T.SlotSectors.kept d c.args.self.now law (g.met.F.Flash.is_lawful c.args.flash.now) c.requires.stands c.args.place c.requires.inside
 
-pub gives_item-requires-clause-placed : goal.gives_item-requires-clause-placed
-gives_item-requires-clause-placed g c =
+pub holder_at-found-requires-clause-placed : goal.holder_at-found-requires-clause-placed
+holder_at-found-requires-clause-placed g c =
     let d : Device = g.F.Flash.device c.args.flash.now in
     let area : Area = c.args.self.now.area in
     let k : SectorFormat = g.T.SlotSectors.format_of (geometry_of d area) in
@@ -47,7 +49,9 @@ known : (g : Over) (c : goal.Joined-ne g) → let d = g.F.Flash.device c.args.fl
     (c.if-ne.dead ≡ Some c.in-Some.holder.id)
     × (get (items_on g.T.SlotSectors.format_of d c.args.self.now.area) c.in-Some.holder.id ≡ Some c.args.bytes.now → ⊥)
 known g c = elim c.if-ne.branch [
-  | then-ne+else-gives_item w ↦ (w.dead-is, w.gives_item.ensures.not_it w.if-gives_item.false)
+  | then-ne+else-is_some w ↦
+      let none : w.holder_at-found.result ≡ None = not_some w.holder_at-found.result (sym w.is_some.ensures ∙ w.if-is_some.false) in
+      (w.dead-is, subst (IsHolderAt c.in-Some.holder.id c.args.step (items_on g.T.SlotSectors.format_of (g.F.Flash.device c.args.flash.now) c.args.self.now.area) c.args.bytes.now) none w.holder_at-found.ensures)
   | else-ne w ↦
       let d : Device = g.F.Flash.device c.args.flash.now in
       let items : Items = items_on g.T.SlotSectors.format_of d c.args.self.now.area in

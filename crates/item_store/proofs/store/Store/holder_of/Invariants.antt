@@ -2,7 +2,7 @@ use Rattle.std.proofs.Common.{ℕ, ◌+◌, ◌<◌}
 use Rattle.flash_map.specs.Area.{sectors_of, sector_at}
 use Rattle.item_store.specs.Asking.{NoneIsItem}
 use Rattle.item_store.specs.Listed.{format_on, items_on}
-use Rattle.item_store.proofs.store.Store.id_of.Given as goal
+use Rattle.item_store.proofs.store.Store.holder_of.Given as goal
 
 abbrev pub invariant-loop-place : goal.invariant-loop-place
 invariant-loop-place g l =

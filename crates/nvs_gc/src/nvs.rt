@@ -1,5 +1,5 @@
 // The NVS store.
-ghost use Rattle.std.specs.Prelude.{◌≡◌, ℕ, ◌+◌, ◌^◌, ◌<◌, ◌≤◌, ◌∷◌, [], None, true, false, length, is_err, is_some, IfSome, OnOk, OnErr, option_map};
+ghost use Rattle.std.specs.Prelude.{◌≡◌, ℕ, ◌+◌, ◌^◌, ◌<◌, ◌≤◌, ◌∷◌, [], Some, None, true, false, length, is_err, is_some, IfSome, OnOk, OnErr, option_map};
 ghost use Rattle.std.specs.FinMap as map;
 ghost use Rattle.flash_sim.specs.Bank.{IsLawful};
 ghost use Rattle.flash_sim.specs.Device.{Device};
@@ -7,9 +7,11 @@ ghost use Rattle.flash_map.specs.Faults.{mount_lost, write_lost};
 ghost use Rattle.flash_map.specs.Spending.{SpendsBetween};
 ghost use Rattle.flash_map.specs.Touches.{Touches};
 ghost use Rattle.flash_map.specs.Area.{sectors_of};
-ghost use Rattle.item_laws.specs.Bytes.{IsIdOf, IsNextOf};
+ghost use Rattle.item_laws.specs.Bytes.{IsNextOf};
 ghost use Rattle.item_laws.specs.NextIds.{IsNextId};
 ghost use Rattle.nvs_format.specs.Formats.{format_of, placed_of};
+ghost use Rattle.item_store.specs.declared.free.TheConstants.{MOST_CANDIDATES};
+ghost use Rattle.item_store.specs.Asking.{IsHolderOf};
 ghost use Rattle.item_store.specs.Cached.{latest_on};
 ghost use Rattle.item_store.specs.Free.{IsLeastFree};
 ghost use Rattle.item_store.specs.Latest.{IsKnown, KnowsOn};
@@ -20,7 +22,7 @@ ghost use Rattle.nvs_gc.specs.Standing.{IsNvsArea, StandsOn, format_on, KeepsIte
 use crate::sectors::{NvsOpen, read_again};
 use flash_map::{Area, MountFault, WriteFault};
 use flash_sim::{Flash, PowerLost, Steps};
-use item_store::{IdRange, LastSlots, Store};
+use item_store::{Holder, IdRange, LastSlots, Store};
 use nvs_store::Found;
 use std::alloc::Global;
 use std::sync::ledger::Ledger;
@@ -261,28 +263,27 @@ impl Nvs {
         }
     }
 
-    /// An id from `least` to `most` whose item has these bytes; any of them if several have, `None`
-    /// if none has. This looks at each entry once, and compares ids and bytes before CRCs.
-    pub fn id_of<F: Flash, L: Ledger>(
+    /// An id of the range whose item has these bytes, with the item `step` above it; any of them if
+    /// several have, `None` if none has. It compares ids and bytes before CRCs.
+    pub fn holder_of<'a, F: Flash, L: Ledger>(
         &self,
-        flash: &F,
-        least: u16,
-        most: u16,
+        flash: &'a F,
+        ids: &IdRange,
+        step: u32,
         bytes: &[u8],
         steps: &mut Steps<L>,
-    ) -> Option<u16>
-        requires { StandsOn (F.device flash.now) self.now }
-        ensures { IsIdOf least most (items_on (F.device flash.now) self.now.store.area) bytes.now
-            result }
+    ) -> Option<Holder<'a>>
+        requires stands { StandsOn (F.device flash.now) self.now }
+        requires step { 0 < step }
+        requires top { ids.now.most + step < 2 ^ 32 }
+        ensures { IsHolderOf ids.now step (items_on (F.device flash.now) self.now.store.area)
+            bytes.now result }
     {
-        narrowed(
-            self.store
-                .id_of(flash, least as u32, most as u32, bytes, steps),
-        )
+        self.store.holder_of(flash, ids, step, bytes, steps)
     }
 
     /// The least id of the range that has no item, and whose id `step` above it has none; `None` if
-    /// there is none. The range has at most 512 ids. This takes one walk over the list.
+    /// there is none. The range has at most `MOST_CANDIDATES` ids. This takes one walk over the list.
     pub fn least_free<F: Flash, L: Ledger>(
         &self,
         flash: &F,
@@ -291,7 +292,7 @@ impl Nvs {
         steps: &mut Steps<L>,
     ) -> Option<u32>
         requires stands { StandsOn (F.device flash.now) self.now }
-        requires range { ids.now.most < ids.now.least + 512 }
+        requires range { ids.now.most < ids.now.least + MOST_CANDIDATES }
         ensures { IsLeastFree ids.now step (items_on (F.device flash.now) self.now.store.area)
             result }
     {
@@ -355,6 +356,37 @@ impl Nvs {
         ensures down { write_lost result ≡ true → self.new.store.up ≡ false }
     {
         self.store.write(flash, id as u32, bytes, steps)
+    }
+
+    /// Gives an item bytes that it does not have. It is `write` for a caller that has looked.
+    ///
+    /// # Errors
+    /// As `write`.
+    pub fn write_changed<F: Flash, L: Ledger>(
+        &mut self,
+        flash: &mut F,
+        id: u16,
+        bytes: &[u8],
+        steps: &mut Steps<L>,
+    ) -> Result<(), WriteFault>
+        requires stands { StandsOn (F.device flash.old) self.old }
+        requires ordinary { id < 0xFFFF }
+        requires some { 0 < length bytes.now }
+        requires differs { map.get (items_on (F.device flash.old) self.old.store.area) id
+            ≡ Some bytes.now → ⊥ }
+
+        ensures touches { Touches (self.old.store.area ∷ []) (F.device flash.old)
+            (F.device flash.new) (write_lost result) }
+        ensures area { self.new.store.area ≡ self.old.store.area }
+        ensures written { let d = F.device flash.old in
+            KeepsWritten d (F.device flash.new) self.old.store.area }
+        ensures ends { let d = F.device flash.old in
+            WriteEnds d (F.device flash.new) self.old.store.area id bytes.now result }
+        ensures undamaged { IsUndamaged (F.device flash.new) self.old.store.area }
+        ensures stands { write_lost result ≡ false → StandsOn (F.device flash.new) self.new }
+        ensures down { write_lost result ≡ true → self.new.store.up ≡ false }
+    {
+        self.store.write_changed(flash, id as u32, bytes, steps)
     }
 
     /// Deletes an item. If the id has none, nothing is programmed; the reserved id FFFF never has

@@ -1,32 +1,24 @@
 // What is kept of the open sector, and the calls on sectors.
-ghost use Rattle.std.specs.Prelude.{◌≡◌, ℕ, ◌+◌, ◌*◌, ◌^◌, ◌<◌, ◌≤◌, IfSome, Some, List, length, slice_range};
+ghost use Rattle.std.specs.Prelude.{◌≡◌, ◌+◌, ◌^◌, ◌<◌, ◌≤◌, Some};
 ghost use Rattle.std.specs.Option.{option_map};
 ghost use Rattle.flash_map.specs.declared.area.Role.TheVariants.{Nvs as nvs_role};
 ghost use Rattle.flash_map.specs.Area.{geometry_of, unit_of, sector_size, sectors_of, sector_bytes};
-ghost use Rattle.flash_map.specs.Units.{IsUnit};
-ghost use Rattle.item_laws.specs.Live.{last_in};
-ghost use Rattle.nvs_store.specs.Entries.{entry_of as fields_of};
-ghost use Rattle.nvs_store.specs.Geometry.{slot_size};
 ghost use Rattle.nvs_store.specs.Sector.{low, data_end, has_gc_done};
 ghost use Rattle.nvs_store.specs.Scans.{IsInArea};
-ghost use Rattle.nvs_format.specs.Formats.{placed_of, ReadsAs, format_in, format_of};
+ghost use Rattle.nvs_format.specs.Formats.{ReadsAs, format_of};
 ghost use Rattle.nvs_format.proofs.FormatLemmas.{nvs_is_format};
-ghost use Rattle.item_store.specs.SectorFormat.{placed_at, slots};
-ghost use Rattle.item_store.specs.Lasts.{AreOthers};
+ghost use Rattle.item_store.specs.SectorFormat.{placed_at};
 ghost use Rattle.item_store.specs.Standing.{IsStoreArea};
 
+use crate::entries::{bytes_in, last_of, named_id, note_entries, placed, reach_in};
 use flash_map::{Area, Damaged, Geometry, area_erase, geometry, sector_view};
 use flash_sim::{Flash, PowerLost, Steps};
-use item_store::{IdRange, Placed, SlotSectors};
+use item_store::{IdPair, IdRange, MayHave, Notes, Placed, SlotSectors};
 use nvs_store::{
-    Found, Redo, Scan, append, capacity, copy_entry, cost, counting_entry, find_holder, find_in,
-    has_named, is_blank, is_closed, mount_scan, put_close, put_done, scan_sector, slot_size,
-    used_count,
+    Found, Redo, Scan, append, are_named, capacity, copy_entry, cost, counting_entry, find_holder,
+    is_blank, is_closed, mount_scan, put_close, put_done, scan_sector, slot_size, used_count,
 };
 use std::sync::ledger::Ledger;
-
-// More than a sector has.
-const ALL_SLOTS: u32 = 0x8000;
 
 /// What an NVS store keeps of its open sector.
 #[derive(Clone, Copy, Debug, PartialEq, Eq)]
@@ -34,20 +26,6 @@ pub struct NvsOpen {
     low: u32,
     data_end: u32,
     gc_done: bool,
-}
-
-// The entry at its place, as `item_store` sees it.
-fn placed(own: Found) -> Placed
-    ensures value { result ≡ placed_of own }
-    ensures small { result.id < 2 ^ 16 }
-    ensures short { result.len < 2 ^ 16 }
-{
-    Placed {
-        sector: own.sector,
-        slot: own.slot,
-        id: own.entry.id as u32,
-        len: own.entry.len as u32,
-    }
 }
 
 // The entry at this place, as NVS reads it.
@@ -77,83 +55,6 @@ pub(crate) fn read_again<F: Flash, L: Ledger>(
         Some(found) => found.at(at.sector),
         None => unreachable!(),
     }
-}
-
-// The last entry of an id in a sector with these bytes. An id of more than two bytes has none.
-fn last_of(bytes: &[u8], unit: u32, place: u32, id: u32) -> Option<Placed>
-    requires unit { IsUnit unit }
-    requires long { 16 ≤ length bytes.now }
-    requires short { length bytes.now ≤ 2 ^ 15 }
-    ensures { let s = slots (format_in unit) in
-        result ≡ option_map (placed_at place) (last_in s place id (s.entries bytes.now)) }
-{
-    if id > 0xFFFF {
-        return None;
-    }
-    match find_in(bytes, unit, place, Some(id as u16), ALL_SLOTS) {
-        Some(last) => Some(placed(last)),
-        None => None,
-    }
-}
-
-// The bytes of the entry in a slot; none if there is no entry.
-fn bytes_in(bytes: &[u8], unit: u32, slot: u32) -> &[u8]
-    requires unit { IsUnit unit }
-    requires short { length bytes.now ≤ 2 ^ 15 }
-    requires inside { (slot + 1) * slot_size unit ≤ length bytes.now }
-    ensures { result.now ≡ (format_in unit).bytes bytes.now slot }
-{
-    match counting_entry(bytes, unit, slot) {
-        Some(found) => {
-            let start = found.entry.offset as usize;
-            &bytes[start..start + found.entry.len as usize]
-        }
-        None => &[],
-    }
-}
-
-// The id field of a slot that starts at this place. The CRC is not checked.
-fn id_at(bytes: &[u8], start: usize) -> u32
-    requires { start + 8 ≤ length bytes.now }
-    ensures value { result ≡ (fields_of (slice_range bytes.now start (start + 8))).id }
-    ensures small { result < 2 ^ 16 }
-{
-    u16::from_le_bytes([bytes[start], bytes[start + 1]]) as u32
-}
-
-// The id of a slot of a sector with these bytes.
-fn named_id(bytes: &[u8], unit: u32, slot: u32) -> u32
-    requires unit { IsUnit unit }
-    requires short { length bytes.now ≤ 2 ^ 15 }
-    requires inside { (slot + 1) * slot_size unit ≤ length bytes.now }
-    ensures named { IfSome ((format_in unit).in_slot bytes.now slot) (λ e. e.id ≡ result) }
-    ensures small { result < 2 ^ 16 }
-{
-    let size = slot_size(unit);
-    id_at(bytes, bytes.len() - ((slot + 1) * size) as usize)
-}
-
-// How many of the first so many slots of a sector with these bytes have to be read for the ids from
-// `least` to `most`. It reads the id fields, from the last slot up.
-fn reach_in(bytes: &[u8], unit: u32, slots: u32, least: u32, most: u32) -> u32
-    requires unit { IsUnit unit }
-    requires short { length bytes.now ≤ 2 ^ 15 }
-    requires inside { (slots + 1) * slot_size unit ≤ length bytes.now }
-    ensures few { result ≤ slots }
-    ensures others { AreOthers (format_in unit) bytes.now result slots least most }
-{
-    let size = slot_size(unit);
-    let mut start = bytes.len() - ((slots + 1) * size) as usize;
-    let mut left = slots;
-    while left > 0 {
-        let id = id_at(bytes, start);
-        if least <= id && id <= most {
-            return left;
-        }
-        start += size as usize;
-        left -= 1;
-    }
-    0
 }
 
 impl SlotSectors for NvsOpen {
@@ -354,11 +255,24 @@ impl SlotSectors for NvsOpen {
         area: &Area,
         place: u32,
         skipped: u32,
-        id: u32,
+        ids: &IdPair,
         steps: &mut Steps<L>,
-    ) -> bool {
+    ) -> MayHave {
         let unit = geometry(flash, area).unit;
-        has_named(sector_view(flash, area, place, steps), unit, skipped, id)
+        let bytes = sector_view(flash, area, place, steps);
+        let (lower, upper) = are_named(bytes, unit, skipped, ids.lower, ids.upper);
+        MayHave { lower, upper }
+    }
+
+    fn note_sector<N: Notes, F: Flash, L: Ledger>(
+        flash: &F,
+        area: &Area,
+        place: u32,
+        notes: &mut N,
+        steps: &mut Steps<L>,
+    ) {
+        let unit = geometry(flash, area).unit;
+        note_entries(sector_view(flash, area, place, steps), unit, place, notes);
     }
 
     fn begin<F: Flash, L: Ledger>(

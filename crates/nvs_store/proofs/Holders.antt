@@ -1,7 +1,7 @@
 -- Look-ups that compare ids and bytes before CRCs.
-use Rattle.std.proofs.Common.{◌≡◌, ℕ, ◌+◌, ◌-◌, ◌*◌, ◌/◌, ◌<◌, ◌≤◌, true, false, ◌&&◌, leb, eqb, List, length, Option, Some, None, sym, ap, subst, ◌∙◌, inl, inr, le-leb, eq-eqb, arith}
+use Rattle.std.proofs.Common.{◌≡◌, ℕ, ◌+◌, ◌-◌, ◌*◌, ◌/◌, ◌<◌, ◌≤◌, Bool, true, false, ◌&&◌, ◌||◌, leb, eqb, List, length, Option, Some, None, sym, ap, subst, ◌∙◌, inl, inr, le-leb, eq-eqb, arith}
 use Rattle.std.specs.Prelude.{slice_range}
-use Rattle.std.proofs.lemmas.Bool.{cases_lt, false≢true, and_from, and_parts, leb-true}
+use Rattle.std.proofs.lemmas.Bool.{cases_eq, cases_lt, ne_eqb, false≢true, and_from, and_parts, leb-true}
 use Rattle.std.proofs.lemmas.List.FromFn.{get_or-map-range_with_len}
 use Rattle.std.proofs.lemmas.List.Sums.{prefix_len_passes}
 use Rattle.flash_map.specs.Units.{IsUnit}
@@ -14,7 +14,7 @@ use Rattle.nvs_store.specs.declared.scan.SlotEntry.{SlotEntry}
 use Rattle.nvs_store.specs.Entries.{entry_of}
 use Rattle.nvs_store.specs.Geometry.{slot_size}
 use Rattle.nvs_store.specs.Sector.{slot_at, slots, is_used, used_slots, counting_entry}
-use Rattle.nvs_store.specs.Holding.{Holds, NoneHolds, HoldsAt, IsFirstHolder, NoneNames, named_at}
+use Rattle.nvs_store.specs.Holding.{Holds, NoneHolds, HoldsAt, IsFirstHolder, NoneNames, SomeNames, HasNamed, named_at}
 use Rattle.nvs_store.proofs.Marks.{counting_entry_under}
 use Rattle.nvs_store.proofs.NvsEntries.{are_nvs, bytes_len}
 use Rattle.nvs_store.proofs.SlotReads.{slot_size_bounds}
@@ -152,3 +152,22 @@ others_more unit b id first k before here slot from to =
       | inl lt ↦ before slot from lt
       | inr ge ↦ let same : k ≡ slot = omega (arith, ge, to) in subst (λ (n : ℕ). named_at unit b n ≡ id → ⊥) same here
     ]
+
+-- whether a used slot from one number up to another names the id
+abbrev pub Names : ℕ → List ℕ → ℕ → ℕ → ℕ → Bool → Type 0
+Names unit b id first end false = NoneNames unit b id first end
+Names unit b id first end true = SomeNames unit b id first
+
+-- one slot more is looked at
+pub names_more : (unit : ℕ) (b : List ℕ) (id first k own : ℕ) (named : Bool) → first ≤ k → (k + 1) * slot_size unit ≤ length b → ((i : ℕ) → first ≤ i → i ≤ k → is_used (slot_at unit b i) ≡ true) → own ≡ named_at unit b k → Names unit b id first k named → Names unit b id first (k + 1) (named || eqb own id)
+names_more unit b id first k own true from inside used is some = some
+names_more unit b id first k own false from inside used is none =
+    elim (cases_eq own id) [
+      | inl same ↦ subst (Names unit b id first (k + 1)) (sym (eq-eqb own id same)) (record { slot = k; from = from; inside = inside; used = used; names = sym is ∙ same })
+      | inr apart ↦ subst (Names unit b id first (k + 1)) (sym (ne_eqb own id apart)) (others_more unit b id first k none (λ e. apart (is ∙ e)))
+    ]
+
+-- all used slots were looked at
+pub names_all : (unit : ℕ) (b : List ℕ) (id skipped end : ℕ) (named : Bool) → 1 + length (used_slots unit b) ≤ end → Names unit b id (1 + skipped) end named → HasNamed unit b id skipped named
+names_all unit b id skipped end true ends some = some
+names_all unit b id skipped end false ends none = λ slot from to. none slot from (omega (arith, to, ends))

@@ -23,3 +23,4 @@ pub mod Sound
 pub mod Views
 mod Walking
 pub mod WantedSlots
+mod WideExamples

@@ -110,25 +110,26 @@ pub fn find_holder(
     None
 }
 
-/// Whether a used slot behind the first so many names the id. It reads the id fields alone, down
-/// to the fence. `bytes` are those of the sector.
-pub fn has_named(bytes: &[u8], unit: u32, skipped: u32, id: u32) -> bool
+/// Whether a used slot behind the first so many has one id, and whether one has the other. It reads
+/// down to the fence, and checks no CRC. `bytes` are those of the sector.
+pub fn are_named(bytes: &[u8], unit: u32, skipped: u32, lower: u32, upper: u32) -> (bool, bool)
     requires unit { IsUnit unit }
     requires short { length bytes.now ≤ 2 ^ 15 }
-    ensures { HasNamed unit bytes.now id skipped result }
+    ensures lower { HasNamed unit bytes.now lower skipped result.0 }
+    ensures upper { HasNamed unit bytes.now upper skipped result.1 }
 {
     let count = bytes.len() as u32 / slot_size(unit);
+    let mut named = (false, false);
     if skipped >= count {
-        return false;
+        return named;
     }
     for index in skipped + 1..count {
         let slot = slot_of(bytes, unit, index);
         if !is_used(slot) {
-            return false;
+            return named;
         }
-        if named_id(slot) == id {
-            return true;
-        }
+        let id = named_id(slot);
+        named = (named.0 || id == lower, named.1 || id == upper);
     }
-    false
+    named
 }

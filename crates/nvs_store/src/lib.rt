@@ -16,7 +16,7 @@ mod slots;
 pub use calls::{append, copy_entry, put_close, put_done};
 pub use entry::{Entry, SPECIAL_ID, decode_entry, encode_entry};
 pub use geometry::{capacity, cost, fits, slot_size};
-pub use holding::{find_holder, has_named};
+pub use holding::{are_named, find_holder};
 pub use lookup::{find, walk};
 pub use mounting::mount_scan;
 pub use places::{is_blank, is_closed};

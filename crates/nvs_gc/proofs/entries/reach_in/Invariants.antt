@@ -2,7 +2,7 @@ use Rattle.std.proofs.Common.{◌≡◌, ◌+◌, ◌*◌, ◌≤◌, length}
 use Rattle.nvs_store.specs.Geometry.{slot_size}
 use Rattle.nvs_format.specs.Formats.{format_in}
 use Rattle.item_store.specs.Lasts.{AreOthers}
-use Rattle.nvs_gc.proofs.sectors.reach_in.Given as goal
+use Rattle.nvs_gc.proofs.entries.reach_in.Given as goal
 
 abbrev pub invariant-loop-left : goal.invariant-loop-left
 invariant-loop-left l = record {

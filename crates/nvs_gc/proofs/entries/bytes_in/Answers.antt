@@ -7,7 +7,7 @@ use Rattle.nvs_store.specs.Geometry.{slot_size}
 use Rattle.nvs_store.specs.Sector.{slot_at, counting_entry}
 use Rattle.nvs_store.proofs.Marks.{counting_entry_under}
 use Rattle.nvs_format.specs.Formats.{found_bytes}
-use Rattle.nvs_gc.proofs.sectors.bytes_in.Goals as goal
+use Rattle.nvs_gc.proofs.entries.bytes_in.Goals as goal
 
 ends_inside : (unit : ℕ) (b : List ℕ) (n : ℕ) (f : SlotEntry) → Some f ≡ counting_entry unit (slot_at unit b n) → f.entry.offset + f.entry.len ≤ length b
 ends_inside unit b n f is =

@@ -1,7 +1,7 @@
 use Rattle.std.proofs.Common.{◌≡◌, ℕ, ◌+◌, ◌-◌, ◌*◌, length, ap, ◌∙◌, arith}
 use Rattle.nvs_store.specs.Geometry.{slot_size}
 use Rattle.nvs_format.proofs.FindLemmas.{named, named_from}
-use Rattle.nvs_gc.proofs.sectors.named_id.Goals as goal
+use Rattle.nvs_gc.proofs.entries.named_id.Goals as goal
 
 pub returns-clause-named : goal.returns-clause-named
 returns-clause-named c =

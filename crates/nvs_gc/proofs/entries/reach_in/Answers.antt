@@ -4,7 +4,7 @@ use Rattle.nvs_store.specs.Geometry.{slot_size}
 use Rattle.nvs_format.specs.Formats.{format_in}
 use Rattle.nvs_format.proofs.FindLemmas.{named_from, other_named, out_of_range, others_more}
 use Rattle.item_store.specs.Lasts.{AreOthers}
-use Rattle.nvs_gc.proofs.sectors.reach_in.Goals as goal
+use Rattle.nvs_gc.proofs.entries.reach_in.Goals as goal
 
 pub loop-left-init : goal.loop-left-init
 loop-left-init c =

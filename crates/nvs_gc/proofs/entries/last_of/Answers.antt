@@ -4,7 +4,7 @@ use Rattle.item_store.specs.declared.entry.Placed.{Placed}
 use Rattle.item_store.specs.SectorFormat.{placed_at}
 use Rattle.nvs_format.specs.Formats.{placed_of}
 use Rattle.nvs_format.proofs.FindLemmas.{last_same, none-large}
-use Rattle.nvs_gc.proofs.sectors.last_of.Goals as goal
+use Rattle.nvs_gc.proofs.entries.last_of.Goals as goal
 
 pub returns-then-id-gt65535 : goal.returns-then-id-gt65535
 returns-then-id-gt65535 c =

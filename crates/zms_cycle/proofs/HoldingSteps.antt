@@ -1,14 +1,15 @@
 -- A search by bytes: what slots say before their CRCs, and the list of the sector.
-use Rattle.std.proofs.Common.{◌≡◌, ℕ, ◌+◌, ◌-◌, ◌^◌, ◌<◌, ◌≤◌, ◌&&◌, min, Bool, true, false, cond, eqb, leb, List, length, take, drop, Option, Some, None, refl, sym, ap, subst, ◌∙◌, inl, inr, arith}
+use Rattle.std.proofs.Common.{◌≡◌, ℕ, ◌+◌, ◌-◌, ◌*◌, ◌%◌, ◌^◌, ◌<◌, ◌≤◌, ◌&&◌, min, Bool, true, false, cond, eqb, leb, List, length, take, drop, Option, Some, None, refl, sym, ap, subst, ◌∙◌, inl, inr, arith}
 use Rattle.std.specs.Prelude.{slice_range, nat_lt}
-use Rattle.std.proofs.lemmas.Bool.{cases_lt, false≢true, cond-true, cond-false, le-leb, leb-true, lt-ltb, le-ltb, eq-eqb, ne_eqb, and_parts}
+use Rattle.std.proofs.lemmas.Bool.{cases_lt, false≢true, cond-true, cond-false, le-leb, lt-leb, leb-true, lt-ltb, le-ltb, eq-eqb, ne_eqb, and_parts}
 use Rattle.std.proofs.lemmas.List.{length-drop, length-take}
 use Rattle.item_laws.specs.Slots.{used_slots}
-use Rattle.item_laws.proofs.SlotLemmas.{index-slot_at}
+use Rattle.item_laws.proofs.SlotCounts.{used_count_fits}
+use Rattle.item_laws.proofs.SlotLemmas.{bytes-slot_at, index-slot_at}
 use Rattle.zms_cycle.specs.declared.entry.ZEntry.{ZEntry}
 use Rattle.zms_cycle.specs.declared.reading.SlotEntry.{SlotEntry}
 use Rattle.zms_cycle.specs.Entries.{entry_of, offset_of, is_empty, is_special}
-use Rattle.zms_cycle.specs.Holding.{Holds, NoneHolds, FindsBytes, IsAlike, NoneAlike, IsFirstAlike}
+use Rattle.zms_cycle.specs.Holding.{Holds, NoneHolds, FindsBytes, EndsSlot, number_below, NoneNamed, IsAlike, NoneAlike, IsFirstAlike}
 use Rattle.zms_cycle.specs.Searches.{names}
 use Rattle.zms_cycle.specs.Sector.{slot_of, is_valid, cycle_of, valid_slots, entry_in, is_sound, value_of}
 use Rattle.zms_cycle.proofs.CopyCalls.{long_value_is, ordinary_id}
@@ -138,11 +139,63 @@ is_alike b least most bytes slot fields at named len value =
     subst (λ (xs : List ℕ). IsAlike b least most bytes (entry_of xs)) at
     (record { from = leb-true least (entry_of fields).id parts.0; to = leb-true (entry_of fields).id most parts.1; len = len; value = value })
 
--- the same for slots that name an id of a range
-pub unnamed_step : (b : List ℕ) (least most from slot : ℕ) → ((k : ℕ) → from ≤ k → k < slot → names least most (slot_of b k) ≡ false) → names least most (slot_of b slot) ≡ false → (k : ℕ) → from ≤ k → k < slot + 1 → names least most (slot_of b k) ≡ false
-unnamed_step b least most from slot before this = λ k over lt. elim (cases_lt k slot) [
+-- ---- from slot to slot by where they end
+
+pub ends_first : (b : List ℕ) (from : ℕ) → from * 16 ≤ length b → EndsSlot b (length b - from * 16) × (number_below b (length b - from * 16) ≡ from)
+ends_first b from inside = (record { within = omega arith; whole = omega arith }, omega arith)
+
+pub ends_next : (b : List ℕ) (end : ℕ) → EndsSlot b end → 16 ≤ end → EndsSlot b (end - 16) × (number_below b (end - 16) ≡ number_below b end + 1)
+ends_next b end at room =
+    let within : end ≤ length b = at.within in
+    let whole : (length b - end) % 16 ≡ 0 = at.whole in
+    (record { within = omega arith; whole = omega arith }, omega arith)
+
+-- where no slot more has room, all those of the list were there
+pub ends_last : (b : List ℕ) (end : ℕ) → EndsSlot b end → end < 16 → 2 ≤ number_below b end → length (valid_slots b) + 2 ≤ number_below b end
+ends_last b end at low some =
+    let within : end ≤ length b = at.within in
+    let whole : (length b - end) % 16 ≡ 0 = at.whole in
+    let fits = used_count_fits (is_valid (cycle_of b)) 2 16 b in
+    omega arith
+
+-- the bytes of the slot
+pub slot_ending : (b : List ℕ) (end : ℕ) → EndsSlot b end → 16 ≤ end → slice_range b (end - 16) end ≡ (slot_of b (number_below b end)).bytes
+slot_ending b end at room =
+    let within : end ≤ length b = at.within in
+    let whole : (length b - end) % 16 ≡ 0 = at.whole in
+    let start : end - 16 ≡ length b - (number_below b end + 1) * 16 = omega arith in
+    let to : end ≡ end - 16 + 16 = omega arith in
+    ap (λ (n : ℕ). slice_range b (end - 16) n) to ∙ bytes-slot_at 16 b (number_below b end) (end - 16) start
+
+-- it stands in the sector
+pub inside_ending : (b : List ℕ) (end : ℕ) → EndsSlot b end → 16 ≤ end → (number_below b end + 1) * 16 ≤ length b
+inside_ending b end at room =
+    let within : end ≤ length b = at.within in
+    omega arith
+
+-- ---- slots that name one of two ids
+
+ne_above : (id wanted : ℕ) → wanted ≤ id → (id ≡ wanted → ⊥) → wanted < id
+ne_above id wanted ge other = elim (cases_lt wanted id) [
+  | inl lt ↦ lt
+  | inr le ↦ absurd (other (omega arith))
+]
+
+-- a slot with another id does not name this one
+pub other_id : (id wanted : ℕ) → (id ≡ wanted → ⊥) → (leb wanted id && leb id wanted) ≡ false
+other_id id wanted other = elim (cases_lt id wanted) [
+  | inl lt ↦ ap (λ (t : Bool). t && leb id wanted) (lt-leb wanted id lt)
+  | inr ge ↦ ap (λ (t : Bool). t && leb id wanted) (le-leb wanted id ge) ∙ lt-leb id wanted (ne_above id wanted ge other)
+]
+
+-- one slot more names other ids
+pub unnamed_step : (b : List ℕ) (from slot id wanted : ℕ) → id ≡ (entry_of (slot_of b slot).bytes).id → (id ≡ wanted → ⊥) → NoneNamed b from slot wanted → NoneNamed b from (slot + 1) wanted
+unnamed_step b from slot id wanted read other before = λ k over lt. elim (cases_lt k slot) [
   | inl below ↦ before k over below
-  | inr ge ↦ let e : slot ≡ k = omega arith in subst (λ (j : ℕ). names least most (slot_of b j) ≡ false) e this
+  | inr ge ↦
+      let e : slot ≡ k = omega arith in
+      let this : names wanted wanted (slot_of b slot) ≡ false = other_id (entry_of (slot_of b slot).bytes).id wanted (λ same. other (read ∙ same)) in
+      subst (λ (j : ℕ). names wanted wanted (slot_of b j) ≡ false) e this
 ]
 
 -- whether a slot is listed, by how many slots up to it are valid

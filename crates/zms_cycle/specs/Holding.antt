@@ -1,8 +1,9 @@
 -- Slots of a sector whose entries give an id of a range certain bytes.
-use Rattle.std.specs.Prelude.{◌≡◌, ℕ, ◌+◌, ◌*◌, ◌<◌, ◌≤◌, List, length, Option, Some, None}
+use Rattle.std.specs.Prelude.{◌≡◌, ℕ, ◌+◌, ◌-◌, ◌*◌, ◌/◌, ◌%◌, ◌<◌, ◌≤◌, false, List, length, Option, Some, None}
 use Rattle.zms_cycle.specs.declared.entry.ZEntry.{ZEntry}
 use Rattle.zms_cycle.specs.declared.reading.SlotEntry.{SlotEntry}
 use Rattle.zms_cycle.specs.Entries.{entry_of}
+use Rattle.zms_cycle.specs.Searches.{names}
 use Rattle.zms_cycle.specs.Sector.{slot_of, valid_slots, entry_in, value_of}
 
 -- the entry gives an id of the range these bytes
@@ -31,6 +32,34 @@ abbrev pub FindsBytes : List ℕ → ℕ → ℕ → List ℕ → ℕ → Option
 FindsBytes b least most bytes skipped None =
     NoneHolds b least most bytes (2 + skipped) (length (valid_slots b) + 2)
 FindsBytes b least most bytes skipped (Some f) = IsFirstHolder b least most bytes (2 + skipped) f
+
+-- ---- slots by where they end
+
+-- the number of the slot that ends so many bytes above the start of a sector
+abbrev pub number_below : List ℕ → ℕ → ℕ
+number_below b end = (length b - end) / 16
+
+-- a slot ends there, or would if the sector had more bytes
+pub record EndsSlot (b : List ℕ) (end : ℕ) : Type 0 where
+  pub within : end ≤ length b
+  pub whole : (length b - end) % 16 ≡ 0
+
+-- ---- slots that name one of two ids
+
+-- no slot from one number up to another names this id
+abbrev pub NoneNamed : List ℕ → ℕ → ℕ → ℕ → Type 0
+NoneNamed b from to id = (slot : ℕ) → from ≤ slot → slot < to → names id id (slot_of b slot) ≡ false
+
+-- no slot of a sector's list behind the first so many names this id
+abbrev pub NoneNames : List ℕ → ℕ → ℕ → Type 0
+NoneNames b skipped id = NoneNamed b (2 + skipped) (length (valid_slots b) + 2) id
+
+-- from one slot up to the found one none names either id; if none was found, no slot of the list does
+abbrev pub FindsNamed : List ℕ → ℕ → ℕ → ℕ → Option ℕ → Type 0
+FindsNamed b from lower upper None =
+    NoneNamed b from (length (valid_slots b) + 2) lower × NoneNamed b from (length (valid_slots b) + 2) upper
+FindsNamed b from lower upper (Some slot) =
+    (from ≤ slot) × ((slot + 1) * 16 ≤ length b) × NoneNamed b from slot lower × NoneNamed b from slot upper
 
 -- ---- what a slot says before its CRC is looked at
 

@@ -1,12 +1,12 @@
 // Searches that look at what slots say before their CRCs.
 ghost use Rattle.std.specs.Prelude.{◌≡◌, ℕ, ◌+◌, ◌*◌, ◌^◌, ◌<◌, ◌≤◌, ◌↔◌, IsTrue, true, false, length, nat_lt};
 ghost use Rattle.zms_cycle.specs.Entries.{entry_of, offset_of};
-ghost use Rattle.zms_cycle.specs.Holding.{FindsAlike, FindsBytes};
+ghost use Rattle.zms_cycle.specs.Holding.{EndsSlot, number_below, FindsAlike, FindsBytes, FindsNamed, NoneNames};
 ghost use Rattle.zms_cycle.specs.Searches.{names};
-ghost use Rattle.zms_cycle.specs.Sector.{slot_of, valid_slots, value_of, is_sound};
+ghost use Rattle.zms_cycle.specs.Sector.{slot_of, cycle_of, valid_slots, value_of, is_sound};
 
 use crate::reading::{
-    FIRST, SLOT, SPECIAL_ID, SlotEntry, TAIL, cycle_of, listed_entry, slot_of, valid_within,
+    FIRST, SLOT, SPECIAL_ID, SlotEntry, TAIL, cycle_of, listed_entry, valid_within,
 };
 use crate::searching::names;
 
@@ -39,6 +39,14 @@ fn offset_in(fields: &[u8]) -> u32
     u32::from_le_bytes([fields[8], fields[9], fields[10], fields[11]])
 }
 
+// The id by the fields of a slot.
+fn id_in(fields: &[u8]) -> u32
+    requires { length fields.now ≡ 16 }
+    ensures { result ≡ (entry_of fields.now).id }
+{
+    u32::from_le_bytes([fields[4], fields[5], fields[6], fields[7]])
+}
+
 // Whether the fields of a slot give these bytes. The CRC is not checked.
 fn gives(sector: &[u8], fields: &[u8], bytes: &[u8]) -> bool
     requires { length fields.now ≡ 16 }
@@ -56,10 +64,30 @@ fn gives(sector: &[u8], fields: &[u8], bytes: &[u8]) -> bool
         return is_same(&fields[8..8 + count], bytes);
     }
     let offset = offset_in(fields) as usize;
-    if offset + count > sector.len() {
+    if count > sector.len().saturating_sub(offset) {
         return false;
     }
     is_same(&sector[offset..offset + count], bytes)
+}
+
+// The number of the slot that ends so many bytes above the start of a sector.
+fn number_of(sector: &[u8], end: usize) -> u32
+    requires inside { EndsSlot sector.now end }
+    requires short { length sector.now ≤ 2 ^ 15 }
+    ensures { result ≡ number_below sector.now end }
+{
+    (sector.len() - end) as u32 / SLOT
+}
+
+// The fields of that slot. A search goes from slot to slot by where they end, which takes fewer
+// instructions than by their numbers.
+fn slot_below(sector: &[u8], end: usize) -> &[u8]
+    requires inside { EndsSlot sector.now end }
+    requires room { 16 ≤ end }
+    ensures bytes { result.now ≡ (slot_of sector.now (number_below sector.now end)).bytes }
+    ensures len { length result.now ≡ 16 }
+{
+    &sector[end - SLOT as usize..end]
 }
 
 // The first slot from one on that gives an id of the range these bytes, above the first slot that
@@ -74,14 +102,16 @@ fn first_alike(sector: &[u8], from: u32, least: u32, most: u32, bytes: &[u8]) ->
     let Some(cycle) = cycle_of(sector) else {
         return None;
     };
-    for slot in from..sector.len() as u32 / SLOT {
-        let fields = slot_of(sector, slot);
+    let mut end = sector.len() - from as usize * SLOT as usize;
+    while end >= SLOT as usize {
+        let fields = slot_below(sector, end);
         if fields[1] != cycle {
             return None;
         }
         if names(fields, least, most) && gives(sector, fields, bytes) {
-            return Some(slot);
+            return Some(number_of(sector, end));
         }
+        end -= SLOT as usize;
     }
     None
 }
@@ -129,25 +159,50 @@ pub fn find_bytes(
     }
 }
 
-/// Whether a slot behind the first so many of a sector's list may have an entry of the id: `false`
-/// only if none has. Of the CRCs it checks only that of slot 0.
-pub fn may_have(sector: &[u8], skipped: u32, id: u32) -> bool
+// The first slot from one on that names one of two ids; `None` if no slot of the list does. It
+// reads up to the first slot of another cycle, and checks no CRC.
+fn first_named(sector: &[u8], cycle: u8, from: u32, lower: u32, upper: u32) -> Option<u32>
     requires long { 48 ≤ length sector.now }
     requires short { length sector.now ≤ 2 ^ 15 }
-    ensures { result ≡ false → (k : ℕ) → skipped + 2 ≤ k → k < length (valid_slots sector.now) + 2
-        → names id id (slot_of sector.now k) ≡ false }
+    requires cycle { cycle_of sector.now ≡ Some cycle }
+    requires from { 2 ≤ from }
+    requires inside { from * 16 ≤ length sector.now }
+    ensures { FindsNamed sector.now from lower upper result }
+{
+    let mut end = sector.len() - from as usize * SLOT as usize;
+    while end >= SLOT as usize {
+        let fields = slot_below(sector, end);
+        if fields[1] != cycle {
+            return None;
+        }
+        let id = id_in(fields);
+        if id == lower || id == upper {
+            return Some(number_of(sector, end));
+        }
+        end -= SLOT as usize;
+    }
+    None
+}
+
+/// Which of two ids the slots behind the first so many of a sector's list may have: one that is
+/// ruled out stands in none. Of the CRCs it checks only that of slot 0.
+pub fn may_have(sector: &[u8], skipped: u32, lower: u32, upper: u32) -> (bool, bool)
+    requires long { 48 ≤ length sector.now }
+    requires short { length sector.now ≤ 2 ^ 15 }
+    ensures lower { result.0 ≡ false → NoneNames sector.now skipped lower }
+    ensures upper { result.1 ≡ false → NoneNames sector.now skipped upper }
 {
     let Some(cycle) = cycle_of(sector) else {
-        return false;
+        return (false, false);
     };
-    for slot in FIRST.saturating_add(skipped)..sector.len() as u32 / SLOT {
-        let fields = slot_of(sector, slot);
-        if fields[1] != cycle {
-            return false;
-        }
-        if names(fields, id, id) {
-            return true;
-        }
-    }
-    false
+    let from = FIRST
+        .saturating_add(skipped)
+        .min(sector.len() as u32 / SLOT);
+    let Some(slot) = first_named(sector, cycle, from, lower, upper) else {
+        return (false, false);
+    };
+    (
+        first_named(sector, cycle, slot, lower, lower).is_some(),
+        first_named(sector, cycle, slot, upper, upper).is_some(),
+    )
 }

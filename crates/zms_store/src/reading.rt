@@ -1,12 +1,14 @@
 // Reading items.
-ghost use Rattle.std.specs.Prelude.{◌≡◌, ◌+◌, ◌<◌, ◌≤◌, false, None, is_some, IfSome, option_map};
+ghost use Rattle.std.specs.Prelude.{◌≡◌, ◌+◌, ◌^◌, ◌<◌, ◌≤◌, false, None, is_some, IfSome, option_map};
 ghost use Rattle.std.specs.FinMap as map;
 ghost use Rattle.flash_sim.specs.Bank.{IsLawful};
 ghost use Rattle.flash_sim.specs.Device.{Device};
 ghost use Rattle.flash_map.specs.Area.{sectors_of, sector_at};
-ghost use Rattle.item_laws.specs.Bytes.{IsIdOf, IsNextOf};
+ghost use Rattle.item_laws.specs.Bytes.{IsNextOf};
 ghost use Rattle.item_laws.specs.NextIds.{IsNextId};
 ghost use Rattle.item_store.specs.declared.lasts.TheConstants.{MOST_IDS};
+ghost use Rattle.item_store.specs.declared.free.TheConstants.{MOST_CANDIDATES};
+ghost use Rattle.item_store.specs.Asking.{IsHolderOf};
 ghost use Rattle.item_store.specs.Cached.{latest_on};
 ghost use Rattle.item_store.specs.Free.{IsLeastFree};
 ghost use Rattle.item_store.specs.Latest.{IsKnown, KnowsOn};
@@ -19,7 +21,7 @@ ghost use Rattle.zms_store.specs.Standing.{IsZmsArea, StandsOn, IsPlacedOn, form
 use crate::store::Zms;
 use flash_map::{Area, sector_view};
 use flash_sim::{Flash, Steps};
-use item_store::{IdRange, LastSlots};
+use item_store::{Holder, IdRange, LastSlots};
 use std::sync::ledger::Ledger;
 use zms_cycle::entry_in;
 use zms_format::Found;
@@ -149,25 +151,27 @@ impl Zms {
         self.store.next_by(flash, last, after, steps)
     }
 
-    /// An id from `least` to `most` whose item has these bytes; any of them if several have, `None`
-    /// if none has. This looks at each entry once, and compares ids and bytes before CRCs.
-    pub fn id_of<F: Flash, L: Ledger>(
+    /// An id of the range whose item has these bytes, with the item `step` above it; any of them if
+    /// several have, `None` if none has. It compares ids and bytes before CRCs.
+    pub fn holder_of<'a, F: Flash, L: Ledger>(
         &self,
-        flash: &F,
-        least: u32,
-        most: u32,
+        flash: &'a F,
+        ids: &IdRange,
+        step: u32,
         bytes: &[u8],
         steps: &mut Steps<L>,
-    ) -> Option<u32>
+    ) -> Option<Holder<'a>>
         requires stands { StandsOn (F.device flash.now) self.now }
-        ensures { IsIdOf least most (items_on (F.device flash.now) self.now.store.area) bytes.now
-            result }
+        requires step { 0 < step }
+        requires top { ids.now.most + step < 2 ^ 32 }
+        ensures { IsHolderOf ids.now step (items_on (F.device flash.now) self.now.store.area)
+            bytes.now result }
     {
-        self.store.id_of(flash, least, most, bytes, steps)
+        self.store.holder_of(flash, ids, step, bytes, steps)
     }
 
     /// The least id of the range that has no item, and whose id `step` above it has none; `None` if
-    /// there is none. The range has at most 512 ids. This takes one walk over the list.
+    /// there is none. The range has at most `MOST_CANDIDATES` ids. This takes one walk over the list.
     pub fn least_free<F: Flash, L: Ledger>(
         &self,
         flash: &F,
@@ -176,7 +180,7 @@ impl Zms {
         steps: &mut Steps<L>,
     ) -> Option<u32>
         requires stands { StandsOn (F.device flash.now) self.now }
-        requires range { ids.now.most < ids.now.least + 512 }
+        requires range { ids.now.most < ids.now.least + MOST_CANDIDATES }
         ensures { IsLeastFree ids.now step (items_on (F.device flash.now) self.now.store.area)
             result }
     {

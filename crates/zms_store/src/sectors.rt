@@ -1,16 +1,18 @@
 // What is kept of the open sector, and the calls on sectors.
-ghost use Rattle.std.specs.Prelude.{◌≡◌, ◌+◌, ◌*◌, ◌^◌, ◌<◌, ◌≤◌, ℕ, IfSome, IsSome, List, length, Some, ◌-◌, min};
-ghost use Rattle.std.specs.Option.{option_map};
+ghost use Rattle.std.specs.Prelude.{◌≡◌, ◌+◌, ◌*◌, ◌^◌, ◌<◌, ◌≤◌, ℕ, IfSome, IsSome, List, ◌++◌, length, map, Some, ◌-◌, min};
+ghost use Rattle.std.specs.Option.{option_map, option_to_list};
+ghost use Rattle.flash_map.specs.declared.area.Geometry.{Geometry as geometry_type};
 ghost use Rattle.flash_map.specs.declared.area.Role.TheVariants.{Zms as zms_role};
 ghost use Rattle.zms_cycle.specs.Entries.{entry_of as fields_of, offset_of};
 ghost use Rattle.zms_cycle.specs.Sector.{slot_of, cycle_of, data_end, entry_in, has_gc_done, valid_slots, value_of};
 ghost use Rattle.zms_format.specs.Formats.{entry_of, format_of};
 ghost use Rattle.zms_format.proofs.FormatLemmas.{zms_is_format};
-ghost use Rattle.item_store.specs.SectorFormat.{placed_at};
+ghost use Rattle.item_store.specs.SectorFormat.{placed_at, slots};
+ghost use Rattle.item_store.specs.declared.entry.Placed.{Placed as PlacedEntry};
 
 use flash_map::{Area, Damaged, Geometry, geometry, sector_view};
 use flash_sim::{Flash, Kind, PowerLost, Steps};
-use item_store::{IdRange, Placed, SlotSectors};
+use item_store::{IdPair, IdRange, MayHave, Notes, Placed, SlotSectors};
 use std::sync::ledger::Ledger;
 use zms_cycle::{
     FIRST, Opened, SLOT, SectorState, SlotEntry, TAIL, TAIL_AT, capacity, close_at, copy_entry_at,
@@ -99,6 +101,36 @@ fn named_id(bytes: &[u8], slot: u32) -> u32
 {
     let start = bytes.len() - (slot + 1) as usize * SLOT as usize;
     id_of(&bytes[start..start + SLOT as usize])
+}
+
+// Notes the entry in a slot of a sector's list, if there is one.
+fn note_slot<N: Notes>(bytes: &[u8], place: u32, slot: u32, notes: &mut N)
+    requires from { 2 ≤ slot }
+    requires listed { slot < length (valid_slots bytes.now) + 2 }
+    ensures { (geometry : geometry_type) (start : N) (before : List PlacedEntry)
+        → let k = format_of geometry in N.noted start k.ids notes.old before
+        → N.noted start k.ids notes.new
+        (before
+        ++ option_to_list (option_map (placed_at place) (k.in_slot bytes.now slot))) }
+{
+    match listed_entry(bytes, slot) {
+        Some(found) => notes.note(&placed(found, place)),
+        None => {}
+    }
+}
+
+// Notes the entries of a sector with these bytes, in the order of its list.
+fn note_entries<N: Notes>(bytes: &[u8], place: u32, notes: &mut N)
+    requires long { 48 ≤ length bytes.now }
+    requires short { length bytes.now ≤ 2 ^ 15 }
+    ensures { (geometry : geometry_type) (start : N) (before : List PlacedEntry)
+        → let k = format_of geometry in N.noted start k.ids notes.old before
+        → N.noted start k.ids notes.new
+        (before ++ map (placed_at place) ((slots k).entries bytes.now)) }
+{
+    for slot in FIRST..FIRST + listed_slots(bytes) {
+        note_slot(bytes, place, slot, notes);
+    }
 }
 
 impl SlotSectors for ZmsOpen {
@@ -310,10 +342,22 @@ impl SlotSectors for ZmsOpen {
         area: &Area,
         place: u32,
         skipped: u32,
-        id: u32,
+        ids: &IdPair,
         steps: &mut Steps<L>,
-    ) -> bool {
-        may_have(sector_view(flash, area, place, steps), skipped, id)
+    ) -> MayHave {
+        let bytes = sector_view(flash, area, place, steps);
+        let (lower, upper) = may_have(bytes, skipped, ids.lower, ids.upper);
+        MayHave { lower, upper }
+    }
+
+    fn note_sector<N: Notes, F: Flash, L: Ledger>(
+        flash: &F,
+        area: &Area,
+        place: u32,
+        notes: &mut N,
+        steps: &mut Steps<L>,
+    ) {
+        note_entries(sector_view(flash, area, place, steps), place, notes);
     }
 
     fn begin<F: Flash, L: Ledger>(

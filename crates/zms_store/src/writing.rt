@@ -1,9 +1,10 @@
 // Writing and deleting items.
-ghost use Rattle.std.specs.Prelude.{◌≡◌, ◌<◌, ◌∷◌, [], true, false, length, is_err};
+ghost use Rattle.std.specs.Prelude.{◌≡◌, ◌<◌, ◌∷◌, [], true, false, Some, length, is_err};
+ghost use Rattle.std.specs.FinMap as map;
 ghost use Rattle.flash_map.specs.Faults.{write_lost};
 ghost use Rattle.flash_map.specs.Touches.{Touches};
 ghost use Rattle.zms_store.specs.Ends.{WriteEnds, DeleteEnds, KeepsWritten};
-ghost use Rattle.zms_store.specs.Standing.{StandsOn, IsUndamaged};
+ghost use Rattle.zms_store.specs.Standing.{StandsOn, IsUndamaged, items_on};
 
 use crate::store::Zms;
 use flash_map::WriteFault;
@@ -41,6 +42,37 @@ impl Zms {
         ensures down { write_lost result ≡ true → self.new.store.up ≡ false }
     {
         self.store.write(flash, id, bytes, steps)
+    }
+
+    /// Gives an item bytes that it does not have. It is `write` for a caller that has looked.
+    ///
+    /// # Errors
+    /// As `write`.
+    pub fn write_changed<F: Flash, L: Ledger>(
+        &mut self,
+        flash: &mut F,
+        id: u32,
+        bytes: &[u8],
+        steps: &mut Steps<L>,
+    ) -> Result<(), WriteFault>
+        requires stands { StandsOn (F.device flash.old) self.old }
+        requires ordinary { id < 0xFFFFFFFF }
+        requires some { 0 < length bytes.now }
+        requires differs { map.get (items_on (F.device flash.old) self.old.store.area) id
+            ≡ Some bytes.now → ⊥ }
+
+        ensures touches { Touches (self.old.store.area ∷ []) (F.device flash.old)
+            (F.device flash.new) (write_lost result) }
+        ensures area { self.new.store.area ≡ self.old.store.area }
+        ensures written { let d = F.device flash.old in
+            KeepsWritten d (F.device flash.new) self.old.store.area }
+        ensures ends { let d = F.device flash.old in
+            WriteEnds d (F.device flash.new) self.old.store.area id bytes.now result }
+        ensures undamaged { IsUndamaged (F.device flash.new) self.old.store.area }
+        ensures stands { write_lost result ≡ false → StandsOn (F.device flash.new) self.new }
+        ensures down { write_lost result ≡ true → self.new.store.up ≡ false }
+    {
+        self.store.write_changed(flash, id, bytes, steps)
     }
 
     /// Deletes an item. If the id has none, nothing is programmed; the reserved id FFFFFFFF never

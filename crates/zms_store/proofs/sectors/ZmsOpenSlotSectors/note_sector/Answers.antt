@@ -1,0 +1,14 @@
+use Rattle.std.proofs.Common.{ℕ, List, ◌++◌, map, subst}
+use Rattle.flash_sim.specs.Device.{Device}
+use Rattle.flash_map.specs.declared.area.Geometry.{Geometry}
+use Rattle.flash_map.specs.Area.{geometry_of}
+use Rattle.item_store.specs.SectorFormat.{placed_at, slots}
+use Rattle.zms_format.specs.Formats.{format_of}
+use Rattle.zms_store.proofs.sectors.ZmsOpenSlotSectors.note_sector.Goals as goal
+
+pub returns : goal.returns
+returns g c = λ start before noted.
+    let d : Device = g.F.Flash.device c.args.flash.now in
+    let geometry : Geometry = geometry_of d c.args.area.now in
+    subst (λ (b : List ℕ). g.N.Notes.noted start (format_of geometry).ids c.note_entries.new.notes (before ++ map (placed_at c.args.place) ((slots (format_of geometry)).entries b))) c.sector_view.ensures.bytes
+    (c.note_entries.ensures geometry start before noted)

@@ -1,14 +1,14 @@
 -- A record that is built part by part.
 use Rattle.std.proofs.Common.{◌≡◌, ℕ, ◌+◌, ◌-◌, ◌/◌, ◌%◌, ◌<◌, ◌≤◌, List, [], ◌∷◌, ◌++◌, length, get_or, replicate, inl, inr, ap, ◌∙◌, append_assoc, arith}
 use Rattle.std.proofs.lemmas.Bool.{cases_lt, cases_eq, lt-ltb, le-ltb}
-use Rattle.std.proofs.lemmas.List.{length-append, get_or_past}
+use Rattle.std.proofs.lemmas.List.{get_or_past}
 use Rattle.crc8_entry.specs.Crc.{crc}
 use Rattle.flash_sim.specs.declared.flash.TheConstants.{PROGRAM_LIMIT}
 use Rattle.flash_map.specs.Units.{IsUnit, padded}
 use Rattle.flash_map.proofs.Rounding.{padding}
 use Rattle.fcb_ring.specs.Writing.{filled, length_field, record_image, record_cost}
 use Rattle.fcb_ring.proofs.RecordLemmas.{crc_of_two}
-use Rattle.fcb_ring.proofs.ImageLemmas.{IsField, field_is, length-filled, small_padded}
+use Rattle.fcb_ring.proofs.ImageLemmas.{IsField, field_is, small_padded}
 
 pub filled-is : (unit : ℕ) (old mid new part : List ℕ) (fill : ℕ) → fill ≡ padded unit (length part) - length part → mid ≡ old ++ part → new ≡ mid ++ replicate fill 255 → new ≡ old ++ filled unit part
 unfolding filled
@@ -38,41 +38,34 @@ field-bytes len le k = elim (cases_lt len 128) [
   | inr ge ↦ rw (le-ltb len 128 ge) (pair-bytes (len % 128 + 128) (len / 128) k (omega arith) (omega arith))
 ]
 
-module _ (unit : ℕ) (is_unit : IsUnit unit) (body : List ℕ) (short : record_cost unit (length body) ≤ PROGRAM_LIMIT) where
+module _ (unit : ℕ) (is_unit : IsUnit unit) (body : List ℕ) (short : record_cost unit (length body) ≤ PROGRAM_LIMIT) (field : List ℕ) (is : field ≡ length_field (length body)) where
   few : length body ≤ 16383
   few = let pad = padding unit is_unit in omega (arith, pad.no_less (length body))
 
-  module _ (empty field : List ℕ) (none : empty ≡ []) (is : field ≡ length_field (length body)) where
-    f : IsField (length body) (length_field (length body))
-    f = field_is (length body) few
+  f : IsField (length body) (length_field (length body))
+  f = field_is (length body) few
 
-    field-unit : padded unit (length field) ≡ unit
-    field-unit = let n : length field ≡ length (length_field (length body)) = ap length is in small_padded unit is_unit (length field) (omega (arith, f.short.0)) (omega (arith, f.short.1))
+  field-unit : padded unit (length field) ≡ unit
+  field-unit = let n : length field ≡ length (length_field (length body)) = ap length is in small_padded unit is_unit (length field) (omega (arith, f.short.0)) (omega (arith, f.short.1))
 
-    pub room-first : length empty + padded unit (length field) ≤ PROGRAM_LIMIT
-    room-first = let n : length empty ≡ 0 = ap length none in omega (arith, field-unit)
+  pub room-first : 0 + padded unit (length field) ≤ PROGRAM_LIMIT
+  room-first = omega (arith, field-unit)
 
-    module _ (first : List ℕ) (one : first ≡ empty ++ filled unit field) where
-      first-long : length first ≡ unit
-      first-long = let n : length empty ≡ 0 = ap length none in ap length one ∙ length-append empty (filled unit field) ∙ omega (arith, length-filled unit field is_unit, field-unit)
+  module _ (first : ℕ) (one : first ≡ 0 + padded unit (length field)) where
+    pub room-second : first + padded unit (length body) ≤ PROGRAM_LIMIT
+    room-second = omega (arith, field-unit)
 
-      pub room-second : length first + padded unit (length body) ≤ PROGRAM_LIMIT
-      room-second = omega (arith, first-long)
+    pub room-third : (second : ℕ) → second ≡ first + padded unit (length body) → second + padded unit 1 ≤ PROGRAM_LIMIT
+    room-third second two = omega (arith, two, field-unit, small_padded unit is_unit 1 (omega arith) (omega arith))
 
-      module _ (second : List ℕ) (two : second ≡ first ++ filled unit body) where
-        second-long : length second ≡ unit + padded unit (length body)
-        second-long = ap length two ∙ length-append first (filled unit body) ∙ omega (arith, length-filled unit body is_unit, first-long)
-
-        pub room-third : length second + padded unit 1 ≤ PROGRAM_LIMIT
-        room-third = omega (arith, second-long, small_padded unit is_unit 1 (omega arith) (omega arith))
-
-        pub built : (third : List ℕ) (a b : ℕ) → a ≡ crc 255 field → b ≡ crc a body → ((k : ℕ) → get_or body k 0 < 256) → third ≡ second ++ filled unit (b ∷ []) → third ≡ record_image unit body
-        unfolding record_image
-        built third a b over_field over_body bytes three =
-            let code : b ≡ crc 255 (length_field (length body) ++ body) =
-            over_body ∙ ap (λ (n : ℕ). crc n body) (over_field ∙ ap (crc 255) is) ∙ crc_of_two 255 (length_field (length body)) body (omega arith) (field-bytes (length body) few) bytes in
-            let start : first ≡ filled unit (length_field (length body)) = one ∙ ap (λ (l : List ℕ). l ++ filled unit field) none ∙ ap (filled unit) is in
-            three
-            ∙ ap (λ (n : ℕ). second ++ filled unit (n ∷ [])) code
-            ∙ ap (λ (l : List ℕ). l ++ filled unit (crc 255 (length_field (length body) ++ body) ∷ [])) (two ∙ ap (λ (l : List ℕ). l ++ filled unit body) start)
-            ∙ append_assoc (filled unit (length_field (length body))) (filled unit body) (filled unit (crc 255 (length_field (length body) ++ body) ∷ []))
+  pub built : (first second third : List ℕ) (a b : ℕ) → first ≡ filled unit field → second ≡ first ++ filled unit body → third ≡ second ++ filled unit (b ∷ [])
+      → a ≡ crc 255 field → b ≡ crc a body → ((k : ℕ) → get_or body k 0 < 256) → third ≡ record_image unit body
+  unfolding record_image
+  built first second third a b one two three over_field over_body bytes =
+      let code : b ≡ crc 255 (length_field (length body) ++ body) =
+      over_body ∙ ap (λ (n : ℕ). crc n body) (over_field ∙ ap (crc 255) is) ∙ crc_of_two 255 (length_field (length body)) body (omega arith) (field-bytes (length body) few) bytes in
+      let start : first ≡ filled unit (length_field (length body)) = one ∙ ap (filled unit) is in
+      three
+      ∙ ap (λ (n : ℕ). second ++ filled unit (n ∷ [])) code
+      ∙ ap (λ (l : List ℕ). l ++ filled unit (crc 255 (length_field (length body) ++ body) ∷ [])) (two ∙ ap (λ (l : List ℕ). l ++ filled unit body) start)
+      ∙ append_assoc (filled unit (length_field (length body))) (filled unit body) (filled unit (crc 255 (length_field (length body) ++ body) ∷ []))

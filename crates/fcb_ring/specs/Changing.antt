@@ -18,7 +18,7 @@ use Rattle.fcb_ring.specs.Entries.{sector_entries, HasEntries}
 use Rattle.fcb_ring.specs.Rings.{turned, is_full}
 use Rattle.fcb_ring.specs.Standing.{StandsOn, states_on, entries_on, HasEntriesOn, KeepsEntries, is_up, newest_of_all}
 use Rattle.fcb_ring.specs.SectorStates.{mended_up_to}
-use Rattle.fcb_ring.specs.Writing.{record_image, record_cost, cut_record, spelled, IsChance}
+use Rattle.fcb_ring.specs.Writing.{header_image, record_image, record_cost, cut_record, spelled, IsChance}
 
 -- ---- what is programmed, in the units of an area
 
@@ -275,11 +275,16 @@ AppendEnds old new before after body kept (Err PowerLost) =
     CanAppend old before body kept × CutAppend old new before.area (place_for old before body kept) body
     × IsDown old new after (units_for old before body kept)
 
+-- The next sector gets a whole header with the next id, padding too. All other bytes of the area stay.
+abbrev pub WritesHeader : Device → Device → Ring → Type 0
+WritesHeader old new ring =
+    Writes old new ring.area (next_place ring) 0 (header_image (unit_of old ring.area) (next_id ring))
+
 -- how a rotation ends
 abbrev pub RotateEnds : {T : Type 0} → Device → Device → Ring → Ring → Result T AppendFault → Type 0
 RotateEnds old new before after (Ok x) =
     (is_scratch_left before ≡ false) × KeepsEntries old new before.area × GoesOn before after false
-    × IsReady old new after (header_units old before.area)
+    × IsReady old new after (header_units old before.area) × WritesHeader old new before
 RotateEnds old new before after (Err TooLong) = ⊥
 RotateEnds old new before after (Err Full) = (is_scratch_left before ≡ true) × IsRefused old new before after
 RotateEnds old new before after (Err PowerLost) =
@@ -291,6 +296,7 @@ RotateEnds old new before after (Err PowerLost) =
 -- The scratch sector is open, and has no copies yet. The list is the old one.
 pub record Begun (old new : Device) (before after : Ring) : Type 0 where
   pub banks : new.banks ≡ old.banks
+  pub written : WritesHeader old new before
   pub list : KeepsEntries old new before.area
   pub others : OthersStay old new before.area (next_place before)
   pub area : after.area ≡ before.area

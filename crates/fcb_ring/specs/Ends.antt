@@ -6,7 +6,7 @@ use Rattle.flash_map.specs.Spending.{Spends, SpendsAtMost}
 use Rattle.fcb_ring.specs.declared.ring.Ring.{Ring}
 use Rattle.fcb_ring.specs.declared.ring.Stage.{Stage}
 use Rattle.fcb_ring.specs.declared.ring.Stage.TheVariants.{Ready}
-use Rattle.fcb_ring.specs.Changing.{header_on, header_units, cost_on, record_units, opening_units, image_on, next_id, newest_place, next_place, sector_list, GoesOn, PutsRecord, AddsRecord, EndsWithRecord, IsReady, IsDown, LosesRecord, LosesHeader, CutAppend, IsEraseLoss, StopsErasing, EndsCollection}
+use Rattle.fcb_ring.specs.Changing.{header_on, header_units, cost_on, record_units, opening_units, image_on, next_id, newest_place, next_place, sector_list, GoesOn, PutsRecord, AddsRecord, EndsWithRecord, IsReady, IsDown, LosesRecord, LosesHeader, CutAppend, IsEraseLoss, StopsErasing, EndsCollection, WritesHeader}
 use Rattle.fcb_ring.specs.Gains.{records_in, GainsRecord, CutInRecord, CutRing}
 use Rattle.fcb_ring.specs.Rings.{is_full, IsRing}
 use Rattle.fcb_ring.specs.Standing.{StandsOn, states_on, KeepsEntries, is_up, erases_on, mounted_on}
@@ -45,6 +45,7 @@ pub record GoesDown (before after : Ring) : Type 0 where
 pub record Opened (old new : Device) (before after : Ring) (reached : Stage) : Type 0 where
   pub ring : Advances before after (header_on old before.area) reached
   pub stands : StandsOn new after
+  pub written : WritesHeader old new before
   pub fresh : sector_list new before.area (newest_place after) ≡ []
   pub empty : records_in new before.area (next_place before) ≡ records_in old before.area (next_place before)
   pub units : Spends old new (header_units old before.area)

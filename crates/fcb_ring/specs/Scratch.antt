@@ -1,5 +1,5 @@
 -- The scratch sector while a collection copies records into it.
-use Rattle.std.specs.Prelude.{◌≡◌, [], List}
+use Rattle.std.specs.Prelude.{◌≡◌, []}
 use Rattle.flash_sim.specs.Device.{Device}
 use Rattle.flash_map.specs.Area.{OthersStay}
 use Rattle.fcb_ring.specs.declared.ring.Ring.{Ring}

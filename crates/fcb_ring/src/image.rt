@@ -1,5 +1,5 @@
 // What the ring programs: headers and records.
-ghost use Rattle.std.specs.Prelude.{◌≡◌, ◌+◌, ◌/◌, ◌%◌, ◌<◌, ◌≤◌, ◌++◌, ◌^◌, length};
+ghost use Rattle.std.specs.Prelude.{◌≡◌, ◌+◌, ◌/◌, ◌%◌, ◌<◌, ◌≤◌, ◌++◌, ◌^◌, length, take};
 ghost use Rattle.flash_sim.specs.declared.flash.TheConstants.{PROGRAM_LIMIT};
 ghost use Rattle.flash_map.specs.Units.{IsUnit, padded};
 ghost use Rattle.fcb_ring.specs.Writing.{filled, length_field, record_image, record_cost, header_image};
@@ -57,28 +57,39 @@ pub(crate) fn push_all<const N: usize>(image: &mut ArrayVec<u8, N>, bytes: &[u8]
     let _fits = image.try_extend_from_slice(bytes);
 }
 
-// Puts a part behind the others, with FF up to whole units.
-fn push_filled(image: &mut ArrayVec<u8, PROGRAM_LIMIT>, unit: u32, part: &[u8])
-    requires unit { IsUnit unit }
-    requires room { length image.old.items + padded unit (length part.now) ≤ PROGRAM_LIMIT }
-    ensures { image.new.items ≡ image.old.items ++ filled unit part.now }
+// Writes bytes at a place of a buffer. Returns where they end.
+fn write_at(buffer: &mut [u8; PROGRAM_LIMIT], at: usize, bytes: &[u8]) -> usize
+    requires { at + length bytes.now ≤ PROGRAM_LIMIT }
+    ensures bytes { take result buffer.new ≡ take at buffer.old ++ bytes.now }
+    ensures end { result ≡ at + length bytes.now }
 {
-    let fill = padded(unit, part.len() as u32) as usize - part.len();
-    push_all(image, part);
-    push_all(image, &[0xFF; UNIT][..fill]);
+    let end = at + bytes.len();
+    buffer[at..end].copy_from_slice(bytes);
+    end
 }
 
-// A record with this body.
-pub(crate) fn record_image(unit: u32, body: &[u8]) -> ArrayVec<u8, PROGRAM_LIMIT>
+// Writes a part at a place of a buffer, with FF up to whole units. Returns where these end.
+fn write_filled(buffer: &mut [u8; PROGRAM_LIMIT], at: usize, unit: u32, part: &[u8]) -> usize
+    requires unit { IsUnit unit }
+    requires room { at + padded unit (length part.now) ≤ PROGRAM_LIMIT }
+    ensures bytes { take result buffer.new ≡ take at buffer.old ++ filled unit part.now }
+    ensures end { result ≡ at + padded unit (length part.now) }
+{
+    let fill = padded(unit, part.len() as u32) as usize - part.len();
+    let end = write_at(buffer, at, part);
+    write_at(buffer, end, &[0xFF; UNIT][..fill])
+}
+
+// Writes a record with this body to the start of a buffer. Returns how many bytes it has.
+pub(crate) fn write_record(buffer: &mut [u8; PROGRAM_LIMIT], unit: u32, body: &[u8]) -> usize
     requires unit { IsUnit unit }
     requires short { record_cost unit (length body.now) ≤ PROGRAM_LIMIT }
-    ensures { result.items ≡ record_image unit body.now }
+    ensures bytes { take result buffer.new ≡ record_image unit body.now }
+    ensures within { result ≤ PROGRAM_LIMIT }
 {
     let field = length_field(body.len() as u32);
     let crc = crc8(crc8(START, field.as_slice()), body);
-    let mut image = ArrayVec::new();
-    push_filled(&mut image, unit, field.as_slice());
-    push_filled(&mut image, unit, body);
-    push_filled(&mut image, unit, &[crc]);
-    image
+    let field_end = write_filled(buffer, 0, unit, field.as_slice());
+    let body_end = write_filled(buffer, field_end, unit, body);
+    write_filled(buffer, body_end, unit, &[crc])
 }

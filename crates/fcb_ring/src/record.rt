@@ -1,5 +1,5 @@
 // Reading records.
-ghost use Rattle.std.specs.Prelude.{◌≡◌, ◌+◌, ◌-◌, ◌*◌, ◌%◌, ◌<◌, ◌≤◌, ◌^◌, length, option_map, IsTrue, Some, nat_eq};
+ghost use Rattle.std.specs.Prelude.{◌≡◌, ◌+◌, ◌-◌, ◌*◌, ◌%◌, ◌<◌, ◌≤◌, ◌^◌, length, option_map, IsTrue, IfSome, Some, None, slice_index, nat_eq, if◌then◌else◌};
 ghost use Rattle.std.specs.List.{starts_with};
 ghost use Rattle.flash_map.specs.Units.{IsUnit, padded};
 ghost use Rattle.fcb_ring.specs.SectorStates.{IsSector};
@@ -70,6 +70,25 @@ pub(crate) fn has_record(sector: &[u8], at: usize) -> bool
     at < sector.len() && !(sector[at] == 0xFF && sector[at + 1] == 0xFF)
 }
 
+// The length of the body of the record at a place; `None` if the records end there. A length below
+// 128 is the first byte alone.
+#[tactic(auto, unfolding(crate::specs::Records::has_record, crate::specs::Records::body_len))]
+fn len_at(sector: &[u8], at: usize) -> Option<u32>
+    requires { at < length sector.now → at + 1 < length sector.now }
+    ensures value { result
+        ≡ (if has_record sector.now at then
+        Some (body_len (slice_index sector.now at) (slice_index sector.now (at + 1))) else None) }
+    ensures small { IfSome result (λ len. len < 2 ^ 15) }
+{
+    if at < sector.len() && sector[at] < 0x80 {
+        return Some(u32::from(sector[at]));
+    }
+    if !has_record(sector, at) {
+        return None;
+    }
+    Some(body_len(sector[at], sector[at + 1]))
+}
+
 // How far a record goes.
 #[derive(Clone, Copy)]
 pub(crate) struct Extent {
@@ -138,11 +157,7 @@ fn extent_at(sector: &[u8], unit: u32, at: u32) -> Option<Extent>
     requires at { at ≤ length sector.now }
     ensures { result ≡ option_map extent_of (record_at unit sector.now at) }
 {
-    let start = at as usize;
-    if !has_record(sector, start) {
-        return None;
-    }
-    let len = body_len(sector[start], sector[start + 1]);
+    let len = len_at(sector, at as usize)?;
     let end = at + unit + padded_len(unit, len) + unit;
     if end as usize > sector.len() {
         return None;

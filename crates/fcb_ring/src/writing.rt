@@ -10,10 +10,10 @@ ghost use Rattle.fcb_ring.specs.Gains.{GainsRecord, CutRing};
 ghost use Rattle.fcb_ring.specs.Standing.{StandsOn, KeepsEntries, is_finished};
 ghost use Rattle.fcb_ring.specs.Writing.{record_image, record_cost};
 
-use crate::image::{header_image, record_cost, record_image};
+use crate::image::{header_image, record_cost, write_record};
 use crate::ring::{Ring, Stage};
 use flash_map::{Geometry, area_program, geometry, padded};
-use flash_sim::{Flash, PowerLost};
+use flash_sim::{Flash, PROGRAM_LIMIT, PowerLost};
 
 /// Why a record was not appended, or no sector was opened.
 #[derive(Clone, Copy, Debug, PartialEq, Eq)]
@@ -135,12 +135,13 @@ impl Ring {
             OnErr result (StopsInNewest d (F.device flash.new) self.old self.new body.now) }
     {
         let unit = geometry(flash, &self.area).unit;
-        let record = record_image(unit, body);
+        let mut record = [0; PROGRAM_LIMIT];
+        let len = write_record(&mut record, unit, body);
         let place = self.place(self.used - 1);
         let stage = self.stage;
         self.stage = Stage::Down;
-        area_program(flash, &self.area, place, self.end, record.as_slice())?;
-        self.end += record.len() as u32;
+        area_program(flash, &self.area, place, self.end, &record[..len])?;
+        self.end += len as u32;
         self.stage = stage;
         Ok(())
     }
@@ -240,7 +241,8 @@ impl Ring {
         }
     }
 
-    /// Opens the next sector. The list stays, even if power is lost.
+    /// Opens the next sector: writes its whole header, padding too. The list stays, even if power is
+    /// lost.
     ///
     /// # Errors
     /// `Full` exactly if only the scratch sector is free: nothing changes. `PowerLost`: the ring is

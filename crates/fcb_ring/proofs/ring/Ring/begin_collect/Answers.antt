@@ -6,6 +6,7 @@ returns-clause-begun g c =
     let did = c.in_ok-open_next.ensures in
     record {
       banks = did.touches.banks;
+      written = did.opened.written;
       list = did.list;
       others = did.others;
       area = did.opened.ring.area;

@@ -2,11 +2,11 @@ use Rattle.std.proofs.Common.{refl, ◌≡◌, ◌+◌, ℕ, List, length, take,
 use Rattle.std.proofs.lemmas.List.{length-take-le}
 use Rattle.flash_sim.specs.Device.{Device}
 use Rattle.flash_map.specs.declared.area.Geometry.{Geometry}
-use Rattle.flash_map.specs.Area.{unit_of, sector_size, sectors_of}
+use Rattle.flash_map.specs.Area.{unit_of, sector_size, sectors_of, Writes}
 use Rattle.flash_map.specs.Units.{padded}
 use Rattle.flash_map.proofs.PieceLemmas.{on_err}
 use Rattle.fcb_ring.specs.declared.ring.Ring.{Ring}
-use Rattle.fcb_ring.specs.Changing.{next_place}
+use Rattle.fcb_ring.specs.Changing.{next_id, next_place}
 use Rattle.fcb_ring.specs.Standing.{StandsOn}
 use Rattle.fcb_ring.specs.Writing.{header_image}
 use Rattle.fcb_ring.proofs.AreaLemmas.{has_size, count-sectors}
@@ -132,6 +132,10 @@ returns-clause-opened g c =
       stands =
           subst (λ (n : ℕ). StandsOn new (record ring { used = ring.used + 1; id = id; end = n; stage = c.args.next })) (sym end-is)
           (opened-stands d ring lawful c.requires.stands c.requires.ready id c.next_id-id.ensures c.place-place.result c.place-place.ensures.value header is new c.in_ok-area_program.ensures.touches.banks c.args.next c.requires.fits c.in_ok-area_program.ensures.written);
+      written =
+          subst (λ (n : ℕ). Writes d new ring.area n 0 (header_image unit (next_id ring))) c.place-place.ensures.value
+          (subst (λ (n : ℕ). Writes d new ring.area c.place-place.result 0 (header_image unit n)) c.next_id-id.ensures
+          (subst (λ (bytes : List ℕ). Writes d new ring.area c.place-place.result 0 bytes) is c.in_ok-area_program.ensures.written));
       fresh = opened-fresh d ring lawful c.requires.stands c.requires.ready id c.next_id-id.ensures c.place-place.result c.place-place.ensures.value header is new c.in_ok-area_program.ensures.touches.banks c.args.next c.requires.fits c.in_ok-area_program.ensures.written;
       empty = opened-empty d ring lawful c.requires.stands c.requires.ready id c.next_id-id.ensures c.place-place.result c.place-place.ensures.value header is new c.in_ok-area_program.ensures.touches.banks c.args.next c.requires.fits c.in_ok-area_program.ensures.written;
       units = header-spends d ring lawful c.requires.stands c.requires.ready id c.next_id-id.ensures c.place-place.result c.place-place.ensures.value header is new c.in_ok-area_program.ensures.touches.banks c.in_ok-area_program.ensures.ok;

@@ -1,4 +1,4 @@
-use Rattle.std.proofs.Common.{refl, ◌≡◌, ◌+◌, ℕ, List, length, ap, sym, ◌∙◌, arith}
+use Rattle.std.proofs.Common.{refl, ◌≡◌, ◌+◌, ℕ, List, length, take, length-take-le, ap, sym, ◌∙◌, arith}
 use Rattle.flash_sim.specs.Device.{Device}
 use Rattle.flash_map.specs.declared.area.Geometry.{Geometry}
 use Rattle.flash_map.specs.Area.{unit_of, sector_size, sectors_of}
@@ -31,9 +31,9 @@ area_program-requires-clause-can g c =
     let d : Device = g.F.Flash.device c.args.flash.now in
     let ring : Ring = c.args.self.now in
     let lawful = g.met.F.Flash.is_lawful c.args.flash.now in
-    let bytes : List ℕ = c.as_slice.result.now in
+    let bytes : List ℕ = take c.write_record-len.result c.write_record-len.new.buffer in
     let is : bytes ≡ record_image (unit_of d ring.area) c.args.body.now =
-    c.as_slice.ensures.value ∙ c.record_image-record.ensures ∙ ap (λ (x : Geometry). record_image x.unit c.args.body.now) c.geometry-unit.ensures in
+    c.write_record-len.ensures.bytes ∙ ap (λ (x : Geometry). record_image x.unit c.args.body.now) c.geometry-unit.ensures in
     can-record d ring lawful c.requires.stands c.requires.writes c.requires.some c.args.body.now c.requires.short c.requires.fits c.place-place.result bytes c.place-place.ensures.value is
 
 pub returns-in_err-area_program-clause-stopped : goal.returns-in_err-area_program-clause-stopped
@@ -41,9 +41,9 @@ returns-in_err-area_program-clause-stopped g c =
     let d : Device = g.F.Flash.device c.args.flash.now in
     let ring : Ring = c.args.self.now in
     let lawful = g.met.F.Flash.is_lawful c.args.flash.now in
-    let bytes : List ℕ = c.as_slice.result.now in
+    let bytes : List ℕ = take c.write_record-len.result c.write_record-len.new.buffer in
     let is : bytes ≡ record_image (unit_of d ring.area) c.args.body.now =
-    c.as_slice.ensures.value ∙ c.record_image-record.ensures ∙ ap (λ (x : Geometry). record_image x.unit c.args.body.now) c.geometry-unit.ensures in
+    c.write_record-len.ensures.bytes ∙ ap (λ (x : Geometry). record_image x.unit c.args.body.now) c.geometry-unit.ensures in
     let new : Device = g.F.Flash.device c.area_program.new.flash in
     on_err c.from_residual.result (record {
       ring = record {
@@ -64,9 +64,10 @@ returns-clause-put g c =
     let d : Device = g.F.Flash.device c.args.flash.now in
     let ring : Ring = c.args.self.now in
     let lawful = g.met.F.Flash.is_lawful c.args.flash.now in
-    let bytes : List ℕ = c.as_slice.result.now in
+    let bytes : List ℕ = take c.write_record-len.result c.write_record-len.new.buffer in
     let is : bytes ≡ record_image (unit_of d ring.area) c.args.body.now =
-    c.as_slice.ensures.value ∙ c.record_image-record.ensures ∙ ap (λ (x : Geometry). record_image x.unit c.args.body.now) c.geometry-unit.ensures in
+    c.write_record-len.ensures.bytes ∙ ap (λ (x : Geometry). record_image x.unit c.args.body.now) c.geometry-unit.ensures in
+    let long : length bytes ≡ c.write_record-len.result = length-take-le c.write_record-len.result c.write_record-len.new.buffer (omega (arith, c.write_record-len.ensures.within, c.write_record-len.array_long)) in
     let new : Device = g.F.Flash.device c.area_program.new.flash in
     record {
       ring = record {
@@ -75,16 +76,16 @@ returns-clause-put g c =
         oldest = refl;
         used = refl;
         id = refl;
-        end = ap (λ (n : ℕ). ring.end + n) (c.len.ensures.value ∙ sym (ap length c.as_slice.ensures.value) ∙ record-long d ring lawful c.requires.stands c.requires.writes c.requires.some c.args.body.now c.requires.short c.requires.fits bytes is);
+        end = ap (λ (n : ℕ). ring.end + n) (sym long ∙ record-long d ring lawful c.requires.stands c.requires.writes c.requires.some c.args.body.now c.requires.short c.requires.fits bytes is);
         stage = refl;
       };
       stands =
-          put-stands-on d ring lawful c.requires.stands c.requires.writes c.requires.some c.args.body.now c.requires.short c.requires.fits new c.in_ok-area_program.ensures.touches.banks c.place-place.result bytes c.place-place.ensures.value is c.in_ok-area_program.ensures.written (ring.end + c.len.result)
-          (ap (λ (n : ℕ). ring.end + n) (c.len.ensures.value ∙ sym (ap length c.as_slice.ensures.value)));
+          put-stands-on d ring lawful c.requires.stands c.requires.writes c.requires.some c.args.body.now c.requires.short c.requires.fits new c.in_ok-area_program.ensures.touches.banks c.place-place.result bytes c.place-place.ensures.value is c.in_ok-area_program.ensures.written (ring.end + c.write_record-len.result)
+          (ap (λ (n : ℕ). ring.end + n) (sym long));
       written = record-written d ring lawful c.requires.stands c.requires.writes c.requires.some c.args.body.now c.requires.short c.requires.fits new c.in_ok-area_program.ensures.touches.banks c.place-place.result bytes c.place-place.ensures.value is c.in_ok-area_program.ensures.written;
       ends_with =
-          record-stands d ring lawful c.requires.stands c.requires.writes c.requires.some c.args.body.now c.requires.short c.requires.fits new c.in_ok-area_program.ensures.touches.banks c.place-place.result bytes c.place-place.ensures.value is c.in_ok-area_program.ensures.written (ring.end + c.len.result)
-          (ap (λ (n : ℕ). ring.end + n) (c.len.ensures.value ∙ sym (ap length c.as_slice.ensures.value)));
+          record-stands d ring lawful c.requires.stands c.requires.writes c.requires.some c.args.body.now c.requires.short c.requires.fits new c.in_ok-area_program.ensures.touches.banks c.place-place.result bytes c.place-place.ensures.value is c.in_ok-area_program.ensures.written (ring.end + c.write_record-len.result)
+          (ap (λ (n : ℕ). ring.end + n) (sym long));
       puts = puts-record d ring lawful c.requires.stands c.requires.writes c.requires.some c.args.body.now c.requires.short c.requires.fits new c.in_ok-area_program.ensures.touches.banks c.place-place.result bytes c.place-place.ensures.value is c.in_ok-area_program.ensures.written;
       gains = record-gains d ring lawful c.requires.stands c.requires.writes c.requires.some c.args.body.now c.requires.short c.requires.fits new c.in_ok-area_program.ensures.touches.banks c.place-place.result bytes c.place-place.ensures.value is c.in_ok-area_program.ensures.written;
       units = record-spends d ring lawful c.requires.stands c.requires.writes c.requires.some c.args.body.now c.requires.short c.requires.fits new c.in_ok-area_program.ensures.touches.banks c.place-place.result bytes c.place-place.ensures.value is c.in_ok-area_program.ensures.written c.in_ok-area_program.ensures.ok;

@@ -49,6 +49,12 @@ few-free settings name few = by (contains_key settings name)
     by true = refl
     by false = over
 
+-- a count of one name more is not the one before
+pub count-differs : (limit : ℕ) (items : Items) (count : List ℕ) → count_of (Some count) ≡ count_in (nvs_numbering limit) items + 1 → get items 0x8000 ≡ Some count → ⊥
+count-differs limit items count more is =
+    let same : count_in (nvs_numbering limit) items ≡ count_of (Some count) = ap count_of is in
+    absurd (omega (arith, more, same))
+
 module _ (limit : ℕ) (items : Items) (clean : HasNoOrphans (nvs_numbering limit) items) where
   abbrev n : Numbering
   n = nvs_numbering limit

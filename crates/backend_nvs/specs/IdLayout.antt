@@ -83,6 +83,7 @@ no-count (Some bytes) none =
 pub nvs-numbering : (limit : ℕ) → IsNumbering (nvs_numbering limit)
 nvs-numbering limit = record {
   below = omega arith;
+  apart = omega arith;
   few = λ o. let few = count-few o in omega arith;
   none = refl;
   other = no-count;

@@ -1,17 +1,19 @@
 // The backend over NVS.
-ghost use Rattle.std.specs.Prelude.{◌≡◌, ◌∷◌, [], true, false, is_err, None};
+ghost use Rattle.std.specs.Prelude.{◌≡◌, ◌∷◌, [], true, false, is_err, None, IfOk};
 ghost use Rattle.flash_map.specs.Area.{geometry_of, value_limit};
+ghost use Rattle.flash_map.specs.Faults.{mount_lost};
 ghost use Rattle.flash_map.specs.Lawful.{IsLawfulFor};
-ghost use Rattle.flash_map.specs.On.{on, StandsOn};
+ghost use Rattle.flash_map.specs.On.{on, HoldsOn, StandsOn};
 ghost use Rattle.flash_map.specs.Spending.{SpendsAtMost};
 ghost use Rattle.flash_map.specs.Touches.{Touches};
 ghost use Rattle.flash_map.specs.declared.area.Role.TheVariants.{Fcb as FcbRole, Nvs as NvsRole};
 ghost use Rattle.backend_api.specs.Commands.{StopsOn};
 ghost use Rattle.backend_api.specs.Commands.Command.{Put, Del};
-ghost use Rattle.backend_api.specs.Ends.{set_lost, SetEndsOn, DeleteEndsOn};
-ghost use Rattle.backend_api.specs.Room.{command_units};
+ghost use Rattle.backend_api.specs.Ends.{set_lost, MountEnds, SetEndsOn, DeleteEndsOn};
+ghost use Rattle.backend_api.specs.Room.{command_units, mount_units};
 ghost use Rattle.backend_api.specs.Written.{StaysWritten};
 ghost use Rattle.named_items.specs.Leaving.{SetLeavesItems, DeleteLeavesItems};
+ghost use Rattle.named_items.specs.Orphans.{MountLeavesItems};
 ghost use Rattle.named_items.specs.Putting.{IsStorable};
 ghost use Rattle.named_items.specs.NvsStore.{nvs_damage, nvs_items};
 ghost use Rattle.backend_nvs.specs.IdLayout.{numbering_of};
@@ -69,12 +71,39 @@ impl Backend for NvsBackend {
 
     ghost reads_settings = { reads_settings };
 
+    // As the trait says. The count and both items of each setting stay, and orphans go in rising order
+    // of ids. A loss leaves the orphans from one id on.
     fn mount<F: Flash, L: Ledger>(
         alloc: Global,
         flash: &mut F,
         area: Area,
         steps: &mut Steps<L>,
-    ) -> Result<NvsBackend, MountFault> {
+    ) -> Result<NvsBackend, MountFault>
+        requires lawful { IsLawfulFor (F.device flash.old).banks area }
+        requires serves { area.role ≡ NvsRole }
+
+        ensures touches { Touches (area ∷ []) (F.device flash.old) (F.device flash.new)
+            (mount_lost result) }
+        ensures ends { let d = F.device flash.old in
+            MountEnds (on nvs_damage d area) d (F.device flash.new) result }
+        ensures sound { let d = F.device flash.old in let e = F.device flash.new in
+            on nvs_damage d area ≡ None → on nvs_damage e area ≡ None }
+        ensures keeps { let d = F.device flash.old in let e = F.device flash.new in
+            on nvs_damage d area ≡ None → on settings_by e area ≡ on settings_by d area }
+        ensures items { let d = F.device flash.old in let e = F.device flash.new in
+            on nvs_damage d area ≡ None
+            → MountLeavesItems (numbering_of area) (on nvs_items d area) (on nvs_items e area)
+            result }
+        ensures rests { HoldsOn Rests (F.device flash.old) area
+            → F.device flash.new ≡ F.device flash.old }
+        ensures written { let d = F.device flash.old in
+            (area.role ≡ FcbRole → ⊥) → StaysWritten d (F.device flash.new) area }
+        ensures at_most { let d = F.device flash.old in
+            SpendsAtMost d (F.device flash.new) (mount_units (geometry_of d area)) }
+        ensures on { IfOk result (λ state. area_of state ≡ area) }
+        ensures stands { IfOk result
+            (λ state. StandsOn area_of Stands (F.device flash.new) state) }
+    {
         match mount_store::<NvsIdLayout, Nvs, F, L>(alloc, flash, area, steps) {
             Ok(store) => Ok(NvsBackend { store }),
             Err(fault) => Err(fault),

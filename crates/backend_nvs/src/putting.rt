@@ -102,7 +102,7 @@ fn add_name<S: ItemStore, F: Flash, L: Ledger>(
 {
     let need = price_of_pair(store, flash, name, value);
     let bytes = bytes_of_count(count + 1);
-    match store.write(flash, COUNT, &bytes, steps) {
+    match store.write_changed(flash, COUNT, &bytes, steps) {
         Ok(()) => {
             put_new::<NvsIdLayout, S, F, L>(store, flash, FIRST + count, name, value, steps)
         }

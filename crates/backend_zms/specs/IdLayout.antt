@@ -43,6 +43,7 @@ places-few = lit≤ tt
 pub zms-numbering : (limit : ℕ) → IsNumbering (zms_numbering limit)
 zms-numbering limit = record {
   below = lit< tt;
+  apart = lit< tt;
   few = λ count. places-few;
   none = refl;
   other = λ count none. refl;

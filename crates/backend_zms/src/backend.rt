@@ -1,17 +1,19 @@
 // The backend over ZMS.
-ghost use Rattle.std.specs.Prelude.{◌≡◌, ◌∷◌, [], true, false, is_err, None, refl};
+ghost use Rattle.std.specs.Prelude.{◌≡◌, ◌∷◌, [], true, false, is_err, None, IfOk, refl};
 ghost use Rattle.flash_map.specs.Area.{geometry_of, value_limit};
+ghost use Rattle.flash_map.specs.Faults.{mount_lost};
 ghost use Rattle.flash_map.specs.Lawful.{IsLawfulFor};
-ghost use Rattle.flash_map.specs.On.{on, StandsOn};
+ghost use Rattle.flash_map.specs.On.{on, HoldsOn, StandsOn};
 ghost use Rattle.flash_map.specs.Spending.{SpendsAtMost};
 ghost use Rattle.flash_map.specs.Touches.{Touches};
 ghost use Rattle.flash_map.specs.declared.area.Role.TheVariants.{Fcb as FcbRole};
 ghost use Rattle.backend_api.specs.Commands.{StopsOn};
 ghost use Rattle.backend_api.specs.Commands.Command.{Put, Del};
-ghost use Rattle.backend_api.specs.Ends.{set_lost, SetEndsOn, DeleteEndsOn};
-ghost use Rattle.backend_api.specs.Room.{command_units};
+ghost use Rattle.backend_api.specs.Ends.{set_lost, MountEnds, SetEndsOn, DeleteEndsOn};
+ghost use Rattle.backend_api.specs.Room.{command_units, mount_units};
 ghost use Rattle.backend_api.specs.Written.{StaysWritten};
 ghost use Rattle.named_items.specs.Leaving.{SetLeavesItems, DeleteLeavesItems};
+ghost use Rattle.named_items.specs.Orphans.{MountLeavesItems};
 ghost use Rattle.named_items.specs.Putting.{IsStorable};
 ghost use Rattle.named_items.specs.ZmsStore.{zms_damage, zms_items};
 ghost use Rattle.backend_zms.specs.IdLayout.{numbering_of};
@@ -69,12 +71,39 @@ impl Backend for ZmsBackend {
 
     ghost reads_settings = { reads_settings };
 
+    // As the trait says. The count and both items of each setting stay, and orphans go in rising order
+    // of ids. A loss leaves the orphans from one id on.
     fn mount<F: Flash, L: Ledger>(
         alloc: Global,
         flash: &mut F,
         area: Area,
         steps: &mut Steps<L>,
-    ) -> Result<ZmsBackend, MountFault> {
+    ) -> Result<ZmsBackend, MountFault>
+        requires lawful { IsLawfulFor (F.device flash.old).banks area }
+        requires serves { IsServed area (geometry_of (F.device flash.old) area) }
+
+        ensures touches { Touches (area ∷ []) (F.device flash.old) (F.device flash.new)
+            (mount_lost result) }
+        ensures ends { let d = F.device flash.old in
+            MountEnds (on zms_damage d area) d (F.device flash.new) result }
+        ensures sound { let d = F.device flash.old in let e = F.device flash.new in
+            on zms_damage d area ≡ None → on zms_damage e area ≡ None }
+        ensures keeps { let d = F.device flash.old in let e = F.device flash.new in
+            on zms_damage d area ≡ None → on settings_of e area ≡ on settings_of d area }
+        ensures items { let d = F.device flash.old in let e = F.device flash.new in
+            on zms_damage d area ≡ None
+            → MountLeavesItems (numbering_of area) (on zms_items d area) (on zms_items e area)
+            result }
+        ensures rests { HoldsOn Rests (F.device flash.old) area
+            → F.device flash.new ≡ F.device flash.old }
+        ensures written { let d = F.device flash.old in
+            (area.role ≡ FcbRole → ⊥) → StaysWritten d (F.device flash.new) area }
+        ensures at_most { let d = F.device flash.old in
+            SpendsAtMost d (F.device flash.new) (mount_units (geometry_of d area)) }
+        ensures on { IfOk result (λ state. area_of state ≡ area) }
+        ensures stands { IfOk result
+            (λ state. StandsOn area_of Stands (F.device flash.new) state) }
+    {
         match mount_store::<ZmsIdLayout, Zms, F, L>(alloc, flash, area, steps) {
             Ok(store) => Ok(ZmsBackend { store }),
             Err(fault) => Err(fault),

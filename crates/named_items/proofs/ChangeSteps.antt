@@ -17,7 +17,7 @@ use Rattle.named_items.specs.StoreEnds as stored
 use Rattle.named_items.specs.Numbering.{Numbering, IsNumbering}
 use Rattle.named_items.specs.PairRoom.{pair_room, IsCountCost}
 use Rattle.named_items.specs.Pairs.{count_in, is_pair, pair_at, settings_in, IsAt, HasNoOrphans}
-use Rattle.named_items.proofs.CostLemmas.{get-put, get-put_other}
+use Rattle.named_items.proofs.CostLemmas.{get-put, get-put_other, put-again}
 use Rattle.named_items.proofs.PairLemmas.{Makes, pair-made, made-pair, one-name, place-put}
 use Rattle.named_items.proofs.NameLemmas.{get-at, at-value}
 use Rattle.named_items.proofs.RoomLemmas.{refused-room, stored-numbering, items-within}
@@ -130,3 +130,7 @@ module _ (n : Numbering) (laws : IsNumbering n) (counted : (ℕ → ℕ) → ℕ
 
     pub change-cut : stored.StopsWriting price cap items after second value → IsPut (settings_in n items) (settings_in n after) name value
     change-cut stops = elim stops.items [ inl same ↦ inl (ap (settings_in n) same) | inr put ↦ inr (ap (settings_in n) (put ∙ ap (λ (id : ℕ). insert items id value) is_second) ∙ change-sets) ]
+
+  -- it has the value already
+  pub change-none : stored.Holds items second value → (price : ℕ → ℕ) (cap : ℕ) (d : Device) → Sets (pair_room price cap (counted price) too_many) d d (settings_in n items) (settings_in n items) name value
+  change-none holds price cap d = change-done price cap 0 d d items (sym (put-again items second value holds)) (λ same. refl) (λ other. absurd (other refl))

@@ -78,6 +78,14 @@ put-cut items id bytes is = same-items (map.insert (map.remove items id) id byte
       | inr apart ↦ get-put_other (map.remove items id) id bytes other apart ∙ get-cut_other items id other apart
     ])
 
+-- bytes that an item has already
+pub put-again : (items : Items) (id : ℕ) (bytes : List ℕ) → map.get items id ≡ Some bytes → map.insert items id bytes ≡ items
+put-again items id bytes is = same-items (map.insert items id bytes) items (λ other.
+    elim (cases_eq other id) [
+      | inl e ↦ ap (map.get (map.insert items id bytes)) e ∙ get-put items id bytes ∙ sym (ap (map.get items) e ∙ is)
+      | inr apart ↦ get-put_other items id bytes other apart
+    ])
+
 -- ---- what items cost
 
 module _ (price : ℕ → ℕ) where

@@ -1,21 +1,24 @@
 -- Names by their bytes: which items of the ids of names are the names of settings that count, where items are orphans and where none is.
 use Rattle.std.proofs.Common.{◌≡◌, ℕ, ◌+◌, ◌<◌, ◌≤◌, true, List, Option, Some, None, is_some, refl, sym, ap, subst, ◌∙◌, inl, inr, arith}
+use Rattle.std.specs.Prelude.{option_map, IfSome}
 use Rattle.std.specs.FinMap.{get, contains_key}
 use Rattle.std.proofs.lemmas.Bool.{false≢true}
 use Rattle.setting_name.specs.Name.{IsName}
-use Rattle.item_laws.specs.Bytes.{is_behind as bytes_behind, HasBytes, IsIdOf, IsNextOf}
+use Rattle.item_laws.specs.Bytes.{is_behind as bytes_behind, HasBytes, IsNextOf}
 use Rattle.item_laws.specs.Items.{Items}
 use Rattle.backend_api.specs.Least.{IsLeast}
 use Rattle.backend_api.specs.Map.{is_behind, next_name}
 use Rattle.backend_api.proofs.LeastLemmas.{next-least}
 use Rattle.named_items.specs.Numbering.{Numbering, IsNumbering}
-use Rattle.named_items.specs.Pairs.{count_in, pair_at, settings_in, HasName, IsInside, IsAt, IsIdOfName, IsKept, HasNoOrphans}
+use Rattle.named_items.specs.Pairs.{count_in, pair_at, settings_in, HasName, IsAt, IsIdOfName, IsKept, HasNoOrphans}
 use Rattle.named_items.proofs.CandidateLemmas.{at-candidate}
 use Rattle.named_items.proofs.NameLemmas.{get-at, at-value, get-nowhere}
 use Rattle.named_items.proofs.OrphanLemmas.{seek}
 use Rattle.named_items.specs.CandidateIds.{AreOfNames, IsCandidateId, HasCandidates, HasAllCandidates}
 use Rattle.named_items.specs.Looking.{IsForName}
 use Rattle.item_store.specs.declared.entry.IdRange.{IdRange}
+use Rattle.item_store.specs.declared.holding.Holder.{Holder}
+use Rattle.item_store.specs.Asking.{IsHolderOf}
 use Rattle.named_items.proofs.LookupSteps.{at-lawful, has-here, named-as}
 use Rattle.named_items.proofs.OrphanSteps.{named-at}
 
@@ -58,6 +61,15 @@ module _ (n : Numbering) (items : Items) where
         ]
       ]
 
+-- the item a step above a holder
+pub value-found : (ids : IdRange) (items : Items) (bytes : List ℕ) (step own : ℕ) → own ≡ step → (o : Option Holder) → IsHolderOf ids step items bytes o
+    → IfSome o (λ holder. option_map (λ value. value.now) holder.above ≡ get items (holder.id + own))
+value-found ids items bytes step own same None none = tt
+value-found ids items bytes step own same (Some holder) has = has.1 ∙ ap (λ (k : ℕ). get items (holder.id + k)) (sym same)
+
+pub none-found : (n : Numbering) (items : Items) (name : List ℕ) (o : Option Holder) → o ≡ None → IsIdOfName n items name (option_map (λ holder. holder.id) o) → IsIdOfName n items name None
+none-found n items name o is found = subst (λ (x : Option Holder). IsIdOfName n items name (option_map (λ holder. holder.id) x)) is found
+
 -- ---- where none is
 
 module _ (n : Numbering) (laws : IsNumbering n) (items : Items) (clean : HasNoOrphans n items) (top : ℕ) (ids : IdRange) (own : AreOfNames n top ids) where
@@ -74,9 +86,9 @@ module _ (n : Numbering) (laws : IsNumbering n) (items : Items) (clean : HasNoOr
   here-bytes name place has among = record { from = among.from; to = among.to; has = (has-here n place name (get items place) (get items (place + n.step)) has).named }
 
   -- an id that has the bytes of a name is its place, and without one the name has none
-  pub place-found : (name : List ℕ) → HasCandidates n name ids → (o : Option ℕ) → IsIdOf ids.least ids.most items name o → IsIdOfName n items name o
-  place-found name candidates None none = λ other inside has. none other (here-bytes name other has (candidates items other inside (at-candidate n items name other has)))
-  place-found name candidates (Some id) has = name-is id name has
+  pub place-found : (name : List ℕ) → HasCandidates n name ids → (step : ℕ) (o : Option Holder) → IsHolderOf ids step items name o → IsIdOfName n items name (option_map (λ holder. holder.id) o)
+  place-found name candidates step None none = λ other inside has. none other (here-bytes name other has (candidates items other inside (at-candidate n items name other has)))
+  place-found name candidates step (Some holder) has = name-is holder.id name has.0
 
   at-key : (name : List ℕ) (place : ℕ) → IsAt n items name place → contains_key (settings_in n items) name ≡ true
   at-key name place at = let value = at-value n items name place at in ap is_some (get-at n items name value.0 place at value.1)

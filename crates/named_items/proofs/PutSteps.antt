@@ -1,5 +1,5 @@
 -- What the writes of a new setting make of the items, whether one is refused or power is lost.
-use Rattle.std.proofs.Common.{◌≡◌, ◌⊎◌, ℕ, ◌+◌, ◌-◌, ◌*◌, ◌<◌, ◌≤◌, List, length, None, Result, Err, refl, ap, subst, ◌∙◌, inl, inr, arith}
+use Rattle.std.proofs.Common.{◌≡◌, ◌⊎◌, ℕ, ◌+◌, ◌-◌, ◌*◌, ◌<◌, ◌≤◌, List, length, Some, None, Result, Err, refl, sym, ap, subst, ◌∙◌, inl, inr, arith}
 use Rattle.std.specs.FinMap.{get, insert, remove}
 use Rattle.flash_sim.specs.Device.{Device}
 use Rattle.flash_sim.specs.declared.flash.PowerLost.{PowerLost as Lost}
@@ -11,7 +11,7 @@ use Rattle.flash_map.specs.Area.{geometry_of}
 use Rattle.flash_map.specs.On.{on}
 use Rattle.item_laws.specs.Costs.{items_cost}
 use Rattle.item_laws.specs.Items.{Items}
-use Rattle.named_items.proofs.CostLemmas.{insert-cost, cut-put}
+use Rattle.named_items.proofs.CostLemmas.{insert-cost, cut-put, get-put_other}
 use Rattle.named_items.specs.StoreEnds.{WriteEnds, DeleteEnds}
 use Rattle.named_items.specs.Ends.{IsRefused, PutsPair}
 use Rattle.named_items.proofs.SpendSteps.{geometry-stays}
@@ -67,3 +67,14 @@ module _ (contents : Area → Geometry → List (List ℕ) → Items) (price : G
 
   pub moved-delete : {T : Type 0} (id : ℕ) (r : Result T Lost) → DeleteEnds b e (on contents b other) (on contents e other) id r → DeleteEnds b e (on contents b own) (on contents e own) id r
   moved-delete id r ends = subst (λ (x : Area). DeleteEnds b e (on contents b x) (on contents e x) id r) same ends
+
+-- ---- where the bytes are other than those of the item
+
+-- an item that is not there has none
+pub absent-differs : (items : Items) (id : ℕ) (bytes : List ℕ) → get items id ≡ None → get items id ≡ Some bytes → ⊥
+absent-differs items id bytes none is = cc
+
+-- nor once the value is there
+pub valued-differs : (before after : Items) (first second : ℕ) (value bytes : List ℕ) → (first ≡ second → ⊥) → get before first ≡ None → after ≡ insert before second value → get after first ≡ Some bytes → ⊥
+valued-differs before after first second value bytes apart none there is =
+    absent-differs before first bytes none (sym (get-put_other before second value first apart) ∙ sym (ap (λ (m : Items). get m first) there) ∙ is)

@@ -7,13 +7,13 @@ use Rattle.named_items.specs.Pairs.{IsInside}
 use Rattle.item_store.specs.declared.lasts.TheConstants.{MOST_IDS}
 use Rattle.item_store.specs.declared.entry.IdRange.{IdRange}
 
--- These ids are for names, not for a count or a value, and all are below `top`. A store can be
--- asked for bytes in a range of so many.
+-- These ids are for names, not for a count or a value. They and the ids of their values are below
+-- `top`. There are at most `MOST_IDS` of them.
 pub record AreOfNames (n : Numbering) (top : ℕ) (ids : IdRange) : Type 0 where
   pub from : n.first ≤ ids.least
   pub to : ids.most < n.first + n.step
   pub least : ids.least < top
-  pub most : ids.most < top
+  pub most : ids.most + n.step < top
   pub few : ids.most < ids.least + MOST_IDS
 
 -- the place is one of these ids

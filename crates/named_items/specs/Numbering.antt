@@ -17,9 +17,10 @@ pub record Numbering : Type 0 where
   pub longest : ℕ
 
 -- The count, the names and the values have ids of their own: the count below the names, and these
--- below the values. An item that is no count allows as many names as a missing one.
+-- below the values, a step apart. An item that is no count allows as many names as a missing one.
 pub record IsNumbering (n : Numbering) : Type 0 where
   pub below : n.count_id < n.first
+  pub apart : 0 < n.step
   pub few : (count : Option (List ℕ)) → n.count_of count ≤ n.step
   pub none : n.is_count None ≡ false
   pub other : (count : Option (List ℕ)) → n.is_count count ≡ false → n.count_of count ≡ n.count_of None

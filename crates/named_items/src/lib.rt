@@ -20,11 +20,11 @@ mod zms;
 
 pub use item_store::IdRange;
 pub use listing::all_settings;
-pub use lookup::{id_of_name, is_at, is_named, is_value, standing_value, value_of};
+pub use lookup::{is_at, is_named, is_value, setting_of, standing_value, value_of};
 pub use mounting::mount_store;
 pub use numbering::IdLayout;
 pub use orphans::remove_orphans;
-pub use putting::{NewNames, change_value, price_of_pair, put_new, refused, set_value};
+pub use putting::{NewNames, price_of_pair, put_new, refused, set_value};
 pub use store::ItemStore;
 pub use walking::{name_in, next_name};
-pub use writing::{delete_name, delete_pair, put_pair};
+pub use writing::delete_name;

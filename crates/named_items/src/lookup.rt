@@ -1,5 +1,5 @@
 // Look-ups: two items as a name and its value.
-ghost use Rattle.std.specs.Prelude.{◌≡◌, true, false, Some, option_map};
+ghost use Rattle.std.specs.Prelude.{◌≡◌, ◌+◌, true, false, Some, option_map, IfSome};
 ghost use Rattle.std.specs.FinMap as finite;
 ghost use Rattle.setting_name.specs.Name.{IsName};
 ghost use Rattle.flash_map.specs.Area.{value_limit};
@@ -11,8 +11,21 @@ ghost use Rattle.named_items.specs.Looking.{is_value, HasIds, StandsHere};
 use crate::numbering::IdLayout;
 use crate::store::ItemStore;
 use flash_sim::{Flash, Steps};
+use item_store::Holder;
 use setting_name::Name;
 use std::sync::ledger::Ledger;
+
+// Whether an item has these bytes.
+pub(crate) fn has_bytes(found: Option<&[u8]>, bytes: &[u8]) -> bool
+    ensures yes_it { result ≡ true → option_map (λ own. own.now) found.entry ≡ Some bytes.now }
+    ensures not_it { result ≡ false → option_map (λ own. own.now) found.entry ≡ Some bytes.now
+        → ⊥ }
+{
+    match found {
+        Some(own) => own == bytes,
+        None => false,
+    }
+}
 
 /// Whether the item holds this name. The name is lawful.
 pub fn is_named(found: Option<&[u8]>, name: &Name) -> bool
@@ -21,11 +34,7 @@ pub fn is_named(found: Option<&[u8]>, name: &Name) -> bool
         → ⊥ }
     ensures name { IsName name.now }
 {
-    let own = name.bytes();
-    match found {
-        Some(bytes) => bytes == own,
-        None => false,
-    }
+    has_bytes(found, name.bytes())
 }
 
 /// Whether the item holds 1 to `longest` bytes, as a value does.
@@ -72,24 +81,29 @@ pub fn is_at<S: ItemStore, F: Flash, L: Ledger>(
     is_value(store.get_by(flash, index, second, steps), longest)
 }
 
-/// The id at which the setting of a name stands; `None` if the name has no value. No item may be an
-/// orphan. It looks at each of the store's entries once, and makes no index.
-pub fn id_of_name<N: IdLayout, S: ItemStore, F: Flash, L: Ledger>(
+/// The id at which the setting of a name stands, and its value; `None` if the name has no value. No
+/// item may be an orphan. It searches the store's entries, and makes no index.
+pub fn setting_of<'a, N: IdLayout, S: ItemStore, F: Flash, L: Ledger>(
     store: &S,
-    flash: &F,
+    flash: &'a F,
     name: &Name,
     steps: &mut Steps<L>,
-) -> Option<u32>
+) -> Option<Holder<'a>>
     requires ids { HasIds N.top S.is_id }
     requires lawful { IsLawfulFor (F.device flash.now).banks (S.mounted_on store.now) }
     requires stands { StandsOn S.mounted_on S.stands (F.device flash.now) store.now }
     requires clean { let area = S.mounted_on store.now in
         HasNoOrphans (N.numbering area) (on S.contents (F.device flash.now) area) }
-    ensures { let area = S.mounted_on store.now in
-        IsIdOfName (N.numbering area) (on S.contents (F.device flash.now) area) name.now result }
+    ensures place { let area = S.mounted_on store.now in
+        IsIdOfName (N.numbering area) (on S.contents (F.device flash.now) area) name.now
+        (option_map (λ holder. holder.id) result) }
+    ensures value { let area = S.mounted_on store.now in
+        IfSome result (λ holder. option_map (λ value. value.now) holder.above
+        ≡ finite.get (on S.contents (F.device flash.now) area)
+        (holder.id + (N.numbering area).step)) }
 {
     let ids = N::candidates_of(name);
-    store.id_of(flash, ids.least, ids.most, name.bytes(), steps)
+    store.holder_of(flash, &ids, N::step(), name.bytes(), steps)
 }
 
 /// The value of a name; `None` if it has none. No item may be an orphan. It first asks
@@ -113,8 +127,7 @@ pub fn standing_value<'a, N: IdLayout, S: ItemStore, F: Flash, L: Ledger>(
     if !N::may_have(store, flash, name, steps) {
         return None;
     }
-    let place = id_of_name::<N, S, F, L>(store, flash, name, steps)?;
-    store.get(flash, place + N::step(), steps)
+    setting_of::<N, S, F, L>(store, flash, name, steps)?.above
 }
 
 /// The value of a name; `None` if it has none. Items may be orphans, as before a mount has removed

@@ -8,7 +8,7 @@ ghost use Rattle.named_items.specs.NvsStore.{nvs_damage, nvs_items, nvs_rests, n
 use crate::store::ItemStore;
 use flash_map::{Area, MountFault, WriteFault, geometry};
 use flash_sim::{Flash, PowerLost, Steps};
-use item_store::{IdRange, LastSlots};
+use item_store::{Holder, IdRange, LastSlots};
 use nvs_gc::Nvs;
 use nvs_store::cost;
 use std::alloc::Global;
@@ -110,18 +110,15 @@ impl ItemStore for Nvs {
         Nvs::get_by(self, flash, index, id as u16, steps)
     }
 
-    fn id_of<F: Flash, L: Ledger>(
+    fn holder_of<'a, F: Flash, L: Ledger>(
         &self,
-        flash: &F,
-        least: u32,
-        most: u32,
+        flash: &'a F,
+        ids: &IdRange,
+        step: u32,
         bytes: &[u8],
         steps: &mut Steps<L>,
-    ) -> Option<u32> {
-        match Nvs::id_of(self, flash, least as u16, most as u16, bytes, steps) {
-            Some(id) => Some(u32::from(id)),
-            None => None,
-        }
+    ) -> Option<Holder<'a>> {
+        Nvs::holder_of(self, flash, ids, step, bytes, steps)
     }
 
     fn next_of<'a, F: Flash, L: Ledger>(
@@ -145,14 +142,14 @@ impl ItemStore for Nvs {
         Nvs::least_free(self, flash, ids, step, steps)
     }
 
-    fn write<F: Flash, L: Ledger>(
+    fn write_changed<F: Flash, L: Ledger>(
         &mut self,
         flash: &mut F,
         id: u32,
         bytes: &[u8],
         steps: &mut Steps<L>,
     ) -> Result<(), WriteFault> {
-        Nvs::write(self, flash, id as u16, bytes, steps)
+        Nvs::write_changed(self, flash, id as u16, bytes, steps)
     }
 
     fn delete<F: Flash, L: Ledger>(

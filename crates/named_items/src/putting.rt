@@ -1,5 +1,6 @@
 // Sets: names get values.
-ghost use Rattle.std.specs.Prelude.{◌≡◌, ◌+◌, ◌*◌, ◌≤◌, ◌∷◌, [], None, length};
+ghost use Rattle.std.specs.Prelude.{◌≡◌, ◌+◌, ◌*◌, ◌≤◌, ◌∷◌, [], true, false, Some, None, length, option_map};
+ghost use Rattle.std.specs.FinMap as finite;
 ghost use Rattle.setting_name.specs.Name.{IsName};
 ghost use Rattle.flash_map.specs.Area.{geometry_of, value_limit};
 ghost use Rattle.flash_map.specs.Lawful.{IsLawfulFor};
@@ -17,7 +18,7 @@ ghost use Rattle.named_items.specs.Looking.{HasIds};
 ghost use Rattle.named_items.specs.Mounted.{IsMounted, StaysMounted};
 ghost use Rattle.named_items.specs.Putting.{room_in, IsNewAt, IsStorable, SetLeavesOn};
 
-use crate::lookup::id_of_name;
+use crate::lookup::{has_bytes, setting_of};
 use crate::numbering::IdLayout;
 use crate::store::ItemStore;
 use crate::writing::put_pair;
@@ -87,7 +88,8 @@ pub fn refused<N: IdLayout, S: ItemStore, F: Flash, L: Ledger>(
     }
 }
 
-/// Changes the value of the setting whose name stands at the id `first`. All other items stay.
+/// Changes the value of the setting whose name stands at the id `first` to another one. All other
+/// items stay.
 ///
 /// # Errors
 /// `NoSpace`: the settings are as before. `PowerLost`: they are as before, or have the value, and
@@ -106,6 +108,9 @@ pub fn change_value<N: IdLayout, S: ItemStore, F: Flash, L: Ledger>(
     requires value { IsStorable (value_limit (S.mounted_on store.old)) value.now }
     requires at { let area = S.mounted_on store.old in
         IsAt (N.numbering area) (on S.contents (F.device flash.old) area) name.now first }
+    requires differs { let area = S.mounted_on store.old in
+        finite.get (on S.contents (F.device flash.old) area) (first + (N.numbering area).step)
+        ≡ Some value.now → ⊥ }
 
     ensures touches { Touches (S.mounted_on store.old ∷ []) (F.device flash.old)
         (F.device flash.new) (set_lost result) }
@@ -124,7 +129,7 @@ pub fn change_value<N: IdLayout, S: ItemStore, F: Flash, L: Ledger>(
         SpendsAtMost d (F.device flash.new)
         (items.item_units (geometry_of d (S.mounted_on store.old))) }
 {
-    match store.write(flash, first + N::step(), value, steps) {
+    match store.write_changed(flash, first + N::step(), value, steps) {
         Ok(()) => Ok(()),
         Err(WriteFault::PowerLost) => Err(SetFault::PowerLost),
         Err(WriteFault::NoSpace { .. }) => {
@@ -228,8 +233,12 @@ pub fn set_value<N: NewNames, S: ItemStore, F: Flash, L: Ledger>(
         SpendsAtMost d (F.device flash.new)
         (command_units (geometry_of d (S.mounted_on store.old))) }
 {
-    match id_of_name::<N, S, F, L>(store, flash, name, steps) {
-        Some(place) => change_value::<N, S, F, L>(store, flash, place, name, value, steps),
-        None => N::put_name(store, flash, name, value, steps),
+    let Some(setting) = setting_of::<N, S, F, L>(store, flash, name, steps) else {
+        return N::put_name(store, flash, name, value, steps);
+    };
+    if has_bytes(setting.above, value) {
+        return Ok(());
     }
+    let first = setting.id;
+    change_value::<N, S, F, L>(store, flash, first, name, value, steps)
 }

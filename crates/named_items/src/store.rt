@@ -1,5 +1,5 @@
 // The trait of a store of items.
-ghost use Rattle.std.specs.Prelude.{◌≡◌, ◌+◌, ◌^◌, ◌<◌, ◌≤◌, ◌∷◌, [], ℕ, Bool, List, length, replicate, true, false, is_err, Option, None, option_map, IfOk, IfSome};
+ghost use Rattle.std.specs.Prelude.{◌≡◌, ◌+◌, ◌^◌, ◌<◌, ◌≤◌, ◌∷◌, [], ℕ, Bool, List, length, replicate, true, false, is_err, Option, Some, None, option_map, IfOk, IfSome};
 ghost use Rattle.std.specs.FinMap as finite;
 ghost use Rattle.flash_sim.specs.Bank.{IsLawful};
 ghost use Rattle.flash_sim.specs.Device.{Device};
@@ -11,20 +11,22 @@ ghost use Rattle.flash_map.specs.Faults.{mount_lost, write_lost};
 ghost use Rattle.flash_map.specs.Lawful.{IsLawfulFor};
 ghost use Rattle.flash_map.specs.Spending.{SpendsAtMost};
 ghost use Rattle.flash_map.specs.Touches.{Touches};
-ghost use Rattle.item_laws.specs.Bytes.{IsIdOf, IsNextOf};
+ghost use Rattle.item_laws.specs.Bytes.{IsNextOf};
 ghost use Rattle.item_laws.specs.Costs.{items_cost};
 ghost use Rattle.item_laws.specs.Items.{Items};
+ghost use Rattle.item_store.specs.declared.free.TheConstants.{MOST_CANDIDATES};
 ghost use Rattle.item_store.specs.declared.lasts.TheConstants.{MOST_IDS};
 ghost use Rattle.backend_api.specs.Ends.{MountEnds};
 ghost use Rattle.backend_api.specs.Room.{removal_units};
 ghost use Rattle.backend_api.specs.Written.{StaysWritten};
 ghost use Rattle.flash_map.specs.On.{on, HoldsOn, StandsOn};
+ghost use Rattle.item_store.specs.Asking.{IsHolderOf};
 ghost use Rattle.item_store.specs.Free.{IsLeastFree};
 ghost use Rattle.named_items.specs.StoreEnds.{most_items, item_units, IsNextId, WriteEnds, DeleteEnds};
 
 use flash_map::{Area, MountFault, WriteFault};
 use flash_sim::{Flash, PowerLost, Steps};
-use item_store::IdRange;
+use item_store::{Holder, IdRange};
 use std::alloc::Global;
 use std::sync::ledger::Ledger;
 
@@ -151,21 +153,21 @@ pub trait ItemStore: Drop {
         ensures { option_map (λ bytes. bytes.now) result
             ≡ finite.get (on contents (F.device flash.now) (mounted_on self.now)) id };
 
-    /// The id of an item that has these bytes, from `least` to `most`; `None` if there is none. It
-    /// looks at each of the store's entries once, and makes no index.
-    fn id_of<F: Flash, L: Ledger>(
+    /// An id of the range whose item has these bytes, with the item `step` above it; `None` if no
+    /// item of the range has them. It searches the store's entries, and makes no index.
+    fn holder_of<'a, F: Flash, L: Ledger>(
         &self,
-        flash: &F,
-        least: u32,
-        most: u32,
+        flash: &'a F,
+        ids: &IdRange,
+        step: u32,
         bytes: &[u8],
         steps: &mut Steps<L>,
-    ) -> Option<u32>
+    ) -> Option<Holder<'a>>
         requires lawful { IsLawfulFor (F.device flash.now).banks (mounted_on self.now) }
         requires stands { StandsOn mounted_on stands (F.device flash.now) self.now }
-        requires least { is_id least }
-        requires most { is_id most }
-        ensures { IsIdOf least most (on contents (F.device flash.now) (mounted_on self.now))
+        requires step { 0 < step }
+        requires known { is_id (ids.now.most + step) }
+        ensures { IsHolderOf ids.now step (on contents (F.device flash.now) (mounted_on self.now))
             bytes.now result };
 
     /// The least bytes of an item that are greater than `after`, or the least of all if `after` is
@@ -189,8 +191,8 @@ pub trait ItemStore: Drop {
             (option_map (λ bytes. bytes.now) result) };
 
     /// The least id of a range that has no item, and neither has the id `step` above it; `None` if
-    /// there is none. The range has at most 512 ids. It walks over the store's entries once, and
-    /// makes no index.
+    /// there is none. The range has at most `MOST_CANDIDATES` ids. It walks over the store's
+    /// entries once, and makes no index.
     fn least_free<F: Flash, L: Ledger>(
         &self,
         flash: &F,
@@ -200,18 +202,17 @@ pub trait ItemStore: Drop {
     ) -> Option<u32>
         requires lawful { IsLawfulFor (F.device flash.now).banks (mounted_on self.now) }
         requires stands { StandsOn mounted_on stands (F.device flash.now) self.now }
-        requires range { ids.now.most < ids.now.least + 512 }
+        requires range { ids.now.most < ids.now.least + MOST_CANDIDATES }
         ensures { IsLeastFree ids.now step (on contents (F.device flash.now) (mounted_on self.now))
             result };
 
-    /// Sets an item. If it has these bytes already, nothing is programmed. It spends at most
-    /// `item_units` units and erases.
+    /// Gives an item bytes that it does not have. It spends at most `item_units` units and erases.
     ///
     /// # Errors
     /// `TooLong` exactly if the bytes and their entry cost more than a sector has for them; nothing
     /// was programmed then. `NoSpace` only if the items cost too much; they are as before.
     /// `PowerLost`: the items are as before, or with this one, and the store is down.
-    fn write<F: Flash, L: Ledger>(
+    fn write_changed<F: Flash, L: Ledger>(
         &mut self,
         flash: &mut F,
         id: u32,
@@ -222,6 +223,8 @@ pub trait ItemStore: Drop {
         requires stands { StandsOn mounted_on stands (F.device flash.old) self.old }
         requires known { is_id id }
         requires some { 0 < length bytes.now }
+        requires differs { finite.get (on contents (F.device flash.old) (mounted_on self.old)) id
+            ≡ Some bytes.now → ⊥ }
 
         ensures touches { Touches (mounted_on self.old ∷ []) (F.device flash.old)
             (F.device flash.new) (write_lost result) }

@@ -10,13 +10,13 @@ ghost use Rattle.flash_map.specs.On.{on, StandsOn};
 ghost use Rattle.backend_api.specs.Room.{command_units};
 ghost use Rattle.backend_api.specs.Written.{StaysWritten};
 ghost use Rattle.named_items.specs.StoreEnds as items;
-ghost use Rattle.named_items.specs.Ends.{DeletesPair, PutsPair};
+ghost use Rattle.named_items.specs.Ends.{DeletesPair, IsFree, PutsPair};
 ghost use Rattle.named_items.specs.Leaving.{DeleteLeavesItems};
 ghost use Rattle.named_items.specs.Looking.{HasIds};
 ghost use Rattle.named_items.specs.Mounted.{IsMounted, StaysMounted};
 ghost use Rattle.named_items.specs.Putting.{AltersOnlySetting, DeleteLeavesOn};
 
-use crate::lookup::id_of_name;
+use crate::lookup::setting_of;
 use crate::numbering::IdLayout;
 use crate::store::ItemStore;
 use flash_map::WriteFault;
@@ -94,10 +94,11 @@ pub fn delete_name<N: IdLayout, S: ItemStore, F: Flash, L: Ledger>(
         SpendsAtMost d (F.device flash.new)
         (command_units (geometry_of d (S.mounted_on store.old))) }
 {
-    match id_of_name::<N, S, F, L>(store, flash, name, steps) {
-        Some(place) => delete_pair(store, flash, place, place + N::step(), steps),
-        None => Ok(()),
-    }
+    let Some(setting) = setting_of::<N, S, F, L>(store, flash, name, steps) else {
+        return Ok(());
+    };
+    let first = setting.id;
+    delete_pair(store, flash, first, first + N::step(), steps)
 }
 
 /// Writes the value of a new name, and then the name. If the name is refused, the value is
@@ -122,8 +123,9 @@ pub fn put_pair<S: ItemStore, F: Flash, L: Ledger>(
     requires first { S.is_id first }
     requires second { S.is_id second }
     requires some { 0 < length value.now }
-    requires free { let area = S.mounted_on store.old in
-        finite.get (on S.contents (F.device flash.old) area) second ≡ None }
+    requires apart { first ≡ second → ⊥ }
+    requires free { IsFree (on S.contents (F.device flash.old) (S.mounted_on store.old)) first
+        second }
 
     ensures touches { Touches (S.mounted_on store.old ∷ []) (F.device flash.old)
         (F.device flash.new) (write_lost result) }
@@ -137,11 +139,11 @@ pub fn put_pair<S: ItemStore, F: Flash, L: Ledger>(
         SpendsAtMost d (F.device flash.new)
         (3 * items.item_units (geometry_of d (S.mounted_on store.old))) }
 {
-    match store.write(flash, second, value, steps) {
+    match store.write_changed(flash, second, value, steps) {
         Ok(()) => {}
         Err(fault) => return Err(fault),
     }
-    match store.write(flash, first, name.bytes(), steps) {
+    match store.write_changed(flash, first, name.bytes(), steps) {
         Ok(()) => Ok(()),
         Err(WriteFault::PowerLost) => Err(WriteFault::PowerLost),
         Err(WriteFault::TooLong) => match store.delete(flash, second, steps) {

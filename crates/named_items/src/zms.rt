@@ -8,7 +8,7 @@ ghost use Rattle.named_items.specs.ZmsStore.{zms_damage, zms_items, zms_rests, z
 use crate::store::ItemStore;
 use flash_map::{Area, MountFault, WriteFault};
 use flash_sim::{Flash, PowerLost, Steps};
-use item_store::{IdRange, LastSlots};
+use item_store::{Holder, IdRange, LastSlots};
 use std::alloc::Global;
 use std::sync::ledger::Ledger;
 use zms_cycle::cost;
@@ -100,15 +100,15 @@ impl ItemStore for Zms {
         Zms::get_by(self, flash, index, id, steps)
     }
 
-    fn id_of<F: Flash, L: Ledger>(
+    fn holder_of<'a, F: Flash, L: Ledger>(
         &self,
-        flash: &F,
-        least: u32,
-        most: u32,
+        flash: &'a F,
+        ids: &IdRange,
+        step: u32,
         bytes: &[u8],
         steps: &mut Steps<L>,
-    ) -> Option<u32> {
-        Zms::id_of(self, flash, least, most, bytes, steps)
+    ) -> Option<Holder<'a>> {
+        Zms::holder_of(self, flash, ids, step, bytes, steps)
     }
 
     fn next_of<'a, F: Flash, L: Ledger>(
@@ -132,14 +132,14 @@ impl ItemStore for Zms {
         Zms::least_free(self, flash, ids, step, steps)
     }
 
-    fn write<F: Flash, L: Ledger>(
+    fn write_changed<F: Flash, L: Ledger>(
         &mut self,
         flash: &mut F,
         id: u32,
         bytes: &[u8],
         steps: &mut Steps<L>,
     ) -> Result<(), WriteFault> {
-        Zms::write(self, flash, id, bytes, steps)
+        Zms::write_changed(self, flash, id, bytes, steps)
     }
 
     fn delete<F: Flash, L: Ledger>(

@@ -24,18 +24,27 @@ use Rattle.named_items.proofs.LeavingSteps.{count-cut, raised-leave}
 use Rattle.named_items.proofs.NewSteps.{not-stored, set-after}
 use Rattle.named_items.proofs.SpendSteps.{spends-some, one-call, spends-both, calls-within, geometry-stays}
 use Rattle.backend_nvs.specs.IdLayout.{count_bytes, count_of, is_count, numbering_of, settings_of, nvs_counted, nvs_room, nvs-counts, nvs-numbering, too_many}
-use Rattle.backend_nvs.proofs.CountSteps.{few-free, count-leaves, count-refused, raised-same, raised-kept, raised-inside, raised-free}
+use Rattle.backend_nvs.proofs.CountSteps.{few-free, count-differs, count-leaves, count-refused, raised-same, raised-kept, raised-inside, raised-free}
 use Rattle.flash_map.proofs.Touches.{then}
 use Rattle.named_items.specs.Limits.{limit-least}
 use Rattle.named_items.proofs.NameLemmas.{get-nowhere, nowhere-none}
 use Rattle.backend_nvs.proofs.putting.add_name.Goals as goal
 
+-- the count before is another
+pub write_changed-requires-clause-differs : goal.write_changed-requires-clause-differs
+write_changed-requires-clause-differs g c =
+    let own : Area = g.S.ItemStore.mounted_on c.args.store.now in
+    let before : Items = on g.S.ItemStore.contents (g.F.Flash.device c.args.flash.now) own in
+    let bytes : List ℕ = c.bytes_of_count-bytes.result in
+    let more : count_of (Some bytes) ≡ count_in (numbering_of own) before + 1 = c.bytes_of_count-bytes.ensures.counts ∙ ap (λ (x : ℕ). x + 1) c.requires.counted in
+    λ same. count-differs (value_limit own) before bytes more same
+
 pub put_new-requires-clause-here : goal.put_new-requires-clause-here
 put_new-requires-clause-here g c =
     let d : Device = g.F.Flash.device c.args.flash.now in
-    let b : Device = g.F.Flash.device c.write.new.flash in
+    let b : Device = g.F.Flash.device c.write_changed.new.flash in
     let own : Area = g.S.ItemStore.mounted_on c.args.store.now in
-    let other : Area = g.S.ItemStore.mounted_on c.write.new.self in
+    let other : Area = g.S.ItemStore.mounted_on c.write_changed.new.self in
     let k : Geometry = geometry_of d own in
     let before : Items = on g.S.ItemStore.contents d own in
     let mid : Items = on g.S.ItemStore.contents b own in
@@ -44,20 +53,20 @@ put_new-requires-clause-here g c =
     let is : mid ≡ insert before 0x8000 bytes = c.in-Ok.ensures.ends.items in
     let same : settings_in (numbering_of own) mid ≡ settings_in (numbering_of own) before = ap (settings_in (numbering_of own)) is ∙ raised-same (value_limit own) before c.requires.here.clean bytes c.bytes_of_count-bytes.ensures.two more in
     record {
-      lawful = moved-lawful own other c.write.ensures.area d b c.write.ensures.touches.banks c.requires.here.lawful;
+      lawful = moved-lawful own other c.write_changed.ensures.area d b c.write_changed.ensures.touches.banks c.requires.here.lawful;
       up = c.in-Ok.ensures.stands refl;
       clean = moved-clean numbering_of nvs_counted too_many g.S.ItemStore.contents own other c.in-Ok.ensures.area b (subst (HasNoOrphans (numbering_of own)) (sym is) (raised-kept (value_limit own) before c.requires.here.clean bytes c.bytes_of_count-bytes.ensures.two more));
     }
 
 pub put_new-requires-clause-value : goal.put_new-requires-clause-value
-put_new-requires-clause-value g c = subst (λ (x : Area). IsStorable (value_limit x) c.args.value.now) (sym c.write.ensures.area) c.requires.value
+put_new-requires-clause-value g c = subst (λ (x : Area). IsStorable (value_limit x) c.args.value.now) (sym c.write_changed.ensures.area) c.requires.value
 
 pub put_new-requires-clause-place : goal.put_new-requires-clause-place
 put_new-requires-clause-place g c =
     let d : Device = g.F.Flash.device c.args.flash.now in
-    let b : Device = g.F.Flash.device c.write.new.flash in
+    let b : Device = g.F.Flash.device c.write_changed.new.flash in
     let own : Area = g.S.ItemStore.mounted_on c.args.store.now in
-    let other : Area = g.S.ItemStore.mounted_on c.write.new.self in
+    let other : Area = g.S.ItemStore.mounted_on c.write_changed.new.self in
     let k : Geometry = geometry_of d own in
     let before : Items = on g.S.ItemStore.contents d own in
     let mid : Items = on g.S.ItemStore.contents b own in
@@ -77,9 +86,9 @@ put_new-requires-clause-place g c =
 pub refused-requires-clause-here : goal.refused-requires-clause-here
 refused-requires-clause-here g c =
     let d : Device = g.F.Flash.device c.args.flash.now in
-    let b : Device = g.F.Flash.device c.write.new.flash in
+    let b : Device = g.F.Flash.device c.write_changed.new.flash in
     let own : Area = g.S.ItemStore.mounted_on c.args.store.now in
-    let other : Area = g.S.ItemStore.mounted_on c.write.new.self in
+    let other : Area = g.S.ItemStore.mounted_on c.write_changed.new.self in
     let k : Geometry = geometry_of d own in
     let before : Items = on g.S.ItemStore.contents d own in
     let mid : Items = on g.S.ItemStore.contents b own in
@@ -87,7 +96,7 @@ refused-requires-clause-here g c =
     let more : count_of (Some bytes) ≡ count_in (numbering_of own) before + 1 = c.bytes_of_count-bytes.ensures.counts ∙ ap (λ (x : ℕ). x + 1) c.requires.counted in
     let ended = subst (λ (w : WriteFault). ends.WriteEnds {T = Unit {0}} (g.S.ItemStore.price k) (g.S.ItemStore.cap k) own.sectors d b (on g.S.ItemStore.contents d own) (on g.S.ItemStore.contents b own) 0x8000 c.bytes_of_count-bytes.result (Err w)) c.in-Err-NoSpace.field-0-is c.in-Err-NoSpace.ensures.ends in
     record {
-      lawful = moved-lawful own other c.write.ensures.area d b c.write.ensures.touches.banks c.requires.here.lawful;
+      lawful = moved-lawful own other c.write_changed.ensures.area d b c.write_changed.ensures.touches.banks c.requires.here.lawful;
       up = c.in-Err-NoSpace.ensures.stands (ap (λ (w : WriteFault). write_lost {T = Unit {0}} (Err w)) c.in-Err-NoSpace.field-0-is);
       clean = moved-clean numbering_of nvs_counted too_many g.S.ItemStore.contents own other c.in-Err-NoSpace.ensures.area b (subst (HasNoOrphans (numbering_of own)) (sym ended.items) c.requires.here.clean);
     }
@@ -95,9 +104,9 @@ refused-requires-clause-here g c =
 pub returns-in-Ok-clause-touches : goal.returns-in-Ok-clause-touches
 returns-in-Ok-clause-touches g c =
     let d : Device = g.F.Flash.device c.args.flash.now in
-    let b : Device = g.F.Flash.device c.write.new.flash in
+    let b : Device = g.F.Flash.device c.write_changed.new.flash in
     let own : Area = g.S.ItemStore.mounted_on c.args.store.now in
-    let other : Area = g.S.ItemStore.mounted_on c.write.new.self in
+    let other : Area = g.S.ItemStore.mounted_on c.write_changed.new.self in
     let k : Geometry = geometry_of d own in
     let before : Items = on g.S.ItemStore.contents d own in
     let mid : Items = on g.S.ItemStore.contents b own in
@@ -110,9 +119,9 @@ returns-in-Ok-clause-touches g c =
 pub returns-in-Ok-clause-at_most : goal.returns-in-Ok-clause-at_most
 returns-in-Ok-clause-at_most g c =
     let d : Device = g.F.Flash.device c.args.flash.now in
-    let b : Device = g.F.Flash.device c.write.new.flash in
+    let b : Device = g.F.Flash.device c.write_changed.new.flash in
     let own : Area = g.S.ItemStore.mounted_on c.args.store.now in
-    let other : Area = g.S.ItemStore.mounted_on c.write.new.self in
+    let other : Area = g.S.ItemStore.mounted_on c.write_changed.new.self in
     let k : Geometry = geometry_of d own in
     let before : Items = on g.S.ItemStore.contents d own in
     let mid : Items = on g.S.ItemStore.contents b own in
@@ -125,12 +134,12 @@ returns-in-Ok-clause-at_most g c =
 pub returns-in-Ok-clause-store : goal.returns-in-Ok-clause-store
 returns-in-Ok-clause-store g c =
     let d : Device = g.F.Flash.device c.args.flash.now in
-    let b : Device = g.F.Flash.device c.write.new.flash in
+    let b : Device = g.F.Flash.device c.write_changed.new.flash in
     let own : Area = g.S.ItemStore.mounted_on c.args.store.now in
     let e : Device = g.F.Flash.device c.put_new.new.flash in
     record {
-      area = c.put_new.ensures.store.area ∙ c.write.ensures.area;
-      sound = subst (λ (x : Area). on g.S.ItemStore.damage e x ≡ None) c.write.ensures.area c.put_new.ensures.store.sound;
+      area = c.put_new.ensures.store.area ∙ c.write_changed.ensures.area;
+      sound = subst (λ (x : Area). on g.S.ItemStore.damage e x ≡ None) c.write_changed.ensures.area c.put_new.ensures.store.sound;
       up = λ kept. c.put_new.ensures.store.up kept;
       down = λ lost. c.put_new.ensures.store.down lost;
     }
@@ -138,9 +147,9 @@ returns-in-Ok-clause-store g c =
 pub returns-in-Ok-clause-ends : goal.returns-in-Ok-clause-ends
 returns-in-Ok-clause-ends g c =
     let d : Device = g.F.Flash.device c.args.flash.now in
-    let b : Device = g.F.Flash.device c.write.new.flash in
+    let b : Device = g.F.Flash.device c.write_changed.new.flash in
     let own : Area = g.S.ItemStore.mounted_on c.args.store.now in
-    let other : Area = g.S.ItemStore.mounted_on c.write.new.self in
+    let other : Area = g.S.ItemStore.mounted_on c.write_changed.new.self in
     let k : Geometry = geometry_of d own in
     let before : Items = on g.S.ItemStore.contents d own in
     let mid : Items = on g.S.ItemStore.contents b own in
@@ -164,8 +173,8 @@ returns-in-Ok-clause-ends g c =
 
 pub returns-in-Err-PowerLost-clause-store : goal.returns-in-Err-PowerLost-clause-store
 returns-in-Err-PowerLost-clause-store g c = record {
-  area = c.write.ensures.area;
-  sound = c.write.ensures.sound;
+  area = c.write_changed.ensures.area;
+  sound = c.write_changed.ensures.sound;
   up = λ kept. absurd (false≢true (sym kept));
   down = λ lost. c.in-Err-PowerLost.ensures.down (ap (λ (w : WriteFault). write_lost {T = Unit {0}} (Err w)) c.in-Err-PowerLost.field-0-is);
 }
@@ -173,9 +182,9 @@ returns-in-Err-PowerLost-clause-store g c = record {
 pub returns-in-Err-PowerLost-clause-ends : goal.returns-in-Err-PowerLost-clause-ends
 returns-in-Err-PowerLost-clause-ends g c =
     let d : Device = g.F.Flash.device c.args.flash.now in
-    let b : Device = g.F.Flash.device c.write.new.flash in
+    let b : Device = g.F.Flash.device c.write_changed.new.flash in
     let own : Area = g.S.ItemStore.mounted_on c.args.store.now in
-    let other : Area = g.S.ItemStore.mounted_on c.write.new.self in
+    let other : Area = g.S.ItemStore.mounted_on c.write_changed.new.self in
     let k : Geometry = geometry_of d own in
     let before : Items = on g.S.ItemStore.contents d own in
     let mid : Items = on g.S.ItemStore.contents b own in
@@ -193,8 +202,8 @@ pub returns-in-Err-NoSpace-clause-store : goal.returns-in-Err-NoSpace-clause-sto
 returns-in-Err-NoSpace-clause-store g c =
     let still : set_lost {T = Unit {0}} (Err c.refused.result) ≡ false = ap (λ (w : SetFault). set_lost {T = Unit {0}} (Err w)) c.refused.ensures in
     record {
-      area = c.write.ensures.area;
-      sound = c.write.ensures.sound;
+      area = c.write_changed.ensures.area;
+      sound = c.write_changed.ensures.sound;
       up = λ kept. c.in-Err-NoSpace.ensures.stands (ap (λ (w : WriteFault). write_lost {T = Unit {0}} (Err w)) c.in-Err-NoSpace.field-0-is);
       down = λ lost. absurd (false≢true (sym still ∙ lost));
     }
@@ -202,9 +211,9 @@ returns-in-Err-NoSpace-clause-store g c =
 pub returns-in-Err-NoSpace-clause-ends : goal.returns-in-Err-NoSpace-clause-ends
 returns-in-Err-NoSpace-clause-ends g c =
     let d : Device = g.F.Flash.device c.args.flash.now in
-    let b : Device = g.F.Flash.device c.write.new.flash in
+    let b : Device = g.F.Flash.device c.write_changed.new.flash in
     let own : Area = g.S.ItemStore.mounted_on c.args.store.now in
-    let other : Area = g.S.ItemStore.mounted_on c.write.new.self in
+    let other : Area = g.S.ItemStore.mounted_on c.write_changed.new.self in
     let k : Geometry = geometry_of d own in
     let before : Items = on g.S.ItemStore.contents d own in
     let mid : Items = on g.S.ItemStore.contents b own in
@@ -223,7 +232,7 @@ returns-in-Err-NoSpace-clause-ends g c =
 pub returns-in-Ok-clause-items : goal.returns-in-Ok-clause-items
 returns-in-Ok-clause-items g c =
     let d : Device = g.F.Flash.device c.args.flash.now in
-    let b : Device = g.F.Flash.device c.write.new.flash in
+    let b : Device = g.F.Flash.device c.write_changed.new.flash in
     let own : Area = g.S.ItemStore.mounted_on c.args.store.now in
     let e : Device = g.F.Flash.device c.put_new.new.flash in
     let before : Items = on g.S.ItemStore.contents d own in
@@ -239,7 +248,7 @@ returns-in-Ok-clause-items g c =
 pub returns-in-Err-PowerLost-clause-items : goal.returns-in-Err-PowerLost-clause-items
 returns-in-Err-PowerLost-clause-items g c =
     let d : Device = g.F.Flash.device c.args.flash.now in
-    let b : Device = g.F.Flash.device c.write.new.flash in
+    let b : Device = g.F.Flash.device c.write_changed.new.flash in
     let own : Area = g.S.ItemStore.mounted_on c.args.store.now in
     let before : Items = on g.S.ItemStore.contents d own in
     let mid : Items = on g.S.ItemStore.contents b own in
@@ -254,7 +263,7 @@ returns-in-Err-PowerLost-clause-items g c =
 pub returns-in-Err-NoSpace-clause-items : goal.returns-in-Err-NoSpace-clause-items
 returns-in-Err-NoSpace-clause-items g c =
     let d : Device = g.F.Flash.device c.args.flash.now in
-    let b : Device = g.F.Flash.device c.write.new.flash in
+    let b : Device = g.F.Flash.device c.write_changed.new.flash in
     let own : Area = g.S.ItemStore.mounted_on c.args.store.now in
     let before : Items = on g.S.ItemStore.contents d own in
     let mid : Items = on g.S.ItemStore.contents b own in
@@ -267,7 +276,7 @@ returns-in-Err-NoSpace-clause-items g c =
 pub unreachable-requires : goal.unreachable-requires
 unreachable-requires g c =
     let d : Device = g.F.Flash.device c.args.flash.now in
-    let b : Device = g.F.Flash.device c.write.new.flash in
+    let b : Device = g.F.Flash.device c.write_changed.new.flash in
     let own : Area = g.S.ItemStore.mounted_on c.args.store.now in
     let k : Geometry = geometry_of d own in
     let bytes : List ℕ = c.bytes_of_count-bytes.result in

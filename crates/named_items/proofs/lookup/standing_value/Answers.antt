@@ -1,5 +1,4 @@
-use Rattle.std.proofs.Common.{◌≡◌, ℕ, ◌+◌, Some, sym, subst, ◌∙◌}
-use Rattle.std.specs.FinMap.{get}
+use Rattle.std.proofs.Common.{ℕ, sym, ◌∙◌}
 use Rattle.flash_map.specs.declared.area.Area.{Area}
 use Rattle.flash_map.specs.On.{on}
 use Rattle.item_laws.specs.Items.{Items}
@@ -13,17 +12,17 @@ returns-then-not-may_have g c =
     let items : Items = on g.S.ItemStore.contents (g.F.Flash.device c.args.flash.now) area in
     sym (get-nowhere (g.N.IdLayout.numbering area) items c.args.name.now (c.may_have.ensures c.if-not-may_have.true))
 
-pub returns-in_err-place : goal.returns-in_err-place
-returns-in_err-place g c =
+pub returns-in_err-setting_of : goal.returns-in_err-setting_of
+returns-in_err-setting_of g c =
     let area : Area = g.S.ItemStore.mounted_on c.args.store.now in
     let items : Items = on g.S.ItemStore.contents (g.F.Flash.device c.args.flash.now) area in
-    rw c.from_residual.ensures (sym (get-nowhere (g.N.IdLayout.numbering area) items c.args.name.now c.in_err-place.ensures))
+    rw c.from_residual.ensures (sym (get-nowhere (g.N.IdLayout.numbering area) items c.args.name.now c.in_err-setting_of.ensures.place))
 
 pub returns : goal.returns
 returns g c =
     let area : Area = g.S.ItemStore.mounted_on c.args.store.now in
     let n : Numbering = g.N.IdLayout.numbering area in
     let items : Items = on g.S.ItemStore.contents (g.F.Flash.device c.args.flash.now) area in
-    let value = at-value n items c.args.name.now c.in_ok-place.place c.in_ok-place.ensures in
-    let stored : get items (c.in_ok-place.place + c.step.result) ≡ Some value.0 = subst (λ (k : ℕ). get items (c.in_ok-place.place + k) ≡ Some value.0) (c.step.ensures area) value.1 in
-    c.get.ensures ∙ stored ∙ sym (get-at n items c.args.name.now value.0 c.in_ok-place.place c.in_ok-place.ensures value.1)
+    let place : ℕ = c.in_ok-setting_of.field-0.id in
+    let value = at-value n items c.args.name.now place c.in_ok-setting_of.ensures.place in
+    c.in_ok-setting_of.ensures.value ∙ value.1 ∙ sym (get-at n items c.args.name.now value.0 place c.in_ok-setting_of.ensures.place value.1)

@@ -1,5 +1,4 @@
-use Rattle.std.proofs.Common.{◌≡◌, ℕ, ◌+◌, ◌<◌, ◌≤◌, ◌∷◌, [], length, true, false, None, Ok, Err, refl, sym, ap, subst, ◌∙◌, arith, Bool}
-use Rattle.std.specs.FinMap.{get}
+use Rattle.std.proofs.Common.{◌≡◌, ℕ, ◌+◌, ◌<◌, ◌≤◌, ◌∷◌, [], length, true, false, Ok, Err, refl, sym, ap, subst, ◌∙◌, arith, Bool}
 use Rattle.std.proofs.lemmas.Bool.{false≢true}
 use Rattle.flash_sim.specs.Device.{Device}
 use Rattle.flash_map.specs.declared.area.Area.{Area}
@@ -15,7 +14,7 @@ use Rattle.flash_map.specs.On.{on}
 use Rattle.named_items.specs.Leaving.{pair_at_place, MakesPuts}
 use Rattle.named_items.specs.Numbering.{Numbering}
 use Rattle.named_items.specs.Pairs.{is_pair, settings_in, HasNoOrphans}
-use Rattle.named_items.specs.Ends.{AltersTwo, PutsPair}
+use Rattle.named_items.specs.Ends.{AltersTwo, IsFree, PutsPair}
 use Rattle.named_items.specs.Putting.{room_in, IsPut}
 use Rattle.named_items.proofs.ChangeSteps.{moved-clean, moved-lawful, moved-cost}
 use Rattle.named_items.proofs.LeavingSteps.{pair-cut}
@@ -55,12 +54,14 @@ put_pair-requires g c = record {
       let before : Items = on g.S.ItemStore.contents d own in
       let low : c.args.first + n.step < g.N.IdLayout.top = inside-known n before c.args.first c.requires.place.inside g.N.IdLayout.top (g.met.N.IdLayout.within own) in
       subst (λ (step : ℕ). g.S.ItemStore.is_id (c.args.first + step)) (c.step.ensures own) (c.requires.ids.all (c.args.first + n.step) low);
-  free = let d : Device = g.F.Flash.device c.args.flash.now in
-      let own : Area = g.S.ItemStore.mounted_on c.args.store.now in
+  apart = let own : Area = g.S.ItemStore.mounted_on c.args.store.now in
       let n : Numbering = g.N.IdLayout.numbering own in
-      let k : Geometry = geometry_of d own in
-      let before : Items = on g.S.ItemStore.contents d own in
-      subst (λ (step : ℕ). get before (c.args.first + step) ≡ None) (c.step.ensures own) c.requires.place.free.1;
+      let above : 0 < n.step = (g.met.N.IdLayout.is_numbering own).apart in
+      let same : n.step ≡ c.step.result = c.step.ensures own in
+      λ (e : c.args.first ≡ c.args.first + c.step.result). absurd (omega (arith, above, same, e));
+  free = let own : Area = g.S.ItemStore.mounted_on c.args.store.now in
+      let before : Items = on g.S.ItemStore.contents (g.F.Flash.device c.args.flash.now) own in
+      subst (λ (step : ℕ). IsFree before c.args.first (c.args.first + step)) (c.step.ensures own) c.requires.place.free;
   lawful = c.requires.here.lawful;
   stands = c.requires.here.up;
   some = c.requires.value.some;

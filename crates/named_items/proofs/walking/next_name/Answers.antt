@@ -1,4 +1,4 @@
-use Rattle.std.proofs.Common.{rules, ◌≡◌, ℕ, List, Option, Some, None, Bor, ap, subst, ◌∙◌}
+use Rattle.std.proofs.Common.{rules, ◌≡◌, ℕ, ◌+◌, ◌<◌, List, Option, Some, None, Bor, ap, subst, ◌∙◌, arith}
 use Rattle.std.specs.Option.{option_map}
 use Rattle.std.proofs.lemmas.Bool.{false≢true}
 use Rattle.flash_map.specs.declared.area.Area.{Area}
@@ -14,7 +14,11 @@ pub next_of-requires-clause-least : goal.next_of-requires-clause-least
 next_of-requires-clause-least g c = c.requires.ids.all c.all_candidates-ids.result.least (c.all_candidates-ids.ensures.ids (g.S.ItemStore.mounted_on c.args.store.now)).least
 
 pub next_of-requires-clause-most : goal.next_of-requires-clause-most
-next_of-requires-clause-most g c = c.requires.ids.all c.all_candidates-ids.result.most (c.all_candidates-ids.ensures.ids (g.S.ItemStore.mounted_on c.args.store.now)).most
+next_of-requires-clause-most g c =
+    let n : Numbering = g.N.IdLayout.numbering (g.S.ItemStore.mounted_on c.args.store.now) in
+    let ids : IdRange = c.all_candidates-ids.result in
+    let most : ids.most + n.step < g.N.IdLayout.top = (c.all_candidates-ids.ensures.ids (g.S.ItemStore.mounted_on c.args.store.now)).most in
+    c.requires.ids.all ids.most (omega (arith, most))
 
 pub next_of-requires-clause-range : goal.next_of-requires-clause-range
 next_of-requires-clause-range g c = (c.all_candidates-ids.ensures.ids (g.S.ItemStore.mounted_on c.args.store.now)).few

@@ -13,34 +13,35 @@ use Rattle.named_items.proofs.ItemSteps.{delete-ends, delete-cut, delete-clean, 
 use Rattle.named_items.proofs.LeavingSteps.{delete-leaves}
 use Rattle.named_items.proofs.OtherSteps.{deletes-alters}
 use Rattle.named_items.proofs.OrphanSteps.{same-place}
+use Rattle.named_items.proofs.PlaceSteps.{none-found}
 use Rattle.named_items.proofs.SpendSteps.{spends-some}
 use Rattle.named_items.proofs.writing.delete_name.Goals as goal
 
-pub returns-in-Some-clause-ends : goal.returns-in-Some-clause-ends
-returns-in-Some-clause-ends g c =
+pub returns-clause-ends : goal.returns-clause-ends
+returns-clause-ends g c =
     let d : Device = g.F.Flash.device c.args.flash.now in
     let e : Device = g.F.Flash.device c.delete_pair.new.flash in
     let area : Area = g.S.ItemStore.mounted_on c.args.store.now in
     let n : Numbering = g.N.IdLayout.numbering area in
     record {
-      ends = delete-ends n (g.met.N.IdLayout.is_numbering area) (on g.S.ItemStore.contents d area) c.requires.here.clean c.args.name.now c.in-Some.place c.in-Some.ensures d e (on g.S.ItemStore.contents e area) c.delete_pair.result
-          (λ changed. spends-some g.S.ItemStore.contents d e area (area ∷ []) (is_err c.delete_pair.result) c.delete_pair.ensures.touches (λ same. changed (ap (settings_in n) same))) (subst (λ (k : ℕ). DeletesPair (on g.S.ItemStore.contents d area) (on g.S.ItemStore.contents e area) c.in-Some.place (c.in-Some.place + k) c.delete_pair.result) (sym (c.step.ensures area)) c.delete_pair.ensures.ends);
-      cut = λ lost. delete-cut n (g.met.N.IdLayout.is_numbering area) (on g.S.ItemStore.contents d area) c.requires.here.clean c.args.name.now c.in-Some.place c.in-Some.ensures (on g.S.ItemStore.contents e area) c.delete_pair.result lost (subst (λ (k : ℕ). DeletesPair (on g.S.ItemStore.contents d area) (on g.S.ItemStore.contents e area) c.in-Some.place (c.in-Some.place + k) c.delete_pair.result) (sym (c.step.ensures area)) c.delete_pair.ensures.ends);
-      clean = λ kept. delete-clean n (g.met.N.IdLayout.is_numbering area) (on g.S.ItemStore.contents d area) c.requires.here.clean c.args.name.now c.in-Some.place c.in-Some.ensures (on g.S.ItemStore.contents e area) c.delete_pair.result kept (subst (λ (k : ℕ). DeletesPair (on g.S.ItemStore.contents d area) (on g.S.ItemStore.contents e area) c.in-Some.place (c.in-Some.place + k) c.delete_pair.result) (sym (c.step.ensures area)) c.delete_pair.ensures.ends);
+      ends = delete-ends n (g.met.N.IdLayout.is_numbering area) (on g.S.ItemStore.contents d area) c.requires.here.clean c.args.name.now c.in-Some.setting.id c.in-Some.ensures.place d e (on g.S.ItemStore.contents e area) c.delete_pair.result
+          (λ changed. spends-some g.S.ItemStore.contents d e area (area ∷ []) (is_err c.delete_pair.result) c.delete_pair.ensures.touches (λ same. changed (ap (settings_in n) same))) (subst (λ (k : ℕ). DeletesPair (on g.S.ItemStore.contents d area) (on g.S.ItemStore.contents e area) c.in-Some.setting.id (c.in-Some.setting.id + k) c.delete_pair.result) (sym (c.step.ensures area)) c.delete_pair.ensures.ends);
+      cut = λ lost. delete-cut n (g.met.N.IdLayout.is_numbering area) (on g.S.ItemStore.contents d area) c.requires.here.clean c.args.name.now c.in-Some.setting.id c.in-Some.ensures.place (on g.S.ItemStore.contents e area) c.delete_pair.result lost (subst (λ (k : ℕ). DeletesPair (on g.S.ItemStore.contents d area) (on g.S.ItemStore.contents e area) c.in-Some.setting.id (c.in-Some.setting.id + k) c.delete_pair.result) (sym (c.step.ensures area)) c.delete_pair.ensures.ends);
+      clean = λ kept. delete-clean n (g.met.N.IdLayout.is_numbering area) (on g.S.ItemStore.contents d area) c.requires.here.clean c.args.name.now c.in-Some.setting.id c.in-Some.ensures.place (on g.S.ItemStore.contents e area) c.delete_pair.result kept (subst (λ (k : ℕ). DeletesPair (on g.S.ItemStore.contents d area) (on g.S.ItemStore.contents e area) c.in-Some.setting.id (c.in-Some.setting.id + k) c.delete_pair.result) (sym (c.step.ensures area)) c.delete_pair.ensures.ends);
     }
 
-pub returns-in-None-clause-ends : goal.returns-in-None-clause-ends
-returns-in-None-clause-ends g c =
+pub returns-in_default-clause-ends : goal.returns-in_default-clause-ends
+returns-in_default-clause-ends g c =
     let d : Device = g.F.Flash.device c.args.flash.now in
     let area : Area = g.S.ItemStore.mounted_on c.args.store.now in
     record {
-      ends = delete-absent d (g.N.IdLayout.numbering area) (on g.S.ItemStore.contents d area) c.args.name.now c.in-None.ensures;
+      ends = delete-absent d (g.N.IdLayout.numbering area) (on g.S.ItemStore.contents d area) c.args.name.now (none-found (g.N.IdLayout.numbering area) (on g.S.ItemStore.contents d area) c.args.name.now c.setting_of.result c.in_default.is c.setting_of.ensures.place);
       cut = λ lost. absurd (false≢true lost);
       clean = λ kept. c.requires.here.clean;
     }
 
-pub returns-in-None-clause-store : goal.returns-in-None-clause-store
-returns-in-None-clause-store g c =
+pub returns-in_default-clause-store : goal.returns-in_default-clause-store
+returns-in_default-clause-store g c =
     let d : Device = g.F.Flash.device c.args.flash.now in
     let area : Area = g.S.ItemStore.mounted_on c.args.store.now in
     record {
@@ -50,43 +51,46 @@ returns-in-None-clause-store g c =
       down = λ lost. absurd (false≢true lost);
     }
 
-pub returns-in-Some-clause-others : goal.returns-in-Some-clause-others
-returns-in-Some-clause-others g c = λ place at.
+pub returns-clause-others : goal.returns-clause-others
+returns-clause-others g c = λ place at.
     let d : Device = g.F.Flash.device c.args.flash.now in
     let e : Device = g.F.Flash.device c.delete_pair.new.flash in
     let area : Area = g.S.ItemStore.mounted_on c.args.store.now in
     let n : Numbering = g.N.IdLayout.numbering area in
     let before : Items = on g.S.ItemStore.contents d area in
     let after : Items = on g.S.ItemStore.contents e area in
-    let same : c.in-Some.place ≡ place = same-place n before c.args.name.now c.in-Some.place place c.in-Some.ensures at in
+    let same : c.in-Some.setting.id ≡ place = same-place n before c.args.name.now c.in-Some.setting.id place c.in-Some.ensures.place at in
     subst (λ (k : ℕ). AltersTwo before after k (k + n.step)) same
-    (subst (λ (k : ℕ). AltersTwo before after c.in-Some.place (c.in-Some.place + k)) (sym (c.step.ensures area)) (deletes-alters before after c.in-Some.place (c.in-Some.place + c.step.result) c.delete_pair.result c.delete_pair.ensures.ends))
+    (subst (λ (k : ℕ). AltersTwo before after c.in-Some.setting.id (c.in-Some.setting.id + k)) (sym (c.step.ensures area)) (deletes-alters before after c.in-Some.setting.id (c.in-Some.setting.id + c.step.result) c.delete_pair.result c.delete_pair.ensures.ends))
 
-pub returns-in-None-clause-others : goal.returns-in-None-clause-others
-returns-in-None-clause-others g c = λ place at id one two. refl
+pub returns-in_default-clause-others : goal.returns-in_default-clause-others
+returns-in_default-clause-others g c = λ place at id one two. refl
 
-pub id_of_name-requires-clause-lawful : goal.id_of_name-requires-clause-lawful
-id_of_name-requires-clause-lawful g c = c.requires.here.lawful
+pub setting_of-requires-clause-lawful : goal.setting_of-requires-clause-lawful
+setting_of-requires-clause-lawful g c = c.requires.here.lawful
 
-pub id_of_name-requires-clause-stands : goal.id_of_name-requires-clause-stands
-id_of_name-requires-clause-stands g c = c.requires.here.up
+pub setting_of-requires-clause-stands : goal.setting_of-requires-clause-stands
+setting_of-requires-clause-stands g c = c.requires.here.up
 
-pub id_of_name-requires-clause-clean : goal.id_of_name-requires-clause-clean
-id_of_name-requires-clause-clean g c = c.requires.here.clean
+pub setting_of-requires-clause-clean : goal.setting_of-requires-clause-clean
+setting_of-requires-clause-clean g c = c.requires.here.clean
 
-pub returns-in-Some-clause-written : goal.returns-in-Some-clause-written
-returns-in-Some-clause-written g c = c.delete_pair.ensures.written
+pub returns-clause-written : goal.returns-clause-written
+returns-clause-written g c = c.delete_pair.ensures.written
 
-pub returns-in-None-clause-written : goal.returns-in-None-clause-written
-returns-in-None-clause-written g c = λ blank. blank
+pub returns-in_default-clause-written : goal.returns-in_default-clause-written
+returns-in_default-clause-written g c = λ blank. blank
 
-pub returns-in-Some-clause-items : goal.returns-in-Some-clause-items
-returns-in-Some-clause-items g c =
+pub returns-clause-items : goal.returns-clause-items
+returns-clause-items g c =
     let d : Device = g.F.Flash.device c.args.flash.now in
     let e : Device = g.F.Flash.device c.delete_pair.new.flash in
     let area : Area = g.S.ItemStore.mounted_on c.args.store.now in
-    delete-leaves (g.N.IdLayout.numbering area) (on g.S.ItemStore.contents d area) (on g.S.ItemStore.contents e area) c.args.name.now c.in-Some.place (c.in-Some.place + c.step.result) c.delete_pair.result c.in-Some.ensures
-    (ap (λ (k : ℕ). c.in-Some.place + k) (sym (c.step.ensures area))) c.delete_pair.ensures.ends
+    delete-leaves (g.N.IdLayout.numbering area) (on g.S.ItemStore.contents d area) (on g.S.ItemStore.contents e area) c.args.name.now c.in-Some.setting.id (c.in-Some.setting.id + c.step.result) c.delete_pair.result c.in-Some.ensures.place
+    (ap (λ (k : ℕ). c.in-Some.setting.id + k) (sym (c.step.ensures area))) c.delete_pair.ensures.ends
 
-pub returns-in-None-clause-items : goal.returns-in-None-clause-items
-returns-in-None-clause-items g c = inl (c.in-None.ensures, refl)
+pub returns-in_default-clause-items : goal.returns-in_default-clause-items
+returns-in_default-clause-items g c =
+    let d : Device = g.F.Flash.device c.args.flash.now in
+    let area : Area = g.S.ItemStore.mounted_on c.args.store.now in
+    inl ((none-found (g.N.IdLayout.numbering area) (on g.S.ItemStore.contents d area) c.args.name.now c.setting_of.result c.in_default.is c.setting_of.ensures.place), refl)

@@ -23,3 +23,9 @@ returns-in-Ok-clause-keeps g c = λ none. (c.in-Ok.ensures.keeps none).settings
 
 pub returns-in-Err-clause-keeps : goal.returns-in-Err-clause-keeps
 returns-in-Err-clause-keeps g c = λ none. (c.in-Err.ensures.keeps none).settings
+
+pub returns-in-Ok-clause-items : goal.returns-in-Ok-clause-items
+returns-in-Ok-clause-items g c = λ none. record { keeps = c.in-Ok.ensures.keeps none; ends = c.in-Ok.ensures.order none }
+
+pub returns-in-Err-clause-items : goal.returns-in-Err-clause-items
+returns-in-Err-clause-items g c = λ none. record { keeps = c.in-Err.ensures.keeps none; ends = c.in-Err.ensures.order none }

@@ -6,7 +6,7 @@ use crate::rows::{byte, bytes, counts, gives, has, holds, lists, number, says, v
 use counted_sim::Views;
 use flash_sim::Steps;
 use item_history::{Older, store_older, store_space};
-use item_store::{LastSlots, SlotSectors, Store};
+use item_store::{IdRange, LastSlots, SlotSectors, Store};
 use std::process::Abort;
 use std::sync::ledger::Ledger;
 
@@ -58,9 +58,18 @@ fn asks<T: SlotSectors, B: Views, L: Ledger, R: Abort>(
 {
     let here = bytes(rt, row, 2);
     let gone = bytes(rt, row, 4);
-    let found = store.id_of(bench, 0, 9, here.as_slice(), steps);
-    let none = store.id_of(bench, 0, 9, gone.as_slice(), steps);
-    holds(rt, row, found == Some(number(rt, row, 1)) && none.is_none());
+    let ids = IdRange { least: 0, most: 9 };
+    let none = store.holder_of(bench, &ids, 1, gone.as_slice(), steps);
+    holds(rt, row, none.is_none());
+    let Some(found) = store.holder_of(bench, &ids, 1, here.as_slice(), steps) else {
+        panic!(rt; "no holder");
+    };
+    let above = store.get(bench, found.id + 1, steps);
+    holds(
+        rt,
+        row,
+        found.id == number(rt, row, 1) && found.above == above,
+    );
     gives(
         rt,
         row,

@@ -9,7 +9,7 @@ use arrayvec::ArrayString;
 use flash_map::{Area, Role, WriteFault, sector_view};
 use flash_sim::{Bench, FlatSim, PowerLost, Steps};
 use item_history::{Older, nvs_older, nvs_space};
-use item_store::LastSlots;
+use item_store::{Holder, IdRange, LastSlots};
 use nvs_gc::*;
 use std::alloc::Global;
 use std::marker::Brand;
@@ -131,8 +131,10 @@ fn shows<B: Bench, L: Ledger, R: Abort>(
 fn reported<B: Bench, L: Ledger, R: Abort>(rt: &R, bench: &B, nvs: &Nvs, steps: &mut Steps<L>)
     requires stands { StandsOn (B.device bench.now) nvs.now }
 {
-    assert!(rt; nvs.id_of(bench, 0, 9, &[0x55; 100], steps) == Some(1));
-    assert!(rt; nvs.id_of(bench, 0, 9, &[0x44; 100], steps).is_none());
+    let ids = IdRange { least: 0, most: 9 };
+    assert!(rt; nvs.holder_of(bench, &ids, 1, &[0x44; 100], steps).is_none());
+    let holder = nvs.holder_of(bench, &ids, 1, &[0x55; 100], steps);
+    assert!(rt; matches!(holder, Some(Holder { id: 1, above: None })));
     assert!(rt; matches!(nvs.next_of(bench, 0, 9, None, steps), Some([0x55, ..])));
     assert!(rt; matches!(nvs_older(nvs, bench, 1, 1, steps), Older::Value([0x44, ..])));
     assert!(rt; matches!(nvs_older(nvs, bench, 1, 2, steps), Older::Gone));

@@ -9,7 +9,7 @@ use arrayvec::ArrayString;
 use flash_map::{Area, Damaged, MountFault, Role, Why, WriteFault, sector_view};
 use flash_sim::{Bench, FlatSim, Kind, Steps};
 use item_history::{Older, zms_older, zms_space};
-use item_store::LastSlots;
+use item_store::{IdRange, LastSlots};
 use std::alloc::Global;
 use std::marker::Brand;
 use std::process::Abort;
@@ -167,13 +167,21 @@ fn shows<B: Bench, L: Ledger, R: Abort>(
     panic!(rt; "more ids");
 }
 
-// An item by its bytes, none by bytes that were overwritten; and the least bytes above others,
-// of ids up to 8.
+// Items by their bytes, each with the item 4 or 1 above it, and none by bytes that were
+// overwritten; and the least bytes above others, of ids up to 8.
 fn asks<B: Bench, L: Ledger, R: Abort>(rt: &R, bench: &B, zms: &Zms, steps: &mut Steps<L>)
     requires stands { StandsOn (B.device bench.now) zms.now }
 {
-    assert!(rt; zms.id_of(bench, 0, 9, &[65], steps) == Some(3));
-    assert!(rt; zms.id_of(bench, 0, 9, &[17, 18], steps).is_none());
+    let ids = IdRange { least: 0, most: 9 };
+    assert!(rt; zms.holder_of(bench, &ids, 1, &[17, 18], steps).is_none());
+    let Some(three) = zms.holder_of(bench, &ids, 4, &[65], steps) else {
+        panic!(rt; "no holder of 3");
+    };
+    assert!(rt; three.id == 3 && matches!(three.above, Some([33])));
+    let Some(seven) = zms.holder_of(bench, &ids, 1, &[33], steps) else {
+        panic!(rt; "no holder of 7");
+    };
+    assert!(rt; seven.id == 7 && seven.above.is_none());
     assert!(rt; matches!(zms.next_of(bench, 0, 8, None, steps), Some([33])));
     assert!(rt; matches!(zms.next_of(bench, 0, 8, Some(&[33]), steps), Some([65])));
 }

@@ -358,7 +358,11 @@ fn put_items<S: ItemStore, B: Bench, L: Ledger>(
         if bytes.is_empty() {
             return Err(Fail::new("no bytes of a row"));
         }
-        match store.write(bench, (*id).min(0xFFFE), bytes, steps) {
+        let id = (*id).min(0xFFFE);
+        if store.get(bench, id, steps).is_some() {
+            return Err(Fail::new("an id stands twice in a row"));
+        }
+        match store.write_changed(bench, id, bytes, steps) {
             Ok(()) => {}
             Err(_) => return Err(Fail::new("an item is refused")),
         }

@@ -129,6 +129,13 @@ version_at format_of area given d id n value (Ok answer) on same is some reporte
     (version_reported format_of area d id n value on (subst (λ (a : Area). slice_get (versions (list_on format_of d a) id) n ≡ Some value) same is) (some_bytes value some))
 version_at format_of area given d id n value (Err e) on same is some reported = tt
 
+pub value_at : (format_of : Geometry → SectorFormat) (area given : Area) (d : Device) (id : ℕ) (value : List ℕ) (r : Result Answer NoMemory) → d.is_on ≡ true → given ≡ area → get (items_of (list_on format_of d given)) id ≡ Some value
+    → IfOk r (λ answer. answer ≡ answers.Value value) → IfOk r (λ answer. LineDone format_of area (Get id) answer d d)
+value_at format_of area given d id value (Ok answer) on same is reported =
+    subst (λ (x : Answer). LineDone format_of area (Get id) x d d) (sym reported)
+    (value_reported format_of area d id value on (subst (λ (a : Area). get (items_of (list_on format_of d a)) id ≡ Some value) same is))
+value_at format_of area given d id value (Err e) on same is reported = tt
+
 -- ---- plans
 
 same_spent : (spent : ℕ) → spent + 0 ≡ spent

@@ -3,9 +3,14 @@ use Rattle.std.proofs.Common.{◌≡◌, None, sym, subst}
 use Rattle.std.specs.FinMap.{get}
 use Rattle.flash_map.specs.declared.area.Area.{Area}
 use Rattle.item_store.specs.Listed.{items_on}
-use Rattle.item_session.proofs.LineLemmas.{none_reported}
+use Rattle.item_session.proofs.LineLemmas.{none_reported, value_at}
 use Rattle.item_session.proofs.MemoryLemmas.{item_wants}
 use Rattle.item_session.proofs.reporting.report_item.Goals as goal
+
+pub returns-in-Some-clause-done : goal.returns-in-Some-clause-done
+returns-in-Some-clause-done g c =
+    let d = g.B.Flash.device c.args.bench.now in
+    value_at g.T.SlotSectors.format_of c.args.area.now c.args.store.now.area d c.args.id c.in-Some.bytes.now c.value_of.result c.requires.on c.requires.area (sym c.in-Some.ensures.value) c.value_of.ensures
 
 pub returns-in-Some-clause-wants : goal.returns-in-Some-clause-wants
 returns-in-Some-clause-wants g c =

@@ -1,8 +1,8 @@
 -- Looking for bytes among the items, from the newest entry back.
-use Rattle.std.proofs.Common.{◌≡◌, ◌⊎◌, ℕ, ◌≤◌, Bool, true, false, ◌&&◌, cond, eqb, leb, List, [], ◌∷◌, length, Option, Some, None, Ordering, Less, Equal, Greater, is_lt, nat_cmp, refl, sym, ap, subst, ◌∙◌, inl, inr}
+use Rattle.std.proofs.Common.{◌≡◌, ◌⊎◌, ℕ, ◌≤◌, Bool, true, false, ◌&&◌, cond, eqb, leb, List, [], ◌∷◌, Option, Some, None, Ordering, Less, Equal, Greater, is_lt, nat_cmp, refl, sym, ap, subst, ◌∙◌, inl, inr}
 use Rattle.std.specs.Prelude.{fold, IfSome}
 use Rattle.std.specs.Cmp.Lexicographic.{slice_cmp}
-use Rattle.std.proofs.lemmas.Bool.{cases_Bool, cases_eq, and_parts, eqb-true, leb-true, le-leb, false≢true}
+use Rattle.std.proofs.lemmas.Bool.{cases_Bool, and_parts, eqb-true, leb-true, le-leb, false≢true}
 use Rattle.std.proofs.lemmas.Cmp.{nat_list_cmp_total, tied_itself}
 use Rattle.flash_sim.specs.Bank.{IsLawful}
 use Rattle.flash_sim.specs.Device.{Device}
@@ -19,9 +19,9 @@ use Rattle.item_store.specs.declared.store.Store.{Store}
 use Rattle.item_store.specs.Asking.{is_below, lesser_of}
 use Rattle.item_store.specs.SectorFormat.{SectorFormat, IsSectorFormat, slots}
 use Rattle.item_store.specs.Lasts.{in_range, WasGiven, IsLastIn, GivesNext}
-use Rattle.item_store.specs.Listed.{IsPlaced, items_on}
+use Rattle.item_store.specs.Listed.{items_on}
 use Rattle.item_store.specs.Stands.{StandsOn}
-use Rattle.item_store.proofs.ReadFacts.{placed_len, value_by, value_none, value_some}
+use Rattle.item_store.proofs.ReadFacts.{value_by}
 
 -- ---- the order of bytes
 
@@ -151,16 +151,6 @@ module _ {T : Type 0} (role : Role) (format_of : Geometry → SectorFormat) (kep
 
   abbrev own_value : Placed → Option (List ℕ)
   own_value p = value_of (bytes_of (slots (format_of (geometry_of d store.area))) (sectors_of d store.area) p)
-
-  -- bytes that an entry gives are as long as it says
-  pub value-long : (p : Placed) → IsPlaced (format_of (geometry_of d store.area)) (sectors_of d store.area) store.current p → (bytes : List ℕ) → value_of (bytes_of (slots (format_of (geometry_of d store.area))) (sectors_of d store.area) p) ≡ Some bytes → p.len ≡ length bytes
-  value-long p placed bytes is =
-      elim (cases_eq p.len 0) [
-        | inl none ↦ absurd (some_none bytes (sym is ∙ value_none role format_of kept d store law lawful on p placed none))
-        | inr some ↦
-            sym (placed_len role format_of kept d store law lawful on p placed)
-            ∙ ap length (same_some (bytes_of (slots k) here p) bytes (sym (value_some role format_of kept d store law lawful on p placed some) ∙ is))
-      ]
 
   module _ (walk : Lasts) (least most : ℕ) (from : walk.least ≡ least) (to : walk.most ≡ most) where
     -- the last entry of an id of the range

@@ -1,15 +1,15 @@
 -- What a cache says of the entries that were noted in it, one after the other, and what is read at its places.
-use Rattle.std.proofs.Common.{◌≡◌, ℕ, ◌+◌, ◌-◌, ◌%◌, ◌<◌, Bool, true, false, cond, eqb, List, [], ◌∷◌, ◌++◌, length, Option, Some, None, refl, sym, ap, subst, ◌∙◌, inl, inr, arith}
+use Rattle.std.proofs.Common.{◌≡◌, ℕ, ◌+◌, ◌-◌, ◌%◌, ◌<◌, Bool, true, false, cond, eqb, List, [], ◌∷◌, ◌++◌, length, replicate, Option, Some, None, refl, sym, ap, subst, ◌∙◌, inl, inr, arith}
 use Rattle.std.specs.Prelude.{IfSome}
 use Rattle.std.specs.Option.{is_some, option_map}
-use Rattle.std.proofs.lemmas.List.{length-map, length-set}
+use Rattle.std.proofs.lemmas.List.{length-set}
 use Rattle.std.proofs.lemmas.List.Sums.{fold_push}
 use Rattle.flash_sim.specs.Device.{Device}
 use Rattle.flash_map.specs.declared.area.Area.{Area}
 use Rattle.flash_map.specs.declared.area.Geometry.{Geometry}
 use Rattle.flash_map.specs.Area.{geometry_of, sector_at, sectors_of}
-use Rattle.lookup_cache.specs.Places.{place_of, with_note, cleared, nowhere}
-use Rattle.lookup_cache.proofs.HistoryLemmas.{note_at, clear_at}
+use Rattle.lookup_cache.specs.Places.{place_of, with_note}
+use Rattle.lookup_cache.proofs.HistoryLemmas.{note_at, empty_at}
 use Rattle.item_laws.specs.Area.{open_sector}
 use Rattle.item_laws.specs.Live.{all_placed}
 use Rattle.item_laws.proofs.LiveLemmas.{option_cases, some_none}
@@ -25,8 +25,8 @@ use Rattle.item_store.proofs.Placings.{last-placed_by}
 
 -- ---- one entry more
 
-pub cache-cleared : (cache : List (Option (ℕ × ℕ))) → length cache ≡ 64 → IsCacheOf (cleared cache) []
-cache-cleared cache is = record { slots = length-map cache nowhere ∙ is; latest = λ id. clear_at cache id }
+pub cache-empty : IsCacheOf (replicate 64 None) []
+cache-empty = record { slots = refl; latest = λ id. empty_at 64 id }
 
 pub cache-noted : (cache : List (Option (ℕ × ℕ))) (before : List Placed) (p : Placed) → IsCacheOf cache before → IsCacheOf (with_note cache p.id p.sector p.slot) (before ++ p ∷ [])
 cache-noted cache before p is = record {

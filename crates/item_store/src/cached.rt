@@ -1,5 +1,5 @@
 // The cache of a store: the place of the latest entry of each cache slot's ids.
-ghost use Rattle.std.specs.Prelude.{◌≡◌, ◌<◌, length};
+ghost use Rattle.std.specs.Prelude.{◌≡◌, ◌<◌, None, replicate};
 ghost use Rattle.flash_map.specs.Area.{sectors_of};
 ghost use Rattle.item_store.specs.OnSector.{IsOpenAt};
 ghost use Rattle.item_store.specs.Cached.{IsCacheOf, IsCacheOn, FollowsRound};
@@ -27,7 +27,7 @@ impl Notes for Cache {
     }
 }
 
-/// Fills the cache from the list, whatever it held before. It reads each sector that counts once.
+/// Fills a new cache from the list. It reads each sector that counts once.
 pub fn fill<T: SlotSectors, F: Flash, L: Ledger>(
     flash: &F,
     on: &OpenArea<'_, T>,
@@ -35,11 +35,9 @@ pub fn fill<T: SlotSectors, F: Flash, L: Ledger>(
     steps: &mut Steps<L>,
 )
     requires on { IsOpenAt T.role T.format_of T.kept (F.device flash.now) on.now }
-    requires slots { length cache.old ≡ 64 }
-
+    requires empty { cache.old ≡ replicate 64 None }
     ensures { IsCacheOn T.format_of (F.device flash.now) on.now.area.now cache.new }
 {
-    cache.clear();
     note_all(flash, on, cache, steps);
 }
 

@@ -1,5 +1,5 @@
 // Mounting, and a round: a close with the garbage collection that follows.
-ghost use Rattle.std.specs.Prelude.{◌≡◌, ◌∷◌, [], false, is_err, length, OnOk, OnErr, ◌⊎◌};
+ghost use Rattle.std.specs.Prelude.{◌≡◌, ◌∷◌, [], None, replicate, false, is_err, OnOk, OnErr, ◌⊎◌};
 ghost use Rattle.flash_map.specs.Area.{sector_size, sectors_of};
 ghost use Rattle.flash_map.specs.Faults.{mount_lost};
 ghost use Rattle.flash_map.specs.Spending.{SpendsBetween};
@@ -65,7 +65,7 @@ impl<T: SlotSectors> Store<T> {
         steps: &mut Steps<L>,
     ) -> Result<Store<T>, MountFault>
         requires area { IsStoreArea T.role (F.device flash.old).banks area }
-        requires slots { length cache ≡ 64 }
+        requires empty { cache ≡ replicate 64 None }
         ensures touches { let d = F.device flash.old in let e = F.device flash.new in
             Touches (area ∷ []) d e (mount_lost result) }
         ensures ends { let d = F.device flash.old in let e = F.device flash.new in

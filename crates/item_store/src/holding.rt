@@ -12,7 +12,6 @@ ghost use Rattle.item_store.specs.SectorFormat.{slots};
 ghost use Rattle.item_store.specs.Stands.{StandsOn};
 
 use crate::entry::{IdPair, IdRange, MayHave, Placed};
-use crate::lookup::find;
 use crate::open_area::OpenArea;
 use crate::searching::find_up_to;
 use crate::sectors::SlotSectors;
@@ -70,37 +69,6 @@ fn may_have_behind<T: SlotSectors, F: Flash, L: Ledger>(
 }
 
 impl<T: SlotSectors> Store<T> {
-    // Whether an entry gives its id these bytes.
-    fn has_bytes<F: Flash, L: Ledger>(
-        &self,
-        flash: &F,
-        placed: &Placed,
-        bytes: &[u8],
-        steps: &mut Steps<L>,
-    ) -> bool
-        requires stands { StandsOn T.role T.format_of T.kept (F.device flash.now) self.now }
-        requires placed { IsPlacedOn T.format_of (F.device flash.now) self.now.area self.now.current
-            placed.now }
-        ensures yes_it { let d = F.device flash.now in
-            result ≡ true
-            → value_of
-            (bytes_of (slots (format_on T.format_of d self.now.area)) (sectors_of d self.now.area)
-            placed.now) ≡ Some bytes.now }
-        ensures not_it { let d = F.device flash.now in
-            result ≡ false
-            → value_of
-            (bytes_of (slots (format_on T.format_of d self.now.area)) (sectors_of d self.now.area)
-            placed.now) ≡ Some bytes.now → ⊥ }
-    {
-        if placed.len as usize != bytes.len() {
-            return false;
-        }
-        match self.bytes_at(flash, placed, steps) {
-            Some(own) => own == bytes,
-            None => false,
-        }
-    }
-
     // Which of two ids the entries behind this one may have.
     fn may_have_later<F: Flash, L: Ledger>(
         &self,
@@ -130,8 +98,8 @@ impl<T: SlotSectors> Store<T> {
         here.or(may_have_behind(flash, &on, holder.sector, ids, steps))
     }
 
-    // Whether the item of an entry's id has the bytes that the entry gives it. The list is searched
-    // only if an entry behind this one may have the id.
+    // Whether the item of an entry's id has the bytes that the entry gives it. The id is looked up
+    // only if an entry behind this one may have it.
     fn gives_item<F: Flash, L: Ledger>(
         &self,
         flash: &F,
@@ -161,24 +129,18 @@ impl<T: SlotSectors> Store<T> {
         if !may_be_later {
             return true;
         }
-        let on = OpenArea {
-            area: &self.area,
-            current: self.current,
-            opened: self.opened,
-        };
-        match find(flash, &on, holder.id, steps) {
-            Some(last) => self.has_bytes(flash, &last, bytes, steps),
+        match self.get(flash, holder.id, steps) {
+            Some(item) => item == bytes,
             None => false,
         }
     }
 
-    // The last entry of another id. If no entry behind this one may have it, the slot before is
-    // looked at first: there a new name has its value.
+    // The last entry of another id, which no entry behind this one has. The slot before is looked
+    // at first: there a new name has its value.
     fn last_near<F: Flash, L: Ledger>(
         &self,
         flash: &F,
         holder: &Placed,
-        may_be_later: bool,
         id: u32,
         steps: &mut Steps<L>,
     ) -> Option<Placed>
@@ -187,8 +149,7 @@ impl<T: SlotSectors> Store<T> {
             holder.now }
         requires other { holder.now.id ≡ id → ⊥ }
         requires none { let d = F.device flash.now in
-            may_be_later ≡ false
-            → NoneLater (format_on T.format_of d self.now.area) (sectors_of d self.now.area)
+            NoneLater (format_on T.format_of d self.now.area) (sectors_of d self.now.area)
             self.now.current holder.now id }
         ensures { let d = F.device flash.now in let area = self.now.area in
             result ≡ last_placed (slots (format_on T.format_of d area)) (sectors_of d area) id }
@@ -198,9 +159,6 @@ impl<T: SlotSectors> Store<T> {
             current: self.current,
             opened: self.opened,
         };
-        if may_be_later {
-            return find(flash, &on, id, steps);
-        }
         if holder.slot > T::first_slot() {
             let slot = holder.slot - 1;
             if let Some(placed) = T::entry_in(flash, &self.area, holder.sector, slot, steps) {
@@ -212,7 +170,8 @@ impl<T: SlotSectors> Store<T> {
         find_up_to(flash, &on, holder.sector, id, steps)
     }
 
-    // The bytes of the item of another id, in the same way.
+    // The bytes of the item of another id. It is looked for near the entry if no entry behind that
+    // may have the id.
     fn item_near<'a, F: Flash, L: Ledger>(
         &self,
         flash: &'a F,
@@ -232,7 +191,10 @@ impl<T: SlotSectors> Store<T> {
         ensures { option_map (λ bytes. bytes.now) result
             ≡ map.get (items_on T.format_of (F.device flash.now) self.now.area) id }
     {
-        let placed = self.last_near(flash, holder, may_be_later, id, steps)?;
+        if may_be_later {
+            return self.get(flash, id, steps);
+        }
+        let placed = self.last_near(flash, holder, id, steps)?;
         self.bytes_at(flash, &placed, steps)
     }
 
@@ -314,9 +276,9 @@ impl<T: SlotSectors> Store<T> {
 
     /// An id of the range whose item has these bytes, with the item `step` above it; any of them if
     /// several have, `None` if none has. It searches sector after sector, and compares ids and
-    /// bytes before CRCs. It then reads the ids behind an entry that holds the bytes. The list is
-    /// searched only for an id that these may have, and for the item above if that does not stand
-    /// in the slot before the entry.
+    /// bytes before CRCs. It then reads the ids behind an entry that holds the bytes. An id that
+    /// these may have is looked up as `get` does. The list is searched for the item above if that
+    /// does not stand in the slot before the entry.
     pub fn holder_of<'a, F: Flash, L: Ledger>(
         &self,
         flash: &'a F,

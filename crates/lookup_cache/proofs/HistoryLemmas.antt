@@ -1,11 +1,11 @@
 -- What a cache says after a history.
-use Rattle.std.proofs.Common.{◌≡◌, ◌≢◌, ℕ, zero, suc, ◌≤◌, Bool, true, false, cond, eqb, List, [], ◌∷◌, ◌++◌, length, get_or, Option, Some, None, refl, sym, ◌∙◌, ap, arith, eqb-true, eq-eqb, ne_eqb, length-set}
+use Rattle.std.proofs.Common.{◌≡◌, ◌≢◌, ℕ, zero, suc, ◌≤◌, Bool, true, false, cond, eqb, List, [], ◌∷◌, ◌++◌, length, get_or, Option, Some, None, refl, sym, ◌∙◌, ap, arith, eqb-true, eq-eqb, ne_eqb, length-set, replicate}
 use Rattle.std.proofs.lemmas.List.{length-map, length-replicate}
 use Rattle.std.specs.List.{All}
 use Rattle.std.specs.Option.{IfSome}
 use Rattle.std.proofs.lemmas.Grind.{common_steps}
 use Rattle.std.proofs.lemmas.List.Elements.{All-nil, All-cons, All-head, All-tail, All-map}
-use Rattle.lookup_cache.specs.Places.{cache_slot, place_of, with_note, without, without_sector, cleared}
+use Rattle.lookup_cache.specs.Places.{cache_slot, place_of, with_note, without, without_sector}
 use Rattle.lookup_cache.specs.History.{Event, noted, forgot, cache_after, Spares, IsLastNoted}
 
 outside_it : (sector : ℕ) (place : Option (ℕ × ℕ)) → IfSome (without_sector sector place) (λ p. p.0 ≢ sector)
@@ -32,15 +32,6 @@ note_at cache slots other sector slot id is some = grind (arith, common_steps)
 pub forget_at : (cache : List (Option (ℕ × ℕ))) (sector id : ℕ) → place_of (without cache sector) id ≡ without_sector sector (place_of cache id)
 forget_at cache sector id = grind (arith, common_steps)
 
-nothing_at : (cache : List (Option (ℕ × ℕ))) (i : ℕ) → get_or (cleared cache) i None ≡ None
-nothing_at [] i = refl
-nothing_at (place ∷ places) zero = refl
-nothing_at (place ∷ places) (suc i) = nothing_at places i
-
--- nothing is left in a cleared one
-pub clear_at : (cache : List (Option (ℕ × ℕ))) (id : ℕ) → place_of (cleared cache) id ≡ None
-clear_at cache id = nothing_at cache (cache_slot (length (cleared cache)) id)
-
 -- the place of an id after one event more
 pub place_of-noted : (slots : ℕ) (earlier : List Event) (other sector slot id : ℕ) → 1 ≤ slots
     → place_of (cache_after slots (noted other sector slot ∷ earlier)) id
@@ -54,9 +45,12 @@ pub place_of-forgot : (slots : ℕ) (earlier : List Event) (sector id : ℕ)
 unfolding cache_after
 place_of-forgot slots earlier sector id = forget_at (cache_after slots earlier) sector id
 
+pub empty_at : (slots id : ℕ) → place_of (replicate slots None) id ≡ None
+empty_at slots id = grind (arith, common_steps)
+
 pub place_of-new : (slots id : ℕ) → place_of (cache_after slots []) id ≡ None
 unfolding cache_after
-place_of-new slots id = grind (arith, common_steps)
+place_of-new slots id = empty_at slots id
 
 -- one event more behind the note
 still : (slots : ℕ) (event : Event) (earlier : List Event) (id sector slot : ℕ) → Spares slots id sector event

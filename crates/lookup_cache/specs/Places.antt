@@ -22,10 +22,3 @@ without_sector sector (Some place) = if place.0 == sector then None else Some pl
 -- with each cache slot cleared that points into the sector
 abbrev pub without : List (Option (ℕ × ℕ)) → ℕ → List (Option (ℕ × ℕ))
 without cache sector = map (without_sector sector) cache
-
-abbrev pub nowhere : Option (ℕ × ℕ) → Option (ℕ × ℕ)
-nowhere place = None
-
--- the same slots, with nothing in them
-abbrev pub cleared : List (Option (ℕ × ℕ)) → List (Option (ℕ × ℕ))
-cleared cache = map nowhere cache

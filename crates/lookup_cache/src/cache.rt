@@ -24,7 +24,7 @@ impl Model for Cache {
 }
 
 impl Cache {
-    ghost use Rattle.lookup_cache.specs.Places.{place_of, with_note, without, cleared};
+    ghost use Rattle.lookup_cache.specs.Places.{place_of, with_note, without};
 
     /// A cache of `n` empty slots.
     ///
@@ -52,15 +52,6 @@ impl Cache {
         ensures { result ≡ place_of self.now id }
     {
         self.places[id as usize % self.places.len()]
-    }
-
-    /// Clears each cache slot.
-    pub fn clear(&mut self)
-        ensures { self.new ≡ cleared self.old }
-    {
-        for place in self.places.iter_mut() {
-            *place = None;
-        }
     }
 
     /// Clears each cache slot that points into the sector.

@@ -1,12 +1,10 @@
-use Rattle.std.proofs.Common.{Some, None, sym, ◌∙◌}
+use Rattle.std.proofs.Common.{◌∙◌}
 use Rattle.flash_sim.specs.Device.{Device}
 use Rattle.flash_map.specs.declared.area.Area.{Area}
 use Rattle.flash_map.specs.Area.{geometry_of}
-use Rattle.item_laws.proofs.LiveLemmas.{some_none}
 use Rattle.item_store.specs.SectorFormat.{IsSectorFormat}
 use Rattle.item_store.proofs.Areas.{unit_is}
 use Rattle.item_store.proofs.HoldingSteps.{value-last}
-use Rattle.item_store.proofs.ReadFacts.{last_placed_on, value_by}
 use Rattle.item_store.proofs.store.Store.gives_item.Goals as goal
 
 pub returns-then-not-may_be_later-clause-yes_it : goal.returns-then-not-may_be_later-clause-yes_it
@@ -15,31 +13,3 @@ returns-then-not-may_be_later-clause-yes_it g c =
     let area : Area = c.args.self.now.area in
     let law : IsSectorFormat (g.T.SlotSectors.format_of (geometry_of d area)) = g.met.T.SlotSectors.lawful (geometry_of d area) (unit_is d area (g.met.F.Flash.is_lawful c.args.flash.now) c.requires.stands.area.lawful) in
     λ _. value-last g.T.SlotSectors.role g.T.SlotSectors.format_of g.T.SlotSectors.kept d c.args.self.now law (g.met.F.Flash.is_lawful c.args.flash.now) c.requires.stands c.args.holder.now c.requires.placed (c.requires.none c.if-not-may_be_later.true) ∙ c.requires.holds
-
-pub has_bytes-requires-clause-placed : goal.has_bytes-requires-clause-placed
-has_bytes-requires-clause-placed g c =
-    let d : Device = g.F.Flash.device c.args.flash.now in
-    let area : Area = c.args.self.now.area in
-    let law : IsSectorFormat (g.T.SlotSectors.format_of (geometry_of d area)) = g.met.T.SlotSectors.lawful (geometry_of d area) (unit_is d area (g.met.F.Flash.is_lawful c.args.flash.now) c.requires.stands.area.lawful) in
-    last_placed_on g.T.SlotSectors.role g.T.SlotSectors.format_of g.T.SlotSectors.kept d c.args.self.now law (g.met.F.Flash.is_lawful c.args.flash.now) c.requires.stands (Some c.in-Some.last) c.args.holder.now.id (sym c.in-Some.is ∙ c.find.ensures)
-
-pub returns-in-Some-clause-yes_it : goal.returns-in-Some-clause-yes_it
-returns-in-Some-clause-yes_it g c =
-    let d : Device = g.F.Flash.device c.args.flash.now in
-    let area : Area = c.args.self.now.area in
-    let law : IsSectorFormat (g.T.SlotSectors.format_of (geometry_of d area)) = g.met.T.SlotSectors.lawful (geometry_of d area) (unit_is d area (g.met.F.Flash.is_lawful c.args.flash.now) c.requires.stands.area.lawful) in
-    λ is. value_by g.T.SlotSectors.role g.T.SlotSectors.format_of g.T.SlotSectors.kept d c.args.self.now law (g.met.F.Flash.is_lawful c.args.flash.now) c.requires.stands (Some c.in-Some.last) c.args.holder.now.id (sym c.in-Some.is ∙ c.find.ensures) ∙ c.has_bytes.ensures.yes_it is
-
-pub returns-in-Some-clause-not_it : goal.returns-in-Some-clause-not_it
-returns-in-Some-clause-not_it g c =
-    let d : Device = g.F.Flash.device c.args.flash.now in
-    let area : Area = c.args.self.now.area in
-    let law : IsSectorFormat (g.T.SlotSectors.format_of (geometry_of d area)) = g.met.T.SlotSectors.lawful (geometry_of d area) (unit_is d area (g.met.F.Flash.is_lawful c.args.flash.now) c.requires.stands.area.lawful) in
-    λ is has. c.has_bytes.ensures.not_it is (sym (value_by g.T.SlotSectors.role g.T.SlotSectors.format_of g.T.SlotSectors.kept d c.args.self.now law (g.met.F.Flash.is_lawful c.args.flash.now) c.requires.stands (Some c.in-Some.last) c.args.holder.now.id (sym c.in-Some.is ∙ c.find.ensures)) ∙ has)
-
-pub returns-in-None-clause-not_it : goal.returns-in-None-clause-not_it
-returns-in-None-clause-not_it g c =
-    let d : Device = g.F.Flash.device c.args.flash.now in
-    let area : Area = c.args.self.now.area in
-    let law : IsSectorFormat (g.T.SlotSectors.format_of (geometry_of d area)) = g.met.T.SlotSectors.lawful (geometry_of d area) (unit_is d area (g.met.F.Flash.is_lawful c.args.flash.now) c.requires.stands.area.lawful) in
-    λ _ has. some_none c.args.bytes.now (sym has ∙ value_by g.T.SlotSectors.role g.T.SlotSectors.format_of g.T.SlotSectors.kept d c.args.self.now law (g.met.F.Flash.is_lawful c.args.flash.now) c.requires.stands None c.args.holder.now.id (sym c.in-None.is ∙ c.find.ensures))

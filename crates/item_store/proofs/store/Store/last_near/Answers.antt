@@ -21,7 +21,7 @@ returns-then-placed-id g c =
     let area : Area = c.args.self.now.area in
     let law : IsSectorFormat (g.T.SlotSectors.format_of (geometry_of d area)) = g.met.T.SlotSectors.lawful (geometry_of d area) (unit_is d area (g.met.F.Flash.is_lawful c.args.flash.now) c.requires.stands.area.lawful) in
     let first : c.first_slot.result ≡ (g.T.SlotSectors.format_of (geometry_of d area)).first = c.first_slot.ensures.value (geometry_of d area) in
-    last-before g.T.SlotSectors.role g.T.SlotSectors.format_of g.T.SlotSectors.kept d c.args.self.now law (g.met.F.Flash.is_lawful c.args.flash.now) c.requires.stands c.args.holder.now c.requires.placed c.args.id (c.args.holder.now.slot - 1) c.in-Some.placed c.requires.other (c.requires.none c.if-may_be_later.false) (omega (arith, first, c.if-holder-first_slot.true)) (omega arith) (sym c.in-Some.is ∙ c.entry_in.ensures.entry) c.if-placed-id.true
+    last-before g.T.SlotSectors.role g.T.SlotSectors.format_of g.T.SlotSectors.kept d c.args.self.now law (g.met.F.Flash.is_lawful c.args.flash.now) c.requires.stands c.args.holder.now c.requires.placed c.args.id (c.args.holder.now.slot - 1) c.in-Some.placed c.requires.other c.requires.none (omega (arith, first, c.if-holder-first_slot.true)) (omega arith) (sym c.in-Some.is ∙ c.entry_in.ensures.entry) c.if-placed-id.true
 
 pub find_up_to-requires-clause-on : goal.find_up_to-requires-clause-on
 find_up_to-requires-clause-on g c =
@@ -42,4 +42,4 @@ returns g c =
     let d : Device = g.F.Flash.device c.args.flash.now in
     let area : Area = c.args.self.now.area in
     let law : IsSectorFormat (g.T.SlotSectors.format_of (geometry_of d area)) = g.met.T.SlotSectors.lawful (geometry_of d area) (unit_is d area (g.met.F.Flash.is_lawful c.args.flash.now) c.requires.stands.area.lawful) in
-    c.find_up_to.ensures ∙ last-up-to g.T.SlotSectors.role g.T.SlotSectors.format_of g.T.SlotSectors.kept d c.args.self.now law (g.met.F.Flash.is_lawful c.args.flash.now) c.requires.stands c.args.holder.now c.requires.placed c.args.id (c.requires.none c.if-may_be_later.false)
+    c.find_up_to.ensures ∙ last-up-to g.T.SlotSectors.role g.T.SlotSectors.format_of g.T.SlotSectors.kept d c.args.self.now law (g.met.F.Flash.is_lawful c.args.flash.now) c.requires.stands c.args.holder.now c.requires.placed c.args.id c.requires.none

@@ -1,7 +1,6 @@
-use Rattle.std.proofs.Common.{ℕ, length, Option, None, ap, ◌∙◌, inl, refl}
+use Rattle.std.proofs.Common.{inl, refl}
 use Rattle.flash_sim.specs.Device.{Device}
 use Rattle.flash_map.specs.Area.{geometry_of, sector_size}
-use Rattle.std.proofs.lemmas.List.{length-replicate}
 use Rattle.item_store.proofs.MountSteps.{mount-nothing}
 use Rattle.item_store.proofs.store.Store.mount.Goals as goal
 
@@ -18,9 +17,9 @@ pub returns-in-Err-clause-changed : goal.returns-in-Err-clause-changed
 returns-in-Err-clause-changed g c =
     inl refl
 
-pub mount_with-requires-clause-slots : goal.mount_with-requires-clause-slots
-mount_with-requires-clause-slots g c =
-    ap length c.in-Ok.ensures ∙ length-replicate {A = Option (ℕ × ℕ)} 64 None
+pub mount_with-requires-clause-empty : goal.mount_with-requires-clause-empty
+mount_with-requires-clause-empty g c =
+    c.in-Ok.ensures
 
 pub returns-in-Ok-clause-touches : goal.returns-in-Ok-clause-touches
 returns-in-Ok-clause-touches g c =

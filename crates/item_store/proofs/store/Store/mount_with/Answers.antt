@@ -105,9 +105,9 @@ fill-requires-clause-on g c =
     let there = stands g.T.SlotSectors.role g.T.SlotSectors.format_of g.T.SlotSectors.kept a d area c.in-Ok.current c.redo.new.opened law did.touches.banks c.requires.area did.ends.rested did.ends.kept in
     record { area = there.area; kept = there.opened; current = there.current }
 
-pub fill-requires-clause-slots : goal.fill-requires-clause-slots
-fill-requires-clause-slots g c =
-    c.requires.slots
+pub fill-requires-clause-empty : goal.fill-requires-clause-empty
+fill-requires-clause-empty g c =
+    c.requires.empty
 
 pub returns-in-Ok-redo-clause-marks : goal.returns-in-Ok-redo-clause-marks
 returns-in-Ok-redo-clause-marks g c =

@@ -79,7 +79,7 @@ RemovalEnds n before after (Ok x) = HasNoOrphans n after
 RemovalEnds n before after (Err lost) = (id : ℕ) × StopsAt n before after id
 
 -- what a mount leaves: each item of a setting and the count; orphans go in rising order of ids
-pub record MountLeavesItems {T E : Type 0} (n : Numbering) (before after : Items) (result : Result T E) : Type 0
-  where
-    pub keeps : KeepsSettings n before after
-    pub ends : RemovalEnds n before after result
+pub record MountLeavesItems {T E : Type 0} (n : Numbering) (before after : Items)
+    (result : Result T E) : Type 0 where
+  pub keeps : KeepsSettings n before after
+  pub ends : RemovalEnds n before after result

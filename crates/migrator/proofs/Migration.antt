@@ -1,6 +1,6 @@
 -- A whole migration.
 use Rattle.std.proofs.Common.{◌≡◌, ◌≢◌, ℕ, zero, suc, Bool, true, false, not, cond, List, [], ◌∷◌, length, Option, Some, None, Result, Ok, Err, refl, sym, ap, subst, ◌∙◌, inl, inr, arith}
-use Rattle.std.specs.Prelude.{unwrap_or, IfOk}
+use Rattle.std.specs.Prelude.{unwrap_or, IfOk, OnOk}
 use Rattle.std.specs.List.{slice_get}
 use Rattle.std.specs.Option.{option_map_or, option_and_then}
 use Rattle.std.proofs.lemmas.Bool.{cases_Bool, false≢true}
@@ -24,7 +24,7 @@ use Rattle.migrator.specs.declared.migrating.MigrateFault.TheVariants.{NoTarget,
 use Rattle.migrator.specs.Active.{named, chosen, active_in, active_on, active_with, selector_damage_on}
 use Rattle.migrator.specs.Areas.{IsLawfulMap, is_store, is_store_at, store_from, first_store, selector_of, target}
 use Rattle.migrator.specs.Choosing.{IsOpen}
-use Rattle.migrator.specs.Migrating.{migrate_lost, is_refused, IsServed, move_units, migrate_units, worked_on, room_on, ReadsAs, IsMoved, StaysActive, MoveEnds, MigrateEnds}
+use Rattle.migrator.specs.Migrating.{migrate_lost, is_refused, IsServed, move_units, migrate_units, worked_on, room_on, ReadsAs, FillsAndChooses, IsMoved, StaysActive, MoveEnds, MigrateEnds}
 use Rattle.migrator.proofs.AreaLemmas.{store-within}
 use Rattle.migrator.proofs.Choices.{named-says}
 use Rattle.migrator.proofs.Copies.{geometry-same}
@@ -119,6 +119,13 @@ module _ {S : Type 0} (mounted : S → Area) (damage : Area → Geometry → Lis
   migrate-ends areas selector area active index settings old new (Err (NoSpace need live)) is there ends = (index, area, record { target = is; there = there }, ends)
   migrate-ends areas selector area active index settings old new (Err PowerLost) is there ends = (index, area, record { target = is; there = there }, ends)
   migrate-ends areas selector area active index settings old new (Err NoMemory) is there ends = (index, area, record { target = is; there = there }, ends)
+
+  -- the area that was filled and chosen is the store's
+  pub moved-chosen : (areas : List Area) (ring : Ring) (area : Area) (index names : ℕ) (settings : Map) (old new : Device) (result : Result (S × ℕ) MigrateFault) → MoveEnds mounted damage contents (room_on room old area) areas ring.area area index settings old new result
+      → OnOk result (FillsAndChooses areas old new ring area index names) → IfOk result (λ (moved : S × ℕ). FillsAndChooses areas old new ring (mounted moved.0) moved.1 names)
+  moved-chosen areas ring area index names settings old new (Ok moved) ends chosen =
+      subst (λ (x : Area). FillsAndChooses areas old new ring x moved.1 names) (sym ends.1) (subst (λ (i : ℕ). FillsAndChooses areas old new ring area i names) (sym ends.0) chosen)
+  moved-chosen areas ring area index names settings old new (Err fault) ends chosen = tt
 
   -- the settings are read through the active area
   pub reads-still : (areas : List Area) (d : Device) (selector source : Area) (active : ℕ) → selector_of areas ≡ Some selector → slice_get areas active ≡ Some source → active ≡ active_on areas d → ring_damage d selector ≡ None → on damage d source ≡ None → ReadsAs damage contents areas d (on contents d source)

@@ -1,6 +1,6 @@
 -- Filling an area with all settings, and making it the active one.
 use Rattle.std.proofs.Common.{◌≡◌, ℕ, Bool, true, false, List, [], ◌∷◌, Option, None, Result, Ok, Err, is_err, refl, sym, ap, subst, ◌∙◌, inl, inr}
-use Rattle.std.specs.Prelude.{IfOk}
+use Rattle.std.specs.Prelude.{IfOk, OnOk}
 use Rattle.std.proofs.lemmas.Bool.{false≢true}
 use Rattle.flash_sim.specs.Bank.{IsLawful}
 use Rattle.flash_sim.specs.Device.{Device}
@@ -23,9 +23,9 @@ use Rattle.backend_api.specs.declared.backend.SetFault.TheVariants.{NoSpace as N
 use Rattle.migrator.specs.declared.migrating.MigrateFault.{MigrateFault}
 use Rattle.migrator.specs.declared.migrating.MigrateFault.TheVariants.{NoTarget, NoSpace, TooManyNames, PowerLost, NoMemory}
 use Rattle.migrator.specs.Active.{active_in, active_by}
-use Rattle.migrator.specs.Choosing.{IsOpen, ChooseEnds}
+use Rattle.migrator.specs.Choosing.{IsOpen, ChooseEnds, Chooses}
 use Rattle.migrator.specs.Copying.{NoneTooMany, CopyEnds}
-use Rattle.migrator.specs.Migrating.{migrate_lost, filled_as, moved_as, OpenEnds, FillEnds, MoveEnds, StaysActive}
+use Rattle.migrator.specs.Migrating.{migrate_lost, is_refused, filled_as, moved_as, OpenEnds, Fills, FillEnds, FillsAndChooses, MoveEnds, StaysActive}
 use Rattle.migrator.proofs.Collecting.{kept-itself}
 use Rattle.migrator.proofs.Copies.{geometry-same}
 
@@ -135,6 +135,25 @@ chosen-down areas b e before after index moved chosen result ends is lost = at c
     at : (r : Result (Unit {0}) Lost) → ChooseEnds areas b e before after index r → migrate_lost (moved_as moved r) ≡ true → is_up after.stage ≡ false
     at (Ok x) ends lost = absurd (false≢true lost)
     at (Err cut) ends lost = ends.2
+
+-- a choice is done or cut, but not refused
+pub chosen-or-cut : {T : Type 0} (moved : T) (chosen : Result (Unit {0}) Lost) (result : Result T MigrateFault) → result ≡ moved_as moved chosen → is_refused result ≡ false
+chosen-or-cut {T} moved chosen result is = ap is_refused is ∙ at chosen
+  where
+    at : (r : Result (Unit {0}) Lost) → is_refused (moved_as moved r) ≡ false
+    at (Ok x) = refl
+    at (Err lost) = refl
+
+-- the area was filled, and then chosen
+pub filled-chosen : {T : Type 0} (areas : List Area) (a b e : Device) (ring : Ring) (area : Area) (index names : ℕ) (moved : T) (chosen : Result (Unit {0}) Lost) (result : Result T MigrateFault) → b.banks ≡ a.banks → sectors_of b ring.area ≡ sectors_of a ring.area
+    → Fills a b area names → OnOk chosen (Chooses areas b e ring index) → result ≡ moved_as moved chosen
+    → OnOk result (FillsAndChooses areas a e ring area index names)
+filled-chosen {T} areas a b e ring area index names moved chosen result banks same filled chooses is =
+    subst (λ (r : Result T MigrateFault). OnOk r (FillsAndChooses areas a e ring area index names)) (sym is) (at chosen chooses)
+  where
+    at : (r : Result (Unit {0}) Lost) → OnOk r (Chooses areas b e ring index) → OnOk (moved_as moved r) (FillsAndChooses areas a e ring area index names)
+    at (Ok x) chooses = record { mid = b; banks = banks; filled = filled; selector = same; chosen = chooses }
+    at (Err lost) chooses = tt
 
 -- on another device with the same banks and sectors
 pub still : {T : Type 0} (f : Area → Geometry → List (List ℕ) → T) (a d : Device) (area : Area) → d.banks ≡ a.banks → sectors_of d area ≡ sectors_of a area → on f d area ≡ on f a area

@@ -9,8 +9,9 @@ use Rattle.flash_sim.specs.declared.flash.PowerLost.{PowerLost as Lost}
 use Rattle.flash_map.specs.declared.area.Area.{Area}
 use Rattle.flash_map.specs.declared.area.Geometry.{Geometry}
 use Rattle.flash_map.specs.Area.{geometry_of, sectors_of}
-use Rattle.flash_map.specs.Spending.{Spends, SpendsAtMost}
+use Rattle.flash_map.specs.Spending.{Spends, SpendsAtMost, SpendsBetween}
 use Rattle.flash_map.specs.Units.{is_written, padded}
+use Rattle.flash_map.proofs.SpendingBounds.{between_exact, between_most, between_then, between_within}
 use Rattle.flash_map.proofs.SpendingLemmas.{most_weaker, spends_most, spends_none, spends_then}
 use Rattle.fcb_ring.specs.declared.record.RecordAt.{RecordAt}
 use Rattle.fcb_ring.specs.declared.ring.Ring.{Ring}
@@ -116,6 +117,34 @@ filled-most a b e area into count names banks same is first second =
     let puts : SpendsAtMost b e (names * command_units (geometry_of a area)) =
     subst (λ (x : Geometry). SpendsAtMost b e (names * command_units x)) g (subst (λ (n : ℕ). SpendsAtMost b e (n * command_units (geometry_of b into))) is second) in
     most_then a b e (area.sectors + mount_units (geometry_of a area)) (names * command_units (geometry_of a area)) first puts
+
+-- ---- the same, where power lasted: each sector that was written was erased
+
+pub opened-between : (a b e : Device) (area : Area) → b.banks ≡ a.banks → Spends a b (count_by is_written (sectors_of a area)) → SpendsAtMost b e (mount_units (geometry_of b area)) → SpendsBetween a e (count_by is_written (sectors_of a area)) (area.sectors + mount_units (geometry_of a area))
+opened-between a b e area banks first second =
+    let written : ℕ = count_by is_written (sectors_of a area) in
+    let units : ℕ = mount_units (geometry_of a area) in
+    let mounted : SpendsAtMost b e units = subst (λ (g : Geometry). SpendsAtMost b e (mount_units g)) (units-still a b area banks) second in
+    between_further a e written area.sectors units (written-within a area) (between_then (between_exact a b written first) (between_most b e units mounted))
+  where
+    between_further : (d x : Device) (count sectors more : ℕ) → count ≤ sectors → SpendsBetween d x (count + 0) (count + more) → SpendsBetween d x count (sectors + more)
+    between_further d x count sectors more within spends = between_within spends count (sectors + more) (omega arith) (omega arith)
+
+pub filled-between : (a b e : Device) (area into : Area) (least count names : ℕ) → b.banks ≡ a.banks → into ≡ area → count ≡ names → SpendsBetween a b least (area.sectors + mount_units (geometry_of a area)) → SpendsAtMost b e (count * command_units (geometry_of b into))
+    → SpendsBetween a e least (fill_units (geometry_of a area) names)
+filled-between a b e area into least count names banks same is first second =
+    let g : geometry_of b into ≡ geometry_of a area = ap (geometry_of b) same ∙ units-still a b area banks in
+    let puts : SpendsAtMost b e (names * command_units (geometry_of a area)) =
+    subst (λ (x : Geometry). SpendsAtMost b e (names * command_units x)) g (subst (λ (n : ℕ). SpendsAtMost b e (n * command_units (geometry_of b into))) is second) in
+    least-same a e least (fill_units (geometry_of a area) names) (between_then first (between_most b e (names * command_units (geometry_of a area)) puts))
+  where
+    least-same : (d x : Device) (count most : ℕ) → SpendsBetween d x (count + 0) most → SpendsBetween d x count most
+    least-same d x count most spends = between_within spends count most (omega arith) (omega arith)
+
+-- what holds however a call ends
+pub on-ok : {T E : Type 0} (result : Result T E) (P : Type 0) → P → OnOk result P
+on-ok (Ok x) P is = is
+on-ok (Err x) P is = tt
 
 -- ---- an area that is filled, and then chosen
 

@@ -1,5 +1,5 @@
 -- How a migration changes the areas, and how it ends.
-use Rattle.std.specs.Prelude.{◌≡◌, ◌⊎◌, ℕ, ◌+◌, ◌*◌, Bool, true, false, List, [], ◌∷◌, Option, Some, None, Result, Ok, Err}
+use Rattle.std.specs.Prelude.{◌≡◌, ◌⊎◌, ℕ, ◌+◌, ◌*◌, Bool, true, false, List, [], ◌∷◌, count_by, Option, Some, None, Result, Ok, Err, IfOk, OnOk}
 use Rattle.std.specs.FinMap as finite
 use Rattle.std.specs.List.{slice_get}
 use Rattle.std.specs.Option.{option_map_or, option_and_then}
@@ -7,8 +7,10 @@ use Rattle.flash_sim.specs.Device.{Device}
 use Rattle.flash_map.specs.declared.area.Area.{Area}
 use Rattle.flash_map.specs.declared.area.Geometry.{Geometry}
 use Rattle.flash_map.specs.declared.faults.Damaged.{Damaged}
-use Rattle.flash_map.specs.Area.{geometry_of, AreApart}
+use Rattle.flash_map.specs.Area.{geometry_of, sectors_of, AreApart}
 use Rattle.flash_map.specs.Lawful.{IsLawfulFor}
+use Rattle.flash_map.specs.Spending.{SpendsAtMost, SpendsBetween}
+use Rattle.flash_map.specs.Units.{is_written}
 use Rattle.fcb_ring.specs.Standing.{is_up, ring_damage}
 use Rattle.fcb_ring.specs.declared.ring.Ring.{Ring}
 use Rattle.backend_api.specs.Map.{Map}
@@ -21,7 +23,7 @@ use Rattle.migrator.specs.declared.migrating.MigrateFault.{MigrateFault}
 use Rattle.migrator.specs.declared.migrating.MigrateFault.TheVariants.{NoTarget, NoSpace, TooManyNames, PowerLost, NoMemory}
 use Rattle.migrator.specs.Active.{active_in, active_on, selector_damage_on}
 use Rattle.migrator.specs.Areas.{IsLawfulMap, is_store, selector_of, target}
-use Rattle.migrator.specs.Choosing.{IsOpen, choice_units}
+use Rattle.migrator.specs.Choosing.{IsOpen, Chooses, choice_units}
 use Rattle.migrator.specs.Copying.{NoneTooMany, HasOneTooMany, HasOneWithoutRoom}
 
 -- the answer says that power was lost
@@ -125,6 +127,17 @@ pub record IsMoved (damage : Area → Geometry → List (List ℕ) → Option Da
 abbrev pub fill_units : Geometry → ℕ → ℕ
 fill_units geometry names = geometry.sectors + mount_units geometry + names * command_units geometry
 
+-- An area was filled with `names` settings. That took at least an erase for each sector that was written.
+abbrev pub Fills : Device → Device → Area → ℕ → Type 0
+Fills old new area names =
+    SpendsBetween old new (count_by is_written (sectors_of old area))
+    (fill_units (geometry_of old area) names)
+
+-- It spent at most what filling an area with `names` settings may take, and filled it if it ended well.
+abbrev pub FillSpends : {T E : Type 0} → Device → Device → Area → ℕ → Result T E → Type 0
+FillSpends old new area names result =
+    SpendsAtMost old new (fill_units (geometry_of old area) names) × OnOk result (Fills old new area names)
+
 -- The most units and erases of moving `names` settings to an area, whole or cut: it is filled,
 -- and then chosen.
 abbrev pub move_units : Device → Area → Area → ℕ → ℕ
@@ -135,6 +148,24 @@ move_units d selector area names = fill_units (geometry_of d area) names + choic
 abbrev pub migrate_units : Device → List Area → Area → ℕ → ℕ → ℕ
 migrate_units d areas selector active names =
     option_map_or (λ area. move_units d selector area names) (target_area areas active) 0
+
+-- The area was filled with `names` settings first, and the selector's area stayed. Then the selector chose
+-- the area at this index, by one record more.
+pub record FillsAndChooses (areas : List Area) (old new : Device) (ring : Ring) (area : Area)
+    (index names : ℕ) : Type 0 where
+  pub mid : Device
+  pub banks : mid.banks ≡ old.banks
+  pub filled : Fills old mid area names
+  pub selector : sectors_of mid ring.area ≡ sectors_of old ring.area
+  pub chosen : Chooses areas mid new ring index
+
+-- After a refusal the selector's sectors are as before. A move that ended well filled the target, and then
+-- put one record.
+abbrev pub ChoosesOnce : {K : Type 0} → (K → Area) → List Area → Device → Device → Ring → ℕ
+    → Result (K × ℕ) MigrateFault → Type 0
+ChoosesOnce mounted_on areas old new ring names result =
+    (is_refused result ≡ true → sectors_of new ring.area ≡ sectors_of old ring.area)
+    × IfOk result (λ moved. FillsAndChooses areas old new ring (mounted_on moved.0) moved.1 names)
 
 -- the active area is as before
 abbrev pub StaysActive : List Area → Area → Device → Device → Type 0

@@ -3,7 +3,7 @@ ghost use Rattle.std.specs.Prelude.{◌≡◌, ◌⊎◌, ◌+◌, ◌<◌, ◌�
 ghost use Rattle.std.specs.FinMap as finite;
 ghost use Rattle.flash_map.specs.Area.{sectors_of, geometry_of, AreApart};
 ghost use Rattle.flash_map.specs.Lawful.{IsLawfulFor};
-ghost use Rattle.flash_map.specs.Spending.{Spends, SpendsAtMost};
+ghost use Rattle.flash_map.specs.Spending.{Spends, SpendsAtMost, SpendsBetween};
 ghost use Rattle.flash_map.specs.Touches.{Touches};
 ghost use Rattle.flash_map.specs.Units.{is_written};
 ghost use Rattle.backend_api.specs.Room.{mount_units};
@@ -11,7 +11,7 @@ ghost use Rattle.flash_map.specs.On.{on, StandsOn};
 ghost use Rattle.fcb_ring.specs.Standing.{is_up};
 ghost use Rattle.migrator.specs.Areas.{is_store_at};
 ghost use Rattle.migrator.specs.Choosing.{IsOpen};
-ghost use Rattle.migrator.specs.Migrating.{migrate_lost, is_refused, IsServed, CanMove, KeepsSelector, fill_units, move_units, migrate_units, filled_as, moved_as, worked_on, room_on, OpenEnds, FillEnds, ReadsAs, MoveEnds, MigrateEnds};
+ghost use Rattle.migrator.specs.Migrating.{migrate_lost, is_refused, IsServed, CanMove, KeepsSelector, ChoosesOnce, FillSpends, FillsAndChooses, fill_units, move_units, migrate_units, filled_as, moved_as, worked_on, room_on, OpenEnds, FillEnds, ReadsAs, MoveEnds, MigrateEnds};
 
 use crate::Selector;
 use crate::areas::{area_at, target};
@@ -78,6 +78,10 @@ fn open_blank<F: Flash, K: Backend, L: Ledger>(
         (λ state. StandsOn K.mounted_on K.stands (F.device flash.new) state) }
     ensures at_most { let d = F.device flash.old in
         SpendsAtMost d (F.device flash.new) (area.sectors + mount_units (geometry_of d area)) }
+    ensures erased { let d = F.device flash.old in
+        OnOk result
+        (SpendsBetween d (F.device flash.new) (count_by is_written (sectors_of d area))
+        (area.sectors + mount_units (geometry_of d area))) }
 {
     let erased: Result<(), PowerLost> = erase::<F, K, L>(flash, &area, steps);
     match erased {
@@ -118,10 +122,10 @@ fn moved_as<K: Backend>(
     }
 }
 
-/// Reads all settings of a store into memory. Then it erases an area, mounts a store on it, and
-/// puts them into it, in the byte order of their names. The source stays as it is. Whatever the
-/// result, it spends at most the units and erases that `fill_units` gives for the area's geometry
-/// and the count of settings.
+/// Reads all settings of a store into memory. Then it erases each sector of an area that is not all
+/// FF, mounts a store on it, and puts them into it, in the byte order of their names. The source
+/// stays as it is. Whatever the result, it spends at most the units and erases that `fill_units`
+/// gives for the area's geometry and the count of settings.
 ///
 /// # Errors
 /// `TooManyNames` and `NoSpace` if the area has no place for a setting beside those of lesser
@@ -151,10 +155,9 @@ pub fn fill<F: Flash, K: Backend, L: Ledger>(
     ensures on { IfOk result (λ state. K.mounted_on state ≡ area) }
     ensures stands { IfOk result
         (λ state. StandsOn K.mounted_on K.stands (F.device flash.new) state) }
-    ensures at_most { let d = F.device flash.old in
+    ensures spends { let d = F.device flash.old in
         let settings = on K.contents d (K.mounted_on from.now) in
-        SpendsAtMost d (F.device flash.new)
-        (fill_units (geometry_of d area) (finite.len settings)) }
+        FillSpends d (F.device flash.new) area (finite.len settings) result }
 {
     let Ok(settings) = read_all(alloc, from, flash, steps) else {
         return Err(MigrateFault::NoMemory);
@@ -198,6 +201,11 @@ fn move_to<F: Flash, K: Backend, L: Ledger>(
     ensures at_most { let d = F.device flash.old in let e = F.device flash.new in
         let names = finite.len (on K.contents d (K.mounted_on from.now)) in
         SpendsAtMost d e (move_units d selector.old.ring.area area names) }
+    ensures kept { let e = F.device flash.new in let area = selector.old.ring.area in
+        is_refused result ≡ true → sectors_of e area ≡ sectors_of (F.device flash.old) area }
+    ensures chosen { let d = F.device flash.old in let e = F.device flash.new in
+        let names = finite.len (on K.contents d (K.mounted_on from.now)) in
+        OnOk result (FillsAndChooses map.now d e selector.old.ring area index names) }
 {
     let filled: Result<K, MigrateFault> = fill(alloc, from, flash, area, steps);
     let to = match filled {
@@ -210,15 +218,16 @@ fn move_to<F: Flash, K: Backend, L: Ledger>(
 
 /// Moves all settings to the next store area of the map, and makes that area the active one. All
 /// of them are in memory before the target is erased. It returns the store on that area, and the
-/// area's index. The sectors of the source stay as they are. Whatever happens, the active area
-/// reads as the same settings. It spends at most the units and erases of filling the target once
-/// and choosing it (`migrate_units`).
+/// area's index. The selector gets one record more, after the target was filled. The sectors of the
+/// source stay as they are. Whatever happens, the active area reads as the same settings. It spends
+/// at most the units and erases of filling the target once and choosing it (`migrate_units`).
 ///
 /// # Errors
 /// `NoTarget` exactly if there is no other store area; nothing changed then. `TooManyNames` and
 /// `NoSpace` if the target has no place for a setting beside those of lesser names, and `NoMemory`:
-/// the source is still active. `PowerLost`: the source is active, or the target, which then has all
-/// settings; the selector is down, or takes calls as before.
+/// the source is still active, and the selector's sectors are as before. `PowerLost`: the source is
+/// active, or the target, which then has all settings; the selector is down, or takes calls as
+/// before.
 pub fn migrate<F: Flash, K: Backend, L: Ledger>(
     alloc: Global,
     flash: &mut F,
@@ -252,6 +261,9 @@ pub fn migrate<F: Flash, K: Backend, L: Ledger>(
     ensures at_most { let d = F.device flash.old in let e = F.device flash.new in
         let names = finite.len (on K.contents d (K.mounted_on from.now)) in
         SpendsAtMost d e (migrate_units d map.now selector.old.ring.area active names) }
+    ensures once { let d = F.device flash.old in let e = F.device flash.new in
+        let names = finite.len (on K.contents d (K.mounted_on from.now)) in
+        ChoosesOnce K.mounted_on map.now d e selector.old.ring names result }
 {
     match target(map, active) {
         Some(index) => {

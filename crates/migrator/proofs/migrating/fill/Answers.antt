@@ -1,21 +1,23 @@
+use Rattle.std.specs.Prelude.{count_by}
 use Rattle.std.proofs.Common.{◌≡◌, ℕ, [], ◌∷◌, All, List, length, map, refl, sym, ap, subst, ◌∙◌}
 use Rattle.std.specs.FinMap as maps
 use Rattle.std.proofs.lemmas.List.{length-map}
 use Rattle.flash_sim.specs.Device.{Device}
 use Rattle.flash_sim.specs.declared.flash.Bank.{Bank}
-use Rattle.flash_map.specs.Area.{geometry_of, value_limit}
+use Rattle.flash_map.specs.Area.{geometry_of, sectors_of, value_limit}
 use Rattle.flash_map.specs.Lawful.{IsLawfulFor}
 use Rattle.flash_map.specs.Touches.{Touches}
+use Rattle.flash_map.specs.Units.{is_written}
 use Rattle.flash_map.specs.declared.area.Area.{Area}
 use Rattle.flash_map.proofs.Apart.{same_apart}
 use Rattle.flash_map.proofs.Touches.{untouched}
 use Rattle.flash_map.specs.On.{on, StandsOn}
 use Rattle.backend_api.specs.Map.{Map, IsValue}
 use Rattle.migrator.specs.Copying.{pair_of}
-use Rattle.migrator.specs.Migrating.{migrate_lost, fill_units}
+use Rattle.migrator.specs.Migrating.{migrate_lost, Fills, fill_units}
 use Rattle.migrator.specs.declared.copying.Setting.{Setting}
 use Rattle.migrator.proofs.Moving.{blank-ends, fill-ends, fill-touches, filled-if}
-use Rattle.migrator.proofs.Spent.{filled-most, most_none, opened-first}
+use Rattle.migrator.proofs.Spent.{filled-between, filled-most, most_none, on-ok, opened-first}
 use Rattle.migrator.proofs.Values.{limit-same}
 use Rattle.migrator.proofs.migrating.fill.Goals as goal
 
@@ -28,7 +30,7 @@ returns-in_default g c =
       ends = tt;
       on = tt;
       stands = tt;
-      at_most = most_none a a (fill_units (geometry_of a c.args.area) (maps.len (on g.K.Backend.contents a (g.K.Backend.mounted_on c.args.from.now)))) refl;
+      spends = (most_none a a (fill_units (geometry_of a c.args.area) (maps.len (on g.K.Backend.contents a (g.K.Backend.mounted_on c.args.from.now)))) refl, tt);
     }
 
 pub returns-in-Err : goal.returns-in-Err
@@ -41,7 +43,7 @@ returns-in-Err g c =
       ends = blank-ends g.row.K.Denot (g.K.Backend.room c.args.area (geometry_of a c.args.area)) c.args.area.sectors (on g.K.Backend.contents a (g.K.Backend.mounted_on c.args.from.now)) (on g.K.Backend.contents b c.args.area) c.in-Err.fault c.in-Err.ensures.ends;
       on = tt;
       stands = tt;
-      at_most = opened-first a b c.args.area (maps.len (on g.K.Backend.contents a (g.K.Backend.mounted_on c.args.from.now))) c.open_blank-opened.ensures.at_most;
+      spends = (opened-first a b c.args.area (maps.len (on g.K.Backend.contents a (g.K.Backend.mounted_on c.args.from.now))) c.open_blank-opened.ensures.at_most, tt);
     }
 
 pub put_all-copied-requires : goal.put_all-copied-requires
@@ -78,5 +80,9 @@ returns g c =
       ends = fill-ends g.K.Backend.mounted_on g.K.Backend.contents g.K.Backend.room a b e c.args.area m c.in-Ok-opened.to c.put_all-copied.new.to c.put_all-copied.result c.filled_as.result banks there (c.put_all-copied.ensures.ends m pairs) c.filled_as.ensures;
       on = filled-if (λ state. g.K.Backend.mounted_on state ≡ c.args.area) c.put_all-copied.new.to c.put_all-copied.result c.filled_as.result c.filled_as.ensures (λ kept. c.put_all-copied.ensures.area ∙ there);
       stands = filled-if (λ state. StandsOn g.K.Backend.mounted_on g.K.Backend.stands e state) c.put_all-copied.new.to c.put_all-copied.result c.filled_as.result c.filled_as.ensures c.put_all-copied.ensures.stands;
-      at_most = filled-most a b e c.args.area (g.K.Backend.mounted_on c.in-Ok-opened.to) (length c.deref.result.now) (maps.len m) banks there names c.open_blank-opened.ensures.at_most c.put_all-copied.ensures.at_most;
+      spends = (
+        filled-most a b e c.args.area (g.K.Backend.mounted_on c.in-Ok-opened.to) (length c.deref.result.now) (maps.len m) banks there names c.open_blank-opened.ensures.at_most c.put_all-copied.ensures.at_most,
+        on-ok c.filled_as.result (Fills a e c.args.area (maps.len m))
+            (filled-between a b e c.args.area (g.K.Backend.mounted_on c.in-Ok-opened.to) (count_by is_written (sectors_of a c.args.area)) (length c.deref.result.now) (maps.len m) banks there names c.in-Ok-opened.ensures.erased c.put_all-copied.ensures.at_most),
+      );
     }

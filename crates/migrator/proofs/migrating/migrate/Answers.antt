@@ -9,7 +9,7 @@ use Rattle.flash_map.specs.On.{on}
 use Rattle.migrator.specs.Areas.{is_store_at}
 use Rattle.migrator.specs.Migrating.{migrate_lost, migrate_units}
 use Rattle.migrator.proofs.Moving.{open-sound, still}
-use Rattle.migrator.proofs.Migration.{migrate-most, selector-apart, active-on, active-store, worked-is, reads-still, reads-through, store-of, moved-served, refused-served}
+use Rattle.migrator.proofs.Migration.{migrate-most, moved-chosen, selector-apart, active-on, active-store, worked-is, reads-still, reads-through, store-of, moved-served, refused-served}
 use Rattle.migrator.proofs.Copies.{stands-still}
 use Rattle.migrator.proofs.Spent.{most_none}
 use Rattle.migrator.proofs.migrating.migrate.Goals as goal
@@ -119,3 +119,15 @@ pub returns-in-None-clause-at_most : goal.returns-in-None-clause-at_most
 returns-in-None-clause-at_most g c =
     let a : Device = g.F.Flash.device c.args.flash.now in
     most_none a a (migrate_units a c.args.map.now c.args.selector.now.ring.area c.args.active (finite.len (on g.K.Backend.contents a (g.K.Backend.mounted_on c.args.from.now)))) refl
+
+pub returns-in-Some-clause-once : goal.returns-in-Some-clause-once
+returns-in-Some-clause-once g c =
+    let a : Device = g.F.Flash.device c.args.flash.now in
+    let settings = on g.K.Backend.contents a (g.K.Backend.mounted_on c.args.from.now) in (
+      c.move_to.ensures.kept,
+      moved-chosen g.K.Backend.mounted_on g.K.Backend.damage g.K.Backend.contents g.K.Backend.room c.args.map.now c.args.selector.now.ring c.area_at-area.result c.in-Some.index (finite.len settings) settings a (g.F.Flash.device c.move_to.new.flash) c.move_to.result
+          c.move_to.ensures.ends c.move_to.ensures.chosen,
+    )
+
+pub returns-in-None-clause-once : goal.returns-in-None-clause-once
+returns-in-None-clause-once g c = (λ refused. refl, tt)

@@ -1,5 +1,6 @@
 use Rattle.std.specs.FinMap as finite
 use Rattle.std.proofs.Common.{◌≡◌, ℕ, Bool, List, [], ◌∷◌, sym, ap, subst, ◌∙◌, refl, inl, inr}
+use Rattle.std.proofs.lemmas.Bool.{false≢true}
 use Rattle.flash_sim.specs.Device.{Device}
 use Rattle.flash_sim.specs.declared.flash.Bank.{Bank}
 use Rattle.flash_map.specs.Area.{IsLawfulArea, sectors_of, geometry_of}
@@ -10,7 +11,7 @@ use Rattle.flash_map.proofs.Touches.{then, first_of_two, second_of_two}
 use Rattle.flash_map.specs.On.{on}
 use Rattle.migrator.specs.Migrating.{migrate_lost}
 use Rattle.migrator.proofs.Copies.{stands-still}
-use Rattle.migrator.proofs.Moving.{open-still, active-still, open-sound, still, moved-lost, fault-lost, chosen-sound, chosen-open, chosen-down, refused-ends, chosen-ends, chosen-stands}
+use Rattle.migrator.proofs.Moving.{open-still, active-still, open-sound, still, moved-lost, fault-lost, chosen-sound, chosen-open, chosen-down, refused-ends, chosen-ends, chosen-or-cut, chosen-stands, filled-chosen}
 use Rattle.migrator.proofs.Spent.{filled-first, moved-most}
 use Rattle.migrator.proofs.migrating.move_to.Goals as goal
 
@@ -107,13 +108,13 @@ returns-clause-stands g c =
 pub returns-in-Err-clause-at_most : goal.returns-in-Err-clause-at_most
 returns-in-Err-clause-at_most g c =
     let a : Device = g.F.Flash.device c.args.flash.now in
-    filled-first a (g.F.Flash.device c.fill-filled.new.flash) c.args.area c.args.selector.now.ring.area (finite.len (on g.K.Backend.contents a (g.K.Backend.mounted_on c.args.from.now))) c.in-Err.ensures.at_most
+    filled-first a (g.F.Flash.device c.fill-filled.new.flash) c.args.area c.args.selector.now.ring.area (finite.len (on g.K.Backend.contents a (g.K.Backend.mounted_on c.args.from.now))) c.in-Err.ensures.spends.0
 
 pub returns-clause-at_most : goal.returns-clause-at_most
 returns-clause-at_most g c =
     let a : Device = g.F.Flash.device c.args.flash.now in
     moved-most a (g.F.Flash.device c.fill-filled.new.flash) (g.F.Flash.device c.choose-chosen.new.flash) c.args.area c.args.selector.now.ring.area (finite.len (on g.K.Backend.contents a (g.K.Backend.mounted_on c.args.from.now)))
-    c.fill-filled.ensures.touches.banks c.fill-filled.ensures.at_most c.choose-chosen.ensures.at_most
+    c.fill-filled.ensures.touches.banks c.fill-filled.ensures.spends.0 c.choose-chosen.ensures.at_most
 
 pub fill-filled-requires-clause-lawful_from : goal.fill-filled-requires-clause-lawful_from
 fill-filled-requires-clause-lawful_from g c = c.requires.moves.lawful_from
@@ -132,3 +133,20 @@ fill-filled-requires-clause-apart g c = c.requires.moves.apart_source
 
 pub fill-filled-requires-clause-version : goal.fill-filled-requires-clause-version
 fill-filled-requires-clause-version g c = c.requires.moves.version
+
+pub returns-in-Err-clause-kept : goal.returns-in-Err-clause-kept
+returns-in-Err-clause-kept g c refused = same_apart (g.met.F.Flash.is_lawful c.args.flash.now) (g.met.F.Flash.is_lawful c.fill-filled.new.flash) c.requires.moves.mounted.stands.area.lawful.in_bank c.requires.moves.apart_selector c.fill-filled.ensures.touches
+
+pub returns-in-Err-clause-chosen : goal.returns-in-Err-clause-chosen
+returns-in-Err-clause-chosen g c = tt
+
+pub returns-clause-kept : goal.returns-clause-kept
+returns-clause-kept g c refused = absurd (false≢true (sym (chosen-or-cut (c.in-Ok.to, c.args.index) c.choose-chosen.result c.moved_as.result c.moved_as.ensures) ∙ refused))
+
+pub returns-clause-chosen : goal.returns-clause-chosen
+returns-clause-chosen g c =
+    let a : Device = g.F.Flash.device c.args.flash.now in
+    filled-chosen c.args.map.now a (g.F.Flash.device c.fill-filled.new.flash) (g.F.Flash.device c.choose-chosen.new.flash) c.args.selector.now.ring c.args.area c.args.index (finite.len (on g.K.Backend.contents a (g.K.Backend.mounted_on c.args.from.now)))
+    (c.in-Ok.to, c.args.index) c.choose-chosen.result c.moved_as.result c.fill-filled.ensures.touches.banks
+    (same_apart (g.met.F.Flash.is_lawful c.args.flash.now) (g.met.F.Flash.is_lawful c.fill-filled.new.flash) c.requires.moves.mounted.stands.area.lawful.in_bank c.requires.moves.apart_selector c.fill-filled.ensures.touches)
+    c.in-Ok.ensures.spends.1 c.choose-chosen.ensures.chosen c.moved_as.ensures

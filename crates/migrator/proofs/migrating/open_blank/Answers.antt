@@ -1,6 +1,6 @@
 use Rattle.flash_map.specs.Area.{geometry_of}
 use Rattle.backend_api.specs.Room.{mount_units}
-use Rattle.migrator.proofs.Spent.{erased-first, erased-most, opened-most}
+use Rattle.migrator.proofs.Spent.{erased-first, erased-most, opened-between, opened-most}
 use Rattle.std.proofs.Common.{[], ◌∷◌, Result, Err, ap, subst, ◌∙◌}
 use Rattle.flash_map.proofs.Touches.{then}
 use Rattle.flash_map.specs.Faults.{mount_lost}
@@ -36,3 +36,6 @@ pub returns-in-Err-NoMemory-clause-at_most : goal.returns-in-Err-NoMemory-clause
 returns-in-Err-NoMemory-clause-at_most g c =
     opened-most (g.F.Flash.device c.args.flash.now) (g.F.Flash.device c.erase-erased.new.flash) (g.F.Flash.device c.mount.new.flash) c.args.area c.in-Ok.ensures.touches.banks
     (erased-most (g.F.Flash.device c.args.flash.now) (g.F.Flash.device c.erase-erased.new.flash) c.args.area c.erase-erased.result c.erase-erased.ensures.units c.erase-erased.ensures.units_lost) c.mount.ensures.at_most
+
+pub returns-in-Ok-mount-clause-erased : goal.returns-in-Ok-mount-clause-erased
+returns-in-Ok-mount-clause-erased g c = opened-between (g.F.Flash.device c.args.flash.now) (g.F.Flash.device c.erase-erased.new.flash) (g.F.Flash.device c.mount.new.flash) c.args.area c.in-Ok.ensures.touches.banks c.in-Ok.ensures.units c.mount.ensures.at_most

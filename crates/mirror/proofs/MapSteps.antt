@@ -180,4 +180,4 @@ module _ {S : Type 0} (mounted : S → Area) (stands : S → Geometry → List (
     ];
   }
   look-ends V PowerLost did = absurd did
-  look-ends V NoMemory did = λ none. record { undamaged = now; reads = read }
+  look-ends V NoMemory did = (λ none. record { undamaged = now; reads = read }, λ shown is. absurd (none-some shown (sym was ∙ is)))

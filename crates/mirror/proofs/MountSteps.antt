@@ -33,7 +33,7 @@ use Rattle.migrator.proofs.Spent.{most_then}
 use Rattle.mirror.specs.declared.mounting.MirrorMount.{MirrorMount}
 use Rattle.mirror.specs.declared.mounting.MirrorMount.TheVariants.{Damaged as IsDamaged, Unfit, PowerLost, NoMemory}
 use Rattle.mirror.specs.declared.mirror.Mirror.{Mirror}
-use Rattle.mirror.specs.Mounting.{BothEnds, FindsUnfit, FitsAt, IsCutTrust, KeepsArea, KeepsOther, KeepsTrusted, MirrorMounts, MountsBoth, NamesTrusted, SelectorRests, SparesBoth, TrustEnds, UnfitAt, both_mounts, both_units, fault_at, mount_lost, other_place, other_units, trust_units, worked_on}
+use Rattle.mirror.specs.Mounting.{BothEnds, FindsDamage, FindsUnfit, FitsAt, IsCutTrust, KeepsArea, KeepsOther, KeepsTrusted, MirrorMounts, MountsBoth, NamesTrusted, SelectorRests, SparesBoth, TrustEnds, UnfitAt, both_mounts, both_units, fault_at, mount_lost, other_place, other_units, trust_units, worked_on}
 use Rattle.mirror.specs.Room.{FitsOn, Prices}
 use Rattle.mirror.specs.Trusted.{damage_shown, selector_place, trusted_damage, trusted_on}
 use Rattle.mirror.proofs.BothSteps.{fits-still}
@@ -143,6 +143,33 @@ module _ {S : Type 0} (mounted : S → Area) (stands : S → Geometry → List (
       | inr high ↦ inr (high.0, fits-before (min (trusted_on areas d) (other_place areas (trusted_on areas d))) high.1, λ fits. high.2 (fits-after place fits))
     ]
 
+    -- the trusted area is damaged, and nothing was done in it
+    finds-trusted : (at : ℕ) (shown : Damaged) → at ≡ trusted_on areas d → on damage m t ≡ Some shown → e ≡ m → FindsDamage damage contents areas s d e at shown
+    finds-trusted at shown is seen idle = record {
+      is_shown = shows-trusted damage areas d t at shown there named.sound is (sym was ∙ seen);
+      still_shown =
+          ap (damage_shown damage areas) idle
+          ∙ shows-trusted damage areas m t at shown (ap (slice_get areas) again ∙ there) named.sound_still (is ∙ sym again) seen;
+      trusted = ap (trusted_on areas) idle ∙ again;
+      active = inr (ap (active_on areas) idle ∙ named.active);
+      touches = subst (λ (x : Device). Touches (s ∷ []) d x false) (sym idle) touches;
+      unchanged = λ found broken. absurd (none-some (selector_damage_on areas d) found named.sound broken);
+    }
+
+    -- the damage that the map shows is the trusted area's, as the selector is sound
+    finds-shown : ((shown : Damaged) → on damage m t ≡ Some shown → e ≡ m) → (place : ℕ) (shown : Damaged) → damage_shown damage areas d ≡ Some (place, shown) → FindsDamage damage contents areas s d e place shown
+    finds-shown idle place shown is = by (on damage d t) refl
+      where
+        one-pair : (x y : ℕ × Damaged) → Some x ≡ Some y → x ≡ y
+        one-pair x y e = cc
+
+        by : (o : Option Damaged) → on damage d t ≡ o → FindsDamage damage contents areas s d e place shown
+        by None none = absurd (none-some (damage_shown damage areas d) (place, shown) (shows-none damage areas d t there named.sound none) is)
+        by (Some found) seen =
+            let known = shows-trusted damage areas d t (trusted_on areas d) found there named.sound refl seen in
+            subst (λ (p : ℕ × Damaged). FindsDamage damage contents areas s d e p.0 p.1) (one-pair (trusted_on areas d, found) (place, shown) (sym known ∙ is))
+            (finds-trusted (trusted_on areas d) found refl (was ∙ seen) (idle found (was ∙ seen)))
+
     pub mounts-then : (place : ℕ) (result : Result (Mirror S) MirrorMount) → place ≡ trusted_on areas d → BothEnds mounted stands damage contents room prices areas m e t o (trusted_on areas d) result → MirrorMounts mounted stands damage contents room prices areas s d e result
     mounts-then place (Ok mirror) at did = record {
       undamaged = shows-none damage areas d t there named.sound (sym was ∙ did.sound);
@@ -156,16 +183,7 @@ module _ {S : Type 0} (mounted : S → Area) (stands : S → Geometry → List (
       rests = selector-rests;
       mirrors = did.mirrors;
     }
-    mounts-then place (Err (IsDamaged at shown)) is did = record {
-      is_shown = shows-trusted damage areas d t at shown there named.sound did.0 (sym was ∙ did.1);
-      still_shown =
-          ap (damage_shown damage areas) did.2
-          ∙ shows-trusted damage areas m t at shown (ap (slice_get areas) again ∙ there) named.sound_still (did.0 ∙ sym again) did.1;
-      trusted = ap (trusted_on areas) did.2 ∙ again;
-      active = inr (ap (active_on areas) did.2 ∙ named.active);
-      touches = subst (λ (x : Device). Touches (s ∷ []) d x false) (sym did.2) touches;
-      unchanged = λ found seen. absurd (none-some (selector_damage_on areas d) found named.sound seen);
-    }
+    mounts-then place (Err (IsDamaged at shown)) is did = finds-trusted at shown did.0 did.1 did.2
     mounts-then place (Err (Unfit unfit)) is did = record {
       undamaged = shows-none damage areas d t there named.sound (sym was ∙ did.sound);
       trusted = t;
@@ -203,7 +221,8 @@ module _ {S : Type 0} (mounted : S → Area) (stands : S → Geometry → List (
       sound = named.sound;
       kept = λ x at none.
           let same : t ≡ x = some-area t x (sym there ∙ at) in
-          subst (λ (y : Area). KeepsTrusted damage contents areas d e y) same (keeps (did (was ∙ ap (on damage d) same ∙ none)));
+          subst (λ (y : Area). KeepsTrusted damage contents areas d e y) same (keeps (did.0 (was ∙ ap (on damage d) same ∙ none)));
+      damaged = finds-shown did.1;
     }
       where
         some-area : (x y : Area) → Some x ≡ Some y → x ≡ y

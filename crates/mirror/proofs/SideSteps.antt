@@ -176,7 +176,7 @@ module _ (damage : Area → Geometry → List (List ℕ) → Option Damaged) (co
     side-stops (IsDamaged at shown) did touches = did
     side-stops (Unfit unfit) did touches = absurd did
     side-stops PowerLost did touches = (did, record { undamaged = one.undamaged did; reads = one.reads did }, inl touches)
-    side-stops NoMemory did touches = λ none. record { undamaged = one.undamaged none; reads = one.reads none }
+    side-stops NoMemory did touches = (λ none. record { undamaged = one.undamaged none; reads = one.reads none }, λ shown is. did)
 
     fits-first : on damage d t ≡ None → (x : ℕ) → FitsAt room prices areas m x (on contents m t) → FitsAt room prices areas d x (on contents d t)
     fits-first none x fits area at = fits-still mounted stands contents room prices m d area (on contents m t) (on contents d t) (sym one.banks) (sym (one.reads none)) (fits area at)
@@ -188,4 +188,5 @@ module _ (damage : Area → Geometry → List (List ℕ) → Option Damaged) (co
     other-stops e two area same (Unfit unfit) none did fits other_fits = absurd did
     other-stops e two area same PowerLost none did fits other_fits =
         (none, (spares-then d m t o one e two).kept none, inr (fits-first none place fits, fits-first none (other_place areas place) other_fits))
-    other-stops e two area same NoMemory none did fits other_fits = λ again. (spares-then d m t o one e two).kept none
+    other-stops e two area same NoMemory none did fits other_fits =
+        ((λ again. (spares-then d m t o one e two).kept none), λ shown is. absurd (none-some shown (sym none ∙ is)))

@@ -286,7 +286,8 @@ BothEnds mounted_on stands damage contents room prices areas old new trusted oth
     (on damage old trusted ≡ None) × KeepsArea damage contents old new trusted
     × StopsIn damage contents room prices areas old new trusted other place
 BothEnds mounted_on stands damage contents room prices areas old new trusted other place (Err NoMemory) =
-    on damage old trusted ≡ None → KeepsArea damage contents old new trusted
+    (on damage old trusted ≡ None → KeepsArea damage contents old new trusted)
+    × ((shown : Damaged) → on damage old trusted ≡ Some shown → new ≡ old)
 
 -- ---- the mount
 
@@ -372,11 +373,14 @@ module _ (damage : Area → Geometry → List (List ℕ) → Option Damaged)
         ⊎ StopsInTrusted areas selector old new
         ⊎ StopsInOther room prices areas old new
 
-  -- There was not enough memory. If the trusted area was undamaged, it keeps its settings.
-  pub record LacksMemory (areas : List Area) (old new : Device) : Type 0 where
+  -- There was not enough memory. If the trusted area was undamaged, it keeps its settings; a damaged
+  -- one stays as it was, as in a mount that finds its damage.
+  pub record LacksMemory (areas : List Area) (selector : Area) (old new : Device) : Type 0 where
     pub sound : selector_damage_on areas old ≡ None
     pub kept : (trusted : Area) → slice_get areas (trusted_on areas old) ≡ Some trusted
         → on damage old trusted ≡ None → KeepsTrusted areas old new trusted
+    pub damaged : (place : ℕ) (shown : Damaged) → damage_shown damage areas old ≡ Some (place, shown)
+        → FindsDamage areas selector old new place shown
 
 -- how a mount ends
 abbrev pub MirrorMounts : {S : Type 0} → (S → Area) → (S → Geometry → List (List ℕ) → Type 0)
@@ -393,7 +397,7 @@ MirrorMounts mounted_on stands damage contents room prices areas selector old ne
 MirrorMounts mounted_on stands damage contents room prices areas selector old new (Err PowerLost) =
     IsCutMount damage contents room prices areas selector old new
 MirrorMounts mounted_on stands damage contents room prices areas selector old new (Err NoMemory) =
-    LacksMemory damage contents areas old new
+    LacksMemory damage contents areas selector old new
 
 -- A mount has nothing to do in the selector, which names the trusted area, nor in the two areas,
 -- which hold one map.

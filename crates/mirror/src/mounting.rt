@@ -383,7 +383,8 @@ impl<K: Priced> Mirror<K> {
     /// changed then. `Unfit` exactly if the map does not fit one of the areas: it gives the lower
     /// place, if the map does not fit there, else the higher one; the other area is untouched then.
     /// `PowerLost`: power was lost in the other area only if the map fits both. `NoMemory`: the
-    /// trusted area keeps its settings, if it was undamaged.
+    /// selector was not damaged. The trusted area keeps its settings, if it was undamaged; if it was
+    /// damaged, no byte of a store area changed.
     pub fn mount<F: Flash, L: Ledger>(
         alloc: Global,
         flash: &mut F,

@@ -32,7 +32,7 @@ use Rattle.mirror_session.specs.declared.fault.SessionFault.TheVariants.{Damaged
 use Rattle.mirror_session.specs.Bench.{Meanings, beside_in, is_gone, moment, rules_of, state_of}
 use Rattle.mirror_session.specs.LineDone.{FitNow, FitsBoth, LineDone, MountSpares, MountsWithin, StaysSound}
 use Rattle.session.specs.OnMap.{turned_on}
-use Rattle.mirror_session.specs.Running.{FindsNoFit, LineStops}
+use Rattle.mirror_session.specs.Running.{FindsNoFit, LineStops, MountStops}
 use Rattle.mirror_session.specs.Standing.{AtRest, IsHeld}
 use Rattle.mirror_session.specs.State.{State, trusted_of}
 use Rattle.mirror_session.specs.Step.{Remounts, StopsMounting}
@@ -118,10 +118,14 @@ module _ {S : Type 0} (mounted_on : S → Area) (stands : S → Geometry → Lis
       (in_map serves areas before map_before new (mount_lost result)
       (subst (λ (d : Device). (selector trusted other : Area) → selector_of areas ≡ Some selector → slice_get areas (trusted_on areas d) ≡ Some trusted → slice_get areas (other_place areas (trusted_on areas d)) ≡ Some other → Touches (worked_on selector trusted other) d new (mount_lost result)) on_first touches))
 
+  -- at whatever area the selector is said to be
+  ended_at : (selector : Area) → selector_of areas ≡ Some selector → (x : Result (Mirror S) MirrorMount) → result ≡ x → MirrorMounts mounted_on stands m.damage m.contents m.room m.prices areas selector before new x
+  ended_at selector selected x is =
+      subst (λ (d : Device). MirrorMounts mounted_on stands m.damage m.contents m.room m.prices areas selector d new x) on_first
+      (subst (λ (y : Result (Mirror S) MirrorMount). MirrorMounts mounted_on stands m.damage m.contents m.room m.prices areas selector mid new y) is (ends selector selected))
+
   ended : (x : Result (Mirror S) MirrorMount) → result ≡ x → MirrorMounts mounted_on stands m.damage m.contents m.room m.prices areas map.selector before new x
-  ended x is =
-      subst (λ (d : Device). MirrorMounts mounted_on stands m.damage m.contents m.room m.prices areas map.selector d new x) on_first
-      (subst (λ (y : Result (Mirror S) MirrorMount). MirrorMounts mounted_on stands m.damage m.contents m.room m.prices areas map.selector mid new y) is (ends map.selector map.selected))
+  ended x is = ended_at map.selector map.selected x is
 
   pub banks_stay : new.banks ≡ old.banks
   banks_stay = (touched result refl).banks
@@ -328,7 +332,7 @@ module _ {S : Type 0} (mounted_on : S → Area) (stands : S → Geometry → Lis
           blanks = tt;
           quiet = λ is. absurd (false≢true is);
           cuts = tt;
-          finds = (cut_so.trust.sound, found, within_most units are most);
+          finds = (cut_so.trust.sound, found, within_most units are most, cut_so.trust.sound_still);
           spares = lost_spares (lost units) idle copy;
           fits = tt;
           fit = fit;
@@ -337,17 +341,6 @@ module _ {S : Type 0} (mounted_on : S → Area) (stands : S → Geometry → Lis
         }
 
   -- ---- it stopped
-
-  pub damaged_stops : (place : ℕ) (shown : Damaged) → result ≡ Err (HasDamage place shown) → LineStops m areas Mount old new (SessionDamaged place shown)
-  damaged_stops place shown is = let e = ended (Err (HasDamage place shown)) is in (
-    refl,
-    e.is_shown,
-    λ selector selected. subst (λ (s : Area). Touches (s ∷ []) before new false) (some_area map.selector selector (sym map.selected ∙ selected)) e.touches,
-    λ found seen. e.unchanged found (selector_powered areas old ∙ seen),
-  )
-    where
-      some_area : (x y : Area) → Some x ≡ Some y → x ≡ y
-      some_area x y e = cc
 
   module _ (place : ℕ) (trusted : Area) (there : slice_get areas (trusted_on areas before) ≡ Some trusted) where
     reads_as : on m.contents old (area_at areas (trusted_on areas old)) ≡ on m.contents before trusted
@@ -366,14 +359,40 @@ module _ {S : Type 0} (mounted_on : S → Area) (stands : S → Geometry → Lis
     no_fit (inl low) fits = low.1 (fits_at fits place (ap (is_store_at areas) low.0 ∙ stores.0))
     no_fit (inr high) fits = high.2 (fits_at fits place (ap (is_store_at areas) high.0 ∙ stores.1))
 
-  pub unfit_stops : (place : ℕ) → result ≡ Err (IsNotFit place) → LineStops m areas Mount old new (SessionUnfit place)
-  unfit_stops place is = let e = ended (Err (IsNotFit place)) is in
-      (refl, e, no_fit place e.trusted e.placed.trusted_there e.unfits)
+  -- ---- what it leaves, whatever it stopped for
 
-  pub memory_stops : result ≡ Err WantsMemory → trusted_on areas new ≡ trusted_on areas mid → ((settings : Map) → MirrorReads m.damage m.contents areas mid settings → MirrorReads m.damage m.contents areas new settings)
-      → LineStops m areas Mount old new SessionMemory
-  memory_stops is same keeps = (refl, λ needs. absurd (false≢true needs), (touched (Err WantsMemory) is, same ∙ ap (λ (d : Device). trusted_on areas d) on_first, kept_reads))
-    where
-      kept_reads : (settings : Map) → MirrorReads m.damage m.contents areas old settings → MirrorReads m.damage m.contents areas new settings
-      kept_reads settings reads = keeps settings (subst (λ (d : Device). MirrorReads m.damage m.contents areas d settings) (sym on_first)
-          (record { sound = selector_powered areas old ∙ reads.sound; area = reads.area; there = reads.there; undamaged = reads.undamaged; reads = reads.reads }))
+  abbrev KeepsReading : Device → Type 0
+  KeepsReading d = (settings : Map) → MirrorReads m.damage m.contents areas d settings → MirrorReads m.damage m.contents areas new settings
+
+  module _ (same : trusted_on areas new ≡ trusted_on areas mid) (keeps : KeepsReading mid) (idle : IdleOnMount) (copy : CopyOnMount) (most : SpendsOnMount) where
+    keeps_reading : KeepsReading old
+    keeps_reading settings reads =
+        subst KeepsReading on_first keeps settings
+        (record { sound = selector_powered areas old ∙ reads.sound; area = reads.area; there = reads.there; undamaged = reads.undamaged; reads = reads.reads })
+
+    stopped : (x : Result (Mirror S) MirrorMount) → result ≡ x → mount_lost x ≡ false → MountStops m areas old new
+    stopped x is whole = record {
+      touches = subst (λ (lost : Bool). Touches areas before new lost) whole (touched x is);
+      read = same ∙ ap (λ (d : Device). trusted_on areas d) on_first;
+      keeps = keeps_reading;
+      rests = λ is. unchanged idle is;
+      copy = subst CopyFrom on_first copy;
+      at_most = subst SpendsFrom on_first most;
+    }
+
+    pub damaged_stops : (place : ℕ) (shown : Damaged) → result ≡ Err (HasDamage place shown) → LineStops m areas Mount old new (SessionDamaged place shown)
+    damaged_stops place shown is = let e = ended (Err (HasDamage place shown)) is in (
+      refl,
+      e.is_shown,
+      λ selector selected. ended_at selector selected (Err (HasDamage place shown)) is,
+      λ found seen. e.unchanged found (selector_powered areas old ∙ seen),
+      stopped (Err (HasDamage place shown)) is refl,
+    )
+
+    pub unfit_stops : (place : ℕ) → result ≡ Err (IsNotFit place) → LineStops m areas Mount old new (SessionUnfit place)
+    unfit_stops place is = let e = ended (Err (IsNotFit place)) is in
+        (refl, e, no_fit place e.trusted e.placed.trusted_there e.unfits, stopped (Err (IsNotFit place)) is refl)
+
+    pub memory_stops : result ≡ Err WantsMemory → LineStops m areas Mount old new SessionMemory
+    memory_stops is =
+        (refl, λ needs. absurd (false≢true needs), (stopped (Err WantsMemory) is refl, λ selector selected. ended_at selector selected (Err WantsMemory) is))

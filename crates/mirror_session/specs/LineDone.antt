@@ -119,8 +119,8 @@ MountsWithin m areas units old =
     → slice_get areas (other_place areas (trusted_on areas old)) ≡ Some other
     → units ≤ trust_units old selector + both_units old trusted other (finite.len (on m.contents old trusted))
 
--- A whole mount found no damage. One that was cut found none in the selector; it found none in the
--- area that is read either, or power was lost in the selector's area.
+-- A whole mount found no damage. One that was cut found none in the selector, and left none there; it
+-- found none in the area that is read either, or power was lost in the selector's area.
 abbrev pub Finds : Meanings → List Area → Line → Answer → Device → Device → Type 0
 Finds m areas Mount (Plain (settings.Done units)) old new =
     (damage_shown m.damage areas old ≡ None) × MountsWithin m areas units old
@@ -129,7 +129,7 @@ Finds m areas Mount (Plain (settings.Lost units chance)) old new =
     × ((on m.damage old (area_at areas (trusted_on areas old)) ≡ None)
     ⊎ ((selector : Area) → selector_of areas ≡ Some selector
     → Touches (selector ∷ []) (turned_on old) new true))
-    × MountsWithin m areas units old
+    × MountsWithin m areas units old × (selector_damage_on areas new ≡ None)
 Finds m areas line answer old new = ⊤
 
 -- What a mount leaves alone. At rest it answers `ok 0`, turns power on, and does nothing else. Even if

@@ -1,15 +1,17 @@
 -- How lines end.
 use Rattle.std.specs.Prelude.{◌≡◌, ◌⊎◌, ⊤, ℕ, ◌+◌, ◌≤◌, ◌||◌, Bool, true, false, Some, Result, Ok, Err, List, [], ◌∷◌, ◌++◌, length, if◌then◌else◌, All}
+use Rattle.std.specs.FinMap as finite
+use Rattle.std.specs.List.{slice_get}
 use Rattle.flash_sim.specs.Device.{Device, counted}
 use Rattle.flash_map.specs.declared.area.Area.{Area}
-use Rattle.flash_map.specs.declared.area.Geometry.{Geometry}
 use Rattle.flash_map.specs.On.{on}
+use Rattle.flash_map.specs.Spending.{SpendsAtMost}
 use Rattle.flash_map.specs.Touches.{Touches}
 use Rattle.backend_api.specs.Map.{Map}
 use Rattle.flash_map.specs.declared.faults.Damaged.{Damaged as Found}
 use Rattle.migrator.specs.Active.{selector_damage_on}
 use Rattle.migrator.specs.Areas.{selector_of}
-use Rattle.mirror.specs.Mounting.{IsUnfit}
+use Rattle.mirror.specs.Mounting.{FindsDamage, IsUnfit, KeepsOther, LacksMemory, both_units, other_place, trust_units}
 use Rattle.mirror.specs.Trusted.{MirrorReads, damage_shown, trusted_on}
 use Rattle.script_lines.specs.declared.answer.Answer.TheVariants as settings
 use Rattle.session_table.specs.Bench.{area_at, StaysUnplanned}
@@ -22,7 +24,7 @@ use Rattle.mirror_session.specs.Plan.{units_in, losses_in, Planned, plan_through
 use Rattle.mirror_session.specs.declared.fault.SessionFault.{SessionFault}
 use Rattle.mirror_session.specs.declared.fault.SessionFault.TheVariants.{Damaged, Unfit, NoMemory}
 use Rattle.mirror_session.specs.Bench.{Meanings, Moment, moment, rules_of, state_of}
-use Rattle.mirror_session.specs.Standing.{RestsNow}
+use Rattle.mirror_session.specs.Standing.{AtRest, RestsNow}
 use Rattle.mirror_session.specs.LineDone.{BothNow, FitNow, FitsBoth, Keeps, LineDone, replaces}
 use Rattle.session.specs.OnMap.{turned_on}
 use Rattle.session_table.specs.Rules.{IsCounted}
@@ -60,19 +62,43 @@ takes_memory Mount = true
 takes_memory (Blank label) = true
 takes_memory line = false
 
--- power was turned on, and nothing changed outside the selector's area
-abbrev pub BeginsMount : List Area → Device → Device → Type 0
-BeginsMount areas old new =
-    (selector : Area) → selector_of areas ≡ Some selector → Touches (selector ∷ []) (turned_on old) new false
+-- What a mount that stops leaves, whatever it stopped for. It turned power on, and changed nothing
+-- outside the areas of the map. The same area is read, as the same map. At rest nothing changes, and
+-- an other area that holds the settings that are read is not repaired. No more is spent than a mount
+-- may.
+pub record MountStops (m : Meanings) (areas : List Area) (old new : Device) : Type 0 where
+  pub touches : Touches areas (turned_on old) new false
+  pub read : trusted_on areas new ≡ trusted_on areas old
+  pub keeps : (settings : Map) → MirrorReads m.damage m.contents areas old settings
+      → MirrorReads m.damage m.contents areas new settings
+  pub rests : AtRest m areas old → new ≡ turned_on old
+  pub copy : (selector trusted other : Area) → selector_of areas ≡ Some selector
+      → slice_get areas (trusted_on areas old) ≡ Some trusted
+      → slice_get areas (other_place areas (trusted_on areas old)) ≡ Some other
+      → KeepsOther m.damage m.contents (turned_on old) new selector trusted other
+  pub at_most : (selector trusted other : Area) → selector_of areas ≡ Some selector
+      → slice_get areas (trusted_on areas old) ≡ Some trusted
+      → slice_get areas (other_place areas (trusted_on areas old)) ≡ Some other
+      → SpendsAtMost (turned_on old) new
+      (trust_units old selector + both_units old trusted other (finite.len (on m.contents old trusted)))
 
--- How a line for which memory ran out leaves the bench: a mount has begun, and the same area is
--- read, as the same map; no other line changed it.
+-- A mount found this damage. It changed nothing outside the selector's area, the same damage is shown
+-- afterwards, and the selector names the area that it named or the one that is read.
+abbrev pub MountFindsDamage : Meanings → List Area → Device → Device → ℕ → Found → Type 0
+MountFindsDamage m areas old new place damaged =
+    (selector : Area) → selector_of areas ≡ Some selector
+    → FindsDamage m.damage m.contents areas selector (turned_on old) new place damaged
+
+-- Memory ran out in a mount. The selector was sound. An area that is read and damaged is left as by a
+-- mount that finds its damage.
+abbrev pub MountLacksMemory : Meanings → List Area → Device → Device → Type 0
+MountLacksMemory m areas old new =
+    (selector : Area) → selector_of areas ≡ Some selector
+    → LacksMemory m.damage m.contents areas selector (turned_on old) new
+
+-- How a line for which memory ran out leaves the bench: a mount has begun; no other line changed it.
 abbrev pub BeginsLine : Meanings → List Area → Line → Device → Device → Type 0
-BeginsLine m areas Mount old new =
-    Touches areas (turned_on old) new false × (trusted_on areas new ≡ trusted_on areas old)
-    ×
-    ((settings : Map) → MirrorReads m.damage m.contents areas old settings
-    → MirrorReads m.damage m.contents areas new settings)
+BeginsLine m areas Mount old new = MountStops m areas old new × MountLacksMemory m areas old new
 BeginsLine m areas line old new = new ≡ old
 
 -- a damaged selector stays as it is
@@ -84,16 +110,17 @@ LeavesDamagedSelector areas old new =
 abbrev pub FindsNoFit : Meanings → List Area → Device → Type 0
 FindsNoFit m areas d = ¬ FitsBoth m areas d.banks (on m.contents d (area_at areas (trusted_on areas d)))
 
--- Why a line was not carried out: a mount found the damage that the map shows, or settings that do
--- not fit one of the areas; or memory ran out for a line that takes some, with power on if the line
--- needs it.
+-- Why a line was not carried out, and what it left: a mount found the damage that the map shows, or
+-- settings that do not fit one of the areas; or memory ran out for a line that takes some, with power
+-- on if the line needs it.
 abbrev pub LineStops : Meanings → List Area → Line → Device → Device → SessionFault → Type 0
 LineStops m areas line old new (Damaged place damaged) =
-    (line ≡ Mount) × (damage_shown m.damage areas old ≡ Some (place, damaged)) × BeginsMount areas old new
-    × LeavesDamagedSelector areas old new
+    (line ≡ Mount) × (damage_shown m.damage areas old ≡ Some (place, damaged))
+    × MountFindsDamage m areas old new place damaged × LeavesDamagedSelector areas old new
+    × MountStops m areas old new
 LineStops m areas line old new (Unfit place) =
     (line ≡ Mount) × IsUnfit m.damage m.contents m.room m.prices areas (turned_on old) new place
-    × FindsNoFit m areas old
+    × FindsNoFit m areas old × MountStops m areas old new
 LineStops m areas line old new NoMemory =
     (takes_memory line ≡ true) × (needs_power line ≡ true → old.is_on ≡ true)
     × BeginsLine m areas line old new

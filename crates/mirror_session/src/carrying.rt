@@ -39,7 +39,8 @@ impl<K: Priced> MirrorSession<K> {
     ///
     /// # Errors
     /// `Damaged` with the damage that the map shows: the selector's, or that of the area that is
-    /// read. `Unfit` if the settings do not fit one of the two areas. `NoMemory`.
+    /// read. `Unfit` if the settings do not fit one of the two areas. `NoMemory`. After any error
+    /// the same area is read, as the same map, and damage is left as it was.
     pub fn open<B: Bench, L: Ledger>(
         alloc: Global,
         bench: &mut B,

@@ -50,3 +50,6 @@ fill-filled-requires-clause-apart g c = c.requires.other.apart
 
 pub fill-filled-requires-clause-version : goal.fill-filled-requires-clause-version
 fill-filled-requires-clause-version g c = c.requires.other.version
+
+pub returns-clause-at_most : goal.returns-clause-at_most
+returns-clause-at_most g c = c.fill-filled.ensures.spends.0

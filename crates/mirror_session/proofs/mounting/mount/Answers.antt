@@ -54,7 +54,7 @@ returns-in-Err-Damaged-clause-stops g c =
     let new = g.B.Flash.device c.mount-end.new.flash in
     let which : c.in-Err-Damaged.field-0 ≡ HasDamage c.in-Err-Damaged.area c.in-Err-Damaged.damage = rw c.in-Err-Damaged.is at c.in-Err-Damaged.field-0-is in
     let end : c.mount-end.result ≡ Err (HasDamage c.in-Err-Damaged.area c.in-Err-Damaged.damage) = c.in-Err-Damaged.is ∙ ap (λ (fault : MirrorMount). Err fault) which in
-    damaged_stops K.mounted_on K.stands m K.serves c.args.map.now old mid new c.requires.map c.restore.ensures c.mount-end.result c.mount-end.ensures.touches c.mount-end.ensures.ends c.in-Err-Damaged.area c.in-Err-Damaged.damage end
+    damaged_stops K.mounted_on K.stands m K.serves c.args.map.now old mid new c.requires.map c.restore.ensures c.mount-end.result c.mount-end.ensures.touches c.mount-end.ensures.ends c.mount-end.ensures.trusted c.mount-end.ensures.keeps c.mount-end.ensures.idle c.mount-end.ensures.copy c.mount-end.ensures.at_most c.in-Err-Damaged.area c.in-Err-Damaged.damage end
 
 pub returns-in-Err-Unfit-clause-stops : goal.returns-in-Err-Unfit-clause-stops
 returns-in-Err-Unfit-clause-stops g c =
@@ -65,7 +65,7 @@ returns-in-Err-Unfit-clause-stops g c =
     let new = g.B.Flash.device c.mount-end.new.flash in
     let which : c.in-Err-Unfit.field-0 ≡ IsNotFit c.in-Err-Unfit.area = rw c.in-Err-Unfit.is at c.in-Err-Unfit.field-0-is in
     let end : c.mount-end.result ≡ Err (IsNotFit c.in-Err-Unfit.area) = c.in-Err-Unfit.is ∙ ap (λ (fault : MirrorMount). Err fault) which in
-    unfit_stops K.mounted_on K.stands m K.serves c.args.map.now old mid new c.requires.map c.restore.ensures c.mount-end.result c.mount-end.ensures.touches c.mount-end.ensures.ends c.in-Err-Unfit.area end
+    unfit_stops K.mounted_on K.stands m K.serves c.args.map.now old mid new c.requires.map c.restore.ensures c.mount-end.result c.mount-end.ensures.touches c.mount-end.ensures.ends c.mount-end.ensures.trusted c.mount-end.ensures.keeps c.mount-end.ensures.idle c.mount-end.ensures.copy c.mount-end.ensures.at_most c.in-Err-Unfit.area end
 
 pub returns-in-Err-NoMemory-clause-stops : goal.returns-in-Err-NoMemory-clause-stops
 returns-in-Err-NoMemory-clause-stops g c =
@@ -76,7 +76,7 @@ returns-in-Err-NoMemory-clause-stops g c =
     let new = g.B.Flash.device c.mount-end.new.flash in
     let which : c.in-Err-NoMemory.field-0 ≡ WantsMemory = rw c.in-Err-NoMemory.is at c.in-Err-NoMemory.field-0-is in
     let end : c.mount-end.result ≡ Err (WantsMemory) = c.in-Err-NoMemory.is ∙ ap (λ (fault : MirrorMount). Err fault) which in
-    memory_stops K.mounted_on K.stands m K.serves c.args.map.now old mid new c.requires.map c.restore.ensures c.mount-end.result c.mount-end.ensures.touches c.mount-end.ensures.ends end c.mount-end.ensures.trusted c.mount-end.ensures.keeps
+    memory_stops K.mounted_on K.stands m K.serves c.args.map.now old mid new c.requires.map c.restore.ensures c.mount-end.result c.mount-end.ensures.touches c.mount-end.ensures.ends c.mount-end.ensures.trusted c.mount-end.ensures.keeps c.mount-end.ensures.idle c.mount-end.ensures.copy c.mount-end.ensures.at_most end
 
 pub returns-in-Ok-clause-banks : goal.returns-in-Ok-clause-banks
 returns-in-Ok-clause-banks g c =

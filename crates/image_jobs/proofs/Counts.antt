@@ -23,7 +23,7 @@ use Rattle.session_table.specs.State.{IsOn, State}
 use Rattle.session_table.specs.Step.{Step, as_pair}
 use Rattle.session.specs.declared.fault.SessionFault.{SessionFault}
 use Rattle.session.specs.declared.fault.SessionFault.TheVariants.{Damaged as IsDamaged, NoMemory as WantsMemory}
-use Rattle.session.specs.OnMap.{LineCarried, Ran, RunStops, StopsAt, damage_in, moment}
+use Rattle.session.specs.OnMap.{LineRan, Ran, RunStops, StopsAt, damage_in, moment}
 use Rattle.image_jobs.specs.declared.stops.Refusal.{Refusal}
 use Rattle.image_jobs.specs.declared.stops.Refusal.TheVariants.{BadArea}
 use Rattle.image_jobs.specs.declared.stops.Stop.{Stop}
@@ -68,28 +68,28 @@ not_memory place found is = cc
 not_mount : (line : Line) → Names ≡ line → line ≡ Mount → ⊥
 not_mount line is same = cc
 
-module _ (m : Meanings) (damage : Area → Geometry → List (List ℕ) → Option Damaged) (areas : List Area) where
+module _ (m : Meanings) (damage : Area → Geometry → List (List ℕ) → Option Damaged) (rests : Area → Geometry → List (List ℕ) → Type 0) (areas : List Area) where
   mount_done : (answer : Answer) (old new : Moment) → LineDone m areas Mount answer old new → (old.device.plan ≡ Never) → old.device.losses ≡ 0
       → state_of m areas new ≡ record (state_of m areas old) { is_on = true }
   mount_done answer old new done never none =
       mounted (rules_of m areas old.device.banks new.device.spent) answer (state_of m areas old) (state_of m areas new) old.device.losses new.device.losses
       (done.step new.device.spent (omega arith)) none (done.accounts.unplanned plans_none never).1 done.accounts.losses
 
-  names_are : (answers : List Answer) (old new : Moment) → Follows (LineCarried m damage areas) (Mount ∷ Names ∷ []) answers old new → (old.device.plan ≡ Never) → old.device.losses ≡ 0
+  names_are : (answers : List Answer) (old new : Moment) → Follows (LineRan m damage rests areas) (Mount ∷ Names ∷ []) answers old new → (old.device.plan ≡ Never) → old.device.losses ≡ 0
       → last_pairs answers ≡ pairs_of (state_of m areas old).settings
   names_are [] old new runs never none = absurd runs
   names_are (a ∷ []) old new runs never none = absurd runs.2
   names_are (a ∷ b ∷ []) old new runs never none =
       let mid = runs.0 in
       let after = runs.2.0 in
-      let stays = mount_done a old mid runs.1.done never none in
-      named (rules_of m areas mid.device.banks after.device.spent) b (state_of m areas mid) (state_of m areas after) (runs.2.1.done.step after.device.spent (omega arith)) (ap (λ (s : State). s.is_on) stays)
+      let stays = mount_done a old mid runs.1.carried.done never none in
+      named (rules_of m areas mid.device.banks after.device.spent) b (state_of m areas mid) (state_of m areas after) (runs.2.1.carried.done.step after.device.spent (omega arith)) (ap (λ (s : State). s.is_on) stays)
       ∙ ap (λ (s : State). pairs_of s.settings) stays
   names_are (a ∷ b ∷ c ∷ rest) old new runs never none = absurd runs.2.2
 
   -- only the mount finds damage
   at_first : (place : ℕ) (found : Damaged) (prefix rest : List Line) (answers : List Answer) (old mid : Moment) (new : Device) → Mount ∷ Names ∷ [] ≡ prefix ++ rest
-      → Follows (LineCarried m damage areas) prefix answers old mid → StopsAt damage areas prefix rest mid.device new (IsDamaged place found)
+      → Follows (LineRan m damage rests areas) prefix answers old mid → StopsAt m damage areas prefix rest mid.device new (IsDamaged place found)
       → damage_in damage areas old.device ≡ Some (place, found)
   at_first place found prefix [] answers old mid new are runs stops = absurd (not_memory place found stops.1)
   at_first place found prefix (line ∷ rest) answers old mid new are runs (inl lacks) = absurd (not_memory place found lacks.1)
@@ -106,7 +106,7 @@ module _ (m : Meanings) (damage : Area → Geometry → List (List ℕ) → Opti
       no [] same = cc
       no (third ∷ prefix) same = cc
 
-  damage_found : (place : ℕ) (found : Damaged) (old : Moment) (new : Device) → RunStops m damage areas (Mount ∷ Names ∷ []) old new (IsDamaged place found)
+  damage_found : (place : ℕ) (found : Damaged) (old : Moment) (new : Device) → RunStops m damage rests areas (Mount ∷ Names ∷ []) old new (IsDamaged place found)
       → damage_in damage areas old.device ≡ Some (place, found)
   damage_found place found old new stops = at_first place found stops.prefix stops.rest stops.answers old stops.mid new stops.are stops.runs.in_turn stops.stops
 
@@ -115,26 +115,26 @@ module _ (m : Meanings) (damage : Area → Geometry → List (List ℕ) → Opti
 module _ (k : Stores) (areas : List Area) (bench : Device) (lines : List Line) (d : Device) (registry : List Registered) (pool : List HandlerKind)
     (names : lines ≡ Names ∷ []) (copy : d ≡ copied bench) where
   -- the answers have the settings of the image
-  pub asked : (answers : List Answer) (new : Moment) → Ran k.meanings k.damage areas (Mount ∷ lines) answers (moment d registry pool) new
+  pub asked : (answers : List Answer) (new : Moment) → Ran k.meanings k.damage k.rests areas (Mount ∷ lines) answers (moment d registry pool) new
       → last_pairs answers ≡ pairs_of (settings_of k areas (held areas bench))
   asked answers new ran =
-      let from : Follows (LineCarried k.meanings k.damage areas) (Mount ∷ Names ∷ []) answers (moment (copied bench) registry pool) new =
-      subst (λ (e : Device). Follows (LineCarried k.meanings k.damage areas) (Mount ∷ Names ∷ []) answers (moment e registry pool) new) copy
-      (subst (λ (ls : List Line). Follows (LineCarried k.meanings k.damage areas) (Mount ∷ ls) answers (moment d registry pool) new) names ran.in_turn) in
-      names_are k.meanings k.damage areas answers (moment (copied bench) registry pool) new from refl refl
+      let from : Follows (LineRan k.meanings k.damage k.rests areas) (Mount ∷ Names ∷ []) answers (moment (copied bench) registry pool) new =
+      subst (λ (e : Device). Follows (LineRan k.meanings k.damage k.rests areas) (Mount ∷ Names ∷ []) answers (moment e registry pool) new) copy
+      (subst (λ (ls : List Line). Follows (LineRan k.meanings k.damage k.rests areas) (Mount ∷ ls) answers (moment d registry pool) new) names ran.in_turn) in
+      names_are k.meanings k.damage k.rests areas answers (moment (copied bench) registry pool) new from refl refl
       ∙ sym (ap (λ (s : Map). pairs_of s) (reads_as (version_of areas) (map plain_area areas) areas (copied bench) k registry pool).settings)
 
-  damage_shown : (new : Device) (place : ℕ) (damage : Damaged) → RunStops k.meanings k.damage areas (Mount ∷ lines) (moment d registry pool) new (IsDamaged place damage)
+  damage_shown : (new : Device) (place : ℕ) (damage : Damaged) → RunStops k.meanings k.damage k.rests areas (Mount ∷ lines) (moment d registry pool) new (IsDamaged place damage)
       → damage_of k areas (held areas bench) ≡ Some (place, damage)
   damage_shown new place damage stops =
       damage_same (version_of areas) (map plain_area areas) areas (copied bench) k
-      ∙ damage_found k.meanings k.damage areas place damage (moment (copied bench) registry pool) new
-      (subst (λ (e : Device). RunStops k.meanings k.damage areas (Mount ∷ Names ∷ []) (moment e registry pool) new (IsDamaged place damage)) copy
-      (subst (λ (ls : List Line). RunStops k.meanings k.damage areas (Mount ∷ ls) (moment d registry pool) new (IsDamaged place damage)) names stops))
+      ∙ damage_found k.meanings k.damage k.rests areas place damage (moment (copied bench) registry pool) new
+      (subst (λ (e : Device). RunStops k.meanings k.damage k.rests areas (Mount ∷ Names ∷ []) (moment e registry pool) new (IsDamaged place damage)) copy
+      (subst (λ (ls : List Line). RunStops k.meanings k.damage k.rests areas (Mount ∷ ls) (moment d registry pool) new (IsDamaged place damage)) names stops))
 
   -- or the image shows damage
   pub not_asked : {X : Type 0} (P : X → Type 0) (new : Device) (fault : SessionFault) (stop : Stop)
-      → RunStops k.meanings k.damage areas (Mount ∷ lines) (moment d registry pool) new fault → IsStop areas fault stop
+      → RunStops k.meanings k.damage k.rests areas (Mount ∷ lines) (moment d registry pool) new fault → IsStop areas fault stop
       → MakesOr P (SaysDamage k areas (held areas bench)) (Err stop)
   not_asked P new (IsDamaged place damage) (Refused (BadArea label found)) stops is =
       (place, is.0, damage_shown new place damage stops ∙ ap (λ (d : Damaged). Some (place, d)) (sym is.1))

@@ -44,7 +44,7 @@ module _ (k : Stores) (kinds : List HandlerKind) (job : Job) (outside : Outside)
     pub sets : Sets job outside image areas lines
     sets = record { opens = record { begins = begins; has = record { version = refl; are = refl } }; gives = gives }
 
-    held_left : (answers : List Answer) (left_kinds : List HandlerKind) → Ran k.meanings k.damage areas (Mount ∷ lines) answers (opening old image kinds) (closing new left_kinds)
+    held_left : (answers : List Answer) (left_kinds : List HandlerKind) → Ran k.meanings k.damage k.rests areas (Mount ∷ lines) answers (opening old image kinds) (closing new left_kinds)
         → held areas bench' ≡ left image bench'
     held_left answers left_kinds ran =
         ap (λ (banks : List Bank). record { version = version_of areas; banks = banks; areas = map plain_area areas; bytes = bench'.bytes }) ran.whole.keeps.banks
@@ -55,7 +55,7 @@ module _ (k : Stores) (kinds : List HandlerKind) (job : Job) (outside : Outside)
         damage_same (version_of areas) (map plain_area areas) areas bench' k ∙ undamaged (sym (damage_same (version_of areas) (map plain_area areas) areas (begun image bench) k) ∙ none)
 
     pub done : (answers : List Answer) (left_kinds : List HandlerKind) (text : List ℕ) (file : Option File)
-        → Ran k.meanings k.damage areas (Mount ∷ lines) answers (opening old image kinds) (closing new left_kinds)
+        → Ran k.meanings k.damage k.rests areas (Mount ∷ lines) answers (opening old image kinds) (closing new left_kinds)
         → (damage_in k.damage areas (begun image bench) ≡ None → damage_in k.damage areas bench' ≡ None)
         → (bench'.is_on ≡ true → IsAtRest k.rests areas bench')
         → text ≡ reported_by job.report lines answers (settings_of k areas (held areas bench'))
@@ -82,7 +82,7 @@ module _ (k : Stores) (kinds : List HandlerKind) (job : Job) (outside : Outside)
         }
 
     pub damaged : (place : ℕ) (damage : Damaged) (label : List ℕ) → label ≡ (area_at areas place).label.bytes
-        → RunStops k.meanings k.damage areas (Mount ∷ lines) (opening old image kinds) bench' (IsDamaged place damage)
+        → RunStops k.meanings k.damage k.rests areas (Mount ∷ lines) (opening old image kinds) bench' (IsDamaged place damage)
         → (damage_in k.damage areas (begun image bench) ≡ None → IsDamaged place damage ≡ WantsMemory)
         → FindsDamage k kinds job outside old new label damage
     damaged place damage label named stops serves = record {
@@ -102,7 +102,7 @@ module _ (k : Stores) (kinds : List HandlerKind) (job : Job) (outside : Outside)
     -- the image that is left shows damage, where its settings are counted
     pub damaged_left : (answers : List Answer) (left_kinds : List HandlerKind) (place : ℕ) (damage : Damaged) (label : List ℕ) → label ≡ (area_at areas place).label.bytes
         → counts_settings job.report ≡ true
-        → Ran k.meanings k.damage areas (Mount ∷ lines) answers (opening old image kinds) (closing new left_kinds)
+        → Ran k.meanings k.damage k.rests areas (Mount ∷ lines) answers (opening old image kinds) (closing new left_kinds)
         → (damage_in k.damage areas (begun image bench) ≡ None → damage_in k.damage areas bench' ≡ None)
         → damage_of k areas (held areas bench') ≡ Some (place, damage)
         → FindsDamage k kinds job outside old new label damage
@@ -123,12 +123,12 @@ module _ (k : Stores) (kinds : List HandlerKind) (job : Job) (outside : Outside)
       shows = λ none. none-some (place, damage) (sym (stays_undamaged undamaged none) ∙ says);
     }
 
-    pub began : (RunStops k.meanings k.damage areas (Mount ∷ lines) (opening old image kinds) bench' WantsMemory
-        ⊎ ((answers : List Answer) × (left_kinds : List HandlerKind) × Ran k.meanings k.damage areas (Mount ∷ lines) answers (opening old image kinds) (closing new left_kinds)))
+    pub began : (RunStops k.meanings k.damage k.rests areas (Mount ∷ lines) (opening old image kinds) bench' WantsMemory
+        ⊎ ((answers : List Answer) × (left_kinds : List HandlerKind) × Ran k.meanings k.damage k.rests areas (Mount ∷ lines) answers (opening old image kinds) (closing new left_kinds)))
         → HasBegun k kinds job outside old new
     began went = record { image = image; areas = areas; lines = lines; sets = sets; went = went }
 
-    stopped_at : (fault : SessionFault) (stop : Stop) → RunStops k.meanings k.damage areas (Mount ∷ lines) (opening old image kinds) bench' fault
+    stopped_at : (fault : SessionFault) (stop : Stop) → RunStops k.meanings k.damage k.rests areas (Mount ∷ lines) (opening old image kinds) bench' fault
         → (damage_in k.damage areas (begun image bench) ≡ None → fault ≡ WantsMemory) → IsStop areas fault stop → JobEnds k kinds job outside outside old new (Err stop)
     stopped_at (IsDamaged place damage) (Refused (BadArea label found)) stops serves is =
         (inr (inr (subst (λ (d : Damaged). FindsDamage k kinds job outside old new label.bytes d) (sym is.1) (damaged place damage label.bytes is.0 stops serves))), refl)
@@ -148,27 +148,27 @@ module _ (k : Stores) (kinds : List HandlerKind) (job : Job) (outside : Outside)
 
     -- the same from the flash as it was when the lines began
     module _ (first : Device) (loaded : first ≡ begun image bench) where
-      pub stopped : (fault : SessionFault) (stop : Stop) → RunStops k.meanings k.damage areas (Mount ∷ lines) (moment first registry kinds) bench' fault
+      pub stopped : (fault : SessionFault) (stop : Stop) → RunStops k.meanings k.damage k.rests areas (Mount ∷ lines) (moment first registry kinds) bench' fault
           → (damage_in k.damage areas first ≡ None → fault ≡ WantsMemory) → IsStop areas fault stop → JobEnds k kinds job outside outside old new (Err stop)
       stopped fault stop stops serves is =
           stopped_at fault stop
-          (subst (λ (d : Device). RunStops k.meanings k.damage areas (Mount ∷ lines) (moment d registry kinds) bench' fault) loaded stops)
+          (subst (λ (d : Device). RunStops k.meanings k.damage k.rests areas (Mount ∷ lines) (moment d registry kinds) bench' fault) loaded stops)
           (subst (λ (d : Device). damage_in k.damage areas d ≡ None → fault ≡ WantsMemory) loaded serves) is
 
       pub wanted : (answers : List Answer) (left_kinds : List HandlerKind)
-          → Ran k.meanings k.damage areas (Mount ∷ lines) answers (moment first registry kinds) (closing new left_kinds) → JobEnds k kinds job outside outside old new (Err NoMemory)
+          → Ran k.meanings k.damage k.rests areas (Mount ∷ lines) answers (moment first registry kinds) (closing new left_kinds) → JobEnds k kinds job outside outside old new (Err NoMemory)
       wanted answers left_kinds ran =
-          (inr (began (inr (answers, left_kinds, subst (λ (d : Device). Ran k.meanings k.damage areas (Mount ∷ lines) answers (moment d registry kinds) (closing new left_kinds)) loaded ran))), refl)
+          (inr (began (inr (answers, left_kinds, subst (λ (d : Device). Ran k.meanings k.damage k.rests areas (Mount ∷ lines) answers (moment d registry kinds) (closing new left_kinds)) loaded ran))), refl)
 
       -- the lines were carried out, and there is no report
       pub unreported : {X : Type 0} (P : X → Type 0) (answers : List Answer) (left_kinds : List HandlerKind) (stop : Stop)
-          → Ran k.meanings k.damage areas (Mount ∷ lines) answers (moment first registry kinds) (closing new left_kinds)
+          → Ran k.meanings k.damage k.rests areas (Mount ∷ lines) answers (moment first registry kinds) (closing new left_kinds)
           → (damage_in k.damage areas first ≡ None → damage_in k.damage areas bench' ≡ None)
           → MakesOr P (λ refusal. (counts_settings job.report ≡ true) × SaysDamage k areas (held areas bench') refusal) (Err stop)
           → JobEnds k kinds job outside outside old new (Err stop)
       unreported P answers left_kinds (Refused (BadArea label damage)) ran undamaged says = (
         inr (inr (damaged_left answers left_kinds says.1.0 damage label.bytes says.1.1 says.0
-            (subst (λ (d : Device). Ran k.meanings k.damage areas (Mount ∷ lines) answers (moment d registry kinds) (closing new left_kinds)) loaded ran)
+            (subst (λ (d : Device). Ran k.meanings k.damage k.rests areas (Mount ∷ lines) answers (moment d registry kinds) (closing new left_kinds)) loaded ran)
             (subst (λ (d : Device). damage_in k.damage areas d ≡ None → damage_in k.damage areas bench' ≡ None) loaded undamaged) says.1.2)),
         refl,
       )
@@ -177,7 +177,7 @@ module _ (k : Stores) (kinds : List HandlerKind) (job : Job) (outside : Outside)
       unreported P answers left_kinds NoMemory ran undamaged says = wanted answers left_kinds ran
 
       pub job_done : (answers : List Answer) (left_kinds : List HandlerKind) (text : List ℕ) (file : Option File)
-          → Ran k.meanings k.damage areas (Mount ∷ lines) answers (moment first registry kinds) (closing new left_kinds)
+          → Ran k.meanings k.damage k.rests areas (Mount ∷ lines) answers (moment first registry kinds) (closing new left_kinds)
           → (damage_in k.damage areas first ≡ None → damage_in k.damage areas bench' ≡ None)
           → (bench'.is_on ≡ true → IsAtRest k.rests areas bench')
           → text ≡ reported_by job.report lines answers (settings_of k areas (held areas bench'))
@@ -185,6 +185,6 @@ module _ (k : Stores) (kinds : List HandlerKind) (job : Job) (outside : Outside)
           → JobDoes k kinds job outside old new text file
       job_done answers left_kinds text file ran undamaged rests prints writes =
           done answers left_kinds text file
-          (subst (λ (d : Device). Ran k.meanings k.damage areas (Mount ∷ lines) answers (moment d registry kinds) (closing new left_kinds)) loaded ran)
+          (subst (λ (d : Device). Ran k.meanings k.damage k.rests areas (Mount ∷ lines) answers (moment d registry kinds) (closing new left_kinds)) loaded ran)
           (subst (λ (d : Device). damage_in k.damage areas d ≡ None → damage_in k.damage areas bench' ≡ None) loaded undamaged)
           rests prints writes

@@ -87,7 +87,7 @@ pub record JobDoes (k : Stores) (kinds : List HandlerKind) (job : Job) (host : O
   pub sets : Sets job host image areas lines
   pub answers : List Answer
   pub left_kinds : List HandlerKind
-  pub ran : Ran k.meanings k.damage areas (Mount ∷ lines) answers (opening old image kinds)
+  pub ran : Ran k.meanings k.damage k.rests areas (Mount ∷ lines) answers (opening old image kinds)
       (closing new left_kinds)
   pub reads : ReadsAs k areas image (state_of k.meanings areas (opening old image kinds))
   pub leaves : ReadsAs k areas (left image new.bench) (state_of k.meanings areas (closing new left_kinds))
@@ -109,7 +109,7 @@ pub record LeavesDamage (k : Stores) (job : Job) (image : Plain) (areas : List A
   pub counts : counts_settings job.report ≡ true
   pub answers : List Answer
   pub left_kinds : List HandlerKind
-  pub ran : Ran k.meanings k.damage areas (Mount ∷ lines) answers old (closing new left_kinds)
+  pub ran : Ran k.meanings k.damage k.rests areas (Mount ∷ lines) answers old (closing new left_kinds)
   pub leaves : damage_of k areas (left image new.bench) ≡ Some found
 
 -- A mount found damage, in the selector or in the active area; or a summary found some in the image
@@ -122,7 +122,7 @@ pub record FindsDamage (k : Stores) (kinds : List HandlerKind) (job : Job) (host
   pub sets : Sets job host image areas lines
   pub place : ℕ
   pub named : label ≡ (area_at areas place).label.bytes
-  pub stops : RunStops k.meanings k.damage areas (Mount ∷ lines) (opening old image kinds) new.bench
+  pub stops : RunStops k.meanings k.damage k.rests areas (Mount ∷ lines) (opening old image kinds) new.bench
       (IsDamaged place damage)
       ⊎ LeavesDamage k job image areas lines (opening old image kinds) new (place, damage)
   pub shows : damage_of k areas image ≡ None → ⊥
@@ -164,10 +164,10 @@ pub record HasBegun (k : Stores) (kinds : List HandlerKind) (job : Job) (host : 
   pub areas : List Area
   pub lines : List Line
   pub sets : Sets job host image areas lines
-  pub went : RunStops k.meanings k.damage areas (Mount ∷ lines) (opening old image kinds) new.bench
+  pub went : RunStops k.meanings k.damage k.rests areas (Mount ∷ lines) (opening old image kinds) new.bench
       WantsMemory
       ⊎ ((answers : List Answer) × (left_kinds : List HandlerKind)
-      × Ran k.meanings k.damage areas (Mount ∷ lines) answers (opening old image kinds)
+      × Ran k.meanings k.damage k.rests areas (Mount ∷ lines) answers (opening old image kinds)
       (closing new left_kinds))
 
 -- flash and handlers are as before, or the job had begun

@@ -64,8 +64,8 @@ pub fn run<K: Backend, B: Bench, L: Ledger>(
     requires parts { blank.parts ≡ L.parts }
     requires some { 0 < L.parts }
     ensures ends { let d = B.device bench.old in let e = B.device bench.new in
-        RunEnds (meanings K.contents K.room K.chance K.tears) K.damage areas.now (Mount ∷ lines.now)
-        (moment d (registered state registry.old) (kinds state pool.items)) e
+        RunEnds (meanings K.contents K.room K.chance K.tears) K.damage K.rests areas.now
+        (Mount ∷ lines.now) (moment d (registered state registry.old) (kinds state pool.items)) e
         (registered state registry.new) result }
     ensures undamaged { damage_in K.damage areas.now (B.device bench.old) ≡ None
         → damage_in K.damage areas.now (B.device bench.new) ≡ None }

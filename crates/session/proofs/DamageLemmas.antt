@@ -42,6 +42,13 @@ module _ (damage : Area → Geometry → List (List ℕ) → Option Damaged) (ar
       ap (λ (o : Option Damaged). option_or (of (selector_place areas) o) (of (active_on areas d) (on damage d (active_area areas d)))) first
       ∙ ap (λ (o : Option Damaged). of (active_on areas d) o) second
 
+  pub shows_none : (d : Device) → selector_damage_on areas d ≡ None → active_damage damage areas d ≡ None → damage_in damage areas d ≡ None
+  shows_none d first second = ap (λ (o : Option Damaged). option_or (of (selector_place areas) o) (active_damage damage areas d)) first ∙ second
+
+  -- the selector shows none where the map showed none before
+  pub selector_sound : (old new : Device) → (damage_in damage areas old ≡ None → damage_in damage areas new ≡ None) → selector_damage_on areas old ≡ None → active_damage damage areas old ≡ None → selector_damage_on areas new ≡ None
+  selector_sound old new sound first second = (none_damage new (sound (shows_none old first second))).0
+
   -- by the place
   pub none_at : (d : Device) → on damage d (active_area areas d) ≡ None → active_damage damage areas d ≡ None
   none_at d is = ap (λ (o : Option Damaged). of (active_on areas d) o) is

@@ -18,7 +18,7 @@ use Rattle.session_table.proofs.FollowsLemmas.{kept, last, one, seen}
 use Rattle.session_table.proofs.RunLemmas.{runs_of}
 use Rattle.session.specs.declared.fault.SessionFault.{SessionFault}
 use Rattle.session.specs.declared.fault.SessionFault.TheVariants.{Damaged as IsDamaged, NoMemory}
-use Rattle.session.specs.OnMap.{LacksAnswer, LineCarried, LineStops, Ran, RunEnds, StopsAt, damage_in, moment}
+use Rattle.session.specs.OnMap.{LacksAnswer, LineRan, LineStops, Ran, RunEnds, StopsAt, damage_in, moment}
 
 suc_is : (i : ℕ) → suc i ≡ i + 1
 suc_is i = omega arith
@@ -31,40 +31,40 @@ lines_at lines i line below is =
     let next : drop i lines ≡ get_or lines i line ∷ drop (i + 1) lines = drop-cons lines i line below ∙ ap (λ (n : ℕ). get_or lines i line ∷ drop n lines) (suc_is i) in
     sym (take-append-drop i lines) ∙ ap (λ (rest : List Line). take i lines ++ rest) next ∙ ap (λ (x : Line). take i lines ++ x ∷ drop (i + 1) lines) (sym is)
 
-module _ (m : Meanings) (damage : Area → Geometry → List (List ℕ) → Option Damaged) (areas : List Area) where
+module _ (m : Meanings) (damage : Area → Geometry → List (List ℕ) → Option Damaged) (rests : Area → Geometry → List (List ℕ) → Type 0) (areas : List Area) where
   -- the mount and so many lines were carried out
   abbrev pub RanTo : List Line → ℕ → List Answer → Moment → Moment → Type 0
-  RanTo lines i answers first now = Follows (LineCarried m damage areas) (Mount ∷ take i lines) answers first now
+  RanTo lines i answers first now = Follows (LineRan m damage rests areas) (Mount ∷ take i lines) answers first now
 
-  pub opened : (lines : List Line) (answer : Answer) (first now : Moment) → LineCarried m damage areas Mount answer first now → RanTo lines 0 ([] ++ answer ∷ []) first now
-  opened lines answer first now is = one (LineCarried m damage areas) Mount answer first now is
+  pub opened : (lines : List Line) (answer : Answer) (first now : Moment) → LineRan m damage rests areas Mount answer first now → RanTo lines 0 ([] ++ answer ∷ []) first now
+  opened lines answer first now is = one (LineRan m damage rests areas) Mount answer first now is
 
   pub one_more : (lines : List Line) (i : ℕ) (line : Line) (answers : List Answer) (answer : Answer) (first mid new : Moment) → i < length lines → line ≡ get_or lines i line → RanTo lines i answers first mid
-      → LineCarried m damage areas line answer mid new → RanTo lines (i + 1) (answers ++ answer ∷ []) first new
+      → LineRan m damage rests areas line answer mid new → RanTo lines (i + 1) (answers ++ answer ∷ []) first new
   one_more lines i line answers answer first mid new below is so_far done =
-      subst (λ (prefix : List Line). Follows (LineCarried m damage areas) (Mount ∷ prefix) (answers ++ answer ∷ []) first new) (sym (lines_on lines i line below is))
-      (last (LineCarried m damage areas) (Mount ∷ take i lines) line answers answer first mid new so_far done)
+      subst (λ (prefix : List Line). Follows (LineRan m damage rests areas) (Mount ∷ prefix) (answers ++ answer ∷ []) first new) (sym (lines_on lines i line below is))
+      (last (LineRan m damage rests areas) (Mount ∷ take i lines) line answers answer first mid new so_far done)
 
   -- what a run is as a whole
-  whole : (lines : List Line) (answers : List Answer) (old new : Moment) → Follows (LineCarried m damage areas) lines answers old new → Ran m damage areas lines answers old new
+  whole : (lines : List Line) (answers : List Answer) (old new : Moment) → Follows (LineRan m damage rests areas) lines answers old new → Ran m damage rests areas lines answers old new
   whole lines answers old new turns = record {
     in_turn = turns;
-    whole = runs_of m areas lines answers old new (seen (LineCarried m damage areas) (LineDone m areas) (λ s. s) (λ line answer a b is. is.done) lines answers old new turns);
+    whole = runs_of m areas lines answers old new (seen (LineRan m damage rests areas) (LineDone m areas) (λ s. s) (λ line answer a b is. is.carried.done) lines answers old new turns);
   }
 
   pub ran : (lines : List Line) (i : ℕ) (answers : List Answer) (first : Moment) (now : Device) (registry : List Registered) (left : List HandlerKind) → length lines ≤ i → RanTo lines i answers first (moment now registry left)
-      → RunEnds m damage areas (Mount ∷ lines) first now registry (Ok answers)
+      → RunEnds m damage rests areas (Mount ∷ lines) first now registry (Ok answers)
   ran lines i answers first now registry left all so_far =
-      (left, whole (Mount ∷ lines) answers first (moment now registry left) (subst (λ (prefix : List Line). Follows (LineCarried m damage areas) (Mount ∷ prefix) answers first (moment now registry left)) (take_all i lines all) so_far))
+      (left, whole (Mount ∷ lines) answers first (moment now registry left) (subst (λ (prefix : List Line). Follows (LineRan m damage rests areas) (Mount ∷ prefix) answers first (moment now registry left)) (take_all i lines all) so_far))
 
   -- where nothing showed damage at first nothing does
   pub undamaged : (lines : List Line) (i : ℕ) (answers : List Answer) (first now : Moment) → RanTo lines i answers first now → damage_in damage areas first.device ≡ None → damage_in damage areas now.device ≡ None
   undamaged lines i answers first now so_far =
-      kept (LineCarried m damage areas) (λ a b. damage_in damage areas a.device ≡ None → damage_in damage areas b.device ≡ None) (λ s was. was) (λ a b c one two was. two (one was)) (λ line answer a b is. is.undamaged)
+      kept (LineRan m damage rests areas) (λ a b. damage_in damage areas a.device ≡ None → damage_in damage areas b.device ≡ None) (λ s was. was) (λ a b c one two was. two (one was)) (λ line answer a b is. is.carried.undamaged)
       (Mount ∷ take i lines) answers first now so_far
 
   -- the mount that opens the map was not carried out
-  pub stops_first : (lines : List Line) (first : Moment) (new : Device) (registry : List Registered) (fault : SessionFault) → LineStops damage areas Mount first.device new fault → RunEnds m damage areas (Mount ∷ lines) first new registry (Err fault)
+  pub stops_first : (lines : List Line) (first : Moment) (new : Device) (registry : List Registered) (fault : SessionFault) → LineStops m damage areas Mount first.device new fault → RunEnds m damage rests areas (Mount ∷ lines) first new registry (Err fault)
   stops_first lines first new registry fault stops = record {
     prefix = [];
     rest = Mount ∷ lines;
@@ -77,7 +77,7 @@ module _ (m : Meanings) (damage : Area → Geometry → List (List ℕ) → Opti
 
   -- this line was not
   pub stops_at : (lines : List Line) (i : ℕ) (line : Line) (answers : List Answer) (first mid : Moment) (new : Device) (registry : List Registered) (fault : SessionFault) → i < length lines → line ≡ get_or lines i line → RanTo lines i answers first mid
-      → LineStops damage areas line mid.device new fault → RunEnds m damage areas (Mount ∷ lines) first new registry (Err fault)
+      → LineStops m damage areas line mid.device new fault → RunEnds m damage rests areas (Mount ∷ lines) first new registry (Err fault)
   stops_at lines i line answers first mid new registry fault below is so_far stops = record {
     prefix = Mount ∷ take i lines;
     rest = line ∷ drop (i + 1) lines;
@@ -91,12 +91,12 @@ module _ (m : Meanings) (damage : Area → Geometry → List (List ℕ) → Opti
   lacks : (prefix : List Line) (now : Device) → LacksAnswer (Mount ∷ prefix) now now NoMemory
   lacks prefix now = (omega arith, refl, refl)
 
-  unchanged : (prefix rest : List Line) (now : Device) → StopsAt damage areas (Mount ∷ prefix) rest now now NoMemory
+  unchanged : (prefix rest : List Line) (now : Device) → StopsAt m damage areas (Mount ∷ prefix) rest now now NoMemory
   unchanged prefix [] now = lacks prefix now
   unchanged prefix (line ∷ lines) now = inl (lacks prefix now)
 
   -- there was no memory for the last answer
-  pub stops_behind : (lines : List Line) (i : ℕ) (answers : List Answer) (first now : Moment) (registry : List Registered) → RanTo lines i answers first now → RunEnds m damage areas (Mount ∷ lines) first now.device registry (Err NoMemory)
+  pub stops_behind : (lines : List Line) (i : ℕ) (answers : List Answer) (first now : Moment) (registry : List Registered) → RanTo lines i answers first now → RunEnds m damage rests areas (Mount ∷ lines) first now.device registry (Err NoMemory)
   stops_behind lines i answers first now registry so_far = record {
     prefix = Mount ∷ take i lines;
     rest = drop i lines;
@@ -108,6 +108,6 @@ module _ (m : Meanings) (damage : Area → Geometry → List (List ℕ) → Opti
   }
 
 -- a map without damage stops no line but for memory
-pub no_damage : (damage : Area → Geometry → List (List ℕ) → Option Damaged) (areas : List Area) (line : Line) (old new : Device) (fault : SessionFault) → damage_in damage areas old ≡ None → LineStops damage areas line old new fault → fault ≡ NoMemory
-no_damage damage areas line old new (IsDamaged place damaged) none stops = absurd (none-some (place, damaged) (sym none ∙ stops.1))
-no_damage damage areas line old new NoMemory none stops = refl
+pub no_damage : (m : Meanings) (damage : Area → Geometry → List (List ℕ) → Option Damaged) (areas : List Area) (line : Line) (old new : Device) (fault : SessionFault) → damage_in damage areas old ≡ None → LineStops m damage areas line old new fault → fault ≡ NoMemory
+no_damage m damage areas line old new (IsDamaged place damaged) none stops = absurd (none-some (place, damaged) (sym none ∙ stops.1))
+no_damage m damage areas line old new NoMemory none stops = refl

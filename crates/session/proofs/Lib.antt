@@ -11,6 +11,7 @@ mod ListLemmas
 mod MountLemmas
 mod MountUnits
 mod MoveLemmas
+mod MovesLemmas
 mod OpenLemmas
 mod PoolLemmas
 mod PutLemmas

@@ -35,7 +35,7 @@ use Rattle.session.specs.declared.mounting.MapFault.TheVariants.{Damaged as MapD
 use Rattle.session.specs.declared.session.Session.{Session}
 use Rattle.session.specs.Mounting.{MapEnds, ReadsSame, SelectorEnds, map_lost, mounted_as, selected_as}
 use Rattle.session.specs.OnMap.{HasSelector, IsAtRest, IsServedMap, BeginsMount, active_area, damage_in, selector_found, selector_place, selectors, turned_on}
-use Rattle.session.proofs.ActiveAreas.{area_there, selected, served_still, has_still, active_there, active_lawful, apart_active, selector_beside, active_beside}
+use Rattle.session.proofs.ActiveAreas.{area_there, selected, served_still, has_still, active_there, active_lawful, apart_active, selector_beside, selector_still, active_beside}
 use Rattle.session.proofs.DamageLemmas.{damage_none, none_damage, selector_shows, active_shows, none_at, none_beside}
 
 pub selected_lost : (place : ℕ) (r : Result Selector MountFault) → mount_lost r ≡ map_lost (selected_as place r)
@@ -159,10 +159,10 @@ module _ (serves : Area → Geometry → Type 0) (areas : List Area) (d mid : De
         subst (λ (b : Bool). Touches (selectors areas ++ active_area areas d ∷ []) d mid b) (is ∙ fault_lost (Option Selector) (Session K) fault)
         (wider (selectors areas ++ active_area areas d ∷ []) (λ x has. Contains-append_left (selectors areas) (active_area areas d ∷ []) x has) touches)
 
-    pub stopped_ends : (fault : MapFault) → cut ≡ map_lost {T = Option Selector} (Err fault) → d.is_on ≡ true → (selector_damage_on areas d ≡ None → active_on areas mid ≡ active_on areas d) → SelectorEnds areas d mid (Err fault) → MapEnds {K = K} mounted_on stands runs damage contents areas d mid (Err fault)
-    stopped_ends (MapDamaged place damaged) is on stays ends = (selector_shows damage areas d (place, damaged) ends.0, inl (ends.1 ∙ powered d on))
-    stopped_ends PowerLost is on stays ends = (ends, inr (subst (λ (b : Bool). Touches (selectors areas) d mid b) is touches), (stays ends, still contents d mid (active_area areas d) touches.banks active_sectors))
-    stopped_ends NoMemory is on stays ends = absurd ends
+    pub stopped_ends : (fault : MapFault) → cut ≡ map_lost {T = Option Selector} (Err fault) → d.is_on ≡ true → (selector_damage_on areas d ≡ None → selector_damage_on areas mid ≡ None) → (selector_damage_on areas d ≡ None → active_on areas mid ≡ active_on areas d) → SelectorEnds areas d mid (Err fault) → MapEnds {K = K} mounted_on stands runs damage contents areas d mid (Err fault)
+    stopped_ends (MapDamaged place damaged) is on sound stays ends = (selector_shows damage areas d (place, damaged) ends.0, inl (ends.1 ∙ powered d on))
+    stopped_ends PowerLost is on sound stays ends = (ends, sound ends, inr (subst (λ (b : Bool). Touches (selectors areas) d mid b) is touches), (stays ends, still contents d mid (active_area areas d) touches.banks active_sectors))
+    stopped_ends NoMemory is on sound stays ends = absurd ends
 
     pub stopped_sound : (selector_damage_on areas d ≡ None → selector_damage_on areas mid ≡ None) → (selector_damage_on areas d ≡ None → active_on areas mid ≡ active_on areas d) → damage_in damage areas d ≡ None → damage_in damage areas mid ≡ None
     stopped_sound sound stays is =
@@ -217,6 +217,9 @@ module _ {K : Type 0} (serves : Area → Geometry → Type 0) (mounted_on : K �
     has_now : HasSelector areas e selector
     has_now = has_still areas mid e m.touches.banks (selector_beside serves areas mid e map_mid s.lawful_mid lawful m.touches.banks m.touches.outside) selector s.has
 
+    sound_now : selector_damage_on areas e ≡ None
+    sound_now = selector_still areas mid e m.touches.banks (selector_beside serves areas mid e map_mid s.lawful_mid lawful m.touches.banks m.touches.outside) ∙ s.sound
+
     reads : on damage mid (active_area areas mid) ≡ None → ReadsSame contents areas d e
     reads none = (
       stays ∙ s.active,
@@ -229,6 +232,7 @@ module _ {K : Type 0} (serves : Area → Geometry → Type 0) (mounted_on : K �
       selector = area;
       is = is;
       sound = s.none;
+      sound_still = s.sound;
       touches = subst (λ (x : Device). Touches (selectors areas) x mid false) (powered d s.powered_on) s.touches;
       units = s.units area is;
       active = s.active;
@@ -256,7 +260,7 @@ module _ {K : Type 0} (serves : Area → Geometry → Type 0) (mounted_on : K �
       active_shows damage areas d damaged s.none (sym (over damage) ∙ w.ends.0) ∙ ap (λ (p : ℕ). Some (p, damaged)) (sym s.active ∙ sym is_place),
       begins w.ends.1,
     )
-    ends_at (Err MountLost) w = (s.none, inl (none_at damage areas d (sym (over damage) ∙ w.ends)), reads w.ends)
+    ends_at (Err MountLost) w = (s.none, sound_now, inl (none_at damage areas d (sym (over damage) ∙ w.ends)), reads w.ends)
     ends_at (Err MountNoMemory) w = begins w.ends
 
     pub map_ends : (x : Result (Session K) MapFault) → x ≡ mounted_as selector place r → MapEnds mounted_on stands runs damage contents areas d e x

@@ -108,10 +108,12 @@ module _ {K : Type 0} (mounted_on : K → Area) (damage : Area → Geometry → 
   same_contents : ReadsAs damage contents areas e (on contents d (active_area areas d)) → on contents e (active_area areas e) ≡ on contents d (active_area areas d)
   same_contents reads = ap (on contents e) (area_there areas (active_on areas e) reads.area reads.there) ∙ reads.reads
 
+  moves_most : (r : Result (K × ℕ) MigrateFault) → Migrated r → SpendsAtMost d e (move_bound (meanings contents room chance tears) areas d)
+  moves_most r m =
+      subst (λ (o : Option Area). SpendsAtMost d e (option_map_or (λ selector. migrate_units d areas selector (active_on areas d) (len (on contents d (active_area areas d)))) o 0)) (sym m.selected) m.at_most
+
   moves_within : (r : Result (K × ℕ) MigrateFault) → Migrated r → e.spent - d.spent ≤ move_bound (meanings contents room chance tears) areas d
-  moves_within r m =
-      subst (λ (o : Option Area). e.spent - d.spent ≤ option_map_or (λ selector. migrate_units d areas selector (active_on areas d) (len (on contents d (active_area areas d)))) o 0) (sym m.selected)
-      (spent_most d e (migrate_units d areas s (active_on areas d) (len (on contents d (active_area areas d)))) (e.spent - d.spent) refl m.at_most)
+  moves_within r m = spent_most d e (move_bound (meanings contents room chance tears) areas d) (e.spent - d.spent) refl (moves_most r m)
 
   -- ---- the line
 
@@ -248,12 +250,20 @@ module _ {K : Type 0} (mounted_on : K → Area) (damage : Area → Geometry → 
     refused_by fault answer o is some m = at_fault fault answer (sym is ∙ some) m
 
   -- memory was wanting
-  begins : (fault : MigrateFault) → answer_to fault 0 ≡ None → Migrated (Err fault) → BeginsMove areas d e
+  begins : (fault : MigrateFault) → answer_to fault 0 ≡ None → Migrated (Err fault) → BeginsMove (meanings contents room chance tears) areas d e
   begins HasNoTarget none m = absurd (none-some NoTarget (sym none))
   begins (HasNoSpace need live) none m = absurd (none-some (NoSpace 0 need live) (sym none))
   begins TooManyNames none m = absurd (none-some (TooMany 0) (sym none))
   begins PowerLost none m = absurd (none-some (Lost 0 false) (sym none))
-  begins NoMemory none m = record { selector = s; is = m.selected; touches = m.touches; active = stays_active m.selected m.ends.3 }
+  begins NoMemory none m = record {
+    selector = s;
+    is = m.selected;
+    index = m.ends.0;
+    target = m.ends.2.target;
+    at_most = moves_most (Err NoMemory) m;
+    touches = m.touches;
+    active = stays_active m.selected m.ends.3;
+  }
 
   no_answer : (fault : MigrateFault) (units : ℕ) → answer_to fault units ≡ None → answer_to fault 0 ≡ None
   no_answer HasNoTarget units none = absurd (none-some NoTarget (sym none))
@@ -262,7 +272,7 @@ module _ {K : Type 0} (mounted_on : K → Area) (damage : Area → Geometry → 
   no_answer PowerLost units none = absurd (none-some (Lost units false) (sym none))
   no_answer NoMemory units none = refl
 
-  pub begins_by : (fault : MigrateFault) (units : ℕ) (o : Option Answer) → o ≡ answer_to fault units → o ≡ None → Migrated (Err fault) → BeginsMove areas d e
+  pub begins_by : (fault : MigrateFault) (units : ℕ) (o : Option Answer) → o ≡ answer_to fault units → o ≡ None → Migrated (Err fault) → BeginsMove (meanings contents room chance tears) areas d e
   begins_by fault units o is none m = begins fault (no_answer fault units (sym is ∙ none)) m
 
 -- ---- the session behind it

@@ -18,7 +18,7 @@ use Rattle.handlers.specs.Registry.{Registered}
 use Rattle.backend_api.specs.Commands.{Command}
 use Rattle.backend_api.specs.Map.{Map}
 use Rattle.backend_api.specs.Room.{Room}
-use Rattle.migrator.specs.Active.{active_on}
+use Rattle.migrator.specs.Active.{active_on, selector_damage_on}
 use Rattle.migrator.specs.Areas.{selector_of}
 use Rattle.settings_core.specs.declared.settings.Settings.{Settings}
 use Rattle.script_lines.specs.declared.line.Line.TheVariants.{Mount}
@@ -30,12 +30,12 @@ use Rattle.session.specs.declared.mounting.MapFault.{MapFault}
 use Rattle.session.specs.declared.mounting.MapFault.TheVariants.{Damaged as MapDamaged, PowerLost, NoMemory}
 use Rattle.session.specs.declared.session.Session.{Session}
 use Rattle.session.specs.Mounting.{MapEnds, ReadsSame, answered, map_lost}
-use Rattle.session.specs.OnMap.{CarriedBeside, DoneWithin, IsAtRest, IsReady, LineStops, BeginsMount, active_area, damage_in, meanings, moment, mount_bound, selectors, turned_on}
+use Rattle.session.specs.OnMap.{CarriedBeside, DoesNothing, DoneWithin, IsAtRest, IsReady, LineStops, BeginsMount, active_area, active_damage, damage_in, meanings, moment, mount_bound, selectors, turned_on}
 use Rattle.session.proofs.AccountLemmas.{kept, lost}
 use Rattle.session.proofs.ActiveAreas.{active_powered, selector_powered, image, selector_listed}
 use Rattle.session.proofs.ChangeLemmas.{seen, state_is}
 use Rattle.session.proofs.MountUnits.{few_by}
-use Rattle.session.proofs.DamageLemmas.{shown_powered, damage_powered}
+use Rattle.session.proofs.DamageLemmas.{shown_powered, damage_powered, selector_sound}
 
 -- ---- the areas that a mount works on, as the table has them
 
@@ -155,6 +155,7 @@ module _ {K : Type 0} (mounted_on : K → Area) (stands : K → Geometry → Lis
     selector = opens.selector;
     is = opens.is;
     sound = sym (selector_powered areas old) ∙ opens.sound;
+    sound_still = opens.sound_still;
     touches = opens.touches;
     units = opens.units;
     active = opens.active ∙ active_powered areas old;
@@ -171,36 +172,38 @@ module _ {K : Type 0} (mounted_on : K → Area) (stands : K → Geometry → Lis
     done_by (Ok session) m = λ registry pool.
         let within : DoneWithin (meanings contents room chance tears) areas Mount (Done (after - before)) (moment old registry pool) (moment e registry pool) =
         subst (λ (n : ℕ). DoneWithin (meanings contents room chance tears) areas Mount (Done n) (moment old registry pool) (moment e registry pool)) units (mount_done contents room chance tears areas old e registry pool m.touches m.ends.5) in
+        let first : selector_damage_on areas old ≡ None = sym (selector_powered areas old) ∙ m.ends.3 in
+        let second : active_damage damage areas old ≡ None = sym (shown_powered damage areas old) ∙ m.ends.4 in
         record {
           done = within.done;
           touches = within.touches;
           most = within.most;
-          finds = λ is. (sym (selector_powered areas old) ∙ m.ends.3, inl (sym (shown_powered damage areas old) ∙ m.ends.4));
+          finds = λ is. (first, selector_sound damage areas old e (sound_on (Ok session) m) first second, inl second);
           few = λ is. few_by areas old e before after from to m.most;
           undamaged = sound_on (Ok session) m;
         }
     done_by (Err PowerLost) m = λ registry pool.
         let within : DoneWithin (meanings contents room chance tears) areas Mount (Lost (after - before) false) (moment old registry pool) (moment e registry pool) =
-        subst (λ (n : ℕ). DoneWithin (meanings contents room chance tears) areas Mount (Lost n false) (moment old registry pool) (moment e registry pool)) units (mount_lost contents room chance tears areas old e registry pool m.touches m.ends.2) in
+        subst (λ (n : ℕ). DoneWithin (meanings contents room chance tears) areas Mount (Lost n false) (moment old registry pool) (moment e registry pool)) units (mount_lost contents room chance tears areas old e registry pool m.touches m.ends.3) in
         record {
           done = within.done;
           touches = within.touches;
           most = within.most;
-          finds = λ is. (sym (selector_powered areas old) ∙ m.ends.0, elim m.ends.1 [ inl none ↦ inl (sym (shown_powered damage areas old) ∙ none) | inr touches ↦ inr (refl, touches) ]);
+          finds = λ is. (sym (selector_powered areas old) ∙ m.ends.0, m.ends.1, elim m.ends.2 [ inl none ↦ inl (sym (shown_powered damage areas old) ∙ none) | inr touches ↦ inr (refl, touches) ]);
           few = λ is. few_by areas old e before after from to m.most;
           undamaged = sound_on (Err PowerLost) m;
         }
     done_by (Err (MapDamaged place damaged)) m = tt
     done_by (Err NoMemory) m = tt
 
-    pub stops_by : (x : Result (Session K) MapFault) → MapMounted (turned_on old) e x → IfErr (answered (after - before) x) (λ fault. LineStops damage areas Mount old e fault)
+    pub stops_by : (x : Result (Session K) MapFault) → MapMounted (turned_on old) e x → IfErr (answered (after - before) x) (λ fault. LineStops (meanings contents room chance tears) damage areas Mount old e fault)
     stops_by (Ok session) m = tt
     stops_by (Err PowerLost) m = tt
     stops_by (Err (MapDamaged place damaged)) m = (refl, sym (damage_powered damage areas old) ∙ m.ends.0, begins_on old e m.ends.1)
     stops_by (Err NoMemory) m = (refl, λ needs. absurd (false≢true needs), begins_on old e m.ends)
 
-    pub rests_by : (x : Result (Session K) MapFault) → MapMounted (turned_on old) e x → IsAtRest rests areas old → IfOk (answered (after - before) x) (λ (opened : Session K × Answer). opened.1 ≡ Done 0)
-    rests_by (Ok session) m rest = ap (λ (n : ℕ). Done n) (no_units before after old.spent from (to ∙ ap (λ (d : Device). d.spent) (m.idle (rest_on old rest))))
+    pub rests_by : (x : Result (Session K) MapFault) → MapMounted (turned_on old) e x → IsAtRest rests areas old → IfOk (answered (after - before) x) (λ (opened : Session K × Answer). DoesNothing opened.1 old e)
+    rests_by (Ok session) m rest = (ap (λ (n : ℕ). Done n) (no_units before after old.spent from (to ∙ ap (λ (d : Device). d.spent) (m.idle (rest_on old rest)))), m.idle (rest_on old rest))
     rests_by (Err PowerLost) m rest = absurd (false≢true (sym (m.touches.ends refl).off ∙ ap (λ (d : Device). d.is_on) (m.idle (rest_on old rest))))
     rests_by (Err (MapDamaged place damaged)) m rest = tt
     rests_by (Err NoMemory) m rest = tt
@@ -228,11 +231,11 @@ module _ {K : Type 0} (mounted_on : K → Area) (stands : K → Geometry → Lis
     pub open_undamaged : damage_in damage areas old ≡ None → damage_in damage areas e ≡ None
     open_undamaged was = undamaged_by old e before after from_old to x here was
 
-    pub open_rests : IsAtRest rests areas old → IfOk y (λ (opened : Session K × Answer). opened.1 ≡ Done 0)
-    open_rests rest = subst (λ (z : Result (Session K × Answer) SessionFault). IfOk z (λ (opened : Session K × Answer). opened.1 ≡ Done 0)) (sym is) (rests_by old e before after from_old to x here rest)
+    pub open_rests : IsAtRest rests areas old → IfOk y (λ (opened : Session K × Answer). DoesNothing opened.1 old e)
+    open_rests rest = subst (λ (z : Result (Session K × Answer) SessionFault). IfOk z (λ (opened : Session K × Answer). DoesNothing opened.1 old e)) (sym is) (rests_by old e before after from_old to x here rest)
 
-    pub open_stops : IfErr y (λ fault. LineStops damage areas Mount old e fault)
-    open_stops = subst (λ (z : Result (Session K × Answer) SessionFault). IfErr z (λ fault. LineStops damage areas Mount old e fault)) (sym is) (stops_by old e before after from_old to x here)
+    pub open_stops : IfErr y (λ fault. LineStops (meanings contents room chance tears) damage areas Mount old e fault)
+    open_stops = subst (λ (z : Result (Session K × Answer) SessionFault). IfErr z (λ fault. LineStops (meanings contents room chance tears) damage areas Mount old e fault)) (sym is) (stops_by old e before after from_old to x here)
 
     pub open_ready : IfOk y (λ (opened : Session K × Answer). IsReady mounted_on stands runs areas e opened.0.selector opened.0.active opened.0.settings)
     open_ready = subst (λ (z : Result (Session K × Answer) SessionFault). IfOk z (λ (opened : Session K × Answer). IsReady mounted_on stands runs areas e opened.0.selector opened.0.active opened.0.settings)) (sym is) (ready_by old e before after from_old to x here)

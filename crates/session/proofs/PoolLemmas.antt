@@ -4,6 +4,7 @@ use Rattle.std.specs.Prelude.{option_map, All, Result, Ok, Err}
 use Rattle.std.specs.List.{list_any, remove}
 use Rattle.std.specs.Str.{bytes_eq}
 use Rattle.std.proofs.lemmas.Bool.{cases_Bool, cases_lt, false≢true}
+use Rattle.std.proofs.lemmas.Option.{slice_get_read}
 use Rattle.std.proofs.lemmas.List.{get_or-map, length-map, map-append, take_all}
 use Rattle.std.proofs.lemmas.List.Edits.{length-remove, get_or-remove_below, get_or-remove_above}
 use Rattle.std.proofs.lemmas.List.Folds.{list_any_more, list_any_at}
@@ -128,6 +129,10 @@ module _ {B : Type 0} (state : B → HandlerState) (kind : HandlerKind) (seen po
 
   pub takes-first : TakesFirst state kind pool left b
   takes-first = record {
+    place = i;
+    first = first;
+    there = slice_get_read pool (length pool) i b refl lt is;
+    left = rest;
     others =
         without-at kind kind (kinds state pool) i first.0 first.1 first.2
         ∙ ap (λ (ks : List HandlerKind). Some ks) (sym (map-remove (λ (b : B). (state b).kind) pool i) ∙ ap (kinds state) (sym rest));

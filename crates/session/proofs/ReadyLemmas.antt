@@ -150,22 +150,22 @@ module _ {K : Type 0} (mounted_on : K → Area) (stands : K → Geometry → Lis
 -- ---- lines that are no mounts
 
 -- a line on the active area for which memory was wanting changed nothing
-local_begins : (areas : List Area) (line : Line) (d e : Device) → is_local line ≡ true → e ≡ d → BeginsLine areas line d e
-local_begins areas (Set name value) d e local same = same
-local_begins areas (Del name) d e local same = same
-local_begins areas (Save subtree) d e local same = same
-local_begins areas (Get name) d e local same = same
-local_begins areas (Register subtree kind) d e local same = same
-local_begins areas (Load subtree) d e local same = same
-local_begins areas (Direct subtree) d e local same = same
-local_begins areas Commit d e local same = same
-local_begins areas (RunSet name value) d e local same = same
-local_begins areas (RunGet name) d e local same = same
-local_begins areas Names d e local same = same
-local_begins areas Mount d e local same = absurd (false≢true local)
-local_begins areas (Cut units) d e local same = absurd (false≢true local)
-local_begins areas Uncut d e local same = absurd (false≢true local)
-local_begins areas Migrate d e local same = absurd (false≢true local)
+local_begins : (m : Meanings) (areas : List Area) (line : Line) (d e : Device) → is_local line ≡ true → e ≡ d → BeginsLine m areas line d e
+local_begins m areas (Set name value) d e local same = same
+local_begins m areas (Del name) d e local same = same
+local_begins m areas (Save subtree) d e local same = same
+local_begins m areas (Get name) d e local same = same
+local_begins m areas (Register subtree kind) d e local same = same
+local_begins m areas (Load subtree) d e local same = same
+local_begins m areas (Direct subtree) d e local same = same
+local_begins m areas Commit d e local same = same
+local_begins m areas (RunSet name value) d e local same = same
+local_begins m areas (RunGet name) d e local same = same
+local_begins m areas Names d e local same = same
+local_begins m areas Mount d e local same = absurd (false≢true local)
+local_begins m areas (Cut units) d e local same = absurd (false≢true local)
+local_begins m areas Uncut d e local same = absurd (false≢true local)
+local_begins m areas Migrate d e local same = absurd (false≢true local)
 
 module _ (m : Meanings) (damage : Area → Geometry → List (List ℕ) → Option Damaged) (areas : List Area) (line : Line) (d e : Device) where
   pub carried : (answer : Answer) → (line ≡ Mount → ⊥) → (damage_in damage areas d ≡ None → damage_in damage areas e ≡ None) → DoneBeside m areas line answer d e → CarriedBeside m damage areas line answer d e
@@ -189,12 +189,12 @@ never_changed line d (Ok x) takes = tt
 never_changed line d (Err e) takes = record { takes = takes; same = refl }
 
 -- for want of memory a line on the active area stopped
-pub stops_unchanged : (damage : Area → Geometry → List (List ℕ) → Option Damaged) (areas : List Area) (line : Line) (d e : Device) (result : Result Answer SessionFault)
+pub stops_unchanged : (m : Meanings) (damage : Area → Geometry → List (List ℕ) → Option Damaged) (areas : List Area) (line : Line) (d e : Device) (result : Result Answer SessionFault)
     → is_local line ≡ true → d.is_on ≡ true → IfErr result (λ fault. fault ≡ NoMemory) → OnErr result (takes_memory line ≡ true) → OnErr result (e ≡ d)
-    → IfErr result (λ fault. LineStops damage areas line d e fault)
-stops_unchanged damage areas line d e (Ok answer) local powered memory takes same = tt
-stops_unchanged damage areas line d e (Err fault) local powered memory takes same =
-    subst (λ (f : SessionFault). LineStops damage areas line d e f) (sym memory) (takes, λ needs. powered, local_begins areas line d e local same)
+    → IfErr result (λ fault. LineStops m damage areas line d e fault)
+stops_unchanged m damage areas line d e (Ok answer) local powered memory takes same = tt
+stops_unchanged m damage areas line d e (Err fault) local powered memory takes same =
+    subst (λ (f : SessionFault). LineStops m damage areas line d e f) (sym memory) (takes, λ needs. powered, local_begins m areas line d e local same)
 
 -- ---- from a function for one kind of lines to all of them
 

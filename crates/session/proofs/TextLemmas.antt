@@ -26,7 +26,7 @@ use Rattle.session_table.specs.Follows.{Follows}
 use Rattle.session_table.specs.Rules.{Rules}
 use Rattle.session_table.specs.State.{State}
 use Rattle.session_table.specs.Step.{Step, as_pair}
-use Rattle.session.specs.OnMap.{LineCarried}
+use Rattle.session.specs.OnMap.{LineRan}
 use Rattle.session.specs.Texts.{AreLabelled}
 
 -- ---- names rise
@@ -105,13 +105,13 @@ can_report r line (Loaded gives taken rejected passed) old new is step = tt
 can_report r line (Reported pairs) old new is step = tt
 can_report r line (Saved pairs units end) old new is step = tt
 
-module _ (m : Meanings) (damage : Area → Geometry → List (List ℕ) → Option Damaged) (areas : List Area) (some : is_store_at areas (first_store areas) ≡ true) (labels : AreLabelled areas) where
-  pub can_report_all : (lines : List Line) (answers : List Answer) (old new : Moment) → Follows (LineCarried m damage areas) lines answers old new → All CanReport answers
+module _ (m : Meanings) (damage : Area → Geometry → List (List ℕ) → Option Damaged) (rests : Area → Geometry → List (List ℕ) → Type 0) (areas : List Area) (some : is_store_at areas (first_store areas) ≡ true) (labels : AreLabelled areas) where
+  pub can_report_all : (lines : List Line) (answers : List Answer) (old new : Moment) → Follows (LineRan m damage rests areas) lines answers old new → All CanReport answers
   can_report_all [] [] old new runs = All-nil CanReport
   can_report_all [] (answer ∷ answers) old new runs = absurd runs
   can_report_all (line ∷ lines) [] old new runs = absurd runs
-  can_report_all (line ∷ lines) (answer ∷ answers) old new (mid, carried, rest) =
+  can_report_all (line ∷ lines) (answer ∷ answers) old new (mid, ran, rest) =
       let last : mid.device.spent ≤ mid.device.spent = omega arith in
-      let step = carried.done.step mid.device.spent last in
+      let step = ran.carried.done.step mid.device.spent last in
       let one = can_report (rules_of m areas old.device.banks mid.device.spent) line answer (state_of m areas old) (state_of m areas mid) (labels (active_on areas old.device) (active_is_store areas old.device some)) step in
       All-cons CanReport answer answers one (can_report_all lines answers mid new rest)

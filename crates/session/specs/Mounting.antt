@@ -65,8 +65,8 @@ ReadsSame contents areas old new =
     × (on contents new (active_area areas old) ≡ on contents old (active_area areas old))
 
 -- How the mount of a map ends: the session is ready, and the map shows no damage; or it shows this
--- damage; or power was lost, which happened in the selector's area if the active area shows damage;
--- or memory ran out.
+-- damage; or power was lost, which happened in the selector's area if the active area shows damage,
+-- and the selector shows none afterwards; or memory ran out.
 abbrev pub MapEnds : {K : Type 0} → (K → Area) → (K → Geometry → List (List ℕ) → Type 0) → (K → Bool)
     → (Area → Geometry → List (List ℕ) → Option Damaged)
     → (Area → Geometry → List (List ℕ) → Map) → List Area → Device → Device → Result (Session K) MapFault
@@ -79,7 +79,7 @@ MapEnds {K} mounted_on stands runs damage contents areas old new (Ok session) =
 MapEnds mounted_on stands runs damage contents areas old new (Err (MapDamaged place damaged)) =
     (damage_in damage areas old ≡ Some (place, damaged)) × BeginsMount areas old new
 MapEnds mounted_on stands runs damage contents areas old new (Err PowerLost) =
-    (selector_damage_on areas old ≡ None)
+    (selector_damage_on areas old ≡ None) × (selector_damage_on areas new ≡ None)
     × ((active_damage damage areas old ≡ None) ⊎ Touches (selectors areas) old new true)
     × ReadsSame contents areas old new
 MapEnds mounted_on stands runs damage contents areas old new (Err NoMemory) = BeginsMount areas old new

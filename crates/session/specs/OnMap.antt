@@ -10,7 +10,7 @@ use Rattle.flash_map.specs.declared.area.Geometry.{Geometry}
 use Rattle.flash_map.specs.declared.faults.Damaged.{Damaged}
 use Rattle.flash_map.specs.Area.{geometry_of, value_limit}
 use Rattle.flash_map.specs.On.{on, HoldsOn, StandsOn}
-use Rattle.flash_map.specs.Spending.{Spends}
+use Rattle.flash_map.specs.Spending.{Spends, SpendsAtMost}
 use Rattle.flash_map.specs.Touches.{Touches}
 use Rattle.fcb_ring.specs.Standing.{erases_on}
 use Rattle.handlers.specs.declared.handler.HandlerKind.{HandlerKind}
@@ -30,6 +30,7 @@ use Rattle.settings_core.specs.Saving.{AreLawful, exported}
 use Rattle.script_lines.specs.declared.line.Line.{Line}
 use Rattle.script_lines.specs.declared.line.Line.TheVariants.{Set, Del, Register, Load, Save, Commit, RunSet, RunGet, Mount, Cut, Uncut, Migrate}
 use Rattle.script_lines.specs.declared.answer.Answer.{Answer}
+use Rattle.script_lines.specs.declared.answer.Answer.TheVariants.{Done}
 use Rattle.script_lines.specs.Plan.{is_lost, replan, units_of}
 use Rattle.script_lines.specs.Plan.Replan.{keeps}
 use Rattle.session_table.specs.Bench.{Meanings, Moment, LineDone, Runs, area_at, is_selector, places_of, rules_of}
@@ -121,12 +122,13 @@ selectors areas = option_map_or (λ area. area ∷ []) (selector_of areas) []
 abbrev pub turned_on : Device → Device
 turned_on d = record d { is_on = true }
 
--- A mount found no damage; or it found none in the selector, and power was lost in the
--- selector's area.
+-- A mount found no damage; or it found none in the selector, and power was lost in the selector's
+-- area. The selector shows none afterwards.
 abbrev pub FindsNone : (Area → Geometry → List (List ℕ) → Option Damaged) → List Area → Answer → Device
     → Device → Type 0
 FindsNone damage areas answer old new =
     (selector_damage_on areas old ≡ None)
+    × (selector_damage_on areas new ≡ None)
     ×
     ((active_damage damage areas old ≡ None)
     ⊎ ((is_lost answer ≡ true) × Touches (selectors areas) (turned_on old) new true))
@@ -207,6 +209,19 @@ pub record LineCarried (m : Meanings) (damage : Area → Geometry → List (List
   pub few : line ≡ Mount → units_of answer ≤ mount_bound areas old.device
   pub undamaged : damage_in damage areas old.device ≡ None → damage_in damage areas new.device ≡ None
 
+-- a mount spent nothing, and did no more than to turn power on
+abbrev pub DoesNothing : Answer → Device → Device → Type 0
+DoesNothing answer old new = (answer ≡ Done 0) × (new ≡ turned_on old)
+
+-- A line of a run was carried out. A mount of a map at rest did nothing. If power is on behind the
+-- line, the map is at rest: a mount would have nothing to do.
+pub record LineRan (m : Meanings) (damage : Area → Geometry → List (List ℕ) → Option Damaged)
+    (rests : Area → Geometry → List (List ℕ) → Type 0) (areas : List Area) (line : Line) (answer : Answer)
+    (old new : Moment) : Type 0 where
+  pub carried : LineCarried m damage areas line answer old new
+  pub idle : line ≡ Mount → IsAtRest rests areas old.device → DoesNothing answer old.device new.device
+  pub at_rest : new.device.is_on ≡ true → IsAtRest rests areas new.device
+
 -- the handlers stayed, whatever they are
 abbrev pub DoneBeside : Meanings → List Area → Line → Answer → Device → Device → Type 0
 DoneBeside m areas line answer old new =
@@ -237,12 +252,13 @@ is_handled (RunSet name value) = true
 is_handled (RunGet name) = true
 is_handled line = false
 
--- Power was turned on, and the selector, which shows no damage, was mounted. The mount finished
--- what a choice that was cut had left to do.
+-- Power was turned on, and the selector was mounted, which shows no damage before or after. The
+-- mount finished what a choice that was cut had left to do.
 pub record OpensSelector (areas : List Area) (old new : Device) : Type 0 where
   pub selector : Area
   pub is : selector_of areas ≡ Some selector
   pub sound : selector_damage_on areas old ≡ None
+  pub sound_still : selector_damage_on areas new ≡ None
   pub touches : Touches (selectors areas) (turned_on old) new false
   pub units : Spends (turned_on old) new (erases_on old selector)
   pub active : active_on areas new ≡ active_on areas old
@@ -251,10 +267,14 @@ pub record OpensSelector (areas : List Area) (old new : Device) : Type 0 where
 abbrev pub BeginsMount : List Area → Device → Device → Type 0
 BeginsMount areas old new = (new ≡ turned_on old) ⊎ OpensSelector areas old new
 
--- The target and the selector may have changed; the active area is the same.
-pub record BeginsMove (areas : List Area) (old new : Device) : Type 0 where
+-- There is a target. It and the selector may have changed, within the bound of a migration; the
+-- active area is the same.
+pub record BeginsMove (m : Meanings) (areas : List Area) (old new : Device) : Type 0 where
   pub selector : Area
   pub is : selector_of areas ≡ Some selector
+  pub index : ℕ
+  pub target : target areas (active_on areas old) ≡ Some index
+  pub at_most : SpendsAtMost old new (move_bound m areas old)
   pub touches : Touches (worked_on areas selector (active_on areas old)) old new false
   pub active : active_on areas new ≡ active_on areas old
 
@@ -270,19 +290,20 @@ takes_memory line = true
 
 -- How a line for which memory ran out leaves the bench: a mount and a migration may have begun; no
 -- other line changed it.
-abbrev pub BeginsLine : List Area → Line → Device → Device → Type 0
-BeginsLine areas Mount old new = BeginsMount areas old new
-BeginsLine areas Migrate old new = BeginsMove areas old new
-BeginsLine areas line old new = new ≡ old
+abbrev pub BeginsLine : Meanings → List Area → Line → Device → Device → Type 0
+BeginsLine m areas Mount old new = BeginsMount areas old new
+BeginsLine m areas Migrate old new = BeginsMove m areas old new
+BeginsLine m areas line old new = new ≡ old
 
 -- Why a line was not carried out: a mount found the damage that the map shows; or memory ran out
 -- for a line that takes some, with power on if the line needs it.
-abbrev pub LineStops : (Area → Geometry → List (List ℕ) → Option Damaged)
+abbrev pub LineStops : Meanings → (Area → Geometry → List (List ℕ) → Option Damaged)
     → List Area → Line → Device → Device → SessionFault → Type 0
-LineStops damage areas line old new (IsDamaged place damaged) =
+LineStops m damage areas line old new (IsDamaged place damaged) =
     (line ≡ Mount) × (damage_in damage areas old ≡ Some (place, damaged)) × BeginsMount areas old new
-LineStops damage areas line old new NoMemory =
-    (takes_memory line ≡ true) × (needs_power line ≡ true → old.is_on ≡ true) × BeginsLine areas line old new
+LineStops m damage areas line old new NoMemory =
+    (takes_memory line ≡ true) × (needs_power line ≡ true → old.is_on ≡ true)
+    × BeginsLine m areas line old new
 
 -- ---- between two lines
 
@@ -339,9 +360,10 @@ pub record StopsUnchanged (line : Line) (old new : Device) : Type 0 where
 
 -- Lines were carried out one after another. As a whole they follow the table; the counts, the plan
 -- and the bytes of the bench are as the answers say.
-pub record Ran (m : Meanings) (damage : Area → Geometry → List (List ℕ) → Option Damaged) (areas : List Area)
-    (lines : List Line) (answers : List Answer) (old new : Moment) : Type 0 where
-  pub in_turn : Follows (LineCarried m damage areas) lines answers old new
+pub record Ran (m : Meanings) (damage : Area → Geometry → List (List ℕ) → Option Damaged)
+    (rests : Area → Geometry → List (List ℕ) → Type 0) (areas : List Area) (lines : List Line)
+    (answers : List Answer) (old new : Moment) : Type 0 where
+  pub in_turn : Follows (LineRan m damage rests areas) lines answers old new
   pub whole : Runs m areas lines answers old new
 
 -- lines were carried out, and memory ran out for the answer to the last of them
@@ -349,28 +371,30 @@ abbrev pub LacksAnswer : List Line → Device → Device → SessionFault → Ty
 LacksAnswer prefix old new fault = (1 ≤ length prefix) × (fault ≡ NoMemory) × (new ≡ old)
 
 -- After the first lines the next one stopped; or memory ran out for the answer to the line before.
-abbrev pub StopsAt : (Area → Geometry → List (List ℕ) → Option Damaged)
+abbrev pub StopsAt : Meanings → (Area → Geometry → List (List ℕ) → Option Damaged)
     → List Area → List Line → List Line → Device → Device → SessionFault → Type 0
-StopsAt damage areas prefix [] old new fault = LacksAnswer prefix old new fault
-StopsAt damage areas prefix (line ∷ lines) old new fault =
-    LacksAnswer prefix old new fault ⊎ LineStops damage areas line old new fault
+StopsAt m damage areas prefix [] old new fault = LacksAnswer prefix old new fault
+StopsAt m damage areas prefix (line ∷ lines) old new fault =
+    LacksAnswer prefix old new fault ⊎ LineStops m damage areas line old new fault
 
 -- The first lines were carried out, and then a line stopped.
 pub record RunStops (m : Meanings) (damage : Area → Geometry → List (List ℕ) → Option Damaged)
-    (areas : List Area) (lines : List Line) (old : Moment) (new : Device) (fault : SessionFault) :
-    Type 0 where
+    (rests : Area → Geometry → List (List ℕ) → Type 0) (areas : List Area) (lines : List Line)
+    (old : Moment) (new : Device) (fault : SessionFault) : Type 0 where
   pub prefix : List Line
   pub rest : List Line
   pub are : lines ≡ prefix ++ rest
   pub answers : List Answer
   pub mid : Moment
-  pub runs : Ran m damage areas prefix answers old mid
-  pub stops : StopsAt damage areas prefix rest mid.device new fault
+  pub runs : Ran m damage rests areas prefix answers old mid
+  pub stops : StopsAt m damage areas prefix rest mid.device new fault
 
 -- How lines end: all were carried out, with these answers, on this bench and these handlers;
 -- or one stopped.
-abbrev pub RunEnds : Meanings → (Area → Geometry → List (List ℕ) → Option Damaged) → List Area → List Line
+abbrev pub RunEnds : Meanings → (Area → Geometry → List (List ℕ) → Option Damaged)
+    → (Area → Geometry → List (List ℕ) → Type 0) → List Area → List Line
     → Moment → Device → List Registered → Result (List Answer) SessionFault → Type 0
-RunEnds m damage areas lines old new registry (Ok answers) =
-    (left : List HandlerKind) × Ran m damage areas lines answers old (moment new registry left)
-RunEnds m damage areas lines old new registry (Err fault) = RunStops m damage areas lines old new fault
+RunEnds m damage rests areas lines old new registry (Ok answers) =
+    (left : List HandlerKind) × Ran m damage rests areas lines answers old (moment new registry left)
+RunEnds m damage rests areas lines old new registry (Err fault) =
+    RunStops m damage rests areas lines old new fault

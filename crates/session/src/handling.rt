@@ -11,7 +11,7 @@ ghost use Rattle.settings_core.specs.Saving.{AreLawful};
 ghost use Rattle.script_lines.specs.declared.line.Line.TheVariants.{Save};
 ghost use Rattle.session_table.specs.State.{State};
 ghost use Rattle.session_table.specs.Step.{Registers, Loads, Commits, Offers, Asks, same_kind};
-ghost use Rattle.session.specs.Handling.{beside, FirstAt, TakeEnds};
+ghost use Rattle.session.specs.Handling.{beside, FirstAt, MovesHandlers, RegisterMoves, TakeEnds};
 ghost use Rattle.session.specs.OnMap.{meanings, moment, kinds, DoneWithin, IsFresh, IsServedMap, IsServed, is_handled, limit_of, StandsOnActive, StaysOnArea, HandlersFit, StopsUnchanged};
 
 use crate::changing::spells_another;
@@ -135,6 +135,10 @@ fn register_handler(
     ensures done { IfOk result (λ answer. (s : State) → Registers subtree.now kind answer
         (beside s (registered state registry.old) (kinds state pool.old.items))
         (beside s (registered state registry.new) (kinds state pool.new.items))) }
+    ensures moves { let before = pool.old.items in
+        IfOk result
+        (λ answer. RegisterMoves state subtree.now kind answer before pool.new.items registry.old
+        registry.new) }
     ensures pool { All (IsFresh state) pool.new.items }
     ensures lawful { (limit : ℕ) → AreLawful limit (registered state registry.old)
         → AreLawful limit (registered state registry.new) }
@@ -341,6 +345,10 @@ pub fn with_handlers<K: Backend, B: Bench, L: Ledger>(
         StaysOnArea K.mounted_on K.stands K.runs e area.now settings.new.backend }
     ensures handlers { let hs = registered state registry.new in
         HandlersFit state (limit_of map.now) hs pool.new.items }
+    ensures moves { let before = pool.old.items in
+        IfOk result
+        (λ answer. MovesHandlers state line.now answer before pool.new.items registry.old
+        registry.new) }
 {
     match line {
         Line::Register { subtree, kind } => register_handler(subtree, *kind, pool, registry),

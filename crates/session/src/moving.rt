@@ -34,7 +34,8 @@ pub fn move_settings<K: Backend, B: Bench, L: Ledger>(
         (meanings K.contents K.room K.chance K.tears) map.now Migrate answer d
         (B.device bench.new)) }
     ensures sound { damage_in K.damage map.now (B.device bench.new) ≡ None }
-    ensures stops { OnErr result (BeginsMove map.now (B.device bench.old) (B.device bench.new)) }
+    ensures stops { let m = meanings K.contents K.room K.chance K.tears in
+        OnErr result (BeginsMove m map.now (B.device bench.old) (B.device bench.new)) }
     ensures ready { let e = B.device bench.new in
         OnOk result
         (IsReady K.mounted_on K.stands K.runs map.now e (Some selector.new) active.new

@@ -44,8 +44,8 @@ pub fn run_lines<K: Backend, B: Bench, L: Ledger>(
     requires registry { AreLawful (limit_of map.now) (registered state registry.old) }
 
     ensures ends { let d = B.device bench.old in let e = B.device bench.new in
-        RunEnds (meanings K.contents K.room K.chance K.tears) K.damage map.now (Mount ∷ lines.now)
-        (moment d (registered state registry.old) (kinds state pool.items)) e
+        RunEnds (meanings K.contents K.room K.chance K.tears) K.damage K.rests map.now
+        (Mount ∷ lines.now) (moment d (registered state registry.old) (kinds state pool.items)) e
         (registered state registry.new) result }
     ensures undamaged { let d = B.device bench.old in let e = B.device bench.new in
         damage_in K.damage map.now d ≡ None → damage_in K.damage map.now e ≡ None }

@@ -5,8 +5,9 @@ ghost use Rattle.handlers.specs.Registry.{registered};
 ghost use Rattle.script_lines.specs.declared.answer.Answer.TheVariants.{Done};
 ghost use Rattle.script_lines.specs.declared.line.Line.TheVariants.{Mount, Migrate};
 ghost use Rattle.session_table.specs.Step.{needs_power};
+ghost use Rattle.session.specs.Handling.{MovesHandlers};
 ghost use Rattle.session.specs.Mounting.{down};
-ghost use Rattle.session.specs.OnMap.{CarriedBeside, DoneWithin, IsAtRest, IsReady, IsServed, IsServedMap, LineCarried, LineStops, damage_in, is_local, kinds, limit_of, meanings, moment, StandsOnActive, StaysOnArea, HandlersFit, StopsUnchanged};
+ghost use Rattle.session.specs.OnMap.{CarriedBeside, DoesNothing, DoneWithin, IsAtRest, IsReady, IsServed, IsServedMap, LineCarried, LineStops, damage_in, is_local, kinds, limit_of, meanings, moment, StandsOnActive, StaysOnArea, HandlersFit, StopsUnchanged};
 
 use crate::changing::{delete_setting, set_setting};
 use crate::fault::SessionFault;
@@ -70,10 +71,12 @@ impl<K: Backend> Session<K> {
             (meanings K.contents K.room K.chance K.tears) K.damage map.now Mount opened.1 d e) }
         ensures undamaged { let d = B.device bench.old in let e = B.device bench.new in
             damage_in K.damage map.now d ≡ None → damage_in K.damage map.now e ≡ None }
-        ensures rests { let d = B.device bench.old in
-            IsAtRest K.rests map.now d → IfOk result (λ opened. opened.1 ≡ Done 0) }
+        ensures rests { let d = B.device bench.old in let e = B.device bench.new in
+            IsAtRest K.rests map.now d → IfOk result (λ opened. DoesNothing opened.1 d e) }
         ensures stops { let d = B.device bench.old in let e = B.device bench.new in
-            IfErr result (λ fault. LineStops K.damage map.now Mount d e fault) }
+            IfErr result
+            (λ fault. LineStops (meanings K.contents K.room K.chance K.tears) K.damage map.now
+            Mount d e fault) }
         ensures ready { IfOk result
             (λ opened. let e = B.device bench.new in IsReady K.mounted_on K.stands K.runs map.now e
             opened.0.selector opened.0.active opened.0.settings) }
@@ -88,7 +91,9 @@ impl<K: Backend> Session<K> {
     /// Carries out a line. With power off, every line but `mount`, `cut` and `uncut` answers `off`.
     /// A mount of a map at rest spends nothing. No mount, save or migration spends more than its
     /// bound (`mount_bound`, `save_bound`, `move_bound`). A map without damage has none afterwards,
-    /// whatever the result.
+    /// whatever the result. A `register` that answers `Done` moves the first handler of the kind
+    /// out of the pool, behind the registered ones. No other line that is answered changes the
+    /// pool.
     ///
     /// # Errors
     /// `Damaged`, only for a mount, with the damage that the map shows. `NoMemory`, only for a line
@@ -123,17 +128,23 @@ impl<K: Backend> Session<K> {
             (kinds state pool.new.items))) }
         ensures undamaged { let d = B.device bench.old in let e = B.device bench.new in
             damage_in K.damage map.now d ≡ None → damage_in K.damage map.now e ≡ None }
-        ensures rests { let d = B.device bench.old in
+        ensures rests { let d = B.device bench.old in let e = B.device bench.new in
             line.now ≡ Mount → IsAtRest K.rests map.now d
-            → IfOk result (λ answer. answer ≡ Done 0) }
+            → IfOk result (λ answer. DoesNothing answer d e) }
         ensures stops { let d = B.device bench.old in let e = B.device bench.new in
-            IfErr result (λ fault. LineStops K.damage map.now line.now d e fault) }
+            IfErr result
+            (λ fault. LineStops (meanings K.contents K.room K.chance K.tears) K.damage map.now
+            line.now d e fault) }
         ensures ready { let e = B.device bench.new in
             OnOk result
             (IsReady K.mounted_on K.stands K.runs map.now e self.new.selector self.new.active
             self.new.settings) }
         ensures handlers { let hs = registered state registry.new in
             HandlersFit state (limit_of map.now) hs pool.new.items }
+        ensures moves { let before = pool.old.items in
+            IfOk result
+            (λ answer. MovesHandlers state line.now answer before pool.new.items registry.old
+            registry.new) }
     {
         if !needs_power(line) {
             return self.without_power(alloc, line, bench, map, steps);
@@ -168,11 +179,13 @@ impl<K: Backend> Session<K> {
             (meanings K.contents K.room K.chance K.tears) K.damage map.now line.now answer d e) }
         ensures undamaged { let d = B.device bench.old in let e = B.device bench.new in
             damage_in K.damage map.now d ≡ None → damage_in K.damage map.now e ≡ None }
-        ensures rests { let d = B.device bench.old in
+        ensures rests { let d = B.device bench.old in let e = B.device bench.new in
             line.now ≡ Mount → IsAtRest K.rests map.now d
-            → IfOk result (λ answer. answer ≡ Done 0) }
+            → IfOk result (λ answer. DoesNothing answer d e) }
         ensures stops { let d = B.device bench.old in let e = B.device bench.new in
-            IfErr result (λ fault. LineStops K.damage map.now line.now d e fault) }
+            IfErr result
+            (λ fault. LineStops (meanings K.contents K.room K.chance K.tears) K.damage map.now
+            line.now d e fault) }
         ensures ready { let e = B.device bench.new in
             OnOk result
             (IsReady K.mounted_on K.stands K.runs map.now e self.new.selector self.new.active
@@ -201,10 +214,12 @@ impl<K: Backend> Session<K> {
             (meanings K.contents K.room K.chance K.tears) K.damage map.now Mount answer d e) }
         ensures undamaged { let d = B.device bench.old in let e = B.device bench.new in
             damage_in K.damage map.now d ≡ None → damage_in K.damage map.now e ≡ None }
-        ensures rests { let d = B.device bench.old in
-            IsAtRest K.rests map.now d → IfOk result (λ answer. answer ≡ Done 0) }
+        ensures rests { let d = B.device bench.old in let e = B.device bench.new in
+            IsAtRest K.rests map.now d → IfOk result (λ answer. DoesNothing answer d e) }
         ensures stops { let d = B.device bench.old in let e = B.device bench.new in
-            IfErr result (λ fault. LineStops K.damage map.now Mount d e fault) }
+            IfErr result
+            (λ fault. LineStops (meanings K.contents K.room K.chance K.tears) K.damage map.now
+            Mount d e fault) }
         ensures ready { let e = B.device bench.new in
             OnOk result
             (IsReady K.mounted_on K.stands K.runs map.now e self.new.selector self.new.active
@@ -239,7 +254,9 @@ impl<K: Backend> Session<K> {
         ensures undamaged { let d = B.device bench.old in let e = B.device bench.new in
             damage_in K.damage map.now d ≡ None → damage_in K.damage map.now e ≡ None }
         ensures stops { let d = B.device bench.old in let e = B.device bench.new in
-            IfErr result (λ fault. LineStops K.damage map.now Migrate d e fault) }
+            IfErr result
+            (λ fault. LineStops (meanings K.contents K.room K.chance K.tears) K.damage map.now
+            Migrate d e fault) }
         ensures ready { let e = B.device bench.new in
             OnOk result
             (IsReady K.mounted_on K.stands K.runs map.now e self.new.selector self.new.active
@@ -289,13 +306,19 @@ impl<K: Backend> Session<K> {
         ensures undamaged { let d = B.device bench.old in let e = B.device bench.new in
             damage_in K.damage map.now d ≡ None → damage_in K.damage map.now e ≡ None }
         ensures stops { let d = B.device bench.old in let e = B.device bench.new in
-            IfErr result (λ fault. LineStops K.damage map.now line.now d e fault) }
+            IfErr result
+            (λ fault. LineStops (meanings K.contents K.room K.chance K.tears) K.damage map.now
+            line.now d e fault) }
         ensures ready { let e = B.device bench.new in
             OnOk result
             (IsReady K.mounted_on K.stands K.runs map.now e self.new.selector self.new.active
             self.new.settings) }
         ensures handlers { let hs = registered state registry.new in
             HandlersFit state (limit_of map.now) hs pool.new.items }
+        ensures moves { let before = pool.old.items in
+            IfOk result
+            (λ answer. MovesHandlers state line.now answer before pool.new.items registry.old
+            registry.new) }
     {
         match &mut self.settings {
             Some(settings) => {
@@ -360,6 +383,10 @@ fn with_power<K: Backend, B: Bench, L: Ledger>(
         StaysOnArea K.mounted_on K.stands K.runs e area.now settings.new.backend }
     ensures handlers { let hs = registered state registry.new in
         HandlersFit state (limit_of map.now) hs pool.new.items }
+    ensures moves { let before = pool.old.items in
+        IfOk result
+        (λ answer. MovesHandlers state line.now answer before pool.new.items registry.old
+        registry.new) }
 {
     match line {
         Line::Set { name, value } => Ok(set_setting(

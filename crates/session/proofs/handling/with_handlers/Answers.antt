@@ -1,5 +1,5 @@
 -- each line by its own call
-use Rattle.std.proofs.Common.{◌≡◌, ℕ, ap, subst, sym, ◌∙◌}
+use Rattle.std.proofs.Common.{◌≡◌, ℕ, refl, ap, subst, sym, ◌∙◌}
 use Rattle.std.specs.Prelude.{IfOk}
 use Rattle.flash_map.specs.declared.area.Area.{Area}
 use Rattle.flash_map.specs.Area.{geometry_of, sectors_of, value_limit}
@@ -8,13 +8,14 @@ use Rattle.flash_map.specs.On.{on}
 use Rattle.backend_api.specs.Map.{IsSettings}
 use Rattle.handlers.specs.Registry.{registered}
 use Rattle.script_lines.specs.declared.line.Line.{Line}
-use Rattle.script_lines.specs.declared.line.Line.TheVariants.{Register, Load, RunSet, RunGet}
+use Rattle.script_lines.specs.declared.line.Line.TheVariants.{Register, Load, Save, Commit, RunSet, RunGet}
 use Rattle.session_table.specs.Bench.{state_of}
 use Rattle.session_table.specs.State.{State}
 use Rattle.session_table.specs.Step.{Registers, Loads, Offers, Asks}
-use Rattle.session.specs.Handling.{beside}
+use Rattle.session.specs.Handling.{MovesHandlers, beside}
 use Rattle.session.specs.OnMap.{DoneWithin, active_area, kinds, limit_of, meanings, moment, takes_memory, IsServed}
 use Rattle.session.proofs.ActiveArea.{active-lawful, active-limit}
+use Rattle.session.proofs.MovesLemmas.{moves_as, moves_one}
 use Rattle.session.proofs.ReadyLemmas.{never_changed}
 use Rattle.session.proofs.HandlerLemmas.{if-ok, registers, loads, commits, offers, asks}
 use Rattle.session.proofs.handling.with_handlers.Goals as goal
@@ -48,6 +49,7 @@ returns-in-Register g c = record {
   };
   stops = never_changed c.args.line.now (g.B.Flash.device c.args.bench.now) c.register_handler.result (ap takes_memory c.in-Register.is);
   sound = λ none. none;
+  moves = subst (λ (line : Line). IfOk c.register_handler.result (λ answer. MovesHandlers (λ b. (goal.Handler-dyn g (b.vtable, b.value)).state b.value) line answer c.args.pool.now.items c.register_handler.new.pool.items c.args.registry.now c.register_handler.new.registry)) (sym c.in-Register.is) c.register_handler.ensures.moves;
 }
 
 pub returns-in-Load : goal.returns-in-Load
@@ -85,6 +87,7 @@ returns-in-Load g c =
       };
       stops = never_changed c.args.line.now (g.B.Flash.device c.args.bench.now) c.load_settings.result (ap takes_memory c.in-Load.is);
       sound = λ none. none;
+      moves = moves_as (λ b. (goal.Handler-dyn g (b.vtable, b.value)).state b.value) c.args.pool.now.items c.args.registry.now c.load_settings.new.registry c.args.line.now (Load c.in-Load.subtree) c.load_settings.result c.in-Load.is (λ answer. refl);
     }
 
 pub returns-in-Save : goal.returns-in-Save
@@ -99,6 +102,7 @@ returns-in-Save g c = record {
   stays = c.save_settings.ensures.stays;
   sound = λ none. c.save_settings.ensures.sound;
   stops = tt;
+  moves = moves_one (λ b. (goal.Handler-dyn g (b.vtable, b.value)).state b.value) c.args.pool.now.items c.args.registry.now c.args.registry.now c.args.line.now (Save c.in-Save.subtree) c.save_settings.result c.in-Save.is refl;
 }
 
 pub returns-in-Commit : goal.returns-in-Commit
@@ -118,6 +122,7 @@ returns-in-Commit g c = record {
   };
   sound = λ none. none;
   stops = tt;
+  moves = moves_one (λ b. (goal.Handler-dyn g (b.vtable, b.value)).state b.value) c.args.pool.now.items c.args.registry.now c.commit_handlers.new.registry c.args.line.now Commit c.commit_handlers.result c.in-Commit.is refl;
 }
 
 pub returns-in-RunSet : goal.returns-in-RunSet
@@ -139,6 +144,7 @@ returns-in-RunSet g c = record {
   };
   stops = never_changed c.args.line.now (g.B.Flash.device c.args.bench.now) c.offer_value.result (ap takes_memory c.in-RunSet.is);
   sound = λ none. none;
+  moves = moves_as (λ b. (goal.Handler-dyn g (b.vtable, b.value)).state b.value) c.args.pool.now.items c.args.registry.now c.offer_value.new.registry c.args.line.now (RunSet c.in-RunSet.name c.in-RunSet.value) c.offer_value.result c.in-RunSet.is (λ answer. refl);
 }
 
 pub returns-in-RunGet : goal.returns-in-RunGet
@@ -159,6 +165,7 @@ returns-in-RunGet g c = record {
   };
   stops = never_changed c.args.line.now (g.B.Flash.device c.args.bench.now) c.ask_handler.result (ap takes_memory c.in-RunGet.is);
   sound = λ none. none;
+  moves = moves_as (λ b. (goal.Handler-dyn g (b.vtable, b.value)).state b.value) c.args.pool.now.items c.args.registry.now c.args.registry.now c.args.line.now (RunGet c.in-RunGet.name) c.ask_handler.result c.in-RunGet.is (λ answer. refl);
 }
 
 pub register_handler-requires : goal.register_handler-requires

@@ -20,7 +20,7 @@ returns-in-Err g c =
     let lost = ap map_lost c.in-Err.is in
     record {
       touches = stopped_touches g.K.Backend.serves areas d mid (map_lost c.mount_selector.result) c.requires.map (g.met.F.Flash.is_lawful c.args.flash.now) (g.met.F.Flash.is_lawful c.mount_selector.new.flash) c.mount_selector.ensures.touches c.mount_selector.ensures.idle g.K.Backend.mounted_on g.K.Backend.stands g.K.Backend.runs g.K.Backend.damage g.K.Backend.contents c.in-Err.fault lost;
-      ends = stopped_ends g.K.Backend.serves areas d mid (map_lost c.mount_selector.result) c.requires.map (g.met.F.Flash.is_lawful c.args.flash.now) (g.met.F.Flash.is_lawful c.mount_selector.new.flash) c.mount_selector.ensures.touches c.mount_selector.ensures.idle g.K.Backend.mounted_on g.K.Backend.stands g.K.Backend.runs g.K.Backend.damage g.K.Backend.contents c.in-Err.fault lost c.requires.on c.in-Err.ensures.active c.in-Err.ensures.ends;
+      ends = stopped_ends g.K.Backend.serves areas d mid (map_lost c.mount_selector.result) c.requires.map (g.met.F.Flash.is_lawful c.args.flash.now) (g.met.F.Flash.is_lawful c.mount_selector.new.flash) c.mount_selector.ensures.touches c.mount_selector.ensures.idle g.K.Backend.mounted_on g.K.Backend.stands g.K.Backend.runs g.K.Backend.damage g.K.Backend.contents c.in-Err.fault lost c.requires.on c.in-Err.ensures.sound c.in-Err.ensures.active c.in-Err.ensures.ends;
       sound = stopped_sound g.K.Backend.serves areas d mid (map_lost c.mount_selector.result) c.requires.map (g.met.F.Flash.is_lawful c.args.flash.now) (g.met.F.Flash.is_lawful c.mount_selector.new.flash) c.mount_selector.ensures.touches c.mount_selector.ensures.idle g.K.Backend.mounted_on g.K.Backend.stands g.K.Backend.runs g.K.Backend.damage g.K.Backend.contents c.in-Err.ensures.sound c.in-Err.ensures.active;
       rests = λ rest. c.in-Err.ensures.idle rest.selector;
       at_most = stopped_most areas d mid c.mount_selector.ensures.at_most;

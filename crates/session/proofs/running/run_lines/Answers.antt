@@ -9,59 +9,63 @@ use Rattle.script_lines.specs.declared.line.Line.TheVariants.{Mount}
 use Rattle.session.proofs.running.run_lines.Goals as goal
 
 pub returns-in-Err-clause-ends : goal.returns-in-Err-clause-ends
-returns-in-Err-clause-ends g c = stops_first (meanings g.K.Backend.contents g.K.Backend.room g.K.Backend.chance g.K.Backend.tears) g.K.Backend.damage c.args.map.now c.args.lines.now (moment (g.B.Flash.device c.args.bench.now) (registered (λ b. (goal.Handler-dyn g (b.vtable, b.value)).state b.value) c.args.registry.now) (kinds (λ b. (goal.Handler-dyn g (b.vtable, b.value)).state b.value) c.args.pool.items)) (g.B.Flash.device c.open-opened.new.bench) (registered (λ b. (goal.Handler-dyn g (b.vtable, b.value)).state b.value) c.args.registry.now) c.in-Err.fault c.in-Err.ensures.stops
+returns-in-Err-clause-ends g c = stops_first (meanings g.K.Backend.contents g.K.Backend.room g.K.Backend.chance g.K.Backend.tears) g.K.Backend.damage g.K.Backend.rests c.args.map.now c.args.lines.now (moment (g.B.Flash.device c.args.bench.now) (registered (λ b. (goal.Handler-dyn g (b.vtable, b.value)).state b.value) c.args.registry.now) (kinds (λ b. (goal.Handler-dyn g (b.vtable, b.value)).state b.value) c.args.pool.items)) (g.B.Flash.device c.open-opened.new.bench) (registered (λ b. (goal.Handler-dyn g (b.vtable, b.value)).state b.value) c.args.registry.now) c.in-Err.fault c.in-Err.ensures.stops
 
 pub returns-in-Err-clause-serves : goal.returns-in-Err-clause-serves
-returns-in-Err-clause-serves g c = λ none. no_damage g.K.Backend.damage c.args.map.now Mount (g.B.Flash.device c.args.bench.now) (g.B.Flash.device c.open-opened.new.bench) c.in-Err.fault none c.in-Err.ensures.stops
+returns-in-Err-clause-serves g c = λ none. no_damage (meanings g.K.Backend.contents g.K.Backend.room g.K.Backend.chance g.K.Backend.tears) g.K.Backend.damage c.args.map.now Mount (g.B.Flash.device c.args.bench.now) (g.B.Flash.device c.open-opened.new.bench) c.in-Err.fault none c.in-Err.ensures.stops
 
 pub returns-in-Err-push-clause-ends : goal.returns-in-Err-push-clause-ends
 returns-in-Err-push-clause-ends g c =
-    let here = opened (meanings g.K.Backend.contents g.K.Backend.room g.K.Backend.chance g.K.Backend.tears) g.K.Backend.damage c.args.map.now c.args.lines.now c.in-Ok.opened.1 (moment (g.B.Flash.device c.args.bench.now) (registered (λ b. (goal.Handler-dyn g (b.vtable, b.value)).state b.value) c.args.registry.now) (kinds (λ b. (goal.Handler-dyn g (b.vtable, b.value)).state b.value) c.args.pool.items)) (moment (g.B.Flash.device c.open-opened.new.bench) (registered (λ b. (goal.Handler-dyn g (b.vtable, b.value)).state b.value) c.args.registry.now) (kinds (λ b. (goal.Handler-dyn g (b.vtable, b.value)).state b.value) c.args.pool.items)) (c.in-Ok.ensures.done (registered (λ b. (goal.Handler-dyn g (b.vtable, b.value)).state b.value) c.args.registry.now) (kinds (λ b. (goal.Handler-dyn g (b.vtable, b.value)).state b.value) c.args.pool.items)) in
-    stops_behind (meanings g.K.Backend.contents g.K.Backend.room g.K.Backend.chance g.K.Backend.tears) g.K.Backend.damage c.args.map.now c.args.lines.now 0 ([] ++ c.in-Ok.opened.1 ∷ []) (moment (g.B.Flash.device c.args.bench.now) (registered (λ b. (goal.Handler-dyn g (b.vtable, b.value)).state b.value) c.args.registry.now) (kinds (λ b. (goal.Handler-dyn g (b.vtable, b.value)).state b.value) c.args.pool.items)) (moment (g.B.Flash.device c.open-opened.new.bench) (registered (λ b. (goal.Handler-dyn g (b.vtable, b.value)).state b.value) c.args.registry.now) (kinds (λ b. (goal.Handler-dyn g (b.vtable, b.value)).state b.value) c.args.pool.items)) (registered (λ b. (goal.Handler-dyn g (b.vtable, b.value)).state b.value) c.args.registry.now) here
+    let rests_behind = ready_rests g.K.Backend.mounted_on g.K.Backend.stands g.K.Backend.runs g.K.Backend.rests g.met.K.Backend.stands_rests c.args.map.now (g.B.Flash.device c.open-opened.new.bench) c.in-Ok.opened.0.selector c.in-Ok.opened.0.active c.in-Ok.opened.0.settings c.in-Ok.ensures.ready in
+    let here = opened (meanings g.K.Backend.contents g.K.Backend.room g.K.Backend.chance g.K.Backend.tears) g.K.Backend.damage g.K.Backend.rests c.args.map.now c.args.lines.now c.in-Ok.opened.1 (moment (g.B.Flash.device c.args.bench.now) (registered (λ b. (goal.Handler-dyn g (b.vtable, b.value)).state b.value) c.args.registry.now) (kinds (λ b. (goal.Handler-dyn g (b.vtable, b.value)).state b.value) c.args.pool.items)) (moment (g.B.Flash.device c.open-opened.new.bench) (registered (λ b. (goal.Handler-dyn g (b.vtable, b.value)).state b.value) c.args.registry.now) (kinds (λ b. (goal.Handler-dyn g (b.vtable, b.value)).state b.value) c.args.pool.items)) (record { carried = c.in-Ok.ensures.done (registered (λ b. (goal.Handler-dyn g (b.vtable, b.value)).state b.value) c.args.registry.now) (kinds (λ b. (goal.Handler-dyn g (b.vtable, b.value)).state b.value) c.args.pool.items); idle = λ is rest. c.in-Ok.ensures.rests rest; at_rest = rests_behind }) in
+    stops_behind (meanings g.K.Backend.contents g.K.Backend.room g.K.Backend.chance g.K.Backend.tears) g.K.Backend.damage g.K.Backend.rests c.args.map.now c.args.lines.now 0 ([] ++ c.in-Ok.opened.1 ∷ []) (moment (g.B.Flash.device c.args.bench.now) (registered (λ b. (goal.Handler-dyn g (b.vtable, b.value)).state b.value) c.args.registry.now) (kinds (λ b. (goal.Handler-dyn g (b.vtable, b.value)).state b.value) c.args.pool.items)) (moment (g.B.Flash.device c.open-opened.new.bench) (registered (λ b. (goal.Handler-dyn g (b.vtable, b.value)).state b.value) c.args.registry.now) (kinds (λ b. (goal.Handler-dyn g (b.vtable, b.value)).state b.value) c.args.pool.items)) (registered (λ b. (goal.Handler-dyn g (b.vtable, b.value)).state b.value) c.args.registry.now) here
 
 pub loop-line-init : goal.loop-line-init
 loop-line-init g c =
+    let rests_behind = ready_rests g.K.Backend.mounted_on g.K.Backend.stands g.K.Backend.runs g.K.Backend.rests g.met.K.Backend.stands_rests c.args.map.now (g.B.Flash.device c.open-opened.new.bench) c.in-Ok.opened.0.selector c.in-Ok.opened.0.active c.in-Ok.opened.0.settings c.in-Ok.ensures.ready in
     let done = c.in-Ok.ensures.done (registered (λ b. (goal.Handler-dyn g (b.vtable, b.value)).state b.value) c.args.registry.now) (kinds (λ b. (goal.Handler-dyn g (b.vtable, b.value)).state b.value) c.args.pool.items) in
-    let here = opened (meanings g.K.Backend.contents g.K.Backend.room g.K.Backend.chance g.K.Backend.tears) g.K.Backend.damage c.args.map.now c.args.lines.now c.in-Ok.opened.1 (moment (g.B.Flash.device c.args.bench.now) (registered (λ b. (goal.Handler-dyn g (b.vtable, b.value)).state b.value) c.args.registry.now) (kinds (λ b. (goal.Handler-dyn g (b.vtable, b.value)).state b.value) c.args.pool.items)) (moment (g.B.Flash.device c.open-opened.new.bench) (registered (λ b. (goal.Handler-dyn g (b.vtable, b.value)).state b.value) c.args.registry.now) (kinds (λ b. (goal.Handler-dyn g (b.vtable, b.value)).state b.value) c.args.pool.items)) done in
+    let here = opened (meanings g.K.Backend.contents g.K.Backend.room g.K.Backend.chance g.K.Backend.tears) g.K.Backend.damage g.K.Backend.rests c.args.map.now c.args.lines.now c.in-Ok.opened.1 (moment (g.B.Flash.device c.args.bench.now) (registered (λ b. (goal.Handler-dyn g (b.vtable, b.value)).state b.value) c.args.registry.now) (kinds (λ b. (goal.Handler-dyn g (b.vtable, b.value)).state b.value) c.args.pool.items)) (moment (g.B.Flash.device c.open-opened.new.bench) (registered (λ b. (goal.Handler-dyn g (b.vtable, b.value)).state b.value) c.args.registry.now) (kinds (λ b. (goal.Handler-dyn g (b.vtable, b.value)).state b.value) c.args.pool.items)) (record { carried = done; idle = λ is rest. c.in-Ok.ensures.rests rest; at_rest = rests_behind }) in
     (rw (c.in-Ok-push.ensures.ok, c.new-answers.ensures) here, done.done.keeps.banks, c.in-Ok.ensures.ready, c.requires.pool, c.requires.registry)
 
 pub returns-in-Err-carry_out-clause-ends : goal.returns-in-Err-carry_out-clause-ends
 returns-in-Err-carry_out-clause-ends g c =
-    stops_at (meanings g.K.Backend.contents g.K.Backend.room g.K.Backend.chance g.K.Backend.tears) g.K.Backend.damage c.args.map.now c.args.lines.now c.loop-line.line-index c.line-item.result c.loop-line.answers (moment (g.B.Flash.device c.args.bench.now) (registered (λ b. (goal.Handler-dyn g (b.vtable, b.value)).state b.value) c.args.registry.now) (kinds (λ b. (goal.Handler-dyn g (b.vtable, b.value)).state b.value) c.args.pool.items)) (moment (g.B.Flash.device c.loop-line.bench) (registered (λ b. (goal.Handler-dyn g (b.vtable, b.value)).state b.value) c.loop-line.registry) (kinds (λ b. (goal.Handler-dyn g (b.vtable, b.value)).state b.value) c.loop-line.pool.items)) (g.B.Flash.device c.carry_out.new.bench) (registered (λ b. (goal.Handler-dyn g (b.vtable, b.value)).state b.value) c.carry_out.new.registry) c.in-Err-carry_out.fault
+    stops_at (meanings g.K.Backend.contents g.K.Backend.room g.K.Backend.chance g.K.Backend.tears) g.K.Backend.damage g.K.Backend.rests c.args.map.now c.args.lines.now c.loop-line.line-index c.line-item.result c.loop-line.answers (moment (g.B.Flash.device c.args.bench.now) (registered (λ b. (goal.Handler-dyn g (b.vtable, b.value)).state b.value) c.args.registry.now) (kinds (λ b. (goal.Handler-dyn g (b.vtable, b.value)).state b.value) c.args.pool.items)) (moment (g.B.Flash.device c.loop-line.bench) (registered (λ b. (goal.Handler-dyn g (b.vtable, b.value)).state b.value) c.loop-line.registry) (kinds (λ b. (goal.Handler-dyn g (b.vtable, b.value)).state b.value) c.loop-line.pool.items)) (g.B.Flash.device c.carry_out.new.bench) (registered (λ b. (goal.Handler-dyn g (b.vtable, b.value)).state b.value) c.carry_out.new.registry) c.in-Err-carry_out.fault
     c.loop-line-test.true c.line-item.is c.loop-line.invariant.0 c.in-Err-carry_out.ensures.stops
 
 pub returns-in-Err-carry_out-clause-undamaged : goal.returns-in-Err-carry_out-clause-undamaged
-returns-in-Err-carry_out-clause-undamaged g c = λ was. c.carry_out.ensures.undamaged (undamaged (meanings g.K.Backend.contents g.K.Backend.room g.K.Backend.chance g.K.Backend.tears) g.K.Backend.damage c.args.map.now c.args.lines.now c.loop-line.line-index c.loop-line.answers (moment (g.B.Flash.device c.args.bench.now) (registered (λ b. (goal.Handler-dyn g (b.vtable, b.value)).state b.value) c.args.registry.now) (kinds (λ b. (goal.Handler-dyn g (b.vtable, b.value)).state b.value) c.args.pool.items)) (moment (g.B.Flash.device c.loop-line.bench) (registered (λ b. (goal.Handler-dyn g (b.vtable, b.value)).state b.value) c.loop-line.registry) (kinds (λ b. (goal.Handler-dyn g (b.vtable, b.value)).state b.value) c.loop-line.pool.items)) c.loop-line.invariant.0 was)
+returns-in-Err-carry_out-clause-undamaged g c = λ was. c.carry_out.ensures.undamaged (undamaged (meanings g.K.Backend.contents g.K.Backend.room g.K.Backend.chance g.K.Backend.tears) g.K.Backend.damage g.K.Backend.rests c.args.map.now c.args.lines.now c.loop-line.line-index c.loop-line.answers (moment (g.B.Flash.device c.args.bench.now) (registered (λ b. (goal.Handler-dyn g (b.vtable, b.value)).state b.value) c.args.registry.now) (kinds (λ b. (goal.Handler-dyn g (b.vtable, b.value)).state b.value) c.args.pool.items)) (moment (g.B.Flash.device c.loop-line.bench) (registered (λ b. (goal.Handler-dyn g (b.vtable, b.value)).state b.value) c.loop-line.registry) (kinds (λ b. (goal.Handler-dyn g (b.vtable, b.value)).state b.value) c.loop-line.pool.items)) c.loop-line.invariant.0 was)
 
 pub returns-in-Err-carry_out-clause-serves : goal.returns-in-Err-carry_out-clause-serves
 returns-in-Err-carry_out-clause-serves g c = λ was.
-    no_damage g.K.Backend.damage c.args.map.now c.line-item.result (g.B.Flash.device c.loop-line.bench) (g.B.Flash.device c.carry_out.new.bench) c.in-Err-carry_out.fault (undamaged (meanings g.K.Backend.contents g.K.Backend.room g.K.Backend.chance g.K.Backend.tears) g.K.Backend.damage c.args.map.now c.args.lines.now c.loop-line.line-index c.loop-line.answers (moment (g.B.Flash.device c.args.bench.now) (registered (λ b. (goal.Handler-dyn g (b.vtable, b.value)).state b.value) c.args.registry.now) (kinds (λ b. (goal.Handler-dyn g (b.vtable, b.value)).state b.value) c.args.pool.items)) (moment (g.B.Flash.device c.loop-line.bench) (registered (λ b. (goal.Handler-dyn g (b.vtable, b.value)).state b.value) c.loop-line.registry) (kinds (λ b. (goal.Handler-dyn g (b.vtable, b.value)).state b.value) c.loop-line.pool.items)) c.loop-line.invariant.0 was) c.in-Err-carry_out.ensures.stops
+    no_damage (meanings g.K.Backend.contents g.K.Backend.room g.K.Backend.chance g.K.Backend.tears) g.K.Backend.damage c.args.map.now c.line-item.result (g.B.Flash.device c.loop-line.bench) (g.B.Flash.device c.carry_out.new.bench) c.in-Err-carry_out.fault (undamaged (meanings g.K.Backend.contents g.K.Backend.room g.K.Backend.chance g.K.Backend.tears) g.K.Backend.damage g.K.Backend.rests c.args.map.now c.args.lines.now c.loop-line.line-index c.loop-line.answers (moment (g.B.Flash.device c.args.bench.now) (registered (λ b. (goal.Handler-dyn g (b.vtable, b.value)).state b.value) c.args.registry.now) (kinds (λ b. (goal.Handler-dyn g (b.vtable, b.value)).state b.value) c.args.pool.items)) (moment (g.B.Flash.device c.loop-line.bench) (registered (λ b. (goal.Handler-dyn g (b.vtable, b.value)).state b.value) c.loop-line.registry) (kinds (λ b. (goal.Handler-dyn g (b.vtable, b.value)).state b.value) c.loop-line.pool.items)) c.loop-line.invariant.0 was) c.in-Err-carry_out.ensures.stops
 
 pub returns-in-Err-push-2-clause-ends : goal.returns-in-Err-push-2-clause-ends
 returns-in-Err-push-2-clause-ends g c =
-    let here = one_more (meanings g.K.Backend.contents g.K.Backend.room g.K.Backend.chance g.K.Backend.tears) g.K.Backend.damage c.args.map.now c.args.lines.now c.loop-line.line-index c.line-item.result c.loop-line.answers c.in-Ok-carry_out.answer (moment (g.B.Flash.device c.args.bench.now) (registered (λ b. (goal.Handler-dyn g (b.vtable, b.value)).state b.value) c.args.registry.now) (kinds (λ b. (goal.Handler-dyn g (b.vtable, b.value)).state b.value) c.args.pool.items)) (moment (g.B.Flash.device c.loop-line.bench) (registered (λ b. (goal.Handler-dyn g (b.vtable, b.value)).state b.value) c.loop-line.registry) (kinds (λ b. (goal.Handler-dyn g (b.vtable, b.value)).state b.value) c.loop-line.pool.items)) (moment (g.B.Flash.device c.carry_out.new.bench) (registered (λ b. (goal.Handler-dyn g (b.vtable, b.value)).state b.value) c.carry_out.new.registry) (kinds (λ b. (goal.Handler-dyn g (b.vtable, b.value)).state b.value) c.carry_out.new.pool.items)) c.loop-line-test.true c.line-item.is c.loop-line.invariant.0 c.in-Ok-carry_out.ensures.done in
-    stops_behind (meanings g.K.Backend.contents g.K.Backend.room g.K.Backend.chance g.K.Backend.tears) g.K.Backend.damage c.args.map.now c.args.lines.now (c.loop-line.line-index + 1) (c.loop-line.answers ++ c.in-Ok-carry_out.answer ∷ []) (moment (g.B.Flash.device c.args.bench.now) (registered (λ b. (goal.Handler-dyn g (b.vtable, b.value)).state b.value) c.args.registry.now) (kinds (λ b. (goal.Handler-dyn g (b.vtable, b.value)).state b.value) c.args.pool.items)) (moment (g.B.Flash.device c.carry_out.new.bench) (registered (λ b. (goal.Handler-dyn g (b.vtable, b.value)).state b.value) c.carry_out.new.registry) (kinds (λ b. (goal.Handler-dyn g (b.vtable, b.value)).state b.value) c.carry_out.new.pool.items)) (registered (λ b. (goal.Handler-dyn g (b.vtable, b.value)).state b.value) c.carry_out.new.registry) here
+    let rests_behind = ready_rests g.K.Backend.mounted_on g.K.Backend.stands g.K.Backend.runs g.K.Backend.rests g.met.K.Backend.stands_rests c.args.map.now (g.B.Flash.device c.carry_out.new.bench) c.carry_out.new.self.selector c.carry_out.new.self.active c.carry_out.new.self.settings c.in-Ok-carry_out.ensures.ready in
+    let here = one_more (meanings g.K.Backend.contents g.K.Backend.room g.K.Backend.chance g.K.Backend.tears) g.K.Backend.damage g.K.Backend.rests c.args.map.now c.args.lines.now c.loop-line.line-index c.line-item.result c.loop-line.answers c.in-Ok-carry_out.answer (moment (g.B.Flash.device c.args.bench.now) (registered (λ b. (goal.Handler-dyn g (b.vtable, b.value)).state b.value) c.args.registry.now) (kinds (λ b. (goal.Handler-dyn g (b.vtable, b.value)).state b.value) c.args.pool.items)) (moment (g.B.Flash.device c.loop-line.bench) (registered (λ b. (goal.Handler-dyn g (b.vtable, b.value)).state b.value) c.loop-line.registry) (kinds (λ b. (goal.Handler-dyn g (b.vtable, b.value)).state b.value) c.loop-line.pool.items)) (moment (g.B.Flash.device c.carry_out.new.bench) (registered (λ b. (goal.Handler-dyn g (b.vtable, b.value)).state b.value) c.carry_out.new.registry) (kinds (λ b. (goal.Handler-dyn g (b.vtable, b.value)).state b.value) c.carry_out.new.pool.items)) c.loop-line-test.true c.line-item.is c.loop-line.invariant.0 (record { carried = c.in-Ok-carry_out.ensures.done; idle = c.in-Ok-carry_out.ensures.rests; at_rest = rests_behind }) in
+    stops_behind (meanings g.K.Backend.contents g.K.Backend.room g.K.Backend.chance g.K.Backend.tears) g.K.Backend.damage g.K.Backend.rests c.args.map.now c.args.lines.now (c.loop-line.line-index + 1) (c.loop-line.answers ++ c.in-Ok-carry_out.answer ∷ []) (moment (g.B.Flash.device c.args.bench.now) (registered (λ b. (goal.Handler-dyn g (b.vtable, b.value)).state b.value) c.args.registry.now) (kinds (λ b. (goal.Handler-dyn g (b.vtable, b.value)).state b.value) c.args.pool.items)) (moment (g.B.Flash.device c.carry_out.new.bench) (registered (λ b. (goal.Handler-dyn g (b.vtable, b.value)).state b.value) c.carry_out.new.registry) (kinds (λ b. (goal.Handler-dyn g (b.vtable, b.value)).state b.value) c.carry_out.new.pool.items)) (registered (λ b. (goal.Handler-dyn g (b.vtable, b.value)).state b.value) c.carry_out.new.registry) here
 
 pub returns-in-Err-push-2-clause-undamaged : goal.returns-in-Err-push-2-clause-undamaged
-returns-in-Err-push-2-clause-undamaged g c = λ was. c.carry_out.ensures.undamaged (undamaged (meanings g.K.Backend.contents g.K.Backend.room g.K.Backend.chance g.K.Backend.tears) g.K.Backend.damage c.args.map.now c.args.lines.now c.loop-line.line-index c.loop-line.answers (moment (g.B.Flash.device c.args.bench.now) (registered (λ b. (goal.Handler-dyn g (b.vtable, b.value)).state b.value) c.args.registry.now) (kinds (λ b. (goal.Handler-dyn g (b.vtable, b.value)).state b.value) c.args.pool.items)) (moment (g.B.Flash.device c.loop-line.bench) (registered (λ b. (goal.Handler-dyn g (b.vtable, b.value)).state b.value) c.loop-line.registry) (kinds (λ b. (goal.Handler-dyn g (b.vtable, b.value)).state b.value) c.loop-line.pool.items)) c.loop-line.invariant.0 was)
+returns-in-Err-push-2-clause-undamaged g c = λ was. c.carry_out.ensures.undamaged (undamaged (meanings g.K.Backend.contents g.K.Backend.room g.K.Backend.chance g.K.Backend.tears) g.K.Backend.damage g.K.Backend.rests c.args.map.now c.args.lines.now c.loop-line.line-index c.loop-line.answers (moment (g.B.Flash.device c.args.bench.now) (registered (λ b. (goal.Handler-dyn g (b.vtable, b.value)).state b.value) c.args.registry.now) (kinds (λ b. (goal.Handler-dyn g (b.vtable, b.value)).state b.value) c.args.pool.items)) (moment (g.B.Flash.device c.loop-line.bench) (registered (λ b. (goal.Handler-dyn g (b.vtable, b.value)).state b.value) c.loop-line.registry) (kinds (λ b. (goal.Handler-dyn g (b.vtable, b.value)).state b.value) c.loop-line.pool.items)) c.loop-line.invariant.0 was)
 
 pub loop-line-preserved : goal.loop-line-preserved
 loop-line-preserved g c =
+    let rests_behind = ready_rests g.K.Backend.mounted_on g.K.Backend.stands g.K.Backend.runs g.K.Backend.rests g.met.K.Backend.stands_rests c.args.map.now (g.B.Flash.device c.carry_out.new.bench) c.carry_out.new.self.selector c.carry_out.new.self.active c.carry_out.new.self.settings c.in-Ok-carry_out.ensures.ready in
     let done = c.in-Ok-carry_out.ensures.done in
-    let here = one_more (meanings g.K.Backend.contents g.K.Backend.room g.K.Backend.chance g.K.Backend.tears) g.K.Backend.damage c.args.map.now c.args.lines.now c.loop-line.line-index c.line-item.result c.loop-line.answers c.in-Ok-carry_out.answer (moment (g.B.Flash.device c.args.bench.now) (registered (λ b. (goal.Handler-dyn g (b.vtable, b.value)).state b.value) c.args.registry.now) (kinds (λ b. (goal.Handler-dyn g (b.vtable, b.value)).state b.value) c.args.pool.items)) (moment (g.B.Flash.device c.loop-line.bench) (registered (λ b. (goal.Handler-dyn g (b.vtable, b.value)).state b.value) c.loop-line.registry) (kinds (λ b. (goal.Handler-dyn g (b.vtable, b.value)).state b.value) c.loop-line.pool.items)) (moment (g.B.Flash.device c.carry_out.new.bench) (registered (λ b. (goal.Handler-dyn g (b.vtable, b.value)).state b.value) c.carry_out.new.registry) (kinds (λ b. (goal.Handler-dyn g (b.vtable, b.value)).state b.value) c.carry_out.new.pool.items)) c.loop-line-test.true c.line-item.is c.loop-line.invariant.0 done in
+    let here = one_more (meanings g.K.Backend.contents g.K.Backend.room g.K.Backend.chance g.K.Backend.tears) g.K.Backend.damage g.K.Backend.rests c.args.map.now c.args.lines.now c.loop-line.line-index c.line-item.result c.loop-line.answers c.in-Ok-carry_out.answer (moment (g.B.Flash.device c.args.bench.now) (registered (λ b. (goal.Handler-dyn g (b.vtable, b.value)).state b.value) c.args.registry.now) (kinds (λ b. (goal.Handler-dyn g (b.vtable, b.value)).state b.value) c.args.pool.items)) (moment (g.B.Flash.device c.loop-line.bench) (registered (λ b. (goal.Handler-dyn g (b.vtable, b.value)).state b.value) c.loop-line.registry) (kinds (λ b. (goal.Handler-dyn g (b.vtable, b.value)).state b.value) c.loop-line.pool.items)) (moment (g.B.Flash.device c.carry_out.new.bench) (registered (λ b. (goal.Handler-dyn g (b.vtable, b.value)).state b.value) c.carry_out.new.registry) (kinds (λ b. (goal.Handler-dyn g (b.vtable, b.value)).state b.value) c.carry_out.new.pool.items)) c.loop-line-test.true c.line-item.is c.loop-line.invariant.0 (record { carried = done; idle = c.in-Ok-carry_out.ensures.rests; at_rest = rests_behind }) in
     (rw (c.in-Ok-push-2.ensures.ok) here, done.done.keeps.banks ∙ c.loop-line.invariant.1, c.in-Ok-carry_out.ensures.ready, c.carry_out.ensures.handlers.pool, c.carry_out.ensures.handlers.registry)
 
 pub returns-clause-ends : goal.returns-clause-ends
 returns-clause-ends g c =
     let all : length c.args.lines.now ≤ c.loop-line.line-index = omega (arith, c.loop-line-test.false) in
-    ran (meanings g.K.Backend.contents g.K.Backend.room g.K.Backend.chance g.K.Backend.tears) g.K.Backend.damage c.args.map.now c.args.lines.now c.loop-line.line-index c.loop-line.answers (moment (g.B.Flash.device c.args.bench.now) (registered (λ b. (goal.Handler-dyn g (b.vtable, b.value)).state b.value) c.args.registry.now) (kinds (λ b. (goal.Handler-dyn g (b.vtable, b.value)).state b.value) c.args.pool.items)) (g.B.Flash.device c.loop-line.bench) (registered (λ b. (goal.Handler-dyn g (b.vtable, b.value)).state b.value) c.loop-line.registry) (kinds (λ b. (goal.Handler-dyn g (b.vtable, b.value)).state b.value) c.loop-line.pool.items) all c.loop-line.invariant.0
+    ran (meanings g.K.Backend.contents g.K.Backend.room g.K.Backend.chance g.K.Backend.tears) g.K.Backend.damage g.K.Backend.rests c.args.map.now c.args.lines.now c.loop-line.line-index c.loop-line.answers (moment (g.B.Flash.device c.args.bench.now) (registered (λ b. (goal.Handler-dyn g (b.vtable, b.value)).state b.value) c.args.registry.now) (kinds (λ b. (goal.Handler-dyn g (b.vtable, b.value)).state b.value) c.args.pool.items)) (g.B.Flash.device c.loop-line.bench) (registered (λ b. (goal.Handler-dyn g (b.vtable, b.value)).state b.value) c.loop-line.registry) (kinds (λ b. (goal.Handler-dyn g (b.vtable, b.value)).state b.value) c.loop-line.pool.items) all c.loop-line.invariant.0
 
 pub returns-clause-texts : goal.returns-clause-texts
 returns-clause-texts g c labels =
-    can_report_all (meanings g.K.Backend.contents g.K.Backend.room g.K.Backend.chance g.K.Backend.tears) g.K.Backend.damage c.args.map.now c.requires.map.some labels (Mount ∷ c.args.lines.now) c.loop-line.answers _ _ (returns-clause-ends g c).1.in_turn
+    can_report_all (meanings g.K.Backend.contents g.K.Backend.room g.K.Backend.chance g.K.Backend.tears) g.K.Backend.damage g.K.Backend.rests c.args.map.now c.requires.map.some labels (Mount ∷ c.args.lines.now) c.loop-line.answers _ _ (returns-clause-ends g c).1.in_turn
 
 pub returns-clause-undamaged : goal.returns-clause-undamaged
-returns-clause-undamaged g c = λ was. undamaged (meanings g.K.Backend.contents g.K.Backend.room g.K.Backend.chance g.K.Backend.tears) g.K.Backend.damage c.args.map.now c.args.lines.now c.loop-line.line-index c.loop-line.answers (moment (g.B.Flash.device c.args.bench.now) (registered (λ b. (goal.Handler-dyn g (b.vtable, b.value)).state b.value) c.args.registry.now) (kinds (λ b. (goal.Handler-dyn g (b.vtable, b.value)).state b.value) c.args.pool.items)) (moment (g.B.Flash.device c.loop-line.bench) (registered (λ b. (goal.Handler-dyn g (b.vtable, b.value)).state b.value) c.loop-line.registry) (kinds (λ b. (goal.Handler-dyn g (b.vtable, b.value)).state b.value) c.loop-line.pool.items)) c.loop-line.invariant.0 was
+returns-clause-undamaged g c = λ was. undamaged (meanings g.K.Backend.contents g.K.Backend.room g.K.Backend.chance g.K.Backend.tears) g.K.Backend.damage g.K.Backend.rests c.args.map.now c.args.lines.now c.loop-line.line-index c.loop-line.answers (moment (g.B.Flash.device c.args.bench.now) (registered (λ b. (goal.Handler-dyn g (b.vtable, b.value)).state b.value) c.args.registry.now) (kinds (λ b. (goal.Handler-dyn g (b.vtable, b.value)).state b.value) c.args.pool.items)) (moment (g.B.Flash.device c.loop-line.bench) (registered (λ b. (goal.Handler-dyn g (b.vtable, b.value)).state b.value) c.loop-line.registry) (kinds (λ b. (goal.Handler-dyn g (b.vtable, b.value)).state b.value) c.loop-line.pool.items)) c.loop-line.invariant.0 was
 
 pub returns-clause-rests : goal.returns-clause-rests
 returns-clause-rests g c = ready_rests g.K.Backend.mounted_on g.K.Backend.stands g.K.Backend.runs g.K.Backend.rests g.met.K.Backend.stands_rests c.args.map.now (g.B.Flash.device c.loop-line.bench) c.loop-line.session.selector c.loop-line.session.active c.loop-line.session.settings c.loop-line.invariant.2

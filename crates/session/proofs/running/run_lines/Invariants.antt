@@ -9,7 +9,7 @@ abbrev pub invariant-loop-line : goal.invariant-loop-line
 invariant-loop-line g l =
     let first = g.B.Flash.device l.fn.bench in
     let now = g.B.Flash.device l.bench in
-    RanTo (meanings g.K.Backend.contents g.K.Backend.room g.K.Backend.chance g.K.Backend.tears) g.K.Backend.damage l.map l.lines l.line-index l.answers
+    RanTo (meanings g.K.Backend.contents g.K.Backend.room g.K.Backend.chance g.K.Backend.tears) g.K.Backend.damage g.K.Backend.rests l.map l.lines l.line-index l.answers
     (moment first (registered (λ b. (goal.Handler-dyn g (b.vtable, b.value)).state b.value) l.fn.registry) (kinds (λ b. (goal.Handler-dyn g (b.vtable, b.value)).state b.value) l.fn.pool.items)) (moment now (registered (λ b. (goal.Handler-dyn g (b.vtable, b.value)).state b.value) l.registry) (kinds (λ b. (goal.Handler-dyn g (b.vtable, b.value)).state b.value) l.pool.items))
     × (now.banks ≡ first.banks)
     × IsReady g.K.Backend.mounted_on g.K.Backend.stands g.K.Backend.runs l.map now l.session.selector l.session.active l.session.settings

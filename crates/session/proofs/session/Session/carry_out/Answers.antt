@@ -3,6 +3,7 @@ use Rattle.script_lines.specs.declared.line.Line.TheVariants.{Migrate}
 use Rattle.script_lines.specs.declared.answer.Answer.TheVariants.{Off}
 use Rattle.session_table.specs.Step.{needs_power}
 use Rattle.session.specs.OnMap.{is_local, meanings}
+use Rattle.session.proofs.MovesLemmas.{moves_as, moves_off, moves_unpowered}
 use Rattle.session.proofs.QuietLemmas.{off}
 use Rattle.session.proofs.ReadyLemmas.{carried, carried_if, carried_if_beside, mount_needs_none, mount_not_local, not_local}
 use Rattle.session.proofs.session.Session.carry_out.Goals as goal
@@ -44,3 +45,20 @@ returns-then-not-is_on-clause-handlers g c = c.requires.handlers
 
 pub returns-else-is_local-clause-handlers : goal.returns-else-is_local-clause-handlers
 returns-else-is_local-clause-handlers g c = c.requires.handlers
+
+pub returns-then-not-needs_power-clause-moves : goal.returns-then-not-needs_power-clause-moves
+returns-then-not-needs_power-clause-moves g c =
+    let none : needs_power c.args.line.now ≡ false = search rules in
+    moves_unpowered (λ b. (goal.Handler-dyn g (b.vtable, b.value)).state b.value) c.args.pool.now.items c.args.registry.now c.args.registry.now c.args.line.now c.without_power.result none
+
+pub returns-then-not-is_on-clause-moves : goal.returns-then-not-is_on-clause-moves
+returns-then-not-is_on-clause-moves g c = moves_off (λ b. (goal.Handler-dyn g (b.vtable, b.value)).state b.value) c.args.line.now c.args.pool.now.items c.args.registry.now
+
+pub returns-then-is_local-clause-moves : goal.returns-then-is_local-clause-moves
+returns-then-is_local-clause-moves g c = c.on_active.ensures.moves
+
+pub returns-else-is_local-clause-moves : goal.returns-else-is_local-clause-moves
+returns-else-is_local-clause-moves g c =
+    let needs : needs_power c.args.line.now ≡ true = search rules in
+    let local : is_local c.args.line.now ≡ false = search rules in
+    moves_as (λ b. (goal.Handler-dyn g (b.vtable, b.value)).state b.value) c.args.pool.now.items c.args.registry.now c.args.registry.now c.args.line.now Migrate c.migrate.result (not_local c.args.line.now needs local) (λ answer. refl)

@@ -69,4 +69,7 @@ pub returns-in-Err-clause-handlers : goal.returns-in-Err-clause-handlers
 returns-in-Err-clause-handlers g c = c.in-Err.ensures.handlers
 
 pub returns-in-Err-clause-stops : goal.returns-in-Err-clause-stops
-returns-in-Err-clause-stops g c = stops_unchanged g.K.Backend.damage c.args.map.now c.args.line.now (g.B.Flash.device c.args.bench.now) (g.B.Flash.device c.with_power.new.bench) (Err NoMemory) c.requires.local c.requires.on refl c.in-Err.ensures.stops.takes c.in-Err.ensures.stops.same
+returns-in-Err-clause-stops g c = stops_unchanged (meanings g.K.Backend.contents g.K.Backend.room g.K.Backend.chance g.K.Backend.tears) g.K.Backend.damage c.args.map.now c.args.line.now (g.B.Flash.device c.args.bench.now) (g.B.Flash.device c.with_power.new.bench) (Err NoMemory) c.requires.local c.requires.on refl c.in-Err.ensures.stops.takes c.in-Err.ensures.stops.same
+
+pub returns-in-Ok-clause-moves : goal.returns-in-Ok-clause-moves
+returns-in-Ok-clause-moves g c = c.in-Ok.ensures.moves

@@ -1,6 +1,6 @@
 -- What holds of a board, and of settings on it, between two calls.
-use Rattle.std.specs.Prelude.{◌≡◌, ℕ, List, map, slice_get, Some, true}
-use Rattle.flash_sim.specs.Device.{Device}
+use Rattle.std.specs.Prelude.{◌≡◌, ℕ, List, map, slice_get, None, Some, true}
+use Rattle.flash_sim.specs.Device.{Device, Never}
 use Rattle.flash_sim.specs.declared.flash.Bank.{Bank}
 use Rattle.flash_map.specs.Area.{value_limit}
 use Rattle.flash_map.specs.Lawful.{IsLawfulFor}
@@ -24,6 +24,21 @@ image_on d areas =
       banks = d.banks;
       areas = map plain_area areas;
       bytes = d.bytes;
+    }
+
+-- a flash with the banks and bytes of this one that was loaded once: power is on, no loss is planned, and
+-- nothing is counted yet
+abbrev pub fresh : Device → Device
+fresh d =
+    record {
+      banks = d.banks;
+      bytes = d.bytes;
+      is_on = true;
+      losses = 0;
+      spent = 0;
+      loads = 1;
+      last_loss = None;
+      plan = Never;
     }
 
 -- The settings stand on their partition, unless power was lost, and what the handlers hold may be stored.

@@ -4,7 +4,7 @@ ghost use Rattle.std.specs.Option.{option_copied};
 ghost use Rattle.flash_sim.specs.SparseSim.{device_of};
 ghost use Rattle.image_file.specs.Spec.{IsSpec, ReadsSpec};
 ghost use Rattle.petaqwen.specs.Calls.{for_settings, labelled, partition};
-ghost use Rattle.petaqwen.specs.Ready.{AreServed, image_on};
+ghost use Rattle.petaqwen.specs.Ready.{AreServed, fresh, image_on};
 
 use flash_map::{Area, FlashMap, Role};
 use flash_sim::{Bench, Flash, SparseSim};
@@ -21,7 +21,8 @@ pub struct Board<F: Flash> {
 impl Board<SparseSim> {
     /// A simulated flash that the word describes, such as
     /// `bank=erasing/4/4096/4,area=nvs/settings/0/0/4`: units, sectors and their number, then
-    /// partitions by label, bank, first sector and number of sectors. All bytes are FF.
+    /// partitions by label, bank, first sector and number of sectors. All bytes are FF. Power is
+    /// on, no loss is planned, and nothing was spent yet.
     ///
     /// # Errors
     /// `BadSpec` with the first item that is refused, counted from 1; `NoMemory`.
@@ -29,6 +30,8 @@ impl Board<SparseSim> {
         ensures word { IfOk result
             (λ board. IsSpec word.now (image_on (device_of board.flash) board.map)) }
         ensures sound { IfOk result (λ board. AreServed (device_of board.flash).banks board.map) }
+        ensures fresh { IfOk result
+            (λ board. device_of board.flash ≡ fresh (device_of board.flash)) }
         ensures refused { IfErr result (λ fault. ReadsSpec word.now (Err fault)) }
     {
         let image = read_spec(alloc, word)?;

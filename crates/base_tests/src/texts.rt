@@ -33,6 +33,6 @@ const NUMBERS: [(&[u8], Option<u64>); 10] = [
 #[test]
 fn numbers_in_decimal(rt: HostRuntime) {
     for (word, number) in NUMBERS.iter() {
-        assert!(rt; read_number(rt.alloc(), word, 256) == Ok(*number));
+        assert!(rt; read_number(word, 256) == *number);
     }
 }

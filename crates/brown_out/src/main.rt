@@ -4,7 +4,7 @@
 
 ghost use Rattle.std.specs.Prelude.{◌≡◌, IfOk};
 ghost use Rattle.std.specs.FinMap.{empty};
-ghost use Rattle.flash_sim.specs.SparseSim.{device_of};
+ghost use Rattle.flash_sim.specs.Sim.{device_of};
 ghost use Rattle.handlers.specs.Held.{fresh};
 ghost use Rattle.handlers.specs.Registry.{registered};
 ghost use Rattle.handlers.specs.declared.handler.HandlerKind.TheVariants.{Table};

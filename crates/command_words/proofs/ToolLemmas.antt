@@ -1,8 +1,7 @@
 -- The words of `image_tool`, by its forms.
-use Rattle.std.proofs.Common.{◌≡◌, ◌∙◌, ◌⊎◌, inl, inr, MatchOption, IfOk, Result, Ok, Err, true, false, List, [], ◌∷◌, Option, Some, None, map, refl, sym, ap, ap₂, subst, codes}
+use Rattle.std.proofs.Common.{◌≡◌, ◌∙◌, ◌⊎◌, inl, inr, MatchOption, true, false, List, [], ◌∷◌, Option, Some, None, map, refl, sym, ap, ap₂, subst, codes}
 use Rattle.std.specs.Option.{option_map_or}
 use Rattle.std.specs.List.{list_all}
-use Rattle.std.specs.declared.alloc.AllocError.{AllocError}
 use Rattle.clap.specs.Walk.{Row, Text}
 use Rattle.clap.specs.Kinds.{IsAmong}
 use Rattle.clap.specs.declared.error.kind.ErrorKind.{ErrorKind}
@@ -216,7 +215,7 @@ command_no_help words c w = ap asks_for_help w.written ∙ named c
 -- ---- what a parse says of the words
 
 -- of a parse that did not fail, what it found
-reads_found : (a : App) (words : List Text) (m : ArgMatches) (found : Option Command) → a ≡ image_tool → list_all is_operand words ≡ true
+pub reads_found : (a : App) (words : List Text) (m : ArgMatches) (found : Option Command) → a ≡ image_tool → list_all is_operand words ≡ true
     → HasMatchesOf a words m → (is_simple_and_free a ≡ true → fault_of a words ≡ [])
     → FindsIn (subcommand_rows_of m) found → MatchOption found (IsNoCommand words) (IsCommand words)
 reads_found a words m found same all matches free is = go found is
@@ -228,13 +227,6 @@ reads_found a words m found same all matches free is = go found is
     go None none = λ c w. none c (subst (λ rows. IsFound rows c) (sym rows) (command_found words c w).1)
     go (Some c) is =
         found_is_command words c all (ap (λ app. fault_of app words) (sym same) ∙ free (ap is_simple_and_free same ∙ free_tool)) (subst (λ rows. IsFound rows c) rows is)
-
--- of a parse that did not fail, what is made of what it found
-pub reads_as : (a : App) (words : List Text) (m : ArgMatches) (read : Result (Option Command) AllocError) → a ≡ image_tool → list_all is_operand words ≡ true
-    → HasMatchesOf a words m → (is_simple_and_free a ≡ true → fault_of a words ≡ [])
-    → IfOk read (FindsIn (subcommand_rows_of m)) → IfOk read (λ found. MatchOption found (IsNoCommand words) (IsCommand words))
-reads_as a words m (Ok found) same all matches free is = reads_found a words m found same all matches free is
-reads_as a words m (Err fault) same all matches free is = tt
 
 -- a parse that failed, and not for want of memory
 pub reads_none : (a : App) (words : List Text) (kind : ErrorKind) → a ≡ image_tool → (is_simple_and_free a ≡ true → (kind ≡ OutOfMemory) ⊎ IsAmong kind (fault_of a words))

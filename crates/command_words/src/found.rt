@@ -1,5 +1,5 @@
 // The command that a parse found.
-ghost use Rattle.std.specs.Prelude.{◌≡◌, [], ◌∷◌, Some, IfOk, MatchOption, codes};
+ghost use Rattle.std.specs.Prelude.{◌≡◌, [], ◌∷◌, Some, MatchOption, codes};
 ghost use Rattle.clap.specs.Walk.{rows_of};
 ghost use Rattle.clap.specs.Words.{found_of, subcommand_rows_of};
 ghost use Rattle.command_words.specs.Forms.{AreNoWords, AreWords, FindsIn, script_names, values_at};
@@ -7,7 +7,6 @@ ghost use Rattle.command_words.specs.Forms.{AreNoWords, AreWords, FindsIn, scrip
 use crate::commands::Command;
 use crate::operands::{line_count, store_kind};
 use clap::ArgMatches;
-use std::alloc::{AllocError, Global};
 
 // The image, the script and the output file of a command that runs a script on an image.
 fn script_operands<'a>(operands: &ArgMatches<'a>) -> Option<(&'a str, &'a str, &'a str)>
@@ -55,28 +54,15 @@ fn found_migrate<'a>(operands: &ArgMatches<'a>) -> Option<Command<'a>>
     })
 }
 
-fn found_gen<'a>(
-    alloc: Global,
-    operands: &ArgMatches<'a>,
-) -> Result<Option<Command<'a>>, AllocError>
-    ensures { IfOk result (FindsIn (Some (codes "gen", rows_of (found_of operands.now)))) }
+fn found_gen<'a>(operands: &ArgMatches<'a>) -> Option<Command<'a>>
+    ensures { FindsIn (Some (codes "gen", rows_of (found_of operands.now))) result }
 {
-    let Some(out) = operands.get_str("OUT") else {
-        return Ok(None);
-    };
-    let Some(backend) = operands.get_str("BACKEND") else {
-        return Ok(None);
-    };
-    let Some(n) = operands.get_str("N") else {
-        return Ok(None);
-    };
-    let Some(backend) = store_kind(backend) else {
-        return Ok(None);
-    };
-    let Some(n) = line_count(alloc, n)? else {
-        return Ok(None);
-    };
-    Ok(Some(Command::Gen { out, backend, n }))
+    let out = operands.get_str("OUT")?;
+    let store = operands.get_str("BACKEND")?;
+    let lines = operands.get_str("N")?;
+    let backend = store_kind(store)?;
+    let n = line_count(lines)?;
+    Some(Command::Gen { out, backend, n })
 }
 
 fn found_log<'a>(operands: &ArgMatches<'a>) -> Option<Command<'a>>
@@ -101,27 +87,19 @@ fn found_mirror<'a>(operands: &ArgMatches<'a>) -> Option<Command<'a>>
 }
 
 /// The command that a parse found, if it found one.
-///
-/// # Errors
-/// `AllocError`.
-pub fn found_command<'a>(
-    alloc: Global,
-    matches: &ArgMatches<'a>,
-) -> Result<Option<Command<'a>>, AllocError>
-    ensures { IfOk result (FindsIn (subcommand_rows_of matches.now)) }
+pub fn found_command<'a>(matches: &ArgMatches<'a>) -> Option<Command<'a>>
+    ensures { FindsIn (subcommand_rows_of matches.now) result }
 {
-    let Some((name, operands)) = matches.subcommand() else {
-        return Ok(None);
-    };
+    let (name, operands) = matches.subcommand()?;
     match name {
-        "build" => Ok(found_build(operands)),
-        "run" => Ok(found_run(operands)),
-        "dump" => Ok(found_dump(operands)),
-        "migrate" => Ok(found_migrate(operands)),
-        "gen" => found_gen(alloc, operands),
-        "log" => Ok(found_log(operands)),
-        "items" => Ok(found_items(operands)),
-        "mirror" => Ok(found_mirror(operands)),
-        _ => Ok(None),
+        "build" => found_build(operands),
+        "run" => found_run(operands),
+        "dump" => found_dump(operands),
+        "migrate" => found_migrate(operands),
+        "gen" => found_gen(operands),
+        "log" => found_log(operands),
+        "items" => found_items(operands),
+        "mirror" => found_mirror(operands),
+        _ => None,
     }
 }

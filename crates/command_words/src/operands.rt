@@ -1,10 +1,9 @@
 // Operands that are more than text: kinds of stores and numbers of lines.
-ghost use Rattle.std.specs.Prelude.{◌≡◌, IfOk, MatchOption};
+ghost use Rattle.std.specs.Prelude.{◌≡◌, MatchOption};
 ghost use Rattle.command_words.specs.Commands.{store_word};
 ghost use Rattle.command_words.specs.Operands.{IsLineCount, IsNoLineCount, IsNoStoreWord};
 
 use crate::commands::{MOST_LINES, StoreKind};
-use std::alloc::{AllocError, Global};
 use text_parts::read_number;
 
 // Numbers of lines are below this.
@@ -24,15 +23,11 @@ pub fn store_kind(word: &str) -> Option<StoreKind>
 
 /// Reads the word as a number of lines, in decimal without a sign or leading zeros; `None` if it is
 /// not 1 to `MOST_LINES`.
-///
-/// # Errors
-/// `AllocError`.
-pub fn line_count(alloc: Global, word: &str) -> Result<Option<u32>, AllocError>
-    ensures { IfOk result
-        (λ found. MatchOption found (IsNoLineCount word.now) (IsLineCount word.now)) }
+pub fn line_count(word: &str) -> Option<u32>
+    ensures { MatchOption result (IsNoLineCount word.now) (IsLineCount word.now) }
 {
-    match read_number(alloc, word.as_bytes(), LINES_END)? {
-        Some(0) | None => Ok(None),
-        Some(n) => Ok(Some(n as u32)),
+    match read_number(word.as_bytes(), LINES_END) {
+        Some(0) | None => None,
+        Some(n) => Some(n as u32),
     }
 }

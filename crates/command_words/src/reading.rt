@@ -44,7 +44,7 @@ pub fn read_words<'a>(alloc: Global, words: &'a [String]) -> Result<Option<Comma
         return Ok(None);
     }
     match image_tool(alloc)?.try_get_matches_from(words) {
-        Ok(matches) => found_command(alloc, &matches),
+        Ok(matches) => Ok(found_command(&matches)),
         Err(error) => match error.kind() {
             ErrorKind::OutOfMemory => Err(AllocError),
             _ => Ok(None),

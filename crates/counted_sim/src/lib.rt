@@ -1,7 +1,7 @@
 //! A flash in memory for tests, which counts how often its bytes were looked at.
 #![tactic(auto)]
 
-ghost use Rattle.flash_sim.specs.FlatSim.{device_of};
+ghost use Rattle.flash_sim.specs.Sim.{device_of};
 
 use flash_sim::{At, Bank, Bench, Flash, FlatSim, Loss, NoMemory, PowerLost, Steps};
 use std::alloc::Global;

@@ -7,7 +7,7 @@ use Rattle.std.proofs.lemmas.List.{length-take-le, length-reverse, get_or-revers
 use Rattle.std.proofs.lemmas.List.Sums.{prefix_len_passes, prefix_len_stops, list_all-from_AllPass, AllPass-from_list_all}
 use Rattle.std.proofs.lemmas.List.Elements.{All-from_get_or}
 use Rattle.std.proofs.lemmas.List.Edits.{length-between, get_or-between}
-use Rattle.flash_map.specs.Units.{IsUnit, padded, is_erased, written_end}
+use Rattle.flash_map.specs.Units.{IsUnit, is_erased, written_end}
 use Rattle.flash_map.proofs.Rounding.{padding}
 
 suffix_len_passes : (p : ℕ → Bool) (xs : List ℕ) (k : ℕ) → length xs ≤ suffix_len p xs + k → k < length xs → p (get_or xs k 0) ≡ true

@@ -11,7 +11,7 @@ mod map;
 mod pieces;
 mod units;
 
-pub use area::{Area, Geometry, LONG_VALUE_LIMIT, Role, VALUE_LIMIT};
+pub use area::{Area, Geometry, LONG_VALUE_LIMIT, MOST_SECTORS, Role, VALUE_LIMIT};
 pub use calls::{area_erase, area_program, area_view, geometry, sector_view};
 pub use copies::{COPY_PIECE, Source, copy_padded};
 pub use faults::{Damaged, MountFault, Why, WriteFault};

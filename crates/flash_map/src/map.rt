@@ -2,6 +2,7 @@
 ghost use Rattle.std.specs.Prelude.{◌≡◌, ◌↔◌, ◌+◌, false, [], ◌∷◌, ◌++◌, length, IsTrue, IfErr, OnOk, position, slice_get};
 ghost use Rattle.std.specs.List.{list_any, All};
 ghost use Rattle.std.specs.Option.{option_copied};
+ghost use Rattle.std.specs.Slice.Iter.{iter_rest};
 ghost use Rattle.flash_map.specs.Map.{has_label, shares_sector, HasVersion, IsInBank, Adds};
 ghost use Rattle.flash_map.specs.declared.map.AddFault.TheVariants.{NoMemory};
 
@@ -11,6 +12,7 @@ use flash_sim::Bank;
 use indexmap::IndexMap;
 use std::alloc::{AllocFailed, Global};
 use std::marker::Model;
+use std::slice;
 
 /// Why an area was not added: the first of these causes that holds.
 #[derive(Clone, Copy, Debug, PartialEq, Eq)]
@@ -117,10 +119,15 @@ impl FlashMap {
     pub fn at(&self, index: usize) -> Option<&Area>
         ensures { option_copied result ≡ slice_get self.now index }
     {
-        match self.areas.get_index(index) {
-            Some((_, area)) => Some(area),
-            None => None,
-        }
+        let (_, area) = self.areas.get_index(index)?;
+        Some(area)
+    }
+
+    /// The areas in order.
+    pub fn iter(&self) -> slice::Iter<'_, Area>
+        ensures { iter_rest result ≡ self.now }
+    {
+        self.areas.values().as_slice().iter()
     }
 
     /// The index of the area with this label, if there is one.
@@ -130,6 +137,18 @@ impl FlashMap {
         self.areas
             .values()
             .position(|area| label == area.label.as_str())
+    }
+}
+
+impl<'a> IntoIterator for &'a FlashMap {
+    type Item = &'a Area;
+
+    type IntoIter = slice::Iter<'a, Area>;
+
+    ghost into_iter_gives = { λ map areas. iter_rest areas ≡ map.now };
+
+    fn into_iter(self) -> Self::IntoIter {
+        self.iter()
     }
 }
 

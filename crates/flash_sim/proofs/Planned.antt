@@ -1,5 +1,5 @@
 -- What a program and an erase come to where a count says when power is lost.
-use Rattle.std.proofs.Common.{◌≡◌, ℕ, zero, suc, ◌+◌, ◌-◌, ◌*◌, ◌/◌, ◌%◌, ◌<◌, ◌≤◌, ◌==◌, ◌||◌, min, IsTrue, true, inr, Option, Some, None, unwrap_or, List, [], ◌++◌, length, get_or, set, take, drop, map, replicate, Fits, w32, w64, refl, sym, ◌∙◌, ap, subst, arith}
+use Rattle.std.proofs.Common.{◌≡◌, ℕ, zero, suc, ◌+◌, ◌-◌, ◌*◌, ◌/◌, ◌%◌, ◌<◌, ◌≤◌, ◌==◌, ◌||◌, min, IsTrue, true, inr, Option, Some, None, unwrap_or, List, [], ◌++◌, length, get_or, set, take, drop, map, replicate, Fits, w32, refl, sym, ◌∙◌, ap, subst, arith}
 use Rattle.std.specs.Option.{MatchOption, IsSomeAnd}
 use Rattle.std.proofs.Math.Nat.{div-mul-le_self, mul-le-mul_left, mul-le-mul_right, mod-eq-sub-div-mul}
 use Rattle.std.proofs.Math.Seq.{take-nil}
@@ -11,7 +11,7 @@ use Rattle.flash_sim.specs.declared.flash.Bank.{Bank}
 use Rattle.flash_sim.specs.declared.flash.Loss.{Loss}
 use Rattle.flash_sim.specs.Bank.{no_bank, capacity, IsLawful}
 use Rattle.flash_sim.specs.Device.{Plan, Unknown, Never, After, Device, counted, Lasts, LostAfter, lowered, dropped, bank_of, bytes_of, overwritten, units_in, first_units, put, cut, CanProgram, CanErase, Puts, FailsToProgram, start_of, Erases, FailsToErase}
-use Rattle.flash_sim.specs.FlatSim.{plan_of}
+use Rattle.flash_sim.specs.Sim.{plan_of}
 use Rattle.flash_sim.proofs.Shown.{length-overwritten}
 
 -- Counts and plans.
@@ -68,9 +68,6 @@ unwritten old at = ap (λ (n : ℕ). take at old ++ drop n old) (let same : at +
 
 pub fits-32 : (n : ℕ) → n < 4294967296 → Fits w32 n
 fits-32 n lt = omega arith
-
-pub fits-64 : (n : ℕ) → n < 4294967296 → Fits w64 n
-fits-64 n lt = omega arith
 
 -- the sector of the bank that was read
 pub has-size : (d : Device) (bank : ℕ) (read : Bank) → bank < length d.banks → read ≡ get_or d.banks bank read → read.sector ≡ (bank_of d bank).sector

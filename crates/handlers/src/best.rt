@@ -1,10 +1,9 @@
 // The best subtree for a name.
-ghost use Rattle.std.specs.Prelude.{◌≡◌, length, map};
-ghost use Rattle.setting_name.specs.Name.{parts_of};
+ghost use Rattle.std.specs.Prelude.{◌≡◌, map};
 ghost use Rattle.handlers.specs.Best.{best, depth};
 
 use crate::registry::Row;
-use setting_name::Name;
+use setting_name::{Name, count_of_parts};
 
 /// The place of the row whose subtree matches the name with the most parts; the first of several.
 pub(crate) fn best_row<B>(rows: &[Row<B>], name: &Name) -> Option<usize>
@@ -31,10 +30,4 @@ fn depth_of(name: &Name, subtree: &Name) -> usize
         Some(_) => count_of_parts(subtree.bytes()),
         None => 0,
     }
-}
-
-fn count_of_parts(text: &[u8]) -> usize
-    ensures { result ≡ length (parts_of text.now) }
-{
-    text.iter().filter(|byte| **byte == b'/').count() + 1
 }

@@ -1,10 +1,10 @@
 -- Areas and their plain data.
-use Rattle.std.proofs.Common.{◌≡◌, ℕ, zero, suc, ◌<◌, ◌&&◌, Bool, List, [], ◌∷◌, map, get_or, true, false, refl, sym, ◌∙◌, arith}
-use Rattle.std.specs.List.{list_any, list_all}
+use Rattle.std.proofs.Common.{◌≡◌, ℕ, zero, suc, ◌+◌, ◌<◌, ◌&&◌, Bool, cond, List, [], ◌∷◌, map, get_or, true, false, refl, sym, ◌∙◌, arith}
+use Rattle.std.specs.List.{list_any, list_all, fold}
 use Rattle.std.specs.Str.{IsAscii}
 use Rattle.std.proofs.lemmas.Bool.Decides.{nat_tests}
-use Rattle.image_file.specs.Lawful.{IsLabel, is_label_byte, IsImageArea}
-use Rattle.std.specs.Prelude.{Ok, Err, ◌++◌}
+use Rattle.image_file.specs.Lawful.{IsLabel, is_label_byte, is_selector, IsImageArea}
+use Rattle.std.specs.Prelude.{Ok, Err, ◌++◌, count_by}
 use Rattle.image_file.specs.Takes.{TakesArea}
 use Rattle.flash_sim.specs.declared.flash.Bank.{Bank}
 use Rattle.flash_map.specs.declared.map.AddFault.{AddFault}
@@ -27,6 +27,14 @@ label_taken old area taken new =
 pub sector_taken : (old : List Area) (area : Area) → list_any (shares_sector area) old ≡ true → IsNewTo (map plain_area old) (plain_area area) → ⊥
 sector_taken old area taken new =
     let both = sym taken ∙ (sym (list_any-map (shares_sector area) plain_area old) ∙ new.apart) in cc
+
+-- a label's unused room makes no area a selector
+pub selectors_plain : (areas : List Area) → count_by is_selector areas ≡ count_by is_selector (map plain_area areas)
+selectors_plain areas = from 0 areas
+  where
+    from : (n : ℕ) (areas : List Area) → fold (λ n area. n + cond (is_selector area) 1 0) n areas ≡ fold (λ n area. n + cond (is_selector area) 1 0) n (map plain_area areas)
+    from n [] = refl
+    from n (area ∷ areas) = from (n + cond (is_selector area) 1 0) areas
 
 low_byte : (b : ℕ) → is_label_byte b ≡ true → b < 128
 low_byte b is = grind (arith, nat_tests)

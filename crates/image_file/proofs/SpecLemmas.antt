@@ -93,9 +93,13 @@ pub no_answer : (version : ℕ) (item : List ℕ) (other : item ≡ version_word
 no_answer version item other banks old few each none without any adds = by_item item (listed version banks old) any (λ a. other a.word) (λ a. none_some a.bank (none.only version a.bank a.lawful a.words))
     (λ a. none_some a.area (without.only a.area (fits_item version banks (map plain_area old) a.area few each a.lawful) a.version a.plain a.words)) adds
 
-pub listed_answer : (banks : List Bank) (old new : List Area) (area : Area) (b : Bool) → length old < 8 → IsAlone (map plain_area old) area → TakesArea banks old new area (Ok b) → TakesListed banks old new area (Ok b)
+listed_answer : (banks : List Bank) (old new : List Area) (area : Area) (b : Bool) → length old < 8 → IsAlone (map plain_area old) area → TakesArea banks old new area (Ok b) → TakesListed banks old new area (Ok b)
 listed_answer banks old new area true few alone takes = (takes.0, few, alone, takes.1)
 listed_answer banks old new area false few alone takes = (λ is few alone. takes.0 is, takes.1)
+
+pub listed_result : (banks : List Bank) (old new : List Area) (area : Area) (result : Result Bool OutOfMemory) → length old < 8 → IsAlone (map plain_area old) area → TakesArea banks old new area result → TakesListed banks old new area result
+listed_result banks old new area (Ok b) few alone takes = listed_answer banks old new area b few alone takes
+listed_result banks old new area (Err e) few alone takes = tt
 
 abbrev answered : Bool → Result Bool OutOfMemory
 answered b = Ok b

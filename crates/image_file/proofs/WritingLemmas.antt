@@ -4,7 +4,6 @@ use Rattle.std.specs.Global.{Vec}
 use Rattle.std.specs.Prelude.{Result, Ok, Err, OnOk, is_ok, if◌then◌else◌}
 use Rattle.std.specs.List.{flat_map, concat}
 use Rattle.std.proofs.lemmas.List.{take_more, append-nil, get_or-map, length-map}
-use Rattle.std.proofs.lemmas.Option.{slice_get-get_or}
 use Rattle.flash_sim.specs.Contents.{contents}
 use Rattle.flash_sim.specs.declared.flash.Bank.{Bank}
 use Rattle.flash_map.specs.declared.area.Area.{Area}
@@ -28,14 +27,8 @@ appended (Err e) new more old whole is same = tt
 same_some : {X : Type 0} (x y : X) → Some x ≡ Some y → x ≡ y
 same_some x y is = cc
 
-pub some_at : (areas : List Area) (i : ℕ) (area : Area) → i < length areas → Some area ≡ slice_get areas i → area ≡ area_at areas i
-some_at areas i area below is = same_some area (area_at areas i) (is ∙ slice_get-get_or areas i no_area below)
-
 abbrev nothing : Option Area
 nothing = None
-
-pub none_at : (areas : List Area) (i : ℕ) → i < length areas → nothing ≡ slice_get areas i → ⊥
-none_at areas i below is = let both = is ∙ slice_get-get_or areas i no_area below in cc
 
 concat_push : (xs : List (Vec ℕ)) (x : Vec ℕ) → concat (contents (xs ++ x ∷ [])) ≡ concat (contents xs) ++ x.items
 concat_push [] x = append-nil x.items

@@ -4,6 +4,7 @@ use Rattle.std.specs.List.{flat_map, concat}
 use Rattle.std.specs.Int.{w16, w32, to_le_bytes}
 use Rattle.std.specs.Global.{Vec}
 use Rattle.flash_sim.specs.Contents.{contents}
+use Rattle.flash_sim.specs.Device.{Device}
 use Rattle.flash_sim.specs.declared.flash.Bank.{Bank}
 use Rattle.flash_sim.specs.declared.flash.Kind.{Kind}
 use Rattle.flash_sim.specs.declared.flash.Kind.TheVariants.{Erasing, Rewritable}
@@ -31,6 +32,11 @@ pub record Plain : Type 0 where
 abbrev pub plain_of : List Bank → List Area → List (Vec ℕ) → Plain
 plain_of banks areas bytes =
     record { version = version_of areas; banks = banks; areas = map plain_area areas; bytes = contents bytes }
+
+-- the image of a flash with these areas
+abbrev pub image_on : List Area → Device → Plain
+image_on areas d =
+    record { version = version_of areas; banks = d.banks; areas = map plain_area areas; bytes = d.bytes }
 
 abbrev pub plain : Image → Plain
 plain image = plain_of image.banks.items image.map image.bytes.items

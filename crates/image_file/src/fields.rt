@@ -109,9 +109,7 @@ pub fn area_of(version: u8, text: &[u8]) -> Option<Area>
     if text[7] != 0 {
         return None;
     }
-    let Some(label) = label_of(text[6], text.split_at(8).1) else {
-        return None;
-    };
+    let label = label_of(text[6], text.split_at(8).1)?;
     Some(Area::new(
         label,
         role,
@@ -136,10 +134,7 @@ fn label_of(len: u8, text: &[u8]) -> Option<ArrayString<8>>
     if !all_zero(rest) {
         return None;
     }
-    let Some(label) = label_from(label) else {
-        return None;
-    };
-    Some(label)
+    label_from(label)
 }
 
 fn all_zero(bytes: &[u8]) -> bool
@@ -159,8 +154,5 @@ pub fn label_from(label: &[u8]) -> Option<ArrayString<8>>
     let Ok(text) = str::from_utf8(label) else {
         return None;
     };
-    match ArrayString::from(text) {
-        Ok(text) => Some(text),
-        Err(_) => None,
-    }
+    ArrayString::from(text).ok()
 }

@@ -4,10 +4,10 @@ ghost use Rattle.std.specs.List.{All, list_all};
 ghost use Rattle.flash_map.specs.Map.{HasVersion};
 ghost use Rattle.flash_sim.specs.Bank.{capacity};
 ghost use Rattle.image_file.specs.Format.{plain_area};
-ghost use Rattle.image_file.specs.Lawful.{IsImageBank, IsLabel, StandsOn, HasNeeded, is_label_byte, is_selector, area_at};
+ghost use Rattle.image_file.specs.Lawful.{IsImageBank, IsLabel, StandsOn, HasNeeded, is_label_byte, is_selector};
 ghost use Rattle.image_file.specs.Takes.{TakesArea};
 
-use flash_map::{AddFault, Area, FlashMap, Role};
+use flash_map::{AddFault, Area, FlashMap, MOST_SECTORS, Role};
 use flash_sim::{Bank, Kind, NoMemory};
 
 /// The fewest bytes of a sector.
@@ -18,9 +18,6 @@ pub const LEAST_LONG_SECTOR: u32 = 4096;
 
 /// The most bytes of a sector.
 pub const MOST_SECTOR: u32 = 32_768;
-
-/// The most sectors of a bank.
-pub const MOST_SECTORS: u32 = 64;
 
 /// The most banks of an image.
 pub const MOST_BANKS: usize = 2;
@@ -105,18 +102,18 @@ pub fn has_needed(areas: &FlashMap) -> bool
     stores >= 1 && selectors <= 1 && (stores < 2 || selectors == 1)
 }
 
+fn is_selector(area: &Area) -> bool
+    ensures { result ≡ is_selector area.now }
+{
+    area.role == Role::Sel
+}
+
 /// How many areas are selectors.
 pub fn count_selectors(areas: &FlashMap) -> usize
     ensures value { result ≡ count_by is_selector (map plain_area areas.now) }
     ensures at_most { result ≤ length areas.now }
 {
-    let mut count = 0;
-    for i in 0..areas.len() {
-        if is_selector_at(areas, i) {
-            count += 1;
-        }
-    }
-    count
+    areas.iter().filter(|area| is_selector(area)).count()
 }
 
 /// How many bytes a bank has.
@@ -125,14 +122,4 @@ pub fn capacity(bank: &Bank) -> usize
     ensures { result ≡ capacity bank.now }
 {
     bank.sector as usize * bank.count as usize
-}
-
-fn is_selector_at(areas: &FlashMap, i: usize) -> bool
-    requires { i < length areas.now }
-    ensures { result ≡ is_selector (area_at (map plain_area areas.now) i) }
-{
-    match areas.at(i) {
-        Some(area) => area.role == Role::Sel,
-        None => false,
-    }
 }

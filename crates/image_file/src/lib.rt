@@ -13,6 +13,7 @@ mod spec;
 mod writing;
 
 pub use image::{Image, ImageFault, ImageWhy, SpecFault};
+pub use lawful::is_label;
 pub use laws::{lawful_use, one_reading, one_spec_reading};
 pub use reading::read_image;
 pub use spec::read_spec;

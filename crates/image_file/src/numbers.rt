@@ -1,6 +1,5 @@
 // Words of items.
-ghost use Rattle.std.specs.Prelude.{◌≡◌, ◌≢◌, ◌^◌, ◌<◌, ℕ, IfOk, MatchOption};
-ghost use Rattle.std.specs.Fmt.{decimal};
+ghost use Rattle.std.specs.Prelude.{◌≡◌};
 ghost use Rattle.image_file.specs.Spec.{IsBankKind, IsRole, IsNumber, IsBankItem, IsAreaItem, bank_from, area_from};
 
 use crate::fields::label_from;
@@ -8,20 +7,17 @@ use crate::parts::{five_words, four_words};
 use arrayvec::ArrayString;
 use flash_map::{Area, Role};
 use flash_sim::{Bank, Kind};
-use std::alloc::{AllocError, Global};
 use text_parts::read_number;
 
 /// Numbers in items are below this.
 const NUMBERS_END: u64 = 4_294_967_296;
 
 // The number that a word is.
-fn number_of(alloc: Global, word: &[u8]) -> Result<Option<u32>, AllocError>
-    ensures { IfOk result (IsNumber word.now) }
+fn number_of(word: &[u8]) -> Option<u32>
+    ensures { IsNumber word.now result }
 {
-    match read_number(alloc, word, NUMBERS_END)? {
-        Some(n) => Ok(Some(n as u32)),
-        None => Ok(None),
-    }
+    let n = read_number(word, NUMBERS_END)?;
+    Some(n as u32)
 }
 
 fn kind_of(word: &[u8]) -> Option<Kind>
@@ -74,19 +70,16 @@ fn bank_from(
 }
 
 /// The bank that an item describes; `None` only if it describes no lawful one.
-///
-/// # Errors
-/// Out of memory, and nothing else.
-pub fn bank_item(alloc: Global, item: &[u8]) -> Result<Option<Bank>, AllocError>
-    ensures { IfOk result (IsBankItem item.now) }
+pub fn bank_item(item: &[u8]) -> Option<Bank>
+    ensures { IsBankItem item.now result }
 {
-    let Some((kind, unit, sector, count)) = four_words(item) else {
-        return Ok(None);
-    };
-    let unit = number_of(alloc, unit)?;
-    let sector = number_of(alloc, sector)?;
-    let count = number_of(alloc, count)?;
-    Ok(bank_from(kind_of(kind), unit, sector, count))
+    let (kind, unit, sector, count) = four_words(item)?;
+    bank_from(
+        kind_of(kind),
+        number_of(unit),
+        number_of(sector),
+        number_of(count),
+    )
 }
 
 fn area_from(
@@ -108,20 +101,17 @@ fn area_from(
 
 /// The area of an image of this version that an item describes; `None` only if it describes none
 /// with a lawful label and numbers below 2^32.
-///
-/// # Errors
-/// Out of memory, and nothing else.
-pub fn area_item(alloc: Global, item: &[u8], version: u8) -> Result<Option<Area>, AllocError>
-    ensures { IfOk result (IsAreaItem version item.now) }
+pub fn area_item(item: &[u8], version: u8) -> Option<Area>
+    ensures { IsAreaItem version item.now result }
 {
-    let Some((role, label, bank, first, sectors)) = five_words(item) else {
-        return Ok(None);
-    };
-    let Some(label) = label_from(label) else {
-        return Ok(None);
-    };
-    let bank = number_of(alloc, bank)?;
-    let first = number_of(alloc, first)?;
-    let sectors = number_of(alloc, sectors)?;
-    Ok(area_from(version, role_of(role), label, bank, first, sectors))
+    let (role, label, bank, first, sectors) = five_words(item)?;
+    let label = label_from(label)?;
+    area_from(
+        version,
+        role_of(role),
+        label,
+        number_of(bank),
+        number_of(first),
+        number_of(sectors),
+    )
 }

@@ -9,10 +9,8 @@ fn next_word(rest: Option<&[u8]>) -> Option<(&[u8], Option<&[u8]>)>
     ensures { MatchOption result (parts_of 47 rest.entry ≡ [])
         (λ cut. parts_of 47 rest.entry ≡ cut.0.now ∷ parts_of 47 cut.1) }
 {
-    match rest {
-        Some(text) => Some(cut_at(text, b'/')),
-        None => None,
-    }
+    let text = rest?;
+    Some(cut_at(text, b'/'))
 }
 
 /// The four words of an item; `None` if it has more or fewer.
@@ -21,10 +19,8 @@ pub fn four_words(item: &[u8]) -> Option<(&[u8], &[u8], &[u8], &[u8])>
         (λ words. parts 47 item.now ≡ words.0.now ∷ words.1.now ∷ words.2.now ∷ words.3.now ∷ []) }
 {
     let (first, rest) = cut_at(item, b'/');
-    match three_words(rest) {
-        Some((second, third, fourth)) => Some((first, second, third, fourth)),
-        None => None,
-    }
+    let (second, third, fourth) = three_words(rest)?;
+    Some((first, second, third, fourth))
 }
 
 /// The five words of an item; `None` if it has more or fewer.
@@ -34,13 +30,9 @@ pub fn five_words(item: &[u8]) -> Option<(&[u8], &[u8], &[u8], &[u8], &[u8])>
         ≡ words.0.now ∷ words.1.now ∷ words.2.now ∷ words.3.now ∷ words.4.now ∷ []) }
 {
     let (first, rest) = cut_at(item, b'/');
-    let Some((second, rest)) = next_word(rest) else {
-        return None;
-    };
-    match three_words(rest) {
-        Some((third, fourth, fifth)) => Some((first, second, third, fourth, fifth)),
-        None => None,
-    }
+    let (second, rest) = next_word(rest)?;
+    let (third, fourth, fifth) = three_words(rest)?;
+    Some((first, second, third, fourth, fifth))
 }
 
 // The three words that are left.
@@ -48,14 +40,8 @@ fn three_words(rest: Option<&[u8]>) -> Option<(&[u8], &[u8], &[u8])>
     ensures { MatchOption result (length (parts_of 47 rest.entry) ≢ 3)
         (λ words. parts_of 47 rest.entry ≡ words.0.now ∷ words.1.now ∷ words.2.now ∷ []) }
 {
-    let Some((first, rest)) = next_word(rest) else {
-        return None;
-    };
-    let Some((second, rest)) = next_word(rest) else {
-        return None;
-    };
-    match one_part(rest, b'/') {
-        Some(third) => Some((first, second, third)),
-        None => None,
-    }
+    let (first, rest) = next_word(rest)?;
+    let (second, rest) = next_word(rest)?;
+    let third = one_part(rest, b'/')?;
+    Some((first, second, third))
 }

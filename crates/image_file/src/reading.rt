@@ -38,10 +38,8 @@ fn byte_at(bytes: &[u8], at: usize) -> Result<u8, ImageFault>
         (λ place why. (length bytes.now < at + 1) × (place ≡ length bytes.now) × (why ≡ Short))
         result }
 {
-    match field(bytes, at, 1) {
-        Ok(text) => Ok(text[0]),
-        Err(fault) => Err(fault),
-    }
+    let text = field(bytes, at, 1)?;
+    Ok(text[0])
 }
 
 // The byte at this place, if it is from `least` to `most`.

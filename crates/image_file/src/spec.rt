@@ -47,10 +47,8 @@ fn take_bank(
     if !is_lawful_bank(version, &bank) {
         return Ok(false);
     }
-    match banks.push(bank) {
-        Ok(()) => Ok(true),
-        Err(_) => Err(NoMemory),
-    }
+    banks.push(bank)?;
+    Ok(true)
 }
 
 // Whether the area is not a second selector.
@@ -76,8 +74,7 @@ fn take_listed(areas: &mut FlashMap, banks: &[Bank], area: Area) -> Result<bool,
     if !is_alone(areas, area.role) {
         return Ok(false);
     }
-    let taken = take_area(areas, banks, area)?;
-    Ok(taken)
+    take_area(areas, banks, area)
 }
 
 fn take_found(
@@ -121,7 +118,6 @@ fn take_version(version: &mut u8, banks: &[Bank], areas: &FlashMap) -> bool
 
 // Adds what an item describes, if it may be added, and says whether it may.
 fn take_item(
-    alloc: Global,
     item: &[u8],
     version: &mut u8,
     banks: &mut Vec<Bank>,
@@ -134,8 +130,8 @@ fn take_item(
     if is_version(item) {
         return Ok(take_version(version, banks, areas));
     }
-    let bank = bank_item(alloc, item)?;
-    let area = area_item(alloc, item, *version)?;
+    let bank = bank_item(item);
+    let area = area_item(item, *version);
     let taken = take_found(*version, banks, areas, bank, area)?;
     Ok(taken)
 }
@@ -151,7 +147,7 @@ fn read_items(alloc: Global, word: &[u8]) -> Result<Items, SpecFault>
     while let Some(items) = rest {
         let (item, after) = cut_at(items, b',');
         count += 1;
-        let taken = take_item(alloc, item, &mut version, &mut banks, &mut areas)?;
+        let taken = take_item(item, &mut version, &mut banks, &mut areas)?;
         if !taken {
             return Err(SpecFault::BadSpec { item: count });
         }

@@ -1,11 +1,11 @@
 // Writing an image's file.
 ghost use Rattle.std.specs.Prelude.{◌≡◌, ◌<◌, ◌≤◌, ◌++◌, ℕ, length, replicate, IfOk, OnOk};
-ghost use Rattle.std.specs.List.{flat_map, concat};
+ghost use Rattle.std.specs.List.{All, flat_map, concat};
 ghost use Rattle.std.specs.Int.{w32, to_le_bytes};
 ghost use Rattle.flash_sim.specs.Bank.{bank_at};
 ghost use Rattle.flash_sim.specs.Contents.{contents};
 ghost use Rattle.image_file.specs.Format.{kind_byte, role_byte, bank_text, area_text, version_of, plain_of, file_of};
-ghost use Rattle.image_file.specs.Lawful.{IsImage, IsImageBank, FitsText, area_at};
+ghost use Rattle.image_file.specs.Lawful.{IsImage, IsImageBank, FitsText};
 ghost use Rattle.image_file.specs.Reading.{IsImageFile};
 
 use flash_map::{Area, FlashMap, Role};
@@ -80,23 +80,12 @@ fn put_area(file: &mut Vec<u8>, area: &Area) -> Result<(), AllocError>
     file.extend_from_slice(zeros(8 - label.len()))
 }
 
-fn put_area_at(file: &mut Vec<u8>, areas: &FlashMap, i: usize) -> Result<(), AllocError>
-    requires there { i < length areas.now }
-    requires fits { FitsText (area_at areas.now i) }
-    ensures { OnOk result (file.new.items ≡ file.old.items ++ area_text (area_at areas.now i)) }
-{
-    match areas.at(i) {
-        Some(area) => put_area(file, area),
-        None => Ok(()),
-    }
-}
-
 fn put_areas(file: &mut Vec<u8>, areas: &FlashMap) -> Result<(), AllocError>
-    requires { (i : ℕ) → i < length areas.now → FitsText (area_at areas.now i) }
+    requires { All FitsText areas.now }
     ensures { OnOk result (file.new.items ≡ file.old.items ++ flat_map area_text areas.now) }
 {
-    for i in 0..areas.len() {
-        put_area_at(file, areas, i)?;
+    for area in areas {
+        put_area(file, area)?;
     }
     Ok(())
 }
@@ -153,8 +142,6 @@ pub fn write_image(
     ensures { IfOk result (λ file. IsImageFile file.items (plain_of banks.now map.now bytes.now)) }
 {
     let mut file = Vec::new(alloc);
-    match put_image(&mut file, banks, map, bytes) {
-        Ok(()) => Ok(file),
-        Err(_) => Err(NoMemory),
-    }
+    put_image(&mut file, banks, map, bytes)?;
+    Ok(file)
 }

@@ -2,14 +2,14 @@
 use Rattle.std.proofs.Common.{◌≡◌, ◌∙◌, ◌⊎◌, ℕ, Bool, true, false, cond, List, [], ◌∷◌, ◌++◌, map, Option, Some, Err, inl, inr, refl, sym, ap, subst, arith}
 use Rattle.std.specs.FinMap.{entries}
 use Rattle.std.proofs.lemmas.Bool.{false≢true}
-use Rattle.flash_sim.specs.Device.{Device, Never, counted}
+use Rattle.flash_sim.specs.Device.{Device, Never, counted, loaded_once}
 use Rattle.flash_map.specs.declared.area.Area.{Area}
 use Rattle.flash_map.specs.declared.area.Geometry.{Geometry}
 use Rattle.flash_map.specs.declared.faults.Damaged.{Damaged}
 use Rattle.backend_api.specs.Map.{Map}
 use Rattle.handlers.specs.declared.handler.HandlerKind.{HandlerKind}
 use Rattle.handlers.specs.Registry.{Registered}
-use Rattle.image_file.specs.Format.{plain_area, version_of}
+use Rattle.image_file.specs.Format.{image_on, plain_area, version_of}
 use Rattle.script_lines.specs.declared.line.Line.{Line}
 use Rattle.script_lines.specs.declared.line.Line.TheVariants.{Mount, Names}
 use Rattle.script_lines.specs.declared.answer.Answer.{Answer}
@@ -28,7 +28,6 @@ use Rattle.image_jobs.specs.declared.stops.Refusal.{Refusal}
 use Rattle.image_jobs.specs.declared.stops.Refusal.TheVariants.{BadArea}
 use Rattle.image_jobs.specs.declared.stops.Stop.{Stop}
 use Rattle.image_jobs.specs.declared.stops.Stop.TheVariants.{Refused, HostFailed, NoMemory}
-use Rattle.image_jobs.specs.Held.{copied, held}
 use Rattle.image_jobs.specs.Images.{damage_of, settings_of}
 use Rattle.image_jobs.specs.Jobs.{IsStop, SaysDamage}
 use Rattle.image_jobs.specs.Reading.{MakesOr}
@@ -113,29 +112,29 @@ module _ (m : Meanings) (damage : Area → Geometry → List (List ℕ) → Opti
 -- ---- a flash of its own that holds what a bench holds
 
 module _ (k : Stores) (areas : List Area) (bench : Device) (lines : List Line) (d : Device) (registry : List Registered) (pool : List HandlerKind)
-    (names : lines ≡ Names ∷ []) (copy : d ≡ copied bench) where
+    (names : lines ≡ Names ∷ []) (copy : d ≡ loaded_once bench) where
   -- the answers have the settings of the image
   pub asked : (answers : List Answer) (new : Moment) → Ran k.meanings k.damage k.rests areas (Mount ∷ lines) answers (moment d registry pool) new
-      → last_pairs answers ≡ pairs_of (settings_of k areas (held areas bench))
+      → last_pairs answers ≡ pairs_of (settings_of k areas (image_on areas bench))
   asked answers new ran =
-      let from : Follows (LineRan k.meanings k.damage k.rests areas) (Mount ∷ Names ∷ []) answers (moment (copied bench) registry pool) new =
+      let from : Follows (LineRan k.meanings k.damage k.rests areas) (Mount ∷ Names ∷ []) answers (moment (loaded_once bench) registry pool) new =
       subst (λ (e : Device). Follows (LineRan k.meanings k.damage k.rests areas) (Mount ∷ Names ∷ []) answers (moment e registry pool) new) copy
       (subst (λ (ls : List Line). Follows (LineRan k.meanings k.damage k.rests areas) (Mount ∷ ls) answers (moment d registry pool) new) names ran.in_turn) in
-      names_are k.meanings k.damage k.rests areas answers (moment (copied bench) registry pool) new from refl refl
-      ∙ sym (ap (λ (s : Map). pairs_of s) (reads_as (version_of areas) (map plain_area areas) areas (copied bench) k registry pool).settings)
+      names_are k.meanings k.damage k.rests areas answers (moment (loaded_once bench) registry pool) new from refl refl
+      ∙ sym (ap (λ (s : Map). pairs_of s) (reads_as (version_of areas) (map plain_area areas) areas (loaded_once bench) k registry pool).settings)
 
   damage_shown : (new : Device) (place : ℕ) (damage : Damaged) → RunStops k.meanings k.damage k.rests areas (Mount ∷ lines) (moment d registry pool) new (IsDamaged place damage)
-      → damage_of k areas (held areas bench) ≡ Some (place, damage)
+      → damage_of k areas (image_on areas bench) ≡ Some (place, damage)
   damage_shown new place damage stops =
-      damage_same (version_of areas) (map plain_area areas) areas (copied bench) k
-      ∙ damage_found k.meanings k.damage k.rests areas place damage (moment (copied bench) registry pool) new
+      damage_same (version_of areas) (map plain_area areas) areas (loaded_once bench) k
+      ∙ damage_found k.meanings k.damage k.rests areas place damage (moment (loaded_once bench) registry pool) new
       (subst (λ (e : Device). RunStops k.meanings k.damage k.rests areas (Mount ∷ Names ∷ []) (moment e registry pool) new (IsDamaged place damage)) copy
       (subst (λ (ls : List Line). RunStops k.meanings k.damage k.rests areas (Mount ∷ ls) (moment d registry pool) new (IsDamaged place damage)) names stops))
 
   -- or the image shows damage
   pub not_asked : {X : Type 0} (P : X → Type 0) (new : Device) (fault : SessionFault) (stop : Stop)
       → RunStops k.meanings k.damage k.rests areas (Mount ∷ lines) (moment d registry pool) new fault → IsStop areas fault stop
-      → MakesOr P (SaysDamage k areas (held areas bench)) (Err stop)
+      → MakesOr P (SaysDamage k areas (image_on areas bench)) (Err stop)
   not_asked P new (IsDamaged place damage) (Refused (BadArea label found)) stops is =
       (place, is.0, damage_shown new place damage stops ∙ ap (λ (d : Damaged). Some (place, d)) (sym is.1))
   not_asked P new WantsMemory NoMemory stops is = tt

@@ -11,13 +11,12 @@ use Rattle.handlers.specs.Registry.{Registered}
 use Rattle.script_lines.specs.declared.line.Line.{Line}
 use Rattle.script_lines.specs.declared.line.Line.TheVariants.{Mount}
 use Rattle.script_lines.specs.declared.answer.Answer.{Answer}
-use Rattle.image_file.specs.Format.{Plain, plain_area, version_of}
+use Rattle.image_file.specs.Format.{Plain, image_on, plain_area, version_of}
 use Rattle.session_table.specs.Bench.{area_at, state_of}
 use Rattle.session.specs.declared.fault.SessionFault.{SessionFault}
 use Rattle.session.specs.declared.fault.SessionFault.TheVariants.{Damaged as IsDamaged, NoMemory as WantsMemory}
 use Rattle.session.specs.OnMap.{IsAtRest, Ran, RunStops, damage_in, limit_of, moment}
 use Rattle.image_jobs.specs.declared.jobs.Job.{Job}
-use Rattle.image_jobs.specs.Held.{held}
 use Rattle.image_jobs.specs.Images.{ReadsAs, begun, damage_of, left, settings_of}
 use Rattle.image_jobs.specs.Inputs.{BeginsWith, GivesLines, counts_settings, out_of, reported_by}
 use Rattle.image_jobs.specs.declared.stops.Refusal.TheVariants.{BadSpec, NoFile, BadFile, NoLog, NoItems, NoMirror, BadArea, Unfit, BadScript}
@@ -45,12 +44,12 @@ module _ (k : Stores) (kinds : List HandlerKind) (job : Job) (outside : Outside)
     sets = record { opens = record { begins = begins; has = record { version = refl; are = refl } }; gives = gives }
 
     held_left : (answers : List Answer) (left_kinds : List HandlerKind) → Ran k.meanings k.damage k.rests areas (Mount ∷ lines) answers (opening old image kinds) (closing new left_kinds)
-        → held areas bench' ≡ left image bench'
+        → image_on areas bench' ≡ left image bench'
     held_left answers left_kinds ran =
         ap (λ (banks : List Bank). record { version = version_of areas; banks = banks; areas = map plain_area areas; bytes = bench'.bytes }) ran.whole.keeps.banks
 
     stays_undamaged : (damage_in k.damage areas (begun image bench) ≡ None → damage_in k.damage areas bench' ≡ None)
-        → damage_of k areas image ≡ None → damage_of k areas (held areas bench') ≡ None
+        → damage_of k areas image ≡ None → damage_of k areas (image_on areas bench') ≡ None
     stays_undamaged undamaged none =
         damage_same (version_of areas) (map plain_area areas) areas bench' k ∙ undamaged (sym (damage_same (version_of areas) (map plain_area areas) areas (begun image bench) k) ∙ none)
 
@@ -58,11 +57,11 @@ module _ (k : Stores) (kinds : List HandlerKind) (job : Job) (outside : Outside)
         → Ran k.meanings k.damage k.rests areas (Mount ∷ lines) answers (opening old image kinds) (closing new left_kinds)
         → (damage_in k.damage areas (begun image bench) ≡ None → damage_in k.damage areas bench' ≡ None)
         → (bench'.is_on ≡ true → IsAtRest k.rests areas bench')
-        → text ≡ reported_by job.report lines answers (settings_of k areas (held areas bench'))
-        → WritesLeft (out_of job.output) (held areas bench') file
+        → text ≡ reported_by job.report lines answers (settings_of k areas (image_on areas bench'))
+        → WritesLeft (out_of job.output) (image_on areas bench') file
         → JobDoes k kinds job outside old new text file
     done answers left_kinds text file ran undamaged rests prints writes =
-        let same : held areas bench' ≡ left image bench' = held_left answers left_kinds ran in
+        let same : image_on areas bench' ≡ left image bench' = held_left answers left_kinds ran in
         record {
           image = image;
           areas = areas;
@@ -104,7 +103,7 @@ module _ (k : Stores) (kinds : List HandlerKind) (job : Job) (outside : Outside)
         → counts_settings job.report ≡ true
         → Ran k.meanings k.damage k.rests areas (Mount ∷ lines) answers (opening old image kinds) (closing new left_kinds)
         → (damage_in k.damage areas (begun image bench) ≡ None → damage_in k.damage areas bench' ≡ None)
-        → damage_of k areas (held areas bench') ≡ Some (place, damage)
+        → damage_of k areas (image_on areas bench') ≡ Some (place, damage)
         → FindsDamage k kinds job outside old new label damage
     damaged_left answers left_kinds place damage label named counts ran undamaged says = record {
       image = image;
@@ -164,7 +163,7 @@ module _ (k : Stores) (kinds : List HandlerKind) (job : Job) (outside : Outside)
       pub unreported : {X : Type 0} (P : X → Type 0) (answers : List Answer) (left_kinds : List HandlerKind) (stop : Stop)
           → Ran k.meanings k.damage k.rests areas (Mount ∷ lines) answers (moment first registry kinds) (closing new left_kinds)
           → (damage_in k.damage areas first ≡ None → damage_in k.damage areas bench' ≡ None)
-          → MakesOr P (λ refusal. (counts_settings job.report ≡ true) × SaysDamage k areas (held areas bench') refusal) (Err stop)
+          → MakesOr P (λ refusal. (counts_settings job.report ≡ true) × SaysDamage k areas (image_on areas bench') refusal) (Err stop)
           → JobEnds k kinds job outside outside old new (Err stop)
       unreported P answers left_kinds (Refused (BadArea label damage)) ran undamaged says = (
         inr (inr (damaged_left answers left_kinds says.1.0 damage label.bytes says.1.1 says.0
@@ -180,8 +179,8 @@ module _ (k : Stores) (kinds : List HandlerKind) (job : Job) (outside : Outside)
           → Ran k.meanings k.damage k.rests areas (Mount ∷ lines) answers (moment first registry kinds) (closing new left_kinds)
           → (damage_in k.damage areas first ≡ None → damage_in k.damage areas bench' ≡ None)
           → (bench'.is_on ≡ true → IsAtRest k.rests areas bench')
-          → text ≡ reported_by job.report lines answers (settings_of k areas (held areas bench'))
-          → WritesLeft (out_of job.output) (held areas bench') file
+          → text ≡ reported_by job.report lines answers (settings_of k areas (image_on areas bench'))
+          → WritesLeft (out_of job.output) (image_on areas bench') file
           → JobDoes k kinds job outside old new text file
       job_done answers left_kinds text file ran undamaged rests prints writes =
           done answers left_kinds text file

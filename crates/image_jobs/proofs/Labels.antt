@@ -3,10 +3,9 @@ use Rattle.std.proofs.Common.{◌≡◌, ℕ, zero, suc, ◌<◌, Bool, true, Li
 use Rattle.std.proofs.lemmas.Bool.{false≢true}
 use Rattle.flash_sim.specs.Device.{Device}
 use Rattle.flash_map.specs.declared.area.Area.{Area}
-use Rattle.image_file.specs.Format.{Plain, plain_area}
+use Rattle.image_file.specs.Format.{Plain, image_on, plain_area}
 use Rattle.image_file.specs.Lawful.{IsImage, IsLabel}
 use Rattle.image_file.specs.Lawful as lawful
-use Rattle.image_jobs.specs.Held.{held}
 use Rattle.migrator.specs.Areas.{is_store_at}
 use Rattle.session.specs.Texts.{AreLabelled}
 use Rattle.session_table.specs.Bench.{area_at}
@@ -26,5 +25,5 @@ store_label areas image place is are store =
     subst IsLabel (ap (λ (list : List Area). (lawful.area_at list place).label.bytes) (sym are) ∙ label_at areas place store)
     (is.each_area place (subst (λ (list : List Area). place < length list) are (within areas place store))).label
 
-pub labelled : (areas : List Area) (d : Device) → IsImage (held areas d) → AreLabelled areas
-labelled areas d is place store = store_label areas (held areas d) place is refl store
+pub labelled : (areas : List Area) (d : Device) → IsImage (image_on areas d) → AreLabelled areas
+labelled areas d is place store = store_label areas (image_on areas d) place is refl store

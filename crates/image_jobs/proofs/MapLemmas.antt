@@ -17,12 +17,11 @@ use Rattle.flash_map.specs.declared.area.Role.{Role}
 use Rattle.flash_map.specs.declared.area.Role.TheVariants.{Nvs, Zms, Fcb, Sel}
 use Rattle.flash_map.proofs.MapLemmas.{are_apart}
 use Rattle.fcb_ring.proofs.PlaceLemmas.{found_some, found_none}
-use Rattle.image_file.specs.Format.{plain_area, version_of}
+use Rattle.image_file.specs.Format.{image_on, plain_area, version_of}
 use Rattle.image_file.specs.Lawful.{HasNeeded, IsImage, area_at, is_sel, is_selector, no_area}
 use Rattle.image_file.proofs.ServingLemmas.{may_be_served}
 use Rattle.migrator.specs.Areas.{first_store, is_store, is_store_at, selector_of, store_from, stores, target}
 use Rattle.migrator.proofs.AreaLemmas.{store-within}
-use Rattle.image_jobs.specs.Held.{held}
 use Rattle.image_jobs.specs.Laws.{MapsAreLawful, StaysImage}
 
 -- ---- areas at their places
@@ -79,7 +78,7 @@ from_plain : (area other : Area) → AreApart (plain_area area) (plain_area othe
 from_plain area other is = record { apart = is.apart }
 
 -- the area at a place and one before it
-apart_before : (areas : List Area) (d : Device) → IsImage (held areas d) → (i j : ℕ) (area other : Area) → slice_get areas i ≡ Some area → slice_get areas j ≡ Some other → j < i → AreApart area other
+apart_before : (areas : List Area) (d : Device) → IsImage (image_on areas d) → (i j : ℕ) (area other : Area) → slice_get areas i ≡ Some area → slice_get areas j ≡ Some other → j < i → AreApart area other
 apart_before areas d is i j area other at also below =
     let here : i < length (map plain_area areas) = subst (λ (n : ℕ). i < n) (sym (length-map areas plain_area)) (there areas i area at) in
     let none : list_any (shares_sector (plain_area area)) (take i (map plain_area areas)) ≡ false =
@@ -95,7 +94,7 @@ by_order (suc i) (suc j) differ = elim (by_order i j (λ same. differ (ap suc sa
 -- ---- versions
 
 -- each area is of the image's version
-pub version_at : (areas : List Area) (d : Device) → IsImage (held areas d) → (i : ℕ) (area : Area) → slice_get areas i ≡ Some area → area.version ≡ version_of areas
+pub version_at : (areas : List Area) (d : Device) → IsImage (image_on areas d) → (i : ℕ) (area : Area) → slice_get areas i ≡ Some area → area.version ≡ version_of areas
 version_at areas d is i area at =
     subst (λ (a : Area). HasVersion (version_of areas) a) (plain_at areas i area at) (is.versions i no_area (subst (λ (n : ℕ). i < n) (sym (length-map areas plain_area)) (there areas i area at)))
 
@@ -103,7 +102,7 @@ pub maps_are_lawful : MapsAreLawful
 maps_are_lawful areas d is = record {
   few = subst (λ (n : ℕ). n ≤ 8) (length-map areas plain_area) is.few_areas;
   each = λ i area at. for_plain d.banks area (subst (λ (a : Area). IsLawfulFor d.banks a) (plain_at areas i area at)
-      (may_be_served (held areas d) i is (subst (λ (n : ℕ). i < n) (sym (length-map areas plain_area)) (there areas i area at))));
+      (may_be_served (image_on areas d) i is (subst (λ (n : ℕ). i < n) (sym (length-map areas plain_area)) (there areas i area at))));
   apart = λ i j area other at also differ. elim (by_order i j differ) [
     | inl below ↦ apart_before areas d is i j area other at also below
     | inr above ↦ turned other area (apart_before areas d is j i other area also at above)
@@ -145,7 +144,7 @@ first_is_store areas i is = go (store_from areas 0 (length areas)) refl
         let within : i < length areas = store-within areas i is in
         absurd (false≢true (sym (found_none (is_store_at areas) 0 (length areas) e i (omega arith) (omega arith)) ∙ is))
 
-pub has_store : (areas : List Area) (d : Device) → IsImage (held areas d) → is_store_at areas (first_store areas) ≡ true
+pub has_store : (areas : List Area) (d : Device) → IsImage (image_on areas d) → is_store_at areas (first_store areas) ≡ true
 has_store areas d is = let found = store_in areas is.needed.some_store in first_is_store areas found.0 found.1
 
 no_selector : (areas : List Area) → selector_of areas ≡ None → count_by is_selector (map plain_area areas) ≡ 0

@@ -14,7 +14,7 @@ use Rattle.migrator.specs.Areas.{IsLawfulMap, first_store, selector_of}
 use Rattle.any_backend.specs.Blank.{IsBlank}
 use Rattle.any_backend.specs.ByRole.{any_damage, any_contents, any_rests}
 use Rattle.session.specs.OnMap.{IsAtRest, active_area, damage_in}
-use Rattle.image_jobs.specs.Held.{held}
+use Rattle.image_file.specs.Format.{image_on}
 
 -- the banks with FF in each byte
 abbrev pub blank_bytes : List Bank → List (List ℕ)
@@ -55,4 +55,4 @@ pub record HoldsNothing (areas : List Area) (d : Device) : Type 0 where
 -- this holds for a lawful image whose bytes are all FF
 abbrev pub BlankHoldsNothing : Type 0
 BlankHoldsNothing =
-    (areas : List Area) (d : Device) → IsBlankFlash d → IsImage (held areas d) → HoldsNothing areas d
+    (areas : List Area) (d : Device) → IsBlankFlash d → IsImage (image_on areas d) → HoldsNothing areas d

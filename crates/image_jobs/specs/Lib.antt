@@ -1,5 +1,4 @@
 pub mod Blank
-pub mod Held
 pub mod Images
 pub mod Inputs
 pub mod Laws

@@ -1,11 +1,11 @@
 // The settings of the image that a bench holds.
 ghost use Rattle.std.specs.Prelude.{◌≡◌, List, IfOk};
-ghost use Rattle.flash_sim.specs.Device.{Device};
-ghost use Rattle.flash_sim.specs.SparseSim.{device_of};
+ghost use Rattle.flash_sim.specs.Device.{Device, loaded_once};
+ghost use Rattle.flash_sim.specs.Sim.{device_of};
 ghost use Rattle.flash_map.specs.declared.area.Area.{Area as area};
 ghost use Rattle.image_file.specs.Lawful.{IsImage};
 ghost use Rattle.session.specs.OnMap.{IsServedMap};
-ghost use Rattle.image_jobs.specs.Held.{copied, held};
+ghost use Rattle.image_file.specs.Format.{image_on};
 ghost use Rattle.image_jobs.specs.Images.{settings_of};
 ghost use Rattle.image_jobs.specs.Jobs.{SaysDamage};
 ghost use Rattle.image_jobs.specs.Reading.{MakesOr};
@@ -26,7 +26,7 @@ use std::sync::ledger::Blank;
 
 // A flash of its own with the banks and bytes of a bench. Its power is on, and it loses none.
 fn copy_of<B: Bench>(alloc: Global, bench: &B) -> Result<SparseSim, NoMemory>
-    ensures { IfOk result (λ copy. device_of copy ≡ copied (B.device bench.now)) }
+    ensures { IfOk result (λ copy. device_of copy ≡ loaded_once (B.device bench.now)) }
 {
     let bytes = bench.snapshot(alloc)?;
     let banks = Vec::from_slice(alloc, bench.banks())?;
@@ -45,11 +45,11 @@ pub fn names_left<'a, K: Backend, B: Bench>(
     areas: &FlashMap,
     bench: &B,
 ) -> Result<Answers, Stop<'a>>
-    requires serves { (areas : List area) (d : Device) → IsImage (held areas d)
+    requires serves { (areas : List area) (d : Device) → IsImage (image_on areas d)
         → IsServedMap K.serves areas d }
-    requires image { IsImage (held areas.now (B.device bench.now)) }
+    requires image { IsImage (image_on areas.now (B.device bench.now)) }
     ensures { let k = stores K.contents K.room K.chance K.tears K.damage K.rests in
-        let image = held areas.now (B.device bench.now) in
+        let image = image_on areas.now (B.device bench.now) in
         MakesOr (λ answers. last_pairs answers ≡ pairs_of (settings_of k areas.now image))
         (SaysDamage k areas.now image) result }
 {

@@ -4,7 +4,7 @@ ghost use Rattle.flash_map.specs.declared.area.Area.{Area as area};
 ghost use Rattle.image_file.specs.Lawful.{IsImage};
 ghost use Rattle.migrator.specs.Areas.{first_store, is_store_at};
 ghost use Rattle.session.specs.OnMap.{limit_of};
-ghost use Rattle.image_jobs.specs.Held.{held};
+ghost use Rattle.image_file.specs.Format.{image_on};
 ghost use Rattle.image_jobs.specs.Inputs.{out_of};
 ghost use Rattle.image_jobs.specs.Jobs.{WritesLeft, file_of};
 
@@ -38,9 +38,9 @@ pub fn file_left<'a, B: Bench>(
     areas: &FlashMap,
     bench: &B,
 ) -> Result<Option<OutFile<'a>>, NoMemory>
-    requires { IsImage (held areas.now (B.device bench.now)) }
+    requires { IsImage (image_on areas.now (B.device bench.now)) }
     ensures { IfOk result
-        (λ file. WritesLeft (out_of output.now) (held areas.now (B.device bench.now))
+        (λ file. WritesLeft (out_of output.now) (image_on areas.now (B.device bench.now))
         (file_of file)) }
 {
     match *output {

@@ -8,7 +8,7 @@ ghost use Rattle.flash_map.specs.declared.area.Area.{Area as area};
 ghost use Rattle.image_file.specs.Lawful.{IsImage};
 ghost use Rattle.script_lines.specs.Answer.{CanReport};
 ghost use Rattle.session.specs.OnMap.{IsServedMap};
-ghost use Rattle.image_jobs.specs.Held.{held};
+ghost use Rattle.image_file.specs.Format.{image_on};
 ghost use Rattle.image_jobs.specs.Images.{settings_of};
 ghost use Rattle.image_jobs.specs.Inputs.{counts_settings, reported_by};
 ghost use Rattle.image_jobs.specs.Jobs.{SaysDamage};
@@ -200,11 +200,11 @@ pub fn report_text<'a, K: Backend, B: Bench>(
     bench: &B,
 ) -> Result<Vec<u8>, Stop<'a>>
     requires texts { All CanReport answers.now }
-    requires serves { (areas : List area) (d : Device) → IsImage (held areas d)
+    requires serves { (areas : List area) (d : Device) → IsImage (image_on areas d)
         → IsServedMap K.serves areas d }
-    requires image { IsImage (held areas.now (B.device bench.now)) }
+    requires image { IsImage (image_on areas.now (B.device bench.now)) }
     ensures { let k = stores K.contents K.room K.chance K.tears K.damage K.rests in
-        let image = held areas.now (B.device bench.now) in
+        let image = image_on areas.now (B.device bench.now) in
         MakesOr (λ text. text.items
         ≡ reported_by report lines.now answers.now (settings_of k areas.now image))
         (λ refusal. (counts_settings report ≡ true) × SaysDamage k areas.now image refusal) result }

@@ -4,10 +4,9 @@ ghost use Rattle.flash_sim.specs.Device.{Device};
 ghost use Rattle.flash_map.specs.declared.area.Area.{Area as area};
 ghost use Rattle.zs_host.specs.Outside.{Outside};
 ghost use Rattle.handlers.specs.Registry.{registered};
-ghost use Rattle.image_file.specs.Format.{plain};
+ghost use Rattle.image_file.specs.Format.{image_on, plain};
 ghost use Rattle.image_file.specs.Lawful.{IsImage};
 ghost use Rattle.session.specs.OnMap.{IsFresh, IsServed, IsServedMap, kinds, limit_of};
-ghost use Rattle.image_jobs.specs.Held.{held};
 ghost use Rattle.image_jobs.specs.Inputs.{BeginsWith, GivesLines};
 ghost use Rattle.image_jobs.specs.Jobs.{JobEnds};
 ghost use Rattle.image_jobs.specs.Stages.{stage, stores};
@@ -39,7 +38,7 @@ fn run_on_image<'a, K: Backend, B: Bench>(
     pool: Vec<Box<dyn Handler>>,
     registry: &mut Registry,
 ) -> Result<Outcome<'a>, Stop<'a>>
-    requires serves { (areas : List area) (d : Device) → IsImage (held areas d)
+    requires serves { (areas : List area) (d : Device) → IsImage (image_on areas d)
         → IsServedMap K.serves areas d }
     requires image { IsImage (plain image) }
     requires lines { All (IsServed (limit_of image.map)) lines.now }
@@ -94,7 +93,7 @@ pub fn run_job<'a, K: Backend, H: Host, B: Bench>(
     pool: Vec<Box<dyn Handler>>,
     registry: &mut Registry,
 ) -> Result<Outcome<'a>, Stop<'a>>
-    requires serves { (areas : List area) (d : Device) → IsImage (held areas d)
+    requires serves { (areas : List area) (d : Device) → IsImage (image_on areas d)
         → IsServedMap K.serves areas d }
     requires pool { All (IsFresh state) pool.items }
     requires registry { registered state registry.old ≡ [] }

@@ -9,11 +9,10 @@ use Rattle.command_words.specs.Commands.{IsCommand, name_of}
 use Rattle.command_words.specs.declared.commands.Command.{Command}
 use Rattle.command_words.specs.declared.commands.Command.TheVariants.{Build, Run, Dump, Migrate, Gen, Log, Items, Mirror}
 use Rattle.command_words.specs.declared.commands.StoreKind.{StoreKind}
-use Rattle.image_file.specs.Format.{Plain, plain_area}
+use Rattle.image_file.specs.Format.{Plain, image_on, plain_area}
 use Rattle.image_file.specs.Lawful.{IsImage}
 use Rattle.image_file.specs.Spec.{IsSpec}
 use Rattle.image_jobs.specs.Blank.{HoldsNothing}
-use Rattle.image_jobs.specs.Held.{held}
 use Rattle.image_jobs.proofs.BlankLemmas.{holds_nothing}
 use Rattle.image_jobs.specs.declared.jobs.Job.{Job}
 use Rattle.image_jobs.specs.declared.jobs.Start.{Start}
@@ -36,7 +35,7 @@ use Rattle.image_tool.proofs.Blanks.{blanks_are_not_refused}
 -- ---- the image of a word
 
 -- on a flash that holds it, with these areas
-held_lawful : (image : Plain) (areas : List Area) → HasAreas image areas → IsImage image → IsImage (held areas (flash_of image))
+held_lawful : (image : Plain) (areas : List Area) → HasAreas image areas → IsImage image → IsImage (image_on areas (flash_of image))
 held_lawful image areas has is =
     subst (λ (version : ℕ). IsImage (record { version = version; banks = image.banks; areas = map plain_area areas; bytes = image.bytes })) (sym has.version)
     (subst (λ (all : List Area). IsImage (record { version = image.version; banks = image.banks; areas = all; bytes = image.bytes })) (sym has.are) is)

@@ -8,7 +8,7 @@ ghost use Rattle.image_file.specs.Lawful.{IsImage};
 ghost use Rattle.session.specs.OnMap.{IsFresh, IsServedMap, kinds};
 ghost use Rattle.command_words.specs.Commands.{IsCommand};
 ghost use Rattle.command_words.specs.declared.commands.Command.{Command as command};
-ghost use Rattle.image_jobs.specs.Held.{held};
+ghost use Rattle.image_file.specs.Format.{image_on};
 ghost use Rattle.image_jobs.specs.Stages.{stores};
 ghost use Rattle.image_tool.specs.Tasks.{Prepares};
 ghost use Rattle.image_tool.specs.Tool.{TaskEnds, NoCommandEnds, ToolEnds, MayWrite, OnlyFile, any_stores, out_file};
@@ -36,7 +36,7 @@ fn prepare<'a, K: Backend, H: Host, B: Bench>(
     pool: Vec<Box<dyn Handler>>,
     registry: &mut Registry,
 ) -> Result<Outcome<'a>, Stop<'a>>
-    requires serves { (areas : List area) (d : Device) → IsImage (held areas d)
+    requires serves { (areas : List area) (d : Device) → IsImage (image_on areas d)
         → IsServedMap K.serves areas d }
     requires pool { All (IsFresh state) pool.items }
     requires registry { registered state registry.old ≡ [] }
@@ -65,7 +65,7 @@ fn carry_out<K: Backend, H: Host, B: Bench>(
     pool: Vec<Box<dyn Handler>>,
     registry: &mut Registry,
 ) -> Status
-    requires serves { (areas : List area) (d : Device) → IsImage (held areas d)
+    requires serves { (areas : List area) (d : Device) → IsImage (image_on areas d)
         → IsServedMap K.serves areas d }
     requires pool { All (IsFresh state) pool.items }
     requires registry { registered state registry.old ≡ [] }
@@ -100,7 +100,7 @@ fn serve<K: Backend, H: Host, B: Bench>(
     pool: Vec<Box<dyn Handler>>,
     registry: &mut Registry,
 ) -> Status
-    requires serves { (areas : List area) (d : Device) → IsImage (held areas d)
+    requires serves { (areas : List area) (d : Device) → IsImage (image_on areas d)
         → IsServedMap K.serves areas d }
     requires pool { All (IsFresh state) pool.items }
     requires registry { registered state registry.old ≡ [] }

@@ -1,12 +1,12 @@
 -- How lines change a bench.
-use Rattle.std.specs.Prelude.{◌≡◌, ℕ, ◌+◌, ◌≤◌, ⊤, Bool, true, false, None, List, [], ◌∷◌, if◌then◌else◌, All}
+use Rattle.std.specs.Prelude.{◌≡◌, ℕ, ◌+◌, ◌≤◌, ⊤, Bool, true, false, None, List, [], ◌∷◌, All}
 use Rattle.flash_sim.specs.Device.{Device, counted}
 use Rattle.flash_map.specs.declared.area.Area.{Area}
 use Rattle.flash_map.specs.declared.area.Geometry.{Geometry}
 use Rattle.flash_map.specs.Area.{sectors_of}
 use Rattle.flash_map.specs.Touches.{Touches}
 use Rattle.script_lines.specs.Plan.Replan.{keeps as keeps_plan}
-use Rattle.session_table.specs.Bench.{Keeps, StaysUnplanned}
+use Rattle.session_table.specs.Bench.{CountsAndPlan, Keeps, StaysUnplanned}
 use Rattle.session_table.specs.Follows.{Follows}
 use Rattle.item_session.specs.declared.line.Line.{Line}
 use Rattle.item_session.specs.declared.line.Line.TheVariants.{Set, Get, Delete, Older, Space, Mount}
@@ -29,12 +29,10 @@ powered_for Mount d = turned_on d
 powered_for line d = d
 
 -- the counts and the plan after a line
-pub record Accounts (line : Line) (answer : Answer) (old new : Device) : Type 0 where
-  pub spent : old.spent + units_of answer ≡ new.spent
-  pub losses : new.losses ≡ counted old.losses (if is_lost answer then 1 else 0)
-  pub allows : IsCounted new.spent → Allows old.plan answer
-  pub plan : IsCounted new.spent → new.plan ≡ plan_after old.plan line answer
-  pub unplanned : PlansNoLoss line → StaysUnplanned old new
+abbrev pub Accounts : Line → Answer → Device → Device → Type 0
+Accounts line answer old new =
+    CountsAndPlan (units_of answer) (is_lost answer) (Allows old.plan answer)
+    (plan_after old.plan line answer) (PlansNoLoss line) old new
 
 -- A set or a delete ends as the store's call does; for example, it collects only if its
 -- entry does not fit.

@@ -42,7 +42,7 @@ pub(crate) fn mount<T: SlotSectors, B: Bench, L: Ledger>(
 {
     bench.restore();
     let before = bench.spent();
-    let end = Store::<T>::mount(alloc, bench, area.copy(), steps);
+    let end = Store::<T>::mount(alloc, bench, *area, steps);
     let units = bench.spent() - before;
     match end {
         Ok(store) => Ok(Mounted {

@@ -54,21 +54,21 @@ fn command_of(word: &[u8]) -> Option<Command>
 }
 
 // Reads a number below `end`, which has at most 32 bits.
-fn read_small(alloc: Global, word: &[u8], end: u64) -> Result<u32, LineFault>
+fn read_small(word: &[u8], end: u64) -> Result<u32, LineFault>
     requires { end ≤ 2 ^ 32 }
     ensures { (limit : ℕ) → ReadsField limit (below end) number word.now result }
 {
-    match read_number_below(alloc, word, end) {
+    match read_number_below(word, end) {
         Ok(found) => Ok(found as u32),
         Err(fault) => Err(fault),
     }
 }
 
-fn id_alone(alloc: Global, rest: Option<&[u8]>, ids: u64) -> Result<u32, LineFault>
+fn id_alone(rest: Option<&[u8]>, ids: u64) -> Result<u32, LineFault>
     requires { ids ≤ 2 ^ 32 }
     ensures { (limit : ℕ) → ReadsOne limit (below ids) number rest.entry result }
 {
-    read_small(alloc, one_word(rest)?, ids)
+    read_small(one_word(rest)?, ids)
 }
 
 // The bytes are read before the id, since their causes come first.
@@ -83,18 +83,18 @@ fn id_and_bytes(
 {
     let (first, second) = two_words(rest)?;
     let value = read_bytes(alloc, second, limit)?;
-    let id = read_small(alloc, first, ids)?;
+    let id = read_small(first, ids)?;
     Ok((id, value))
 }
 
-fn id_and_number(alloc: Global, rest: Option<&[u8]>, ids: u64) -> Result<(u32, u32), LineFault>
+fn id_and_number(rest: Option<&[u8]>, ids: u64) -> Result<(u32, u32), LineFault>
     requires { ids ≤ 2 ^ 32 }
     ensures { (limit : ℕ)
         → ReadsTwo limit (below ids) (below versions_end) number number rest.entry result }
 {
     let (first, second) = two_words(rest)?;
-    let id = read_small(alloc, first, ids)?;
-    let n = read_small(alloc, second, VERSIONS_END)?;
+    let id = read_small(first, ids)?;
+    let n = read_small(second, VERSIONS_END)?;
     Ok((id, n))
 }
 
@@ -116,15 +116,15 @@ pub fn read_line(alloc: Global, text: &[u8], ids: u64, limit: usize) -> Result<L
             Ok(Line::Set { id, value })
         }
         Command::Get => {
-            let id = id_alone(alloc, rest, ids)?;
+            let id = id_alone(rest, ids)?;
             Ok(Line::Get { id })
         }
         Command::Delete => {
-            let id = id_alone(alloc, rest, ids)?;
+            let id = id_alone(rest, ids)?;
             Ok(Line::Delete { id })
         }
         Command::Older => {
-            let (id, n) = id_and_number(alloc, rest, ids)?;
+            let (id, n) = id_and_number(rest, ids)?;
             Ok(Line::Older { id, n })
         }
         Command::Space => {
@@ -132,7 +132,7 @@ pub fn read_line(alloc: Global, text: &[u8], ids: u64, limit: usize) -> Result<L
             Ok(Line::Space)
         }
         Command::Cut => {
-            let units = number_alone(alloc, rest, UNITS_END)?;
+            let units = number_alone(rest, UNITS_END)?;
             Ok(Line::Cut { units })
         }
         Command::Uncut => {

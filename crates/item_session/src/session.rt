@@ -57,7 +57,7 @@ impl<T: SlotSectors> ItemSession<T> {
         match mount::<T, B, L>(alloc, bench, area, steps) {
             Ok(mounted) => {
                 let session = ItemSession {
-                    area: area.copy(),
+                    area: *area,
                     store: mounted.store,
                 };
                 Ok((session, mounted.answer))
@@ -93,7 +93,7 @@ impl<T: SlotSectors> ItemSession<T> {
         ensures wants { OnErr result (WantsMemory T.format_of self.old.area line.now
             (B.device bench.old) (B.device bench.new)) }
     {
-        let area = self.area.copy();
+        let area = self.area;
         run_line(alloc, line, bench, &area, &mut self.store, steps)
     }
 }

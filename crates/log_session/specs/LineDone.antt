@@ -1,5 +1,5 @@
 -- How lines change a bench.
-use Rattle.std.specs.Prelude.{◌≡◌, ℕ, ◌+◌, ◌≤◌, ⊤, Bool, true, false, List, [], ◌∷◌, length, None, Some, Result, Ok, Err, if◌then◌else◌, All}
+use Rattle.std.specs.Prelude.{◌≡◌, ℕ, ◌+◌, ◌≤◌, ⊤, Bool, true, false, List, [], ◌∷◌, length, None, Some, Result, Ok, Err, All}
 use Rattle.flash_sim.specs.Device.{Device, counted}
 use Rattle.flash_sim.specs.declared.flash.Loss.{Loss}
 use Rattle.flash_map.specs.declared.area.Area.{Area}
@@ -14,7 +14,7 @@ use Rattle.event_ring.specs.Appending.{LogAppends}
 use Rattle.event_ring.specs.Items.{log_on}
 use Rattle.event_ring.specs.Standing.{IsOpen, KeepsItems}
 use Rattle.script_lines.specs.Plan.Replan.{keeps as keeps_plan}
-use Rattle.session_table.specs.Bench.{Keeps, StaysUnplanned}
+use Rattle.session_table.specs.Bench.{CountsAndPlan, Keeps, StaysUnplanned}
 use Rattle.session_table.specs.Follows.{Follows}
 use Rattle.log_session.specs.declared.line.Line.{Line}
 use Rattle.log_session.specs.declared.line.Line.TheVariants.{Put, Records, Mount}
@@ -42,12 +42,10 @@ powered_for Mount d = turned_on d
 powered_for line d = d
 
 -- the counts and the plan after a line
-pub record Accounts (line : Line) (answer : Answer) (old new : Device) : Type 0 where
-  pub spent : old.spent + units_of answer ≡ new.spent
-  pub losses : new.losses ≡ counted old.losses (if is_lost answer then 1 else 0)
-  pub allows : IsCounted new.spent → Allows old.plan answer
-  pub plan : IsCounted new.spent → new.plan ≡ plan_after old.plan line answer
-  pub unplanned : PlansNoLoss line → StaysUnplanned old new
+abbrev pub Accounts : Line → Answer → Device → Device → Type 0
+Accounts line answer old new =
+    CountsAndPlan (units_of answer) (is_lost answer) (Allows old.plan answer)
+    (plan_after old.plan line answer) (PlansNoLoss line) old new
 
 -- the bench shows whether the units before the loss spell another record
 pub record ShowsChance (area : Area) (chance : Bool) (d : Device) : Type 0 where

@@ -39,7 +39,7 @@ pub(crate) fn mount<B: Bench, L: Ledger>(
 {
     bench.restore();
     let before = bench.spent();
-    let end = EventLog::mount(bench, area.copy(), steps);
+    let end = EventLog::mount(bench, *area, steps);
     let units = bench.spent() - before;
     match end {
         Ok(log) => Ok(Mounted {

@@ -54,7 +54,7 @@ impl LogSession {
         match mount(bench, area, steps) {
             Ok(mounted) => {
                 let session = LogSession {
-                    area: area.copy(),
+                    area: *area,
                     log: mounted.log,
                 };
                 Ok((session, mounted.answer))
@@ -88,7 +88,7 @@ impl LogSession {
         ensures same { OnErr result (B.device bench.new ≡ B.device bench.old) }
         ensures memory { OnErr result ((line.now ≡ Records) × ((B.device bench.old).is_on ≡ true)) }
     {
-        let area = self.area.copy();
+        let area = self.area;
         run_line(alloc, line, bench, &area, &mut self.log, steps)
     }
 }

@@ -127,7 +127,8 @@ pub record IsMoved (damage : Area → Geometry → List (List ℕ) → Option Da
 abbrev pub fill_units : Geometry → ℕ → ℕ
 fill_units geometry names = geometry.sectors + mount_units geometry + names * command_units geometry
 
--- An area was filled with `names` settings. That took at least an erase for each sector that was written.
+-- An area was filled with `names` settings. That spent at least one unit or erase for each sector that was
+-- written.
 abbrev pub Fills : Device → Device → Area → ℕ → Type 0
 Fills old new area names =
     SpendsBetween old new (count_by is_written (sectors_of old area))

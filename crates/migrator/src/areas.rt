@@ -61,7 +61,7 @@ pub fn area_at(map: &FlashMap, index: usize) -> Area
     ensures { slice_get map.now index ≡ Some result }
 {
     match map.at(index) {
-        Some(area) => area.copy(),
+        Some(area) => *area,
         None => unreachable!(),
     }
 }

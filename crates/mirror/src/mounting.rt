@@ -84,7 +84,7 @@ fn mount_side<K: Priced, F: Flash, L: Ledger>(
     ensures at_most { let d = F.device flash.old in
         SpendsAtMost d (F.device flash.new) (mount_units (geometry_of d area)) }
 {
-    let own = area.copy();
+    let own = area;
     match K::mount(alloc, flash, area, steps) {
         Ok(store) => Ok(Side {
             store,
@@ -275,7 +275,7 @@ fn open_other<K: Priced, F: Flash, L: Ledger>(
         SpendsAtMost d (F.device flash.new)
         (other_units (geometry_of d area) (finite.len settings)) }
 {
-    let own = area.copy();
+    let own = area;
     let mounted: Result<Option<K>, MirrorMount> = mount_other(alloc, trusted, flash, own, steps);
     match mounted {
         Ok(Some(store)) => Ok(store),

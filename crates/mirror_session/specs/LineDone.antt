@@ -21,7 +21,7 @@ use Rattle.mirror.specs.Trusted.{BothRead, damage_shown, trusted_on}
 use Rattle.script_lines.specs.declared.answer.Answer.TheVariants as settings
 use Rattle.script_lines.specs.Plan.Replan.{keeps as keeps_plan}
 use Rattle.session.specs.OnMap.{turned_on}
-use Rattle.session_table.specs.Bench.{area_at, geometry_in, StaysUnplanned}
+use Rattle.session_table.specs.Bench.{area_at, geometry_in, CountsAndPlan}
 use Rattle.mirror_session.specs.declared.line.Line.{Line}
 use Rattle.mirror_session.specs.declared.line.Line.TheVariants.{Set, Del, Mount, Blank}
 use Rattle.mirror_session.specs.declared.answer.Answer.{Answer}
@@ -30,7 +30,6 @@ use Rattle.mirror_session.specs.Plan.{units_of, is_lost, replan, Allows, plan_af
 use Rattle.mirror_session.specs.Answer.{done}
 use Rattle.mirror_session.specs.Bench.{Meanings, Moment, beside_in, labelled, rules_of, state_of}
 use Rattle.mirror_session.specs.Standing.{AtRest}
-use Rattle.session_table.specs.Rules.{IsCounted}
 use Rattle.mirror_session.specs.State.{State, IsOn}
 use Rattle.mirror_session.specs.Step.{Step}
 
@@ -56,12 +55,10 @@ pub record Keeps (areas : List Area) (loads : ℕ) (old new : Device) : Type 0 w
   pub outside : SameOutside areas old new
 
 -- the counts and the plan after a line
-pub record Accounts (line : Line) (answer : Answer) (old new : Device) : Type 0 where
-  pub spent : old.spent + units_of answer ≡ new.spent
-  pub losses : new.losses ≡ counted old.losses (if is_lost answer then 1 else 0)
-  pub allows : IsCounted new.spent → Allows old.plan answer
-  pub plan : IsCounted new.spent → new.plan ≡ plan_after old.plan line answer
-  pub unplanned : PlansNoLoss line → StaysUnplanned old new
+abbrev pub Accounts : Line → Answer → Device → Device → Type 0
+Accounts line answer old new =
+    CountsAndPlan (units_of answer) (is_lost answer) (Allows old.plan answer)
+    (plan_after old.plan line answer) (PlansNoLoss line) old new
 
 -- ---- what a line does to the areas
 

@@ -64,7 +64,7 @@ takes_memory line = false
 
 -- What a mount that stops leaves, whatever it stopped for. It turned power on, and changed nothing
 -- outside the areas of the map. The same area is read, as the same map. At rest nothing changes, and
--- an other area that holds the settings that are read is not repaired. No more is spent than a mount
+-- the other area, if it holds the settings that are read, is not repaired. No more is spent than a mount
 -- may.
 pub record MountStops (m : Meanings) (areas : List Area) (old new : Device) : Type 0 where
   pub touches : Touches areas (turned_on old) new false

@@ -91,7 +91,7 @@ pub fn read_line(alloc: Global, text: &[u8], limit: usize) -> Result<Line, LineF
             Ok(Line::Mount)
         }
         Command::Cut => {
-            let units = number_alone(alloc, rest, UNITS_END)?;
+            let units = number_alone(rest, UNITS_END)?;
             Ok(Line::Cut { units })
         }
         Command::Uncut => {

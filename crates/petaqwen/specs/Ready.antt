@@ -1,12 +1,11 @@
 -- What holds of a board, and of settings on it, between two calls.
-use Rattle.std.specs.Prelude.{◌≡◌, ℕ, List, map, slice_get, None, Some, true}
-use Rattle.flash_sim.specs.Device.{Device, Never}
+use Rattle.std.specs.Prelude.{◌≡◌, ℕ, List, slice_get, Some, true}
+use Rattle.flash_sim.specs.Device.{Device}
 use Rattle.flash_sim.specs.declared.flash.Bank.{Bank}
 use Rattle.flash_map.specs.Area.{value_limit}
 use Rattle.flash_map.specs.Lawful.{IsLawfulFor}
 use Rattle.flash_map.specs.On.{StandsOn}
 use Rattle.flash_map.specs.declared.area.Area.{Area}
-use Rattle.image_file.specs.Format.{Plain, plain_area, version_of}
 use Rattle.any_backend.specs.Standing.{area_of, Stands, is_up}
 use Rattle.any_backend.specs.declared.backend.AnyBackend.{AnyBackend}
 use Rattle.handlers.specs.Registry.{Registered}
@@ -15,31 +14,6 @@ use Rattle.settings_core.specs.Saving.{AreLawful}
 -- a store of its role may work on each of the partitions
 abbrev pub AreServed : List Bank → List Area → Type 0
 AreServed banks areas = (i : ℕ) (area : Area) → slice_get areas i ≡ Some area → IsLawfulFor banks area
-
--- the image of a flash with these partitions
-abbrev pub image_on : Device → List Area → Plain
-image_on d areas =
-    record {
-      version = version_of areas;
-      banks = d.banks;
-      areas = map plain_area areas;
-      bytes = d.bytes;
-    }
-
--- a flash with the banks and bytes of this one that was loaded once: power is on, no loss is planned, and
--- nothing is counted yet
-abbrev pub fresh : Device → Device
-fresh d =
-    record {
-      banks = d.banks;
-      bytes = d.bytes;
-      is_on = true;
-      losses = 0;
-      spent = 0;
-      loads = 1;
-      last_loss = None;
-      plan = Never;
-    }
 
 -- The settings stand on their partition, unless power was lost, and what the handlers hold may be stored.
 pub record IsReady (d : Device) (areas : List Area) (backend : AnyBackend) (handlers : List Registered) :

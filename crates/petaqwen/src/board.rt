@@ -1,10 +1,12 @@
 // A flash with its partitions.
 ghost use Rattle.std.specs.Prelude.{◌≡◌, ◌∷◌, [], true, Err, IfOk, IfErr};
 ghost use Rattle.std.specs.Option.{option_copied};
-ghost use Rattle.flash_sim.specs.SparseSim.{device_of};
+ghost use Rattle.flash_sim.specs.Device.{loaded_once};
+ghost use Rattle.flash_sim.specs.Sim.{device_of};
+ghost use Rattle.image_file.specs.Format.{image_on};
 ghost use Rattle.image_file.specs.Spec.{IsSpec, ReadsSpec};
 ghost use Rattle.petaqwen.specs.Calls.{for_settings, labelled, partition};
-ghost use Rattle.petaqwen.specs.Ready.{AreServed, fresh, image_on};
+ghost use Rattle.petaqwen.specs.Ready.{AreServed};
 
 use flash_map::{Area, FlashMap, Role};
 use flash_sim::{Bench, Flash, SparseSim};
@@ -28,10 +30,10 @@ impl Board<SparseSim> {
     /// `BadSpec` with the first item that is refused, counted from 1; `NoMemory`.
     pub fn blank(alloc: Global, word: &str) -> Result<Board<SparseSim>, SpecFault>
         ensures word { IfOk result
-            (λ board. IsSpec word.now (image_on (device_of board.flash) board.map)) }
+            (λ board. IsSpec word.now (image_on board.map (device_of board.flash))) }
         ensures sound { IfOk result (λ board. AreServed (device_of board.flash).banks board.map) }
         ensures fresh { IfOk result
-            (λ board. device_of board.flash ≡ fresh (device_of board.flash)) }
+            (λ board. device_of board.flash ≡ loaded_once (device_of board.flash)) }
         ensures refused { IfErr result (λ fault. ReadsSpec word.now (Err fault)) }
     {
         let image = read_spec(alloc, word)?;
@@ -98,8 +100,8 @@ fn for_settings(area: &Area) -> Option<Area>
 {
     match area.role {
         Role::Sel => None,
-        Role::Nvs => Some(area.copy()),
-        Role::Zms => Some(area.copy()),
-        Role::Fcb => Some(area.copy()),
+        Role::Nvs => Some(*area),
+        Role::Zms => Some(*area),
+        Role::Fcb => Some(*area),
     }
 }

@@ -1,7 +1,5 @@
 // The words after the first one.
-ghost use Rattle.std.specs.Prelude.{◌≡◌, ◌↔◌, IsTrue, ℕ};
-ghost use Rattle.std.specs.List.{list_all};
-ghost use Rattle.image_file.specs.Lawful.{IsLabel, is_label_byte};
+ghost use Rattle.std.specs.Prelude.{ℕ};
 ghost use Rattle.script_lines.specs.Forms.{words_of, IsOneWord, AreTwoWords, ReadsField, ReadsNone, ReadsOne, ReadsTwo, ReadsNameOrNothing};
 ghost use Rattle.script_lines.specs.Forms.Field.{a_name, a_label, a_kind, some_bytes, any_bytes, below};
 ghost use Rattle.script_lines.specs.Forms.Said.{name, label, kind, bytes, number};
@@ -10,6 +8,7 @@ use crate::lists::{Bytes, Label};
 use crate::why::LineFault::{NoMemory, Refused};
 use crate::why::{LineFault, LineWhy};
 use handlers::HandlerKind;
+use image_file::is_label;
 use setting_name::Name;
 use std::alloc::Global;
 use text_parts::{cut_at, one_part, read_number};
@@ -22,24 +21,6 @@ pub fn read_name(word: &[u8]) -> Result<Name, LineFault>
     ensures { (limit : ℕ) → ReadsField limit a_name name word.now result }
 {
     Name::read(word).map_err(|_| Refused(LineWhy::Name))
-}
-
-fn is_label_byte(byte: u8) -> bool
-    ensures { result ≡ is_label_byte byte }
-{
-    byte.is_ascii_lowercase() || byte.is_ascii_digit()
-}
-
-fn all_label_bytes(word: &[u8]) -> bool
-    ensures { result ≡ list_all is_label_byte word.now }
-{
-    word.iter().all(|byte| is_label_byte(*byte))
-}
-
-fn is_label(word: &[u8]) -> bool
-    ensures { IsTrue result ↔ IsLabel word.now }
-{
-    (1..=8).contains(&word.len()) && all_label_bytes(word)
 }
 
 /// Reads a word as the label of an area: 1 to 8 bytes of `a` to `z` and `0` to `9`.
@@ -116,14 +97,13 @@ pub fn read_bytes_or_dash(alloc: Global, word: &[u8], limit: usize) -> Result<By
 /// Reads a word as a number below `end`, in decimal without a sign or leading zeros.
 ///
 /// # Errors
-/// `Number` if it is none; `NoMemory`.
-pub fn read_number_below(alloc: Global, word: &[u8], end: u64) -> Result<u64, LineFault>
+/// `Number` if it is none.
+pub fn read_number_below(word: &[u8], end: u64) -> Result<u64, LineFault>
     ensures { (limit : ℕ) → ReadsField limit (below end) number word.now result }
 {
-    match read_number(alloc, word, end) {
-        Ok(Some(found)) => Ok(found),
-        Ok(None) => Err(Refused(LineWhy::Number)),
-        Err(_) => Err(NoMemory),
+    match read_number(word, end) {
+        Some(found) => Ok(found),
+        None => Err(Refused(LineWhy::Number)),
     }
 }
 
@@ -230,11 +210,11 @@ pub fn name_and_bytes_or_dash(
 /// The one number below `end` that is left of a line.
 ///
 /// # Errors
-/// The first cause, in the order of `LineWhy`, for which it is not. `NoMemory`.
-pub fn number_alone(alloc: Global, rest: Option<&[u8]>, end: u64) -> Result<u64, LineFault>
+/// The first cause, in the order of `LineWhy`, for which it is not.
+pub fn number_alone(rest: Option<&[u8]>, end: u64) -> Result<u64, LineFault>
     ensures { (limit : ℕ) → ReadsOne limit (below end) number rest.entry result }
 {
-    read_number_below(alloc, one_word(rest)?, end)
+    read_number_below(one_word(rest)?, end)
 }
 
 /// The one name that is left of a line; `None` if no word is left.

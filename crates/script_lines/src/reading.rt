@@ -42,7 +42,7 @@ pub fn read_line(alloc: Global, text: &[u8], limit: usize) -> Result<Line, LineF
         "rget" => name_alone(rest).map(|name| Line::RunGet { name }),
         "names" => nothing(rest).map(|()| Line::Names),
         "mount" => nothing(rest).map(|()| Line::Mount),
-        "cut" => number_alone(alloc, rest, UNITS_END).map(|units| Line::Cut { units }),
+        "cut" => number_alone(rest, UNITS_END).map(|units| Line::Cut { units }),
         "uncut" => nothing(rest).map(|()| Line::Uncut),
         "migrate" => nothing(rest).map(|()| Line::Migrate),
         _ => Err(Refused(LineWhy::Unknown)),

@@ -1,5 +1,5 @@
 -- Which handlers lines move.
-use Rattle.std.proofs.Common.{◌≡◌, ℕ, true, false, List, [], ◌∷◌, ◌++◌, Result, Ok, Err, refl, sym, ap, subst, ◌∙◌}
+use Rattle.std.proofs.Common.{◌≡◌, ℕ, false, List, [], ◌∷◌, ◌++◌, Result, Ok, Err, refl, sym, ap, subst, ◌∙◌}
 use Rattle.std.specs.Prelude.{IfOk}
 use Rattle.std.proofs.lemmas.Bool.{false≢true}
 use Rattle.handlers.specs.declared.handler.HandlerKind.{HandlerKind}
@@ -18,11 +18,8 @@ module _ {B : Type 0} (state : B → HandlerState) where
   pub registers_taken : (subtree copy : List ℕ) (kind : HandlerKind) (before after : List B) (taken : B) (rows now : List (Row B)) → copy ≡ subtree → TakesFirst state kind before after taken
       → now ≡ rows ++ record { subtree = copy; handler = taken } ∷ [] → RegistersFirst state subtree kind before after rows now
   registers_taken subtree copy kind before after taken rows now is takes last = record {
-    place = takes.place;
     handler = taken;
-    first = takes.first;
-    there = takes.there;
-    left = takes.left;
+    taken = takes;
     last = last ∙ ap (λ (name : List ℕ). rows ++ record { subtree = name; handler = taken } ∷ []) is;
   }
 

@@ -53,11 +53,8 @@ module _ {B : Type 0} where
   -- registered ones, with this subtree.
   pub record RegistersFirst (state : B → HandlerState) (subtree : List ℕ) (kind : HandlerKind)
       (before after : List B) (rows now : List (Row B)) : Type 0 where
-    pub place : ℕ
     pub handler : B
-    pub first : FirstAt kind (kinds state before) (Some place)
-    pub there : slice_get before place ≡ Some handler
-    pub left : after ≡ remove before place
+    pub taken : TakesFirst state kind before after handler
     pub last : now ≡ rows ++ record { subtree = subtree; handler = handler } ∷ []
 
   -- which handlers a registration moves

@@ -8,8 +8,7 @@ use Rattle.flash_map.specs.Area.{value_limit}
 use Rattle.std.specs.Global.{Vec}
 use Rattle.zs_host.specs.Outside.{Outside, failed}
 use Rattle.image_file.specs.declared.image.Image.{Image}
-use Rattle.image_file.specs.Format.{Plain, plain, plain_area, version_of}
-use Rattle.image_jobs.specs.Held.{held}
+use Rattle.image_file.specs.Format.{Plain, image_on, plain, plain_area, version_of}
 use Rattle.image_jobs.specs.declared.stops.Stop.{Stop}
 use Rattle.image_jobs.specs.declared.stops.Stop.TheVariants.{Refused, HostFailed, NoMemory}
 use Rattle.image_jobs.specs.Images.{HasAreas, begun, left}
@@ -57,10 +56,10 @@ module _ (name script out : List ℕ) (outside : Outside) (banks : List Bank) (b
         → damage_on (role_format area.role) bench' area ≡ None
         → (bench'.is_on ≡ true → RestsOn (role_format area.role) bench' area)
         → text ≡ texts answers
-        → WritesLeft (Some out) (held areas bench') file
+        → WritesLeft (Some out) (image_on areas bench') file
         → ItemJobDoes name script out outside bench bench' text file
     done answers text file lawful serves sound ran undamaged rests prints writes =
-        let same : held areas bench' ≡ left image bench' =
+        let same : image_on areas bench' ≡ left image bench' =
         ap (λ (banks : List Bank). record { version = version_of areas; banks = banks; areas = map plain_area areas; bytes = bench'.bytes }) ran.whole.keeps.banks in
         record {
           image = image;
@@ -110,7 +109,7 @@ module _ (name script out : List ℕ) (outside : Outside) (banks : List Bank) (b
           → (damage_on (role_format area.role) first area ≡ None → damage_on (role_format area.role) bench' area ≡ None)
           → (bench'.is_on ≡ true → RestsOn (role_format area.role) bench' area)
           → text ≡ texts answers
-          → WritesLeft (Some out) (held areas bench') file
+          → WritesLeft (Some out) (image_on areas bench') file
           → ItemJobDoes name script out outside bench bench' text file
       job_done answers text file lawful serves sound ran undamaged rests prints writes =
           done answers text file (subst (λ (d : Device). IsLawful d.banks d.bytes) loaded lawful) serves (subst (λ (d : Device). damage_on (role_format area.role) d area ≡ None) loaded sound)

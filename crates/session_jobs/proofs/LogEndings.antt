@@ -7,8 +7,7 @@ use Rattle.flash_map.specs.declared.area.Area.{Area}
 use Rattle.flash_map.specs.Area.{geometry_of, value_limit}
 use Rattle.fcb_ring.specs.Standing.{IsRingArea, erases_on, ring_damage}
 use Rattle.zs_host.specs.Outside.{Outside}
-use Rattle.image_file.specs.Format.{Plain, plain_area, version_of}
-use Rattle.image_jobs.specs.Held.{held}
+use Rattle.image_file.specs.Format.{Plain, image_on, plain_area, version_of}
 use Rattle.image_jobs.specs.declared.stops.Stop.{Stop}
 use Rattle.image_jobs.specs.declared.stops.Stop.TheVariants.{NoMemory}
 use Rattle.image_jobs.specs.Images.{HasAreas, begun, left}
@@ -55,10 +54,10 @@ module _ (name script out : List ℕ) (outside : Outside) (banks : List Bank) (b
         → ring_damage bench' area ≡ None
         → (bench'.is_on ≡ true → erases_on bench' area ≡ 0)
         → text ≡ texts answers
-        → WritesLeft (Some out) (held areas bench') file
+        → WritesLeft (Some out) (image_on areas bench') file
         → LogJobDoes name script out outside bench bench' text file
     done answers text file lawful is_area sound ran undamaged rests prints writes =
-        let same : held areas bench' ≡ left image bench' =
+        let same : image_on areas bench' ≡ left image bench' =
         ap (λ (banks : List Bank). record { version = version_of areas; banks = banks; areas = map plain_area areas; bytes = bench'.bytes }) ran.whole.keeps.banks in
         record {
           image = image;
@@ -108,7 +107,7 @@ module _ (name script out : List ℕ) (outside : Outside) (banks : List Bank) (b
           → (ring_damage first area ≡ None → ring_damage bench' area ≡ None)
           → (bench'.is_on ≡ true → erases_on bench' area ≡ 0)
           → text ≡ texts answers
-          → WritesLeft (Some out) (held areas bench') file
+          → WritesLeft (Some out) (image_on areas bench') file
           → LogJobDoes name script out outside bench bench' text file
       job_done answers text file lawful is_area sound ran undamaged rests prints writes =
           done answers text file (subst (λ (d : Device). IsLawful d.banks d.bytes) loaded lawful) is_area (subst (λ (d : Device). ring_damage d area ≡ None) loaded sound)

@@ -10,9 +10,8 @@ use Rattle.flash_map.specs.declared.area.Area.{Area}
 use Rattle.flash_map.specs.declared.area.Role.{Role}
 use Rattle.flash_map.specs.declared.area.Role.TheVariants.{Nvs, Zms, Fcb, Sel}
 use Rattle.any_backend.specs.ByRole.{any_serves}
-use Rattle.image_file.specs.Format.{plain_area}
+use Rattle.image_file.specs.Format.{image_on, plain_area}
 use Rattle.image_file.specs.Lawful.{IsImage, is_sel}
-use Rattle.image_jobs.specs.Held.{held}
 use Rattle.image_jobs.proofs.ServedLemmas.{maps_are_served}
 use Rattle.migrator.specs.Areas.{is_store, is_store_at, selector_of, stores}
 use Rattle.mirror.specs.Room.{IsMirrored}
@@ -131,7 +130,7 @@ selected_mirrored area is store = absurd (none_such area is store)
 abbrev StoresOnly : List Area → ℕ → ℕ → Type 0
 StoresOnly areas one two = (place : ℕ) → is_store_at areas place ≡ true → (place ≡ one) ⊎ (place ≡ two)
 
-module _ (d : Device) (a b c : Area) (is : IsImage (held (a ∷ b ∷ c ∷ []) d)) where
+module _ (d : Device) (a b c : Area) (is : IsImage (image_on (a ∷ b ∷ c ∷ []) d)) where
   abbrev three : List Area
   three = a ∷ b ∷ c ∷ []
 
@@ -203,7 +202,7 @@ module _ (d : Device) (a b c : Area) (is : IsImage (held (a ∷ b ∷ c ∷ []) 
       ]
 
 -- the areas of an image that are a mirror are one to the session
-pub is_mirror_map : (areas : List Area) (d : Device) → IsImage (held areas d) → AreMirrored areas → IsMirrorMap any_serves areas d
+pub is_mirror_map : (areas : List Area) (d : Device) → IsImage (image_on areas d) → AreMirrored areas → IsMirrorMap any_serves areas d
 is_mirror_map [] d is mirrored = let none : 0 ≡ 3 = mirrored.all in absurd (omega (arith, none))
 is_mirror_map (a ∷ []) d is mirrored = let none : length (a ∷ []) ≡ 3 = mirrored.all in absurd (omega (arith, none))
 is_mirror_map (a ∷ b ∷ []) d is mirrored = let none : length (a ∷ b ∷ []) ≡ 3 = mirrored.all in absurd (omega (arith, none))

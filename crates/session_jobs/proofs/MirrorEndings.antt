@@ -15,8 +15,7 @@ use Rattle.mirror.specs.Trusted.{BothRead, IsMirrorMap, MirrorReads, damage_show
 use Rattle.backend_api.specs.Map.{Map}
 use Rattle.mirror.specs.Mounting.{IsAtRest}
 use Rattle.zs_host.specs.Outside.{Outside}
-use Rattle.image_file.specs.Format.{Plain, plain_area, version_of}
-use Rattle.image_jobs.specs.Held.{held}
+use Rattle.image_file.specs.Format.{Plain, image_on, plain_area, version_of}
 use Rattle.session.specs.OnMap.{limit_of}
 use Rattle.session_table.specs.Bench.{area_at}
 use Rattle.image_jobs.specs.declared.stops.Refusal.{Refusal}
@@ -124,10 +123,10 @@ module _ (name script out : List ℕ) (outside : Outside) (banks : List Bank) (b
         → Ran any_meanings areas (Mount ∷ lines) answers (opening image bench) (closing bench' whole)
         → RestsNow any_meanings areas (closing bench' whole)
         → text ≡ texts answers
-        → WritesLeft (Some out) (held areas bench') file
+        → WritesLeft (Some out) (image_on areas bench') file
         → MirrorJobDoes name script out outside bench bench' text file
     done answers whole text file map_left ran still_rests prints writes =
-        let same : held areas bench' ≡ left image bench' =
+        let same : image_on areas bench' ≡ left image bench' =
         ap (λ (banks : List Bank). record { version = version_of areas; banks = banks; areas = map plain_area areas; bytes = bench'.bytes }) ran.keeps.banks in
         record {
           image = image;
@@ -218,7 +217,7 @@ module _ (name script out : List ℕ) (outside : Outside) (banks : List Bank) (b
           → Ran any_meanings areas (Mount ∷ lines) answers (moment first false) (moment bench' whole)
           → RestsNow any_meanings areas (moment bench' whole)
           → text ≡ texts answers
-          → WritesLeft (Some out) (held areas bench') file
+          → WritesLeft (Some out) (image_on areas bench') file
           → MirrorJobDoes name script out outside bench bench' text file
       job_done answers whole text file map_left ran still_rests prints writes =
           done answers whole text file map_left

@@ -54,7 +54,7 @@ fn item_area(areas: &FlashMap) -> Option<Area>
     }
     let area = areas.at(0)?;
     if has_items(area.role) {
-        Some(area.copy())
+        Some(*area)
     } else {
         None
     }

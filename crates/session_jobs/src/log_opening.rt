@@ -29,7 +29,7 @@ fn log_area(areas: &FlashMap) -> Option<Area>
     }
     let area = areas.at(0)?;
     if area.role == Role::Fcb {
-        Some(area.copy())
+        Some(*area)
     } else {
         None
     }

@@ -1,12 +1,12 @@
 // The readers of an image of a mirror and of a script on it.
-ghost use Rattle.std.specs.Prelude.{◌≡◌, ◌<◌, ◌⊎◌, ◌↔◌, IsTrue, All, IfOk, count_by, length};
+ghost use Rattle.std.specs.Prelude.{◌≡◌, ◌⊎◌, ◌↔◌, IsTrue, All, IfOk, count_by};
 ghost use Rattle.image_file.specs.Format.{plain};
-ghost use Rattle.image_file.specs.Lawful.{IsImage, area_at, is_selector};
+ghost use Rattle.image_file.specs.Lawful.{IsImage, is_selector};
 ghost use Rattle.image_jobs.specs.Reading.{HasImage, LacksImage, MakesOr, ReadsOr};
 ghost use Rattle.mirror_session.specs.LineDone.{IsServed};
 ghost use Rattle.session_jobs.specs.MirrorInputs.{AreMirrored, FindsNoMirror, HasLines, LacksLines, LacksMirror, is_stored, may_mirror};
 
-use flash_map::{FlashMap, Role};
+use flash_map::{Area, FlashMap, Role};
 use image_file::Image;
 use image_jobs::{Refusal, Stop, read_image_file, read_script_text};
 use mirror_session::{Line, ScriptFault, read_script};
@@ -25,52 +25,31 @@ fn may_mirror(role: Role) -> bool
     }
 }
 
-// Whether the area at this place can hold the settings of a mirror.
-fn is_stored_at(areas: &FlashMap, i: usize) -> bool
-    requires { i < length areas.now }
-    ensures { result ≡ is_stored (area_at areas.now i) }
+// Whether an area can hold the settings of a mirror.
+fn is_stored(area: &Area) -> bool
+    ensures { result ≡ is_stored area.now }
 {
-    match areas.at(i) {
-        Some(area) => may_mirror(area.role),
-        None => false,
-    }
+    may_mirror(area.role)
 }
 
-// Whether the area at this place is a selector's.
-fn is_selector_at(areas: &FlashMap, i: usize) -> bool
-    requires { i < length areas.now }
-    ensures { result ≡ is_selector (area_at areas.now i) }
+fn is_selector(area: &Area) -> bool
+    ensures { result ≡ is_selector area.now }
 {
-    match areas.at(i) {
-        Some(area) => area.role == Role::Sel,
-        None => false,
-    }
+    area.role == Role::Sel
 }
 
 // How many areas can hold the settings of a mirror.
 fn count_stored(areas: &FlashMap) -> usize
     ensures { result ≡ count_by is_stored areas.now }
 {
-    let mut count = 0;
-    for i in 0..areas.len() {
-        if is_stored_at(areas, i) {
-            count += 1;
-        }
-    }
-    count
+    areas.iter().filter(|area| is_stored(area)).count()
 }
 
 // How many areas are selectors.
 fn count_selectors(areas: &FlashMap) -> usize
     ensures { result ≡ count_by is_selector areas.now }
 {
-    let mut count = 0;
-    for i in 0..areas.len() {
-        if is_selector_at(areas, i) {
-            count += 1;
-        }
-    }
-    count
+    areas.iter().filter(|area| is_selector(area)).count()
 }
 
 // Whether the map has exactly three areas: two of NVS or ZMS, and a selector.

@@ -2,7 +2,7 @@
 use Rattle.std.specs.Prelude.{◌≡◌, ℕ, ◌+◌, ◌≤◌, ⊤, Bool, true, false, List, [], ◌∷◌, ◌++◌, length, map, filter, filter_map, slice_index_or, Some, if◌then◌else◌, All}
 use Rattle.std.specs.List.{range_with_len}
 use Rattle.flash_sim.specs.Bank.{bank_at}
-use Rattle.flash_sim.specs.Device.{Device, Never, counted}
+use Rattle.flash_sim.specs.Device.{Device, Plan, Never, counted}
 use Rattle.flash_sim.specs.declared.flash.Bank.{Bank}
 use Rattle.flash_sim.specs.declared.flash.Loss.{Loss}
 use Rattle.flash_map.specs.declared.area.Area.{Area}
@@ -132,13 +132,21 @@ pub record Keeps (areas : List Area) (old new : Device) : Type 0 where
 abbrev pub StaysUnplanned : Device → Device → Type 0
 StaysUnplanned old new = old.plan ≡ Never → (new.plan ≡ Never) × (new.losses ≡ old.losses)
 
--- the counts and the plan after a line
-pub record Accounts (line : Line) (answer : Answer) (old new : Device) : Type 0 where
-  pub spent : old.spent + units_of answer ≡ new.spent
-  pub losses : new.losses ≡ counted old.losses (if is_lost answer then 1 else 0)
-  pub allows : IsCounted new.spent → Allows old.plan answer
-  pub plan : IsCounted new.spent → new.plan ≡ plan_after old.plan line answer
-  pub unplanned : PlansNoLoss line → StaysUnplanned old new
+-- The counts and the plan after a line: `units` were spent, power was lost or not, the old plan allows
+-- that, and the plan is the new one. A line that plans no loss leaves it so.
+pub record CountsAndPlan (units : ℕ) (was_lost : Bool) (allowed : Type 0) (planned : Plan)
+    (plans_none : Type 0) (old new : Device) : Type 0 where
+  pub spent : old.spent + units ≡ new.spent
+  pub losses : new.losses ≡ counted old.losses (if was_lost then 1 else 0)
+  pub allows : IsCounted new.spent → allowed
+  pub plan : IsCounted new.spent → new.plan ≡ planned
+  pub unplanned : plans_none → StaysUnplanned old new
+
+-- the counts and the plan after a line on settings
+abbrev pub Accounts : Line → Answer → Device → Device → Type 0
+Accounts line answer old new =
+    CountsAndPlan (units_of answer) (is_lost answer) (Allows old.plan answer)
+    (plan_after old.plan line answer) (PlansNoLoss line) old new
 
 -- the bench shows whether the units before the loss spell another record
 pub record ShowsChance (m : Meanings) (area : Area) (chance : Bool) (d : Device) : Type 0 where

@@ -85,7 +85,7 @@ fn area_at(map: &FlashMap, index: usize) -> Result<Area, Fail>
     ensures { IfOk result (λ area. slice_get map.now index ≡ Some area) }
 {
     match map.at(index) {
-        Some(area) => Ok(area.copy()),
+        Some(area) => Ok(*area),
         None => Err("no area is there".into()),
     }
 }

@@ -4,4 +4,4 @@
 pub mod laws;
 mod name;
 
-pub use name::{NAME_LIMIT, Name, NameFault};
+pub use name::{NAME_LIMIT, Name, NameFault, count_of_parts};

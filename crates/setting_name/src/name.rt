@@ -210,7 +210,8 @@ fn behind_slash(left: &[u8]) -> Option<&[u8]>
     }
 }
 
-fn count_of_parts(text: &[u8]) -> usize
+/// How many parts a text has: one more than it has slashes.
+pub fn count_of_parts(text: &[u8]) -> usize
     ensures { result ≡ length (parts_of text.now) }
 {
     text.iter().filter(|byte| **byte == SLASH).count() + 1

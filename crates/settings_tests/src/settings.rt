@@ -369,7 +369,8 @@ fn over_a_store<K: Backend, B: Bench, L: Ledger, R: Abort>(
     requires serves { K.serves area (geometry_of (B.device bench.old) area) }
     requires settings { (limit : ℕ) → AreLawful limit (registered state registry.old) }
 {
-    let mounted = Settings::<K>::mount(alloc, bench, area.copy(), steps)?;
+    let own = area;
+    let mounted = Settings::<K>::mount(alloc, bench, own, steps)?;
     let is_off = mounted.is_off();
     let mut settings = Settings::<K>::of(K::mount(alloc, bench, area, steps)?);
     rows(rt, alloc, &mut settings, bench, registry, steps);

@@ -99,7 +99,7 @@ pub(crate) fn mounted<B: Bench, L: Ledger, R: Abort>(
     ensures ready { IsReady (B.device bench.new) result }
     ensures banks { (B.device bench.new).banks ≡ (B.device bench.old).banks }
 {
-    match AnyBackend::mount(alloc, bench, area.copy(), steps) {
+    match AnyBackend::mount(alloc, bench, *area, steps) {
         Ok(backend) => backend,
         Err(_) => rt.panic("no mount"),
     }
@@ -353,7 +353,7 @@ fn put_items<S: ItemStore, B: Bench, L: Ledger>(
     requires serves { S.serves area.now (geometry_of (B.device bench.old) area.now) }
     ensures banks { OnOk result ((B.device bench.new).banks ≡ (B.device bench.old).banks) }
 {
-    let mut store = S::mount(alloc, bench, area.copy(), steps)?;
+    let mut store = S::mount(alloc, bench, *area, steps)?;
     for (id, bytes) in items {
         if bytes.is_empty() {
             return Err(Fail::new("no bytes of a row"));
@@ -383,7 +383,7 @@ fn describes<N: IdLayout, S: ItemStore, B: Bench, L: Ledger, R: Abort>(
     requires lawful { IsLawfulFor (B.device bench.old).banks area.now }
     requires serves { S.serves area.now (geometry_of (B.device bench.old) area.now) }
 {
-    let store = S::mount(alloc, bench, area.copy(), steps)?;
+    let store = S::mount(alloc, bench, *area, steps)?;
     for (name, value) in reported {
         let name = name_of(rt, name);
         let found = value_of::<N, S, B, L>(&store, bench, &name, steps);

@@ -1,10 +1,9 @@
-use Rattle.std.proofs.Common.{subst}
-use Rattle.image_file.specs.Spec.{IsNumber}
+use Rattle.std.proofs.Common.{Some, None}
 use Rattle.image_file.proofs.NumberLemmas.{number_is}
 use Rattle.image_file.proofs.numbers.number_of.Goals as goal
 
-pub returns-in-Some : goal.returns-in-Some
-returns-in-Some c = subst (IsNumber c.args.word.now) c.in-Some.is (number_is c.args.word.now c.in_ok-n.field-0 c.in_ok-n.ensures)
+pub returns-in_err-n : goal.returns-in_err-n
+returns-in_err-n c = rw c.from_residual.ensures (number_is c.args.word.now None c.in_err-n.ensures)
 
-pub returns-in-None : goal.returns-in-None
-returns-in-None c = subst (IsNumber c.args.word.now) c.in-None.is (number_is c.args.word.now c.in_ok-n.field-0 c.in_ok-n.ensures)
+pub returns : goal.returns
+returns c = number_is c.args.word.now (Some c.in_ok-n.n) c.in_ok-n.ensures

@@ -12,9 +12,9 @@ returns-then-is_version c =
     (subst (λ (banks : List Bank). TakesVersion (listed c.args.version.now banks c.args.areas.now) (listed c.take_version.new.version banks c.args.areas.now) c.take_version.result) c.deref.ensures.value c.take_version.ensures)
 
 pub take_found-requires-clause-version : goal.take_found-requires-clause-version
-take_found-requires-clause-version c = found_versions c.args.version.now c.args.item.now c.in_ok-area.area c.args.areas.now c.in_ok-area.ensures c.requires.versions
+take_found-requires-clause-version c = found_versions c.args.version.now c.args.item.now c.area_item-area.result c.args.areas.now c.area_item-area.ensures c.requires.versions
 
 pub returns : goal.returns
 returns c =
-    found_answer c.args.version.now c.args.item.now (λ is. contrary c.is_version.result (c.is_version.ensures.1 is) c.if-is_version.false) c.args.banks.now.items c.take_found.new.banks.items c.args.areas.now c.take_found.new.areas c.in_ok-bank.bank c.in_ok-area.area c.in_ok-taken.taken
-    c.requires c.in_ok-bank.ensures c.in_ok-area.ensures c.in_ok-taken.ensures
+    found_answer c.args.version.now c.args.item.now (λ is. contrary c.is_version.result (c.is_version.ensures.1 is) c.if-is_version.false) c.args.banks.now.items c.take_found.new.banks.items c.args.areas.now c.take_found.new.areas c.bank_item-bank.result c.area_item-area.result c.in_ok-taken.taken
+    c.requires c.bank_item-bank.ensures c.area_item-area.ensures c.in_ok-taken.ensures

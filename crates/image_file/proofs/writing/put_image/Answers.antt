@@ -1,13 +1,15 @@
 use Rattle.std.proofs.Common.{ℕ, List, [], ◌∷◌, ◌++◌, length, ap, ◌∙◌}
 use Rattle.std.specs.List.{flat_map, concat}
+use Rattle.std.proofs.lemmas.List.Elements.{All-from_get_or}
 use Rattle.std.proofs.lemmas.Result.{on_ok_weaker}
 use Rattle.flash_sim.specs.Contents.{contents}
 use Rattle.image_file.specs.Format.{bank_text, area_text, version_of}
+use Rattle.image_file.specs.Lawful.{FitsText, no_area}
 use Rattle.image_file.proofs.WritingLemmas.{fits_text, written}
 use Rattle.image_file.proofs.writing.put_image.Goals as goal
 
 pub put_areas-requires : goal.put_areas-requires
-put_areas-requires c = fits_text c.args.banks.now c.args.areas.now c.args.bytes.now c.requires
+put_areas-requires c = All-from_get_or FitsText c.args.areas.now no_area (fits_text c.args.banks.now c.args.areas.now c.args.bytes.now c.requires)
 
 pub returns : goal.returns
 returns c =

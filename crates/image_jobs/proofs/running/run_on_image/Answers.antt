@@ -3,12 +3,11 @@ use Rattle.std.specs.Global.{Vec}
 use Rattle.std.specs.Prelude.{All}
 use Rattle.flash_sim.specs.Contents.{contents}
 use Rattle.flash_sim.specs.Device.{Device}
-use Rattle.image_file.specs.Format.{plain}
+use Rattle.image_file.specs.Format.{image_on, plain}
 use Rattle.script_lines.specs.Answer.{CanReport}
 use Rattle.script_lines.specs.declared.answer.Answer.{Answer}
 use Rattle.session.specs.OnMap.{IsServedMap}
 use Rattle.image_jobs.proofs.MapLemmas.{stays_image}
-use Rattle.image_jobs.specs.Held.{held}
 use Rattle.image_jobs.specs.Images.{begun, settings_of}
 use Rattle.image_jobs.specs.Inputs.{reported_by}
 use Rattle.image_jobs.specs.Jobs.{file_of}
@@ -50,7 +49,7 @@ returns-in-Err-report_text g c = λ outside begins gives.
     let first = g.B.Flash.device c.load.new.self in
     let bench' = g.B.Flash.device c.run-ran.new.bench in
     unreported k _ c.args.job.now outside c.args.image.banks.items (contents c.args.image.bytes.items) c.args.image.map c.args.lines.now bench bench' _ _ begins gives first c.in_ok-load.ensures.ok {X = Vec ℕ}
-    (λ (text : Vec ℕ). text.items ≡ reported_by c.args.job.now.report c.args.lines.now c.as_slice.result.now (settings_of k c.args.image.map (held c.args.image.map bench'))) c.in-Ok.answers c.in-Ok.ensures.ends.0 c.in-Err-report_text.stop c.in-Ok.ensures.ends.1 c.in-Ok.ensures.undamaged c.in-Err-report_text.ensures
+    (λ (text : Vec ℕ). text.items ≡ reported_by c.args.job.now.report c.args.lines.now c.as_slice.result.now (settings_of k c.args.image.map (image_on c.args.image.map bench'))) c.in-Ok.answers c.in-Ok.ensures.ends.0 c.in-Err-report_text.stop c.in-Ok.ensures.ends.1 c.in-Ok.ensures.undamaged c.in-Err-report_text.ensures
 
 pub file_left-requires : goal.file_left-requires
 file_left-requires g c =
@@ -73,6 +72,6 @@ returns g c = λ outside begins gives.
     let first = g.B.Flash.device c.load.new.self in
     let bench' = g.B.Flash.device c.run-ran.new.bench in (
       job_done k _ c.args.job.now outside c.args.image.banks.items (contents c.args.image.bytes.items) c.args.image.map c.args.lines.now bench bench' _ _ begins gives first c.in_ok-load.ensures.ok c.in-Ok.answers c.in-Ok.ensures.ends.0 c.in-Ok-report_text.text.items (file_of c.in-Ok-file_left.file)
-          c.in-Ok.ensures.ends.1 c.in-Ok.ensures.undamaged c.in-Ok.ensures.rests (c.in-Ok-report_text.ensures ∙ ap (λ (answers : List Answer). reported_by c.args.job.now.report c.args.lines.now answers (settings_of k c.args.image.map (held c.args.image.map bench'))) c.as_slice.ensures) c.in-Ok-file_left.ensures,
+          c.in-Ok.ensures.ends.1 c.in-Ok.ensures.undamaged c.in-Ok.ensures.rests (c.in-Ok-report_text.ensures ∙ ap (λ (answers : List Answer). reported_by c.args.job.now.report c.args.lines.now answers (settings_of k c.args.image.map (image_on c.args.image.map bench'))) c.as_slice.ensures) c.in-Ok-file_left.ensures,
       refl,
     )

@@ -1,4 +1,4 @@
-use Rattle.std.proofs.Common.{false, [], ◌∷◌, sym, subst}
+use Rattle.std.proofs.Common.{refl, false, [], ◌∷◌, sym, subst}
 use Rattle.std.specs.FinMap as maps
 use Rattle.flash_sim.specs.Device.{Device}
 use Rattle.flash_map.proofs.Touches.{then}
@@ -16,14 +16,14 @@ use Rattle.mirror.proofs.mounting.open_other.Goals as goal
 
 pub returns-in-Ok-None-clause-touches : goal.returns-in-Ok-None-clause-touches
 returns-in-Ok-None-clause-touches g c =
-    then (subst (λ (x : Area). Touches (x ∷ []) (g.F.Flash.device c.args.flash.now) (g.F.Flash.device c.mount_other-mounted.new.flash) false) c.copy-own.ensures c.in-Ok-None.ensures.touches) c.repair.ensures.touches
+    then (subst (λ (x : Area). Touches (x ∷ []) (g.F.Flash.device c.args.flash.now) (g.F.Flash.device c.mount_other-mounted.new.flash) false) refl c.in-Ok-None.ensures.touches) c.repair.ensures.touches
 
 pub returns-in-Ok-Some-clause-held : goal.returns-in-Ok-Some-clause-held
 returns-in-Ok-Some-clause-held g c =
     let d : Device = g.F.Flash.device c.args.flash.now in
     let m : Device = g.F.Flash.device c.mount_other-mounted.new.flash in
     let settings = on g.K.Backend.contents d (g.K.Backend.mounted_on c.args.trusted.now) in
-    subst (λ (x : Area). HoldsMap g.K.Backend.damage g.K.Backend.contents d x settings → KeepsCopy g.K.Backend.damage g.K.Backend.contents d m x settings (mount_units (geometry_of d x))) c.copy-own.ensures
+    subst (λ (x : Area). HoldsMap g.K.Backend.damage g.K.Backend.contents d x settings → KeepsCopy g.K.Backend.damage g.K.Backend.contents d m x settings (mount_units (geometry_of d x))) refl
     (λ holds. record { holds = c.mount_other-mounted.ensures.held settings holds; at_most = c.mount_other-mounted.ensures.at_most })
 
 pub returns-in-Err-clause-held : goal.returns-in-Err-clause-held
@@ -31,47 +31,47 @@ returns-in-Err-clause-held g c =
     let d : Device = g.F.Flash.device c.args.flash.now in
     let m : Device = g.F.Flash.device c.mount_other-mounted.new.flash in
     let settings = on g.K.Backend.contents d (g.K.Backend.mounted_on c.args.trusted.now) in
-    subst (λ (x : Area). HoldsMap g.K.Backend.damage g.K.Backend.contents d x settings → KeepsCopy g.K.Backend.damage g.K.Backend.contents d m x settings (mount_units (geometry_of d x))) c.copy-own.ensures
+    subst (λ (x : Area). HoldsMap g.K.Backend.damage g.K.Backend.contents d x settings → KeepsCopy g.K.Backend.damage g.K.Backend.contents d m x settings (mount_units (geometry_of d x))) refl
     (λ holds. record { holds = c.mount_other-mounted.ensures.held settings holds; at_most = c.mount_other-mounted.ensures.at_most })
 
 pub returns-in-Ok-None-clause-held : goal.returns-in-Ok-None-clause-held
 returns-in-Ok-None-clause-held g c holds =
     let d : Device = g.F.Flash.device c.args.flash.now in
     let settings = on g.K.Backend.contents d (g.K.Backend.mounted_on c.args.trusted.now) in
-    absurd (is-due g.K.Backend.damage g.K.Backend.contents g.K.Backend.rests g.K.Backend.mounted_on g.K.Backend.stands d (g.F.Flash.device c.mount_other-mounted.new.flash) c.copy-own.result settings c.in-Ok-None.field-0 c.in-Ok-None.field-0-is c.in-Ok-None.ensures.ends
-    (subst (λ (x : Area). HoldsMap g.K.Backend.damage g.K.Backend.contents d x settings) (sym c.copy-own.ensures) holds))
+    absurd (is-due g.K.Backend.damage g.K.Backend.contents g.K.Backend.rests g.K.Backend.mounted_on g.K.Backend.stands d (g.F.Flash.device c.mount_other-mounted.new.flash) c.args.area settings c.in-Ok-None.field-0 c.in-Ok-None.field-0-is c.in-Ok-None.ensures.ends
+    (subst (λ (x : Area). HoldsMap g.K.Backend.damage g.K.Backend.contents d x settings) (sym refl) holds))
 
 pub returns-in-Ok-Some-clause-idle : goal.returns-in-Ok-Some-clause-idle
 returns-in-Ok-Some-clause-idle g c holds rests =
-    c.mount_other-mounted.ensures.rests (subst (λ (x : Area). HoldsOn g.K.Backend.rests (g.F.Flash.device c.args.flash.now) x) (sym c.copy-own.ensures) rests)
+    c.mount_other-mounted.ensures.rests (subst (λ (x : Area). HoldsOn g.K.Backend.rests (g.F.Flash.device c.args.flash.now) x) (sym refl) rests)
 
 pub returns-in-Err-clause-idle : goal.returns-in-Err-clause-idle
 returns-in-Err-clause-idle g c holds rests =
-    c.mount_other-mounted.ensures.rests (subst (λ (x : Area). HoldsOn g.K.Backend.rests (g.F.Flash.device c.args.flash.now) x) (sym c.copy-own.ensures) rests)
+    c.mount_other-mounted.ensures.rests (subst (λ (x : Area). HoldsOn g.K.Backend.rests (g.F.Flash.device c.args.flash.now) x) (sym refl) rests)
 
 pub returns-in-Ok-None-clause-idle : goal.returns-in-Ok-None-clause-idle
 returns-in-Ok-None-clause-idle g c holds rests =
     let d : Device = g.F.Flash.device c.args.flash.now in
     let settings = on g.K.Backend.contents d (g.K.Backend.mounted_on c.args.trusted.now) in
-    absurd (is-due g.K.Backend.damage g.K.Backend.contents g.K.Backend.rests g.K.Backend.mounted_on g.K.Backend.stands d (g.F.Flash.device c.mount_other-mounted.new.flash) c.copy-own.result settings c.in-Ok-None.field-0 c.in-Ok-None.field-0-is c.in-Ok-None.ensures.ends
-    (subst (λ (x : Area). HoldsMap g.K.Backend.damage g.K.Backend.contents d x settings) (sym c.copy-own.ensures) holds))
+    absurd (is-due g.K.Backend.damage g.K.Backend.contents g.K.Backend.rests g.K.Backend.mounted_on g.K.Backend.stands d (g.F.Flash.device c.mount_other-mounted.new.flash) c.args.area settings c.in-Ok-None.field-0 c.in-Ok-None.field-0-is c.in-Ok-None.ensures.ends
+    (subst (λ (x : Area). HoldsMap g.K.Backend.damage g.K.Backend.contents d x settings) (sym refl) holds))
 
 pub returns-in-Ok-Some-clause-at_most : goal.returns-in-Ok-Some-clause-at_most
 returns-in-Ok-Some-clause-at_most g c =
     let d : Device = g.F.Flash.device c.args.flash.now in
-    opened-first d (g.F.Flash.device c.mount_other-mounted.new.flash) c.copy-own.result c.args.area (maps.len (on g.K.Backend.contents d (g.K.Backend.mounted_on c.args.trusted.now))) c.copy-own.ensures c.mount_other-mounted.ensures.at_most
+    opened-first d (g.F.Flash.device c.mount_other-mounted.new.flash) c.args.area c.args.area (maps.len (on g.K.Backend.contents d (g.K.Backend.mounted_on c.args.trusted.now))) refl c.mount_other-mounted.ensures.at_most
 
 pub returns-in-Err-clause-at_most : goal.returns-in-Err-clause-at_most
 returns-in-Err-clause-at_most g c =
     let d : Device = g.F.Flash.device c.args.flash.now in
-    opened-first d (g.F.Flash.device c.mount_other-mounted.new.flash) c.copy-own.result c.args.area (maps.len (on g.K.Backend.contents d (g.K.Backend.mounted_on c.args.trusted.now))) c.copy-own.ensures c.mount_other-mounted.ensures.at_most
+    opened-first d (g.F.Flash.device c.mount_other-mounted.new.flash) c.args.area c.args.area (maps.len (on g.K.Backend.contents d (g.K.Backend.mounted_on c.args.trusted.now))) refl c.mount_other-mounted.ensures.at_most
 
 pub returns-in-Ok-None-clause-at_most : goal.returns-in-Ok-None-clause-at_most
 returns-in-Ok-None-clause-at_most g c =
     let d : Device = g.F.Flash.device c.args.flash.now in
     let m : Device = g.F.Flash.device c.mount_other-mounted.new.flash in
     let source = g.K.Backend.mounted_on c.args.trusted.now in
-    opened-then d m (g.F.Flash.device c.repair.new.flash) c.copy-own.result c.args.area (on g.K.Backend.contents d source) (on g.K.Backend.contents m source) c.in-Ok-None.ensures.touches.banks c.copy-own.ensures
+    opened-then d m (g.F.Flash.device c.repair.new.flash) c.args.area c.args.area (on g.K.Backend.contents d source) (on g.K.Backend.contents m source) c.in-Ok-None.ensures.touches.banks refl
     (still g.K.Backend.contents d m source c.in-Ok-None.ensures.touches.banks c.mount_other-mounted.ensures.trusted) c.mount_other-mounted.ensures.at_most c.repair.ensures.at_most
 
 pub mount_other-mounted-requires-clause-lawful_trusted : goal.mount_other-mounted-requires-clause-lawful_trusted
@@ -82,15 +82,15 @@ mount_other-mounted-requires-clause-stands_trusted g c = c.requires.other.stands
 
 pub mount_other-mounted-requires-clause-lawful : goal.mount_other-mounted-requires-clause-lawful
 mount_other-mounted-requires-clause-lawful g c =
-    subst (λ (x : Area). IsLawfulFor (g.F.Flash.device c.args.flash.now).banks x) (sym c.copy-own.ensures) c.requires.other.lawful
+    subst (λ (x : Area). IsLawfulFor (g.F.Flash.device c.args.flash.now).banks x) (sym refl) c.requires.other.lawful
 
 pub mount_other-mounted-requires-clause-serves : goal.mount_other-mounted-requires-clause-serves
 mount_other-mounted-requires-clause-serves g c =
-    subst (λ (x : Area). g.K.Backend.serves x (geometry_of (g.F.Flash.device c.args.flash.now) x)) (sym c.copy-own.ensures) c.requires.other.served
+    subst (λ (x : Area). g.K.Backend.serves x (geometry_of (g.F.Flash.device c.args.flash.now) x)) (sym refl) c.requires.other.served
 
 pub mount_other-mounted-requires-clause-apart : goal.mount_other-mounted-requires-clause-apart
 mount_other-mounted-requires-clause-apart g c =
-    subst (λ (x : Area). AreApart x (g.K.Backend.mounted_on c.args.trusted.now)) (sym c.copy-own.ensures) c.requires.other.apart
+    subst (λ (x : Area). AreApart x (g.K.Backend.mounted_on c.args.trusted.now)) (sym refl) c.requires.other.apart
 
 pub repair-requires : goal.repair-requires
 repair-requires g c =

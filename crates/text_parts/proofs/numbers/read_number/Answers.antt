@@ -2,8 +2,11 @@ use Rattle.std.proofs.Common.{◌∙◌, sym, subst, arith}
 use Rattle.std.specs.Str.{IsUtf8}
 use Rattle.std.proofs.lemmas.Fmt.{IsAscii-decimal}
 use Rattle.std.proofs.lemmas.Str.{IsUtf8-from_ascii}
-use Rattle.text_parts.proofs.NumberLemmas.{not_parsed, too_large, otherwise_written}
+use Rattle.text_parts.proofs.NumberLemmas.{padded, not_parsed, too_large, is_number}
 use Rattle.text_parts.proofs.numbers.read_number.Goals as goal
+
+pub returns-then-is_padded : goal.returns-then-is_padded
+returns-then-is_padded c = padded c.args.limit c.args.word.now (omega arith) (sym c.is_padded.ensures ∙ c.if-is_padded.true)
 
 pub returns-in_default : goal.returns-in_default
 returns-in_default c = λ n small is.
@@ -19,4 +22,4 @@ returns-then-n-limit c =
 
 pub returns : goal.returns
 returns c =
-    otherwise_written c.args.limit c.args.word.now c.in-Ok.text.now c.as_bytes.result.now c.parse.result c.in-Ok-parse.n (omega arith) c.in-Ok.ensures.cases.0 c.parse.ensures.value.0 c.in-Ok-parse.is (c.as_bytes.ensures.value ∙ c.in_ok-written.ensures.ok) (sym c.if-eq.ensures)
+    (is_number c.args.word.now c.in-Ok.text.now c.parse.result c.in-Ok-parse.n c.in-Ok.ensures.cases.0 (sym c.is_padded.ensures ∙ c.if-is_padded.false) c.parse.ensures.value.0 c.in-Ok-parse.is, omega (arith, c.if-n-limit.false))

@@ -2,4 +2,4 @@ pub mod FindLemmas
 pub mod FormatLemmas
 pub mod HolderLemmas
 pub mod StepLemmas
-mod UnitRows
+pub mod UnitRows

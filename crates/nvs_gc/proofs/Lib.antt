@@ -1,3 +1,4 @@
 mod OpenLemmas
 mod Places
 mod RoomLemmas
+mod RowLemmas

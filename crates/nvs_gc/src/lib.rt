@@ -6,6 +6,8 @@ mod entries;
 mod nvs;
 #[tactic(auto, using(flash_map::proofs::Touches::then))]
 mod sectors;
+mod units;
 
 pub use nvs::Nvs;
 pub use sectors::NvsOpen;
+pub use units::units_by_row;

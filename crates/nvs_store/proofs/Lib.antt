@@ -18,6 +18,7 @@ pub mod NvsEntries
 mod Putting
 mod Room
 pub mod ScanLemmas
+mod SlotPutting
 pub mod SlotReads
 pub mod Sound
 pub mod Views

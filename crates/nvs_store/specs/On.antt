@@ -5,7 +5,6 @@ use Rattle.flash_map.specs.declared.area.Area.{Area}
 use Rattle.flash_map.specs.declared.faults.Damaged.{Damaged}
 use Rattle.flash_map.specs.Area.{unit_of, sector_size, sectors_of, sector_bytes}
 use Rattle.flash_map.specs.declared.area.Role.TheVariants.{Nvs}
-use Rattle.flash_map.specs.declared.pieces.TheConstants.{PIECE}
 use Rattle.flash_map.specs.Lawful.{IsLawfulFor}
 use Rattle.flash_map.specs.Pieces.{LosesWithin}
 use Rattle.flash_map.specs.Spending.{Spends, SpendsAtMost}
@@ -154,9 +153,17 @@ pub record IsSource (d : Device) (on : Area) (held : Scan) (from : Found) : Type
   pub ordinary : from.entry.id < 0xFFFF
   pub inside : from.entry.offset + from.entry.len ≤ sector_size d on
 
--- How a call ends that puts a pair in the open sector. It got the scan `before` and left `after`.
-pub record PairEnds {X E : Type 0} (old new : Device) (on : Area) (before after : Scan) (id len : ℕ)
-    (bytes : List ℕ) (result : Result X E) : Type 0 where
+-- the most bytes that one call of an append programs, and one of a copy
+abbrev pub append_piece : ℕ
+append_piece = 400
+
+abbrev pub copy_piece : ℕ
+copy_piece = 32
+
+-- How a call ends that puts a pair in the open sector, in calls of at most so many bytes. It got the
+-- scan `before` and left `after`.
+pub record PairEnds {X E : Type 0} (piece : ℕ) (old new : Device) (on : Area) (before after : Scan)
+    (id len : ℕ) (bytes : List ℕ) (result : Result X E) : Type 0 where
   pub ok : OnOk result (AddsPairOn old new on before.current id bytes)
   pub image : OnOk result
       (sector_bytes new on before.current
@@ -164,5 +171,5 @@ pub record PairEnds {X E : Type 0} (old new : Device) (on : Area) (before after 
   pub scan : OnOk result (after ≡ scan_on new on)
   pub spent : OnOk result (Spends old new (entry_units old on len))
   pub lost : OnErr result (StopsAddingOn old new on before.current id bytes)
-  pub in_pieces : OnErr result (LosesWithin PIECE old new)
+  pub in_pieces : OnErr result (LosesWithin piece old new)
   pub spent_at_most : OnErr result (SpendsAtMost old new (entry_units old on len))

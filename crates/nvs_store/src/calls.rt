@@ -1,21 +1,64 @@
 // The calls that program the open sector of an area.
-ghost use Rattle.std.specs.Prelude.{◌≡◌, ◌⊎◌, ◌+◌, ◌/◌, ◌*◌, ◌^◌, ◌<◌, ◌≤◌, ◌∷◌, [], length, is_err, true, false, OnOk, OnErr};
-ghost use Rattle.flash_map.specs.Area.{unit_of, sectors_of, sector_bytes};
+ghost use Rattle.std.specs.Prelude.{◌≡◌, ◌⊎◌, ◌+◌, ◌/◌, ◌*◌, ◌^◌, ◌<◌, ◌≤◌, ◌∷◌, [], ◌++◌, length, replicate, is_err, true, false, OnOk, OnErr};
+ghost use Rattle.flash_map.specs.Area.{IsLawfulArea, unit_of, sectors_of, sector_bytes, Writes, WritesPart};
+ghost use Rattle.flash_map.specs.Pieces.{CanProgramAll, LosesWithin};
 ghost use Rattle.flash_map.specs.Spending.{Spends, SpendsAtMost};
 ghost use Rattle.flash_map.specs.Touches.{Touches};
+ghost use Rattle.flash_map.specs.Units.{padded, padded_bytes};
 ghost use Rattle.nvs_store.specs.declared.scan.Redo.TheVariants.{Nothing};
 ghost use Rattle.nvs_store.specs.Geometry.{slot_size, cost};
 ghost use Rattle.nvs_store.specs.Images.{after_gc_done, after_close};
 ghost use Rattle.nvs_store.specs.Sector.{special_entry, is_sound, pairs, pairs_cost};
 ghost use Rattle.nvs_store.specs.Scans.{free};
-ghost use Rattle.nvs_store.specs.On.{AppendsOn, ClosesOn, FitsOn, KeepsListOn, IsScanned, IsSource, MarksDoneOn, PairEnds, StaysSoundOn, StaysUndamaged, StopsMarkingOn, bytes_on, capacity_on, is_closed_on, scan_on, slot_units};
+ghost use Rattle.nvs_store.specs.On.{AppendsOn, ClosesOn, FitsOn, KeepsListOn, IsScanned, IsSource, MarksDoneOn, PairEnds, StaysSoundOn, StaysUndamaged, StopsMarkingOn, append_piece, bytes_on, capacity_on, copy_piece, is_closed_on, scan_on, slot_units};
 
 use crate::entry::{Entry, SPECIAL_ID, encode_entry};
 use crate::geometry::slot_size;
 use crate::scan::{Found, Scan};
-use flash_map::{Area, Source, copy_padded, geometry, padded, program_padded};
+use flash_map::{Area, Source, area_program, copy_padded, geometry, padded, program_padded};
 use flash_sim::{Flash, PowerLost, Steps};
 use std::sync::ledger::Ledger;
+
+// The eight bytes of an entry with FF behind them, up to the greatest slot.
+fn filled(bytes: &[u8; 8]) -> [u8; 16]
+    ensures { result ≡ bytes.now ++ replicate 8 0xFF }
+{
+    let mut slot = [0xFF; 16];
+    slot[..8].copy_from_slice(bytes);
+    slot
+}
+
+// Programs the eight bytes of an entry, with FF behind them up to a whole slot, in one call.
+fn put_slot<F: Flash>(
+    flash: &mut F,
+    area: &Area,
+    sector: u32,
+    start: u32,
+    bytes: &[u8; 8],
+) -> Result<(), PowerLost>
+    requires lawful { IsLawfulArea (F.device flash.old).banks area.now }
+    requires can { let d = F.device flash.old in
+        CanProgramAll d area.now sector start (padded_bytes (unit_of d area.now) bytes.now) }
+
+    ensures touches { Touches (area.now ∷ []) (F.device flash.old) (F.device flash.new)
+        (is_err result) }
+    ensures ok { let d = F.device flash.old in
+        let all = padded_bytes (unit_of d area.now) bytes.now in
+        OnOk result (Writes d (F.device flash.new) area.now sector start all) }
+    ensures spent { let d = F.device flash.old in let unit = unit_of d area.now in
+        OnOk result (Spends d (F.device flash.new) (padded unit (length bytes.now) / unit)) }
+
+    ensures lost { let d = F.device flash.old in
+        let all = padded_bytes (unit_of d area.now) bytes.now in
+        OnErr result (WritesPart d (F.device flash.new) area.now sector start all) }
+    ensures in_slot { OnErr result (LosesWithin 16 (F.device flash.old) (F.device flash.new)) }
+    ensures spent_at_most { let d = F.device flash.old in let unit = unit_of d area.now in
+        OnErr result (SpendsAtMost d (F.device flash.new) (padded unit (length bytes.now) / unit)) }
+{
+    let size = slot_size(geometry(flash, area).unit) as usize;
+    let slot = filled(bytes);
+    area_program(flash, area, sector, start, &slot[..size])
+}
 
 /// Appends a pair to the list: it programs the data, padded with FF to the unit, in calls of at
 /// most `PIECE` bytes, and then its entry in the next slot. No bytes are a delete.
@@ -39,7 +82,8 @@ pub fn append<F: Flash>(
     ensures touches { Touches (area.now ∷ []) (F.device flash.old) (F.device flash.new)
         (is_err result) }
     ensures ends { let d = F.device flash.old in let e = F.device flash.new in
-        PairEnds d e area.now scan.old scan.new id (length bytes.now) bytes.now result }
+        PairEnds append_piece d e area.now scan.old scan.new id (length bytes.now) bytes.now
+        result }
     ensures list { OnOk result
         (AppendsOn (F.device flash.old) (F.device flash.new) area.now id bytes.now) }
     ensures list_lost { let d = F.device flash.old in
@@ -59,14 +103,14 @@ pub fn append<F: Flash>(
     };
     let slot = scan.low - slot_size(unit);
     program_padded(flash, area, scan.current, scan.data_end, bytes)?;
-    program_padded(flash, area, scan.current, slot, &encode_entry(&entry))?;
+    put_slot(flash, area, scan.current, slot, &encode_entry(&entry))?;
     scan.low = slot;
     scan.data_end += padded(unit, bytes.len() as u32);
     Ok(())
 }
 
 /// Copies an entry of another sector to the open one, whose part of the list gains that pair. It
-/// copies the data, padded with FF to the unit, in calls of at most `PIECE` bytes, and then
+/// copies the data, padded with FF to the unit, in calls of at most `COPY_PIECE` bytes, and then
 /// programs its entry in the next slot.
 ///
 /// # Errors
@@ -88,7 +132,7 @@ pub fn copy_entry<F: Flash, L: Ledger>(
     ensures touches { Touches (area.now ∷ []) (F.device flash.old) (F.device flash.new)
         (is_err result) }
     ensures ends { let d = F.device flash.old in let e = F.device flash.new in
-        PairEnds d e area.now scan.old scan.new from.now.entry.id from.now.entry.len
+        PairEnds copy_piece d e area.now scan.old scan.new from.now.entry.id from.now.entry.len
         (bytes_on d area.now from.now) result }
 {
     let unit = geometry(flash, area).unit;
@@ -106,7 +150,7 @@ pub fn copy_entry<F: Flash, L: Ledger>(
     };
     copy_padded(flash, area, source, scan.current, scan.data_end, steps)?;
     let bytes = encode_entry(&entry);
-    program_padded(flash, area, scan.current, slot, &bytes)?;
+    put_slot(flash, area, scan.current, slot, &bytes)?;
     scan.low = slot;
     scan.data_end += padded(unit, source.len);
     Ok(())
@@ -159,7 +203,7 @@ pub fn put_done<F: Flash>(flash: &mut F, area: &Area, scan: &mut Scan) -> Result
     let unit = geometry(flash, area).unit;
     let slot = scan.low - slot_size(unit);
     let bytes = encode_entry(&special(scan.data_end));
-    program_padded(flash, area, scan.current, slot, &bytes)?;
+    put_slot(flash, area, scan.current, slot, &bytes)?;
     scan.low = slot;
     scan.gc_done = true;
     scan.redo = scan.redo.marked();
@@ -194,5 +238,5 @@ pub fn put_close<F: Flash>(flash: &mut F, area: &Area, scan: &Scan) -> Result<()
     let g = geometry(flash, area);
     let top = g.sector - slot_size(g.unit);
     let bytes = encode_entry(&special(scan.low));
-    program_padded(flash, area, scan.current, top, &bytes)
+    put_slot(flash, area, scan.current, top, &bytes)
 }

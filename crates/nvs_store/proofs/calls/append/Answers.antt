@@ -5,10 +5,10 @@ use Rattle.flash_map.specs.declared.area.Geometry.{Geometry}
 use Rattle.flash_map.specs.Area.{IsLawfulArea, unit_of, sector_bytes}
 use Rattle.flash_map.specs.Touches.{Touches}
 use Rattle.flash_map.specs.Units.{IsUnit, padded}
-use Rattle.flash_map.specs.declared.pieces.TheConstants.{PIECE}
-use Rattle.flash_map.proofs.PieceLemmas.{on_err, within_then}
+use Rattle.flash_map.proofs.PieceLemmas.{on_err, within_then, within_most}
 use Rattle.flash_map.proofs.Touches.{then}
 use Rattle.nvs_store.specs.Geometry.{slot_size}
+use Rattle.nvs_store.specs.On.{append_piece}
 use Rattle.nvs_store.proofs.AppendFacts.{ready, short, can_first, data_lost, data_spent, can_second, entry_lost, entry_put, entry_bytes, entry_spent, entry_most, stops_list, stops_stay, stops_undamaged, put_list, put_stays, put_undamaged, put_scan}
 use Rattle.nvs_store.proofs.CallFacts.{data-in, not_ok, slot-in}
 use Rattle.nvs_store.proofs.Views.{unit_is}
@@ -75,8 +75,8 @@ returns-in_err-program_padded-clause-undamaged g c =
     let stops = data_lost a c.args.area.now c.args.scan.now c.args.bytes.now is m c.args.id c.in_err-program_padded.ensures.lost in
     stops_undamaged a c.args.area.now c.args.scan.now c.args.bytes.now is m c.args.id stops c.requires.redo
 
-pub program_padded-requires-2-clause-can : goal.program_padded-requires-2-clause-can
-program_padded-requires-2-clause-can g c =
+pub put_slot-requires-clause-can : goal.put_slot-requires-clause-can
+put_slot-requires-clause-can g c =
     let a : Device = g.F.Flash.device c.args.flash.now in
     let m : Device = g.F.Flash.device c.program_padded.new.flash in
     let is = ready a c.args.area.now c.args.scan.now (length c.args.bytes.now) (g.met.F.Flash.is_lawful c.args.flash.now) c.requires.scanned.lawful c.requires.scanned.scan c.requires.fits in
@@ -84,64 +84,64 @@ program_padded-requires-2-clause-can g c =
     let one = c.in_ok-program_padded.ensures in
     can_second a c.args.area.now c.args.scan.now c.args.bytes.now is m c.args.id c.slot_size.result c.encode_entry.result c.requires.ordinary width one.touches.banks one.ok c.encode_entry.ensures
 
-pub returns-in_err-program_padded-2-clause-ends : goal.returns-in_err-program_padded-2-clause-ends
-returns-in_err-program_padded-2-clause-ends g c = record {
-  ok = not_ok _ c.from_residual-in_err-program_padded-2.result c.from_residual-in_err-program_padded-2.ensures.0;
-  image = not_ok _ c.from_residual-in_err-program_padded-2.result c.from_residual-in_err-program_padded-2.ensures.0;
-  scan = not_ok _ c.from_residual-in_err-program_padded-2.result c.from_residual-in_err-program_padded-2.ensures.0;
-  spent = not_ok _ c.from_residual-in_err-program_padded-2.result c.from_residual-in_err-program_padded-2.ensures.0;
+pub returns-in_err-put_slot-clause-ends : goal.returns-in_err-put_slot-clause-ends
+returns-in_err-put_slot-clause-ends g c = record {
+  ok = not_ok _ c.from_residual-in_err-put_slot.result c.from_residual-in_err-put_slot.ensures.0;
+  image = not_ok _ c.from_residual-in_err-put_slot.result c.from_residual-in_err-put_slot.ensures.0;
+  scan = not_ok _ c.from_residual-in_err-put_slot.result c.from_residual-in_err-put_slot.ensures.0;
+  spent = not_ok _ c.from_residual-in_err-put_slot.result c.from_residual-in_err-put_slot.ensures.0;
   lost =
       let a : Device = g.F.Flash.device c.args.flash.now in
       let m : Device = g.F.Flash.device c.program_padded.new.flash in
-      let last : Device = g.F.Flash.device c.program_padded-2.new.flash in
+      let last : Device = g.F.Flash.device c.put_slot.new.flash in
       let is = ready a c.args.area.now c.args.scan.now (length c.args.bytes.now) (g.met.F.Flash.is_lawful c.args.flash.now) c.requires.scanned.lawful c.requires.scanned.scan c.requires.fits in
       let width : c.slot_size.result ≡ slot_size (unit_of a c.args.area.now) = c.slot_size.ensures.size ∙ ap (λ (x : Geometry). slot_size x.unit) c.geometry-unit.ensures in
       let one = c.in_ok-program_padded.ensures in
-      on_err c.from_residual-in_err-program_padded-2.result
-      (entry_lost a c.args.area.now c.args.scan.now c.args.bytes.now is m c.args.id c.slot_size.result c.encode_entry.result c.requires.ordinary width one.touches.banks one.ok c.encode_entry.ensures last c.in_err-program_padded-2.ensures.lost);
-  in_pieces = on_err c.from_residual-in_err-program_padded-2.result (within_then PIECE (g.F.Flash.device c.args.flash.now) (g.F.Flash.device c.program_padded.new.flash) (g.F.Flash.device c.program_padded-2.new.flash) (c.args.area.now ∷ []) c.in_ok-program_padded.ensures.touches c.in_err-program_padded-2.ensures.in_pieces);
+      on_err c.from_residual-in_err-put_slot.result
+      (entry_lost a c.args.area.now c.args.scan.now c.args.bytes.now is m c.args.id c.slot_size.result c.encode_entry.result c.requires.ordinary width one.touches.banks one.ok c.encode_entry.ensures last c.in_err-put_slot.ensures.lost);
+  in_pieces = on_err c.from_residual-in_err-put_slot.result (within_then append_piece (g.F.Flash.device c.args.flash.now) (g.F.Flash.device c.program_padded.new.flash) (g.F.Flash.device c.put_slot.new.flash) (c.args.area.now ∷ []) c.in_ok-program_padded.ensures.touches (within_most 16 append_piece (g.F.Flash.device c.program_padded.new.flash) (g.F.Flash.device c.put_slot.new.flash) (omega arith) c.in_err-put_slot.ensures.in_slot));
   spent_at_most =
       let a : Device = g.F.Flash.device c.args.flash.now in
       let m : Device = g.F.Flash.device c.program_padded.new.flash in
-      let last : Device = g.F.Flash.device c.program_padded-2.new.flash in
+      let last : Device = g.F.Flash.device c.put_slot.new.flash in
       let is = ready a c.args.area.now c.args.scan.now (length c.args.bytes.now) (g.met.F.Flash.is_lawful c.args.flash.now) c.requires.scanned.lawful c.requires.scanned.scan c.requires.fits in
       let width : c.slot_size.result ≡ slot_size (unit_of a c.args.area.now) = c.slot_size.ensures.size ∙ ap (λ (x : Geometry). slot_size x.unit) c.geometry-unit.ensures in
       let one = c.in_ok-program_padded.ensures in
-      on_err c.from_residual-in_err-program_padded-2.result
-      (entry_most a c.args.area.now c.args.scan.now c.args.bytes.now is m c.args.id c.slot_size.result c.encode_entry.result c.requires.ordinary width one.touches.banks one.ok c.encode_entry.ensures last one.spent c.in_err-program_padded-2.ensures.spent_at_most);
+      on_err c.from_residual-in_err-put_slot.result
+      (entry_most a c.args.area.now c.args.scan.now c.args.bytes.now is m c.args.id c.slot_size.result c.encode_entry.result c.requires.ordinary width one.touches.banks one.ok c.encode_entry.ensures last one.spent c.in_err-put_slot.ensures.spent_at_most);
 }
 
-pub returns-in_err-program_padded-2-clause-list_lost : goal.returns-in_err-program_padded-2-clause-list_lost
-returns-in_err-program_padded-2-clause-list_lost g c =
+pub returns-in_err-put_slot-clause-list_lost : goal.returns-in_err-put_slot-clause-list_lost
+returns-in_err-put_slot-clause-list_lost g c =
     let a : Device = g.F.Flash.device c.args.flash.now in
     let m : Device = g.F.Flash.device c.program_padded.new.flash in
-    let last : Device = g.F.Flash.device c.program_padded-2.new.flash in
+    let last : Device = g.F.Flash.device c.put_slot.new.flash in
     let is = ready a c.args.area.now c.args.scan.now (length c.args.bytes.now) (g.met.F.Flash.is_lawful c.args.flash.now) c.requires.scanned.lawful c.requires.scanned.scan c.requires.fits in
     let width : c.slot_size.result ≡ slot_size (unit_of a c.args.area.now) = c.slot_size.ensures.size ∙ ap (λ (x : Geometry). slot_size x.unit) c.geometry-unit.ensures in
     let one = c.in_ok-program_padded.ensures in
-    let stops = entry_lost a c.args.area.now c.args.scan.now c.args.bytes.now is m c.args.id c.slot_size.result c.encode_entry.result c.requires.ordinary width one.touches.banks one.ok c.encode_entry.ensures last c.in_err-program_padded-2.ensures.lost in
-    on_err c.from_residual-in_err-program_padded-2.result (stops_list a c.args.area.now c.args.scan.now c.args.bytes.now is last c.args.id stops c.requires.redo)
+    let stops = entry_lost a c.args.area.now c.args.scan.now c.args.bytes.now is m c.args.id c.slot_size.result c.encode_entry.result c.requires.ordinary width one.touches.banks one.ok c.encode_entry.ensures last c.in_err-put_slot.ensures.lost in
+    on_err c.from_residual-in_err-put_slot.result (stops_list a c.args.area.now c.args.scan.now c.args.bytes.now is last c.args.id stops c.requires.redo)
 
-pub returns-in_err-program_padded-2-clause-sound : goal.returns-in_err-program_padded-2-clause-sound
-returns-in_err-program_padded-2-clause-sound g c =
+pub returns-in_err-put_slot-clause-sound : goal.returns-in_err-put_slot-clause-sound
+returns-in_err-put_slot-clause-sound g c =
     let a : Device = g.F.Flash.device c.args.flash.now in
     let m : Device = g.F.Flash.device c.program_padded.new.flash in
-    let last : Device = g.F.Flash.device c.program_padded-2.new.flash in
+    let last : Device = g.F.Flash.device c.put_slot.new.flash in
     let is = ready a c.args.area.now c.args.scan.now (length c.args.bytes.now) (g.met.F.Flash.is_lawful c.args.flash.now) c.requires.scanned.lawful c.requires.scanned.scan c.requires.fits in
     let width : c.slot_size.result ≡ slot_size (unit_of a c.args.area.now) = c.slot_size.ensures.size ∙ ap (λ (x : Geometry). slot_size x.unit) c.geometry-unit.ensures in
     let one = c.in_ok-program_padded.ensures in
-    let stops = entry_lost a c.args.area.now c.args.scan.now c.args.bytes.now is m c.args.id c.slot_size.result c.encode_entry.result c.requires.ordinary width one.touches.banks one.ok c.encode_entry.ensures last c.in_err-program_padded-2.ensures.lost in
+    let stops = entry_lost a c.args.area.now c.args.scan.now c.args.bytes.now is m c.args.id c.slot_size.result c.encode_entry.result c.requires.ordinary width one.touches.banks one.ok c.encode_entry.ensures last c.in_err-put_slot.ensures.lost in
     stops_stay a c.args.area.now c.args.scan.now c.args.bytes.now is last c.args.id stops
 
-pub returns-in_err-program_padded-2-clause-undamaged : goal.returns-in_err-program_padded-2-clause-undamaged
-returns-in_err-program_padded-2-clause-undamaged g c =
+pub returns-in_err-put_slot-clause-undamaged : goal.returns-in_err-put_slot-clause-undamaged
+returns-in_err-put_slot-clause-undamaged g c =
     let a : Device = g.F.Flash.device c.args.flash.now in
     let m : Device = g.F.Flash.device c.program_padded.new.flash in
-    let last : Device = g.F.Flash.device c.program_padded-2.new.flash in
+    let last : Device = g.F.Flash.device c.put_slot.new.flash in
     let is = ready a c.args.area.now c.args.scan.now (length c.args.bytes.now) (g.met.F.Flash.is_lawful c.args.flash.now) c.requires.scanned.lawful c.requires.scanned.scan c.requires.fits in
     let width : c.slot_size.result ≡ slot_size (unit_of a c.args.area.now) = c.slot_size.ensures.size ∙ ap (λ (x : Geometry). slot_size x.unit) c.geometry-unit.ensures in
     let one = c.in_ok-program_padded.ensures in
-    let stops = entry_lost a c.args.area.now c.args.scan.now c.args.bytes.now is m c.args.id c.slot_size.result c.encode_entry.result c.requires.ordinary width one.touches.banks one.ok c.encode_entry.ensures last c.in_err-program_padded-2.ensures.lost in
+    let stops = entry_lost a c.args.area.now c.args.scan.now c.args.bytes.now is m c.args.id c.slot_size.result c.encode_entry.result c.requires.ordinary width one.touches.banks one.ok c.encode_entry.ensures last c.in_err-put_slot.ensures.lost in
     stops_undamaged a c.args.area.now c.args.scan.now c.args.bytes.now is last c.args.id stops c.requires.redo
 
 pub overflow_cast-bytes : goal.overflow_cast-bytes
@@ -161,37 +161,37 @@ returns-clause-ends g c = record {
   ok =
       let a : Device = g.F.Flash.device c.args.flash.now in
       let m : Device = g.F.Flash.device c.program_padded.new.flash in
-      let last : Device = g.F.Flash.device c.program_padded-2.new.flash in
+      let last : Device = g.F.Flash.device c.put_slot.new.flash in
       let is = ready a c.args.area.now c.args.scan.now (length c.args.bytes.now) (g.met.F.Flash.is_lawful c.args.flash.now) c.requires.scanned.lawful c.requires.scanned.scan c.requires.fits in
       let width : c.slot_size.result ≡ slot_size (unit_of a c.args.area.now) = c.slot_size.ensures.size ∙ ap (λ (x : Geometry). slot_size x.unit) c.geometry-unit.ensures in
       let one = c.in_ok-program_padded.ensures in
-      entry_put a c.args.area.now c.args.scan.now c.args.bytes.now is m c.args.id c.slot_size.result c.encode_entry.result c.requires.ordinary width one.touches.banks one.ok c.encode_entry.ensures last c.in_ok-program_padded-2.ensures.ok;
+      entry_put a c.args.area.now c.args.scan.now c.args.bytes.now is m c.args.id c.slot_size.result c.encode_entry.result c.requires.ordinary width one.touches.banks one.ok c.encode_entry.ensures last c.in_ok-put_slot.ensures.ok;
   image =
       let a : Device = g.F.Flash.device c.args.flash.now in
       let m : Device = g.F.Flash.device c.program_padded.new.flash in
-      let last : Device = g.F.Flash.device c.program_padded-2.new.flash in
+      let last : Device = g.F.Flash.device c.put_slot.new.flash in
       let is = ready a c.args.area.now c.args.scan.now (length c.args.bytes.now) (g.met.F.Flash.is_lawful c.args.flash.now) c.requires.scanned.lawful c.requires.scanned.scan c.requires.fits in
       let width : c.slot_size.result ≡ slot_size (unit_of a c.args.area.now) = c.slot_size.ensures.size ∙ ap (λ (x : Geometry). slot_size x.unit) c.geometry-unit.ensures in
       let one = c.in_ok-program_padded.ensures in
-      entry_bytes a c.args.area.now c.args.scan.now c.args.bytes.now is m c.args.id c.slot_size.result c.encode_entry.result c.requires.ordinary width one.touches.banks one.ok c.encode_entry.ensures last c.in_ok-program_padded-2.ensures.ok;
+      entry_bytes a c.args.area.now c.args.scan.now c.args.bytes.now is m c.args.id c.slot_size.result c.encode_entry.result c.requires.ordinary width one.touches.banks one.ok c.encode_entry.ensures last c.in_ok-put_slot.ensures.ok;
   scan =
       let a : Device = g.F.Flash.device c.args.flash.now in
       let m : Device = g.F.Flash.device c.program_padded.new.flash in
-      let last : Device = g.F.Flash.device c.program_padded-2.new.flash in
+      let last : Device = g.F.Flash.device c.put_slot.new.flash in
       let is = ready a c.args.area.now c.args.scan.now (length c.args.bytes.now) (g.met.F.Flash.is_lawful c.args.flash.now) c.requires.scanned.lawful c.requires.scanned.scan c.requires.fits in
       let width : c.slot_size.result ≡ slot_size (unit_of a c.args.area.now) = c.slot_size.ensures.size ∙ ap (λ (x : Geometry). slot_size x.unit) c.geometry-unit.ensures in
       let one = c.in_ok-program_padded.ensures in
-      let put = entry_put a c.args.area.now c.args.scan.now c.args.bytes.now is m c.args.id c.slot_size.result c.encode_entry.result c.requires.ordinary width one.touches.banks one.ok c.encode_entry.ensures last c.in_ok-program_padded-2.ensures.ok in
+      let put = entry_put a c.args.area.now c.args.scan.now c.args.bytes.now is m c.args.id c.slot_size.result c.encode_entry.result c.requires.ordinary width one.touches.banks one.ok c.encode_entry.ensures last c.in_ok-put_slot.ensures.ok in
       let rounded : c.padded.result ≡ padded (unit_of a c.args.area.now) (length c.args.bytes.now) = c.padded.ensures.value ∙ ap (λ (x : Geometry). padded x.unit (length c.args.bytes.now)) c.geometry-unit.ensures in
-      put_scan a c.args.area.now c.args.scan.now c.args.bytes.now is last c.args.id put c.slot_size.result c.padded.result width rounded (c.in_ok-program_padded-2.ensures.touches.banks ∙ one.touches.banks);
+      put_scan a c.args.area.now c.args.scan.now c.args.bytes.now is last c.args.id put c.slot_size.result c.padded.result width rounded (c.in_ok-put_slot.ensures.touches.banks ∙ one.touches.banks);
   spent =
       let a : Device = g.F.Flash.device c.args.flash.now in
       let m : Device = g.F.Flash.device c.program_padded.new.flash in
-      let last : Device = g.F.Flash.device c.program_padded-2.new.flash in
+      let last : Device = g.F.Flash.device c.put_slot.new.flash in
       let is = ready a c.args.area.now c.args.scan.now (length c.args.bytes.now) (g.met.F.Flash.is_lawful c.args.flash.now) c.requires.scanned.lawful c.requires.scanned.scan c.requires.fits in
       let width : c.slot_size.result ≡ slot_size (unit_of a c.args.area.now) = c.slot_size.ensures.size ∙ ap (λ (x : Geometry). slot_size x.unit) c.geometry-unit.ensures in
       let one = c.in_ok-program_padded.ensures in
-      entry_spent a c.args.area.now c.args.scan.now c.args.bytes.now is m c.args.id c.slot_size.result c.encode_entry.result c.requires.ordinary width one.touches.banks one.ok c.encode_entry.ensures last one.spent c.in_ok-program_padded-2.ensures.spent;
+      entry_spent a c.args.area.now c.args.scan.now c.args.bytes.now is m c.args.id c.slot_size.result c.encode_entry.result c.requires.ordinary width one.touches.banks one.ok c.encode_entry.ensures last one.spent c.in_ok-put_slot.ensures.spent;
   lost = tt;
   in_pieces = tt;
   spent_at_most = tt;
@@ -201,33 +201,33 @@ pub returns-clause-list : goal.returns-clause-list
 returns-clause-list g c =
     let a : Device = g.F.Flash.device c.args.flash.now in
     let m : Device = g.F.Flash.device c.program_padded.new.flash in
-    let last : Device = g.F.Flash.device c.program_padded-2.new.flash in
+    let last : Device = g.F.Flash.device c.put_slot.new.flash in
     let is = ready a c.args.area.now c.args.scan.now (length c.args.bytes.now) (g.met.F.Flash.is_lawful c.args.flash.now) c.requires.scanned.lawful c.requires.scanned.scan c.requires.fits in
     let width : c.slot_size.result ≡ slot_size (unit_of a c.args.area.now) = c.slot_size.ensures.size ∙ ap (λ (x : Geometry). slot_size x.unit) c.geometry-unit.ensures in
     let one = c.in_ok-program_padded.ensures in
-    let put = entry_put a c.args.area.now c.args.scan.now c.args.bytes.now is m c.args.id c.slot_size.result c.encode_entry.result c.requires.ordinary width one.touches.banks one.ok c.encode_entry.ensures last c.in_ok-program_padded-2.ensures.ok in
+    let put = entry_put a c.args.area.now c.args.scan.now c.args.bytes.now is m c.args.id c.slot_size.result c.encode_entry.result c.requires.ordinary width one.touches.banks one.ok c.encode_entry.ensures last c.in_ok-put_slot.ensures.ok in
     put_list a c.args.area.now c.args.scan.now c.args.bytes.now is last c.args.id put c.requires.redo
 
 pub returns-clause-sound : goal.returns-clause-sound
 returns-clause-sound g c =
     let a : Device = g.F.Flash.device c.args.flash.now in
     let m : Device = g.F.Flash.device c.program_padded.new.flash in
-    let last : Device = g.F.Flash.device c.program_padded-2.new.flash in
+    let last : Device = g.F.Flash.device c.put_slot.new.flash in
     let is = ready a c.args.area.now c.args.scan.now (length c.args.bytes.now) (g.met.F.Flash.is_lawful c.args.flash.now) c.requires.scanned.lawful c.requires.scanned.scan c.requires.fits in
     let width : c.slot_size.result ≡ slot_size (unit_of a c.args.area.now) = c.slot_size.ensures.size ∙ ap (λ (x : Geometry). slot_size x.unit) c.geometry-unit.ensures in
     let one = c.in_ok-program_padded.ensures in
-    let put = entry_put a c.args.area.now c.args.scan.now c.args.bytes.now is m c.args.id c.slot_size.result c.encode_entry.result c.requires.ordinary width one.touches.banks one.ok c.encode_entry.ensures last c.in_ok-program_padded-2.ensures.ok in
+    let put = entry_put a c.args.area.now c.args.scan.now c.args.bytes.now is m c.args.id c.slot_size.result c.encode_entry.result c.requires.ordinary width one.touches.banks one.ok c.encode_entry.ensures last c.in_ok-put_slot.ensures.ok in
     put_stays a c.args.area.now c.args.scan.now c.args.bytes.now is last c.args.id put
 
 pub returns-clause-undamaged : goal.returns-clause-undamaged
 returns-clause-undamaged g c =
     let a : Device = g.F.Flash.device c.args.flash.now in
     let m : Device = g.F.Flash.device c.program_padded.new.flash in
-    let last : Device = g.F.Flash.device c.program_padded-2.new.flash in
+    let last : Device = g.F.Flash.device c.put_slot.new.flash in
     let is = ready a c.args.area.now c.args.scan.now (length c.args.bytes.now) (g.met.F.Flash.is_lawful c.args.flash.now) c.requires.scanned.lawful c.requires.scanned.scan c.requires.fits in
     let width : c.slot_size.result ≡ slot_size (unit_of a c.args.area.now) = c.slot_size.ensures.size ∙ ap (λ (x : Geometry). slot_size x.unit) c.geometry-unit.ensures in
     let one = c.in_ok-program_padded.ensures in
-    let put = entry_put a c.args.area.now c.args.scan.now c.args.bytes.now is m c.args.id c.slot_size.result c.encode_entry.result c.requires.ordinary width one.touches.banks one.ok c.encode_entry.ensures last c.in_ok-program_padded-2.ensures.ok in
+    let put = entry_put a c.args.area.now c.args.scan.now c.args.bytes.now is m c.args.id c.slot_size.result c.encode_entry.result c.requires.ordinary width one.touches.banks one.ok c.encode_entry.ensures last c.in_ok-put_slot.ensures.ok in
     put_undamaged a c.args.area.now c.args.scan.now c.args.bytes.now is last c.args.id put c.requires.redo
 
 pub overflow_sub-slot : goal.overflow_sub-slot
@@ -251,12 +251,12 @@ padded-requires-clause-unit g c =
     subst (λ (x : Geometry). IsUnit x.unit) (sym c.geometry-unit.ensures)
     (unit_is (g.F.Flash.device c.args.flash.now) c.args.area.now (g.met.F.Flash.is_lawful c.args.flash.now) c.requires.scanned.lawful.in_bank)
 
-pub program_padded-requires-2-clause-lawful : goal.program_padded-requires-2-clause-lawful
-program_padded-requires-2-clause-lawful g c =
+pub put_slot-requires-clause-lawful : goal.put_slot-requires-clause-lawful
+put_slot-requires-clause-lawful g c =
     subst (λ (banks : List Bank). IsLawfulArea banks c.args.area.now) (sym c.in_ok-program_padded.ensures.touches.banks) c.requires.scanned.lawful.in_bank
 
 pub returns-clause-touches : goal.returns-clause-touches
-returns-clause-touches g c = then c.in_ok-program_padded.ensures.touches c.in_ok-program_padded-2.ensures.touches
+returns-clause-touches g c = then c.in_ok-program_padded.ensures.touches c.in_ok-put_slot.ensures.touches
 
 pub returns-in_err-program_padded-clause-touches : goal.returns-in_err-program_padded-clause-touches
 returns-in_err-program_padded-clause-touches g c =
@@ -266,10 +266,10 @@ returns-in_err-program_padded-clause-touches g c =
 pub returns-in_err-program_padded-clause-list : goal.returns-in_err-program_padded-clause-list
 returns-in_err-program_padded-clause-list g c = not_ok _ c.from_residual.result c.from_residual.ensures.0
 
-pub returns-in_err-program_padded-2-clause-touches : goal.returns-in_err-program_padded-2-clause-touches
-returns-in_err-program_padded-2-clause-touches g c =
-    subst (λ (lost : Bool). Touches (c.args.area.now ∷ []) (g.F.Flash.device c.args.flash.now) (g.F.Flash.device c.program_padded-2.new.flash) lost) (sym c.from_residual-in_err-program_padded-2.ensures.0)
-    (then c.in_ok-program_padded.ensures.touches c.in_err-program_padded-2.ensures.touches)
+pub returns-in_err-put_slot-clause-touches : goal.returns-in_err-put_slot-clause-touches
+returns-in_err-put_slot-clause-touches g c =
+    subst (λ (lost : Bool). Touches (c.args.area.now ∷ []) (g.F.Flash.device c.args.flash.now) (g.F.Flash.device c.put_slot.new.flash) lost) (sym c.from_residual-in_err-put_slot.ensures.0)
+    (then c.in_ok-program_padded.ensures.touches c.in_err-put_slot.ensures.touches)
 
-pub returns-in_err-program_padded-2-clause-list : goal.returns-in_err-program_padded-2-clause-list
-returns-in_err-program_padded-2-clause-list g c = not_ok _ c.from_residual-in_err-program_padded-2.result c.from_residual-in_err-program_padded-2.ensures.0
+pub returns-in_err-put_slot-clause-list : goal.returns-in_err-put_slot-clause-list
+returns-in_err-put_slot-clause-list g c = not_ok _ c.from_residual-in_err-put_slot.result c.from_residual-in_err-put_slot.ensures.0

@@ -11,8 +11,6 @@ use Rattle.flash_map.specs.Touches.{Touches}
 use Rattle.flash_map.specs.Units.{IsUnit, padded, padded_bytes}
 use Rattle.flash_map.proofs.CopyLemmas.{length-source}
 use Rattle.flash_map.proofs.PieceLemmas.{on_err, within_then, within_most}
-use Rattle.flash_map.specs.declared.copies.TheConstants.{COPY_PIECE}
-use Rattle.flash_map.specs.declared.pieces.TheConstants.{PIECE}
 use Rattle.flash_map.proofs.Places.{length-sector}
 use Rattle.flash_map.proofs.Touches.{then}
 use Rattle.item_laws.specs.Area.{open_sector}
@@ -22,6 +20,7 @@ use Rattle.nvs_store.specs.declared.entry.Entry.{Entry}
 use Rattle.nvs_store.specs.declared.scan.Scan.{Scan}
 use Rattle.nvs_store.specs.Geometry.{slot_size, cost}
 use Rattle.nvs_store.specs.Entries.{encoded}
+use Rattle.nvs_store.specs.On.{copy_piece}
 use Rattle.nvs_store.specs.Sector.{low, data_end}
 use Rattle.nvs_store.specs.Scans.{reading, placed_bytes, scan_at, scan_of, AddsPairAt}
 use Rattle.nvs_store.proofs.Appending.{open_is, scan_there, pair_used, scan_added}
@@ -120,7 +119,7 @@ returns-in_err-copy_padded-clause-ends g c = record {
       let m : Device = g.F.Flash.device c.copy_padded.new.flash in
       on_err c.from_residual.result
       (data_cut a area lawful is_area place has_sector m c.args.from.now.entry.id bytes room (subst (λ (offset : ℕ). WritesPart a m area place offset (padded_bytes unit bytes)) end c.in_err-copy_padded.ensures.lost));
-  in_pieces = on_err c.from_residual.result (within_most COPY_PIECE PIECE (g.F.Flash.device c.args.flash.now) (g.F.Flash.device c.copy_padded.new.flash) (omega arith) c.in_err-copy_padded.ensures.in_pieces);
+  in_pieces = on_err c.from_residual.result c.in_err-copy_padded.ensures.in_pieces;
   spent_at_most =
       let a : Device = g.F.Flash.device c.args.flash.now in
       let area : Area = c.args.area.now in
@@ -151,8 +150,8 @@ returns-in_err-copy_padded-clause-ends g c = record {
       (subst (λ (n : ℕ). SpendsAtMost a m n) costs (data_most a area lawful is_area place has_sector m bytes (subst (λ (n : ℕ). SpendsAtMost a m (n / unit)) (sym rounded) c.in_err-copy_padded.ensures.spent_at_most)));
 }
 
-pub program_padded-requires-clause-can : goal.program_padded-requires-clause-can
-program_padded-requires-clause-can g c =
+pub put_slot-requires-clause-can : goal.put_slot-requires-clause-can
+put_slot-requires-clause-can g c =
     let a : Device = g.F.Flash.device c.args.flash.now in
     let area : Area = c.args.area.now in
     let lawful = g.met.F.Flash.is_lawful c.args.flash.now in
@@ -187,12 +186,12 @@ program_padded-requires-clause-can g c =
     subst (λ (offset : ℕ). CanProgramAll m area place offset (padded_bytes (unit_of m area) c.encode_entry-bytes.result)) (sym at)
     (subst (λ (xs : List ℕ). CanProgramAll m area place (low unit b - slot_size unit) (padded_bytes (unit_of m area) xs)) (sym c.encode_entry-bytes.ensures) (can_entry_after a area lawful is_area place has_sector m bytes room one.touches.banks first_part e))
 
-pub returns-in_err-program_padded-clause-ends : goal.returns-in_err-program_padded-clause-ends
-returns-in_err-program_padded-clause-ends g c = record {
-  ok = not_ok _ c.from_residual-in_err-program_padded.result c.from_residual-in_err-program_padded.ensures.0;
-  image = not_ok _ c.from_residual-in_err-program_padded.result c.from_residual-in_err-program_padded.ensures.0;
-  scan = not_ok _ c.from_residual-in_err-program_padded.result c.from_residual-in_err-program_padded.ensures.0;
-  spent = not_ok _ c.from_residual-in_err-program_padded.result c.from_residual-in_err-program_padded.ensures.0;
+pub returns-in_err-put_slot-clause-ends : goal.returns-in_err-put_slot-clause-ends
+returns-in_err-put_slot-clause-ends g c = record {
+  ok = not_ok _ c.from_residual-in_err-put_slot.result c.from_residual-in_err-put_slot.ensures.0;
+  image = not_ok _ c.from_residual-in_err-put_slot.result c.from_residual-in_err-put_slot.ensures.0;
+  scan = not_ok _ c.from_residual-in_err-put_slot.result c.from_residual-in_err-put_slot.ensures.0;
+  spent = not_ok _ c.from_residual-in_err-put_slot.result c.from_residual-in_err-put_slot.ensures.0;
   lost =
       let a : Device = g.F.Flash.device c.args.flash.now in
       let area : Area = c.args.area.now in
@@ -225,11 +224,11 @@ returns-in_err-program_padded-clause-ends g c = record {
       let one = c.in_ok-copy_padded.ensures in
       let first_part : Writes a m area place (data_end unit b) (padded_bytes unit bytes) = subst (λ (offset : ℕ). Writes a m area place offset (padded_bytes unit bytes)) end one.ok in
       let first_spent : Spends a m (padded unit (length bytes) / unit) = subst (λ (n : ℕ). Spends a m (n / unit)) (sym rounded) one.spent in
-      let last : Device = g.F.Flash.device c.program_padded.new.flash in
+      let last : Device = g.F.Flash.device c.put_slot.new.flash in
       let part : WritesPart m last area place (low unit b - slot_size unit) (padded_bytes (unit_of m area) (encoded e)) =
-      subst (λ (offset : ℕ). WritesPart m last area place offset (padded_bytes (unit_of m area) (encoded e))) at (subst (λ (xs : List ℕ). WritesPart m last area place (c.args.scan.now.low - c.slot_size.result) (padded_bytes (unit_of m area) xs)) c.encode_entry-bytes.ensures c.in_err-program_padded.ensures.lost) in
-      on_err c.from_residual-in_err-program_padded.result (entry_cut a area lawful is_area place has_sector m bytes room one.touches.banks first_part last e follows part);
-  in_pieces = on_err c.from_residual-in_err-program_padded.result (within_then PIECE (g.F.Flash.device c.args.flash.now) (g.F.Flash.device c.copy_padded.new.flash) (g.F.Flash.device c.program_padded.new.flash) (c.args.area.now ∷ []) c.in_ok-copy_padded.ensures.touches c.in_err-program_padded.ensures.in_pieces);
+      subst (λ (offset : ℕ). WritesPart m last area place offset (padded_bytes (unit_of m area) (encoded e))) at (subst (λ (xs : List ℕ). WritesPart m last area place (c.args.scan.now.low - c.slot_size.result) (padded_bytes (unit_of m area) xs)) c.encode_entry-bytes.ensures c.in_err-put_slot.ensures.lost) in
+      on_err c.from_residual-in_err-put_slot.result (entry_cut a area lawful is_area place has_sector m bytes room one.touches.banks first_part last e follows part);
+  in_pieces = on_err c.from_residual-in_err-put_slot.result (within_then copy_piece (g.F.Flash.device c.args.flash.now) (g.F.Flash.device c.copy_padded.new.flash) (g.F.Flash.device c.put_slot.new.flash) (c.args.area.now ∷ []) c.in_ok-copy_padded.ensures.touches (within_most 16 copy_piece (g.F.Flash.device c.copy_padded.new.flash) (g.F.Flash.device c.put_slot.new.flash) (omega arith) c.in_err-put_slot.ensures.in_slot));
   spent_at_most =
       let a : Device = g.F.Flash.device c.args.flash.now in
       let area : Area = c.args.area.now in
@@ -260,11 +259,11 @@ returns-in_err-program_padded-clause-ends g c = record {
       let one = c.in_ok-copy_padded.ensures in
       let first_part : Writes a m area place (data_end unit b) (padded_bytes unit bytes) = subst (λ (offset : ℕ). Writes a m area place offset (padded_bytes unit bytes)) end one.ok in
       let first_spent : Spends a m (padded unit (length bytes) / unit) = subst (λ (n : ℕ). Spends a m (n / unit)) (sym rounded) one.spent in
-      let last : Device = g.F.Flash.device c.program_padded.new.flash in
+      let last : Device = g.F.Flash.device c.put_slot.new.flash in
       let costs : cost unit (length bytes) / unit ≡ cost unit c.args.from.now.entry.len / unit = ap (λ (n : ℕ). cost unit n / unit) len in
-      on_err c.from_residual-in_err-program_padded.result
+      on_err c.from_residual-in_err-put_slot.result
       (subst (λ (n : ℕ). SpendsAtMost a last n) costs (pair_most a area lawful is_area place has_sector m bytes room one.touches.banks first_part last e first_spent
-      (subst (λ (xs : List ℕ). SpendsAtMost m last (padded (unit_of m area) (length xs) / unit_of m area)) c.encode_entry-bytes.ensures c.in_err-program_padded.ensures.spent_at_most)));
+      (subst (λ (xs : List ℕ). SpendsAtMost m last (padded (unit_of m area) (length xs) / unit_of m area)) c.encode_entry-bytes.ensures c.in_err-put_slot.ensures.spent_at_most)));
 }
 
 pub returns-clause-ends : goal.returns-clause-ends
@@ -301,9 +300,9 @@ returns-clause-ends g c = record {
       let one = c.in_ok-copy_padded.ensures in
       let first_part : Writes a m area place (data_end unit b) (padded_bytes unit bytes) = subst (λ (offset : ℕ). Writes a m area place offset (padded_bytes unit bytes)) end one.ok in
       let first_spent : Spends a m (padded unit (length bytes) / unit) = subst (λ (n : ℕ). Spends a m (n / unit)) (sym rounded) one.spent in
-      let last : Device = g.F.Flash.device c.program_padded.new.flash in
+      let last : Device = g.F.Flash.device c.put_slot.new.flash in
       let written : Writes m last area place (low unit b - slot_size unit) (padded_bytes (unit_of m area) (encoded e)) =
-      subst (λ (offset : ℕ). Writes m last area place offset (padded_bytes (unit_of m area) (encoded e))) at (subst (λ (xs : List ℕ). Writes m last area place (c.args.scan.now.low - c.slot_size.result) (padded_bytes (unit_of m area) xs)) c.encode_entry-bytes.ensures c.in_ok-program_padded.ensures.ok) in
+      subst (λ (offset : ℕ). Writes m last area place offset (padded_bytes (unit_of m area) (encoded e))) at (subst (λ (xs : List ℕ). Writes m last area place (c.args.scan.now.low - c.slot_size.result) (padded_bytes (unit_of m area) xs)) c.encode_entry-bytes.ensures c.in_ok-put_slot.ensures.ok) in
       let put : AddsPairAt unit old (sectors_of last area) place c.args.from.now.entry.id bytes = pair_put a area lawful is_area place has_sector m bytes room one.touches.banks first_part last e follows written in
       let now : List ℕ = sector_at (sectors_of last area) place in
       let full = pair_used unit place b now c.args.from.now.entry.id bytes room put.adds in
@@ -339,9 +338,9 @@ returns-clause-ends g c = record {
       let one = c.in_ok-copy_padded.ensures in
       let first_part : Writes a m area place (data_end unit b) (padded_bytes unit bytes) = subst (λ (offset : ℕ). Writes a m area place offset (padded_bytes unit bytes)) end one.ok in
       let first_spent : Spends a m (padded unit (length bytes) / unit) = subst (λ (n : ℕ). Spends a m (n / unit)) (sym rounded) one.spent in
-      let last : Device = g.F.Flash.device c.program_padded.new.flash in
+      let last : Device = g.F.Flash.device c.put_slot.new.flash in
       let written : Writes m last area place (low unit b - slot_size unit) (padded_bytes (unit_of m area) (encoded e)) =
-      subst (λ (offset : ℕ). Writes m last area place offset (padded_bytes (unit_of m area) (encoded e))) at (subst (λ (xs : List ℕ). Writes m last area place (c.args.scan.now.low - c.slot_size.result) (padded_bytes (unit_of m area) xs)) c.encode_entry-bytes.ensures c.in_ok-program_padded.ensures.ok) in
+      subst (λ (offset : ℕ). Writes m last area place offset (padded_bytes (unit_of m area) (encoded e))) at (subst (λ (xs : List ℕ). Writes m last area place (c.args.scan.now.low - c.slot_size.result) (padded_bytes (unit_of m area) xs)) c.encode_entry-bytes.ensures c.in_ok-put_slot.ensures.ok) in
       pair_image a area lawful is_area place has_sector m bytes room one.touches.banks first_part last c.args.from.now.entry.id c.args.scan.now.data_end c.args.from.now.entry.len end (sym len) written;
   scan =
       let a : Device = g.F.Flash.device c.args.flash.now in
@@ -375,14 +374,14 @@ returns-clause-ends g c = record {
       let one = c.in_ok-copy_padded.ensures in
       let first_part : Writes a m area place (data_end unit b) (padded_bytes unit bytes) = subst (λ (offset : ℕ). Writes a m area place offset (padded_bytes unit bytes)) end one.ok in
       let first_spent : Spends a m (padded unit (length bytes) / unit) = subst (λ (n : ℕ). Spends a m (n / unit)) (sym rounded) one.spent in
-      let last : Device = g.F.Flash.device c.program_padded.new.flash in
+      let last : Device = g.F.Flash.device c.put_slot.new.flash in
       let written : Writes m last area place (low unit b - slot_size unit) (padded_bytes (unit_of m area) (encoded e)) =
-      subst (λ (offset : ℕ). Writes m last area place offset (padded_bytes (unit_of m area) (encoded e))) at (subst (λ (xs : List ℕ). Writes m last area place (c.args.scan.now.low - c.slot_size.result) (padded_bytes (unit_of m area) xs)) c.encode_entry-bytes.ensures c.in_ok-program_padded.ensures.ok) in
+      subst (λ (offset : ℕ). Writes m last area place offset (padded_bytes (unit_of m area) (encoded e))) at (subst (λ (xs : List ℕ). Writes m last area place (c.args.scan.now.low - c.slot_size.result) (padded_bytes (unit_of m area) xs)) c.encode_entry-bytes.ensures c.in_ok-put_slot.ensures.ok) in
       let put : AddsPairAt unit old (sectors_of last area) place c.args.from.now.entry.id bytes = pair_put a area lawful is_area place has_sector m bytes room one.touches.banks first_part last e follows written in
       let now : List ℕ = sector_at (sectors_of last area) place in
       let full = pair_used unit place b now c.args.from.now.entry.id bytes room put.adds in
       let size : c.padded.result ≡ padded unit (length bytes) = c.padded.ensures.value ∙ ap (λ (x : Geometry). padded x.unit c.args.from.now.entry.len) c.geometry-unit.ensures ∙ sym rounded in
-      let banks : last.banks ≡ a.banks = c.in_ok-program_padded.ensures.touches.banks ∙ one.touches.banks in
+      let banks : last.banks ≡ a.banks = c.in_ok-put_slot.ensures.touches.banks ∙ one.touches.banks in
       let same : unit ≡ unit_of last area = sym (ap (λ (l : List Bank). (bank_at l area.bank).unit) banks) in
       scan_added unit old (sectors_of last area) c.args.from.now.entry.id bytes c.args.scan.now c.slot_size.result c.padded.result within c.requires.scanned.scan put full width size
       ∙ ap (λ (u : ℕ). scan_of u (sectors_of last area)) same;
@@ -416,11 +415,11 @@ returns-clause-ends g c = record {
       let one = c.in_ok-copy_padded.ensures in
       let first_part : Writes a m area place (data_end unit b) (padded_bytes unit bytes) = subst (λ (offset : ℕ). Writes a m area place offset (padded_bytes unit bytes)) end one.ok in
       let first_spent : Spends a m (padded unit (length bytes) / unit) = subst (λ (n : ℕ). Spends a m (n / unit)) (sym rounded) one.spent in
-      let last : Device = g.F.Flash.device c.program_padded.new.flash in
+      let last : Device = g.F.Flash.device c.put_slot.new.flash in
       let costs : cost unit (length bytes) / unit ≡ cost unit c.args.from.now.entry.len / unit = ap (λ (n : ℕ). cost unit n / unit) len in
       subst (λ (n : ℕ). Spends a last n) costs
       (pair_spent a area lawful is_area place has_sector m bytes room one.touches.banks first_part last e first_spent
-      (subst (λ (xs : List ℕ). Spends m last (padded (unit_of m area) (length xs) / unit_of m area)) c.encode_entry-bytes.ensures c.in_ok-program_padded.ensures.spent));
+      (subst (λ (xs : List ℕ). Spends m last (padded (unit_of m area) (length xs) / unit_of m area)) c.encode_entry-bytes.ensures c.in_ok-put_slot.ensures.spent));
   lost = tt;
   in_pieces = tt;
   spent_at_most = tt;
@@ -441,13 +440,13 @@ returns-in_err-copy_padded-clause-touches g c =
     subst (λ (lost : Bool). Touches (c.args.area.now ∷ []) (g.F.Flash.device c.args.flash.now) (g.F.Flash.device c.copy_padded.new.flash) lost) (sym c.from_residual.ensures.0)
     c.in_err-copy_padded.ensures.touches
 
-pub returns-in_err-program_padded-clause-touches : goal.returns-in_err-program_padded-clause-touches
-returns-in_err-program_padded-clause-touches g c =
-    subst (λ (lost : Bool). Touches (c.args.area.now ∷ []) (g.F.Flash.device c.args.flash.now) (g.F.Flash.device c.program_padded.new.flash) lost) (sym c.from_residual-in_err-program_padded.ensures.0)
-    (then c.in_ok-copy_padded.ensures.touches c.in_err-program_padded.ensures.touches)
+pub returns-in_err-put_slot-clause-touches : goal.returns-in_err-put_slot-clause-touches
+returns-in_err-put_slot-clause-touches g c =
+    subst (λ (lost : Bool). Touches (c.args.area.now ∷ []) (g.F.Flash.device c.args.flash.now) (g.F.Flash.device c.put_slot.new.flash) lost) (sym c.from_residual-in_err-put_slot.ensures.0)
+    (then c.in_ok-copy_padded.ensures.touches c.in_err-put_slot.ensures.touches)
 
-pub program_padded-requires-clause-lawful : goal.program_padded-requires-clause-lawful
-program_padded-requires-clause-lawful g c =
+pub put_slot-requires-clause-lawful : goal.put_slot-requires-clause-lawful
+put_slot-requires-clause-lawful g c =
     subst (λ (banks : List Bank). IsLawfulArea banks c.args.area.now) (sym c.in_ok-copy_padded.ensures.touches.banks) c.requires.scanned.lawful.in_bank
 
 pub padded-requires-clause-unit : goal.padded-requires-clause-unit
@@ -469,4 +468,4 @@ overflow_add-scan g c =
     omega arith
 
 pub returns-clause-touches : goal.returns-clause-touches
-returns-clause-touches g c = then c.in_ok-copy_padded.ensures.touches c.in_ok-program_padded.ensures.touches
+returns-clause-touches g c = then c.in_ok-copy_padded.ensures.touches c.in_ok-put_slot.ensures.touches

@@ -48,8 +48,8 @@ special-requires g c =
     let long : length b ≡ sector_size a area = length-sector a area lawful is_area place has_sector in
     omega (arith, long, c.requires.scanned.lawful.at_most)
 
-pub program_padded-requires-clause-can : goal.program_padded-requires-clause-can
-program_padded-requires-clause-can g c =
+pub put_slot-requires-clause-can : goal.put_slot-requires-clause-can
+put_slot-requires-clause-can g c =
     let a : Device = g.F.Flash.device c.args.flash.now in
     let area : Area = c.args.area.now in
     let lawful = g.met.F.Flash.is_lawful c.args.flash.now in
@@ -103,8 +103,8 @@ returns-clause-ok g c =
     let width : c.slot_size.result ≡ slot_size unit = c.slot_size.ensures.size ∙ ap (λ (x : Geometry). slot_size x.unit) c.geometry-g.ensures in
     let size : c.geometry-g.result.sector ≡ sector_size a area = ap (λ (x : Geometry). x.sector) c.geometry-g.ensures in
     let at : c.geometry-g.result.sector - c.slot_size.result ≡ length b - slot_size unit = omega arith in
-    let last : Device = g.F.Flash.device c.program_padded.new.flash in
-    on_ok_weaker c.program_padded.result (λ writes. close_put a area lawful is_area place has_sector last c.requires.not_closed c.requires.scanned.lawful.at_least (omega (arith, c.requires.scanned.lawful.at_most)) (subst (λ (offset : ℕ). Writes a last area place offset (padded_bytes unit (encoded e))) at (subst (λ (xs : List ℕ). Writes a last area place (c.geometry-g.result.sector - c.slot_size.result) (padded_bytes unit xs)) encoded_is writes))) c.program_padded.ensures.ok
+    let last : Device = g.F.Flash.device c.put_slot.new.flash in
+    on_ok_weaker c.put_slot.result (λ writes. close_put a area lawful is_area place has_sector last c.requires.not_closed c.requires.scanned.lawful.at_least (omega (arith, c.requires.scanned.lawful.at_most)) (subst (λ (offset : ℕ). Writes a last area place offset (padded_bytes unit (encoded e))) at (subst (λ (xs : List ℕ). Writes a last area place (c.geometry-g.result.sector - c.slot_size.result) (padded_bytes unit xs)) encoded_is writes))) c.put_slot.ensures.ok
 
 pub returns-clause-lost : goal.returns-clause-lost
 returns-clause-lost g c =
@@ -132,8 +132,8 @@ returns-clause-lost g c =
     let width : c.slot_size.result ≡ slot_size unit = c.slot_size.ensures.size ∙ ap (λ (x : Geometry). slot_size x.unit) c.geometry-g.ensures in
     let size : c.geometry-g.result.sector ≡ sector_size a area = ap (λ (x : Geometry). x.sector) c.geometry-g.ensures in
     let at : c.geometry-g.result.sector - c.slot_size.result ≡ length b - slot_size unit = omega arith in
-    let last : Device = g.F.Flash.device c.program_padded.new.flash in
-    on_err_weaker c.program_padded.result (λ part. close_cut a area lawful is_area place has_sector last c.requires.not_closed c.requires.scanned.lawful.at_least (omega (arith, c.requires.scanned.lawful.at_most)) (subst (λ (offset : ℕ). WritesPart a last area place offset (padded_bytes unit (encoded e))) at (subst (λ (xs : List ℕ). WritesPart a last area place (c.geometry-g.result.sector - c.slot_size.result) (padded_bytes unit xs)) encoded_is part))) c.program_padded.ensures.lost
+    let last : Device = g.F.Flash.device c.put_slot.new.flash in
+    on_err_weaker c.put_slot.result (λ part. close_cut a area lawful is_area place has_sector last c.requires.not_closed c.requires.scanned.lawful.at_least (omega (arith, c.requires.scanned.lawful.at_most)) (subst (λ (offset : ℕ). WritesPart a last area place offset (padded_bytes unit (encoded e))) at (subst (λ (xs : List ℕ). WritesPart a last area place (c.geometry-g.result.sector - c.slot_size.result) (padded_bytes unit xs)) encoded_is part))) c.put_slot.ensures.lost
 
 pub returns-clause-spent : goal.returns-clause-spent
 returns-clause-spent g c =
@@ -158,9 +158,9 @@ returns-clause-spent g c =
     let long : length b ≡ sector_size a area = length-sector a area lawful is_area place has_sector in
     let e : Entry = special_entry (low unit b) in
     let encoded_is : c.encode_entry-bytes.result ≡ encoded e = c.encode_entry-bytes.ensures ∙ ap encoded (c.special.ensures ∙ ap special_entry lowest) in
-    let last : Device = g.F.Flash.device c.program_padded.new.flash in
+    let last : Device = g.F.Flash.device c.put_slot.new.flash in
     let units : padded unit (length c.encode_entry-bytes.result) / unit ≡ slot_size unit / unit = ap (λ (n : ℕ). padded unit n / unit) (ap length encoded_is ∙ length-encoded e) ∙ ap (λ (n : ℕ). n / unit) (sym (slot_size-is unit)) in
-    on_ok_weaker c.program_padded.result (λ spent. subst (λ (n : ℕ). Spends a last n) units spent) c.program_padded.ensures.spent
+    on_ok_weaker c.put_slot.result (λ spent. subst (λ (n : ℕ). Spends a last n) units spent) c.put_slot.ensures.spent
 
 pub returns-clause-spent_at_most : goal.returns-clause-spent_at_most
 returns-clause-spent_at_most g c =
@@ -185,9 +185,9 @@ returns-clause-spent_at_most g c =
     let long : length b ≡ sector_size a area = length-sector a area lawful is_area place has_sector in
     let e : Entry = special_entry (low unit b) in
     let encoded_is : c.encode_entry-bytes.result ≡ encoded e = c.encode_entry-bytes.ensures ∙ ap encoded (c.special.ensures ∙ ap special_entry lowest) in
-    let last : Device = g.F.Flash.device c.program_padded.new.flash in
+    let last : Device = g.F.Flash.device c.put_slot.new.flash in
     let units : padded unit (length c.encode_entry-bytes.result) / unit ≡ slot_size unit / unit = ap (λ (n : ℕ). padded unit n / unit) (ap length encoded_is ∙ length-encoded e) ∙ ap (λ (n : ℕ). n / unit) (sym (slot_size-is unit)) in
-    on_err_weaker c.program_padded.result (λ spent. subst (λ (n : ℕ). SpendsAtMost a last n) units spent) c.program_padded.ensures.spent_at_most
+    on_err_weaker c.put_slot.result (λ spent. subst (λ (n : ℕ). SpendsAtMost a last n) units spent) c.put_slot.ensures.spent_at_most
 
 pub returns-clause-image : goal.returns-clause-image
 returns-clause-image g c =
@@ -215,5 +215,5 @@ returns-clause-image g c =
     let width : c.slot_size.result ≡ slot_size unit = c.slot_size.ensures.size ∙ ap (λ (x : Geometry). slot_size x.unit) c.geometry-g.ensures in
     let size : c.geometry-g.result.sector ≡ sector_size a area = ap (λ (x : Geometry). x.sector) c.geometry-g.ensures in
     let at : c.geometry-g.result.sector - c.slot_size.result ≡ length b - slot_size unit = omega arith in
-    let last : Device = g.F.Flash.device c.program_padded.new.flash in
-    on_ok_weaker c.program_padded.result (λ writes. close_image a area lawful is_area place has_sector last c.requires.not_closed c.requires.scanned.lawful.at_least (omega (arith, c.requires.scanned.lawful.at_most)) (subst (λ (offset : ℕ). Writes a last area place offset (padded_bytes unit (encoded e))) at (subst (λ (xs : List ℕ). Writes a last area place (c.geometry-g.result.sector - c.slot_size.result) (padded_bytes unit xs)) encoded_is writes))) c.program_padded.ensures.ok
+    let last : Device = g.F.Flash.device c.put_slot.new.flash in
+    on_ok_weaker c.put_slot.result (λ writes. close_image a area lawful is_area place has_sector last c.requires.not_closed c.requires.scanned.lawful.at_least (omega (arith, c.requires.scanned.lawful.at_most)) (subst (λ (offset : ℕ). Writes a last area place offset (padded_bytes unit (encoded e))) at (subst (λ (xs : List ℕ). Writes a last area place (c.geometry-g.result.sector - c.slot_size.result) (padded_bytes unit xs)) encoded_is writes))) c.put_slot.ensures.ok

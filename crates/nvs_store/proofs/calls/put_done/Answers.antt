@@ -54,8 +54,8 @@ special-requires g c =
     let long : length b ≡ sector_size a area = length-sector a area lawful is_area place has_sector in
     omega (arith, c.requires.free, c.requires.scanned.lawful.at_most)
 
-pub program_padded-requires-clause-can : goal.program_padded-requires-clause-can
-program_padded-requires-clause-can g c =
+pub put_slot-requires-clause-can : goal.put_slot-requires-clause-can
+put_slot-requires-clause-can g c =
     let a : Device = g.F.Flash.device c.args.flash.now in
     let area : Area = c.args.area.now in
     let lawful = g.met.F.Flash.is_lawful c.args.flash.now in
@@ -83,8 +83,8 @@ program_padded-requires-clause-can g c =
     subst (λ (offset : ℕ). CanProgramAll a area place offset (padded_bytes unit c.encode_entry-bytes.result)) (sym at)
     (subst (λ (xs : List ℕ). CanProgramAll a area place (low unit b - slot_size unit) (padded_bytes unit xs)) (sym encoded_is) (can_done a area lawful is_area place has_sector a room))
 
-pub returns-in_err-program_padded-clause-lost : goal.returns-in_err-program_padded-clause-lost
-returns-in_err-program_padded-clause-lost g c =
+pub returns-in_err-put_slot-clause-lost : goal.returns-in_err-put_slot-clause-lost
+returns-in_err-put_slot-clause-lost g c =
     let a : Device = g.F.Flash.device c.args.flash.now in
     let area : Area = c.args.area.now in
     let lawful = g.met.F.Flash.is_lawful c.args.flash.now in
@@ -109,11 +109,11 @@ returns-in_err-program_padded-clause-lost g c =
     let encoded_is : c.encode_entry-bytes.result ≡ encoded e = c.encode_entry-bytes.ensures ∙ ap encoded (c.special.ensures ∙ ap special_entry end) in
     let width : c.slot_size.result ≡ slot_size unit = c.slot_size.ensures.size ∙ ap (λ (x : Geometry). slot_size x.unit) c.geometry-unit.ensures in
     let at : c.args.scan.now.low - c.slot_size.result ≡ low unit b - slot_size unit = omega arith in
-    let last : Device = g.F.Flash.device c.program_padded.new.flash in
-    on_err c.from_residual.result (done_cut a area lawful is_area place has_sector last room (subst (λ (offset : ℕ). WritesPart a last area place offset (padded_bytes unit (encoded e))) at (subst (λ (xs : List ℕ). WritesPart a last area place (c.args.scan.now.low - c.slot_size.result) (padded_bytes unit xs)) encoded_is c.in_err-program_padded.ensures.lost)))
+    let last : Device = g.F.Flash.device c.put_slot.new.flash in
+    on_err c.from_residual.result (done_cut a area lawful is_area place has_sector last room (subst (λ (offset : ℕ). WritesPart a last area place offset (padded_bytes unit (encoded e))) at (subst (λ (xs : List ℕ). WritesPart a last area place (c.args.scan.now.low - c.slot_size.result) (padded_bytes unit xs)) encoded_is c.in_err-put_slot.ensures.lost)))
 
-pub returns-in_err-program_padded-clause-spent_at_most : goal.returns-in_err-program_padded-clause-spent_at_most
-returns-in_err-program_padded-clause-spent_at_most g c =
+pub returns-in_err-put_slot-clause-spent_at_most : goal.returns-in_err-put_slot-clause-spent_at_most
+returns-in_err-put_slot-clause-spent_at_most g c =
     let a : Device = g.F.Flash.device c.args.flash.now in
     let area : Area = c.args.area.now in
     let lawful = g.met.F.Flash.is_lawful c.args.flash.now in
@@ -136,9 +136,9 @@ returns-in_err-program_padded-clause-spent_at_most g c =
     let room : HasRoom unit b 0 = done_room unit b is-unit (omega (arith, long, c.requires.scanned.lawful.at_most)) (omega (arith, c.requires.free)) in
     let e : Entry = special_entry (data_end unit b) in
     let encoded_is : c.encode_entry-bytes.result ≡ encoded e = c.encode_entry-bytes.ensures ∙ ap encoded (c.special.ensures ∙ ap special_entry end) in
-    let last : Device = g.F.Flash.device c.program_padded.new.flash in
+    let last : Device = g.F.Flash.device c.put_slot.new.flash in
     let units : padded unit (length c.encode_entry-bytes.result) / unit ≡ slot_size unit / unit = ap (λ (n : ℕ). padded unit n / unit) (ap length encoded_is ∙ length-encoded e) ∙ ap (λ (n : ℕ). n / unit) (sym (slot_size-is unit)) in
-    on_err c.from_residual.result (subst (λ (n : ℕ). SpendsAtMost a last n) units c.in_err-program_padded.ensures.spent_at_most)
+    on_err c.from_residual.result (subst (λ (n : ℕ). SpendsAtMost a last n) units c.in_err-put_slot.ensures.spent_at_most)
 
 pub returns-clause-ok : goal.returns-clause-ok
 returns-clause-ok g c =
@@ -166,8 +166,8 @@ returns-clause-ok g c =
     let encoded_is : c.encode_entry-bytes.result ≡ encoded e = c.encode_entry-bytes.ensures ∙ ap encoded (c.special.ensures ∙ ap special_entry end) in
     let width : c.slot_size.result ≡ slot_size unit = c.slot_size.ensures.size ∙ ap (λ (x : Geometry). slot_size x.unit) c.geometry-unit.ensures in
     let at : c.args.scan.now.low - c.slot_size.result ≡ low unit b - slot_size unit = omega arith in
-    let last : Device = g.F.Flash.device c.program_padded.new.flash in
-    let put : MarksDoneAt unit old (sectors_of last area) place = done_put a area lawful is_area place has_sector last room (subst (λ (offset : ℕ). Writes a last area place offset (padded_bytes unit (encoded e))) at (subst (λ (xs : List ℕ). Writes a last area place (c.args.scan.now.low - c.slot_size.result) (padded_bytes unit xs)) encoded_is c.in_ok-program_padded.ensures.ok)) in
+    let last : Device = g.F.Flash.device c.put_slot.new.flash in
+    let put : MarksDoneAt unit old (sectors_of last area) place = done_put a area lawful is_area place has_sector last room (subst (λ (offset : ℕ). Writes a last area place offset (padded_bytes unit (encoded e))) at (subst (λ (xs : List ℕ). Writes a last area place (c.args.scan.now.low - c.slot_size.result) (padded_bytes unit xs)) encoded_is c.in_ok-put_slot.ensures.ok)) in
     put
 
 pub returns-clause-scan : goal.returns-clause-scan
@@ -196,9 +196,9 @@ returns-clause-scan g c =
     let encoded_is : c.encode_entry-bytes.result ≡ encoded e = c.encode_entry-bytes.ensures ∙ ap encoded (c.special.ensures ∙ ap special_entry end) in
     let width : c.slot_size.result ≡ slot_size unit = c.slot_size.ensures.size ∙ ap (λ (x : Geometry). slot_size x.unit) c.geometry-unit.ensures in
     let at : c.args.scan.now.low - c.slot_size.result ≡ low unit b - slot_size unit = omega arith in
-    let last : Device = g.F.Flash.device c.program_padded.new.flash in
-    let put : MarksDoneAt unit old (sectors_of last area) place = done_put a area lawful is_area place has_sector last room (subst (λ (offset : ℕ). Writes a last area place offset (padded_bytes unit (encoded e))) at (subst (λ (xs : List ℕ). Writes a last area place (c.args.scan.now.low - c.slot_size.result) (padded_bytes unit xs)) encoded_is c.in_ok-program_padded.ensures.ok)) in
-    let banks : last.banks ≡ a.banks = c.in_ok-program_padded.ensures.touches.banks in
+    let last : Device = g.F.Flash.device c.put_slot.new.flash in
+    let put : MarksDoneAt unit old (sectors_of last area) place = done_put a area lawful is_area place has_sector last room (subst (λ (offset : ℕ). Writes a last area place offset (padded_bytes unit (encoded e))) at (subst (λ (xs : List ℕ). Writes a last area place (c.args.scan.now.low - c.slot_size.result) (padded_bytes unit xs)) encoded_is c.in_ok-put_slot.ensures.ok)) in
+    let banks : last.banks ≡ a.banks = c.in_ok-put_slot.ensures.touches.banks in
     let same : unit ≡ unit_of last area = sym (ap (λ (l : List Bank). (bank_at l area.bank).unit) banks) in
     ap (λ (r : Redo). record c.args.scan.now { low = c.args.scan.now.low - c.slot_size.result; gc_done = true; redo = r }) c.marked-scan.ensures
     ∙ scan_marked unit old (sectors_of last area) c.args.scan.now c.slot_size.result within c.requires.scanned.scan put width
@@ -228,9 +228,9 @@ returns-clause-spent g c =
     let room : HasRoom unit b 0 = done_room unit b is-unit (omega (arith, long, c.requires.scanned.lawful.at_most)) (omega (arith, c.requires.free)) in
     let e : Entry = special_entry (data_end unit b) in
     let encoded_is : c.encode_entry-bytes.result ≡ encoded e = c.encode_entry-bytes.ensures ∙ ap encoded (c.special.ensures ∙ ap special_entry end) in
-    let last : Device = g.F.Flash.device c.program_padded.new.flash in
+    let last : Device = g.F.Flash.device c.put_slot.new.flash in
     let units : padded unit (length c.encode_entry-bytes.result) / unit ≡ slot_size unit / unit = ap (λ (n : ℕ). padded unit n / unit) (ap length encoded_is ∙ length-encoded e) ∙ ap (λ (n : ℕ). n / unit) (sym (slot_size-is unit)) in
-    subst (λ (n : ℕ). Spends a last n) units c.in_ok-program_padded.ensures.spent
+    subst (λ (n : ℕ). Spends a last n) units c.in_ok-put_slot.ensures.spent
 
 pub returns-clause-sound : goal.returns-clause-sound
 returns-clause-sound g c =
@@ -258,8 +258,8 @@ returns-clause-sound g c =
     let encoded_is : c.encode_entry-bytes.result ≡ encoded e = c.encode_entry-bytes.ensures ∙ ap encoded (c.special.ensures ∙ ap special_entry end) in
     let width : c.slot_size.result ≡ slot_size unit = c.slot_size.ensures.size ∙ ap (λ (x : Geometry). slot_size x.unit) c.geometry-unit.ensures in
     let at : c.args.scan.now.low - c.slot_size.result ≡ low unit b - slot_size unit = omega arith in
-    let last : Device = g.F.Flash.device c.program_padded.new.flash in
-    let put : MarksDoneAt unit old (sectors_of last area) place = done_put a area lawful is_area place has_sector last room (subst (λ (offset : ℕ). Writes a last area place offset (padded_bytes unit (encoded e))) at (subst (λ (xs : List ℕ). Writes a last area place (c.args.scan.now.low - c.slot_size.result) (padded_bytes unit xs)) encoded_is c.in_ok-program_padded.ensures.ok)) in
+    let last : Device = g.F.Flash.device c.put_slot.new.flash in
+    let put : MarksDoneAt unit old (sectors_of last area) place = done_put a area lawful is_area place has_sector last room (subst (λ (offset : ℕ). Writes a last area place offset (padded_bytes unit (encoded e))) at (subst (λ (xs : List ℕ). Writes a last area place (c.args.scan.now.low - c.slot_size.result) (padded_bytes unit xs)) encoded_is c.in_ok-put_slot.ensures.ok)) in
     λ costs. marks-sound unit b (sector_at (sectors_of last area) place) room (omega (arith, costs, ap (capacity unit) long)) put.marks
 
 pub returns-clause-image : goal.returns-clause-image
@@ -288,5 +288,5 @@ returns-clause-image g c =
     let encoded_is : c.encode_entry-bytes.result ≡ encoded e = c.encode_entry-bytes.ensures ∙ ap encoded (c.special.ensures ∙ ap special_entry end) in
     let width : c.slot_size.result ≡ slot_size unit = c.slot_size.ensures.size ∙ ap (λ (x : Geometry). slot_size x.unit) c.geometry-unit.ensures in
     let at : c.args.scan.now.low - c.slot_size.result ≡ low unit b - slot_size unit = omega arith in
-    let last : Device = g.F.Flash.device c.program_padded.new.flash in
-    done_image a area lawful is_area place has_sector last room (subst (λ (offset : ℕ). Writes a last area place offset (padded_bytes unit (encoded e))) at (subst (λ (xs : List ℕ). Writes a last area place (c.args.scan.now.low - c.slot_size.result) (padded_bytes unit xs)) encoded_is c.in_ok-program_padded.ensures.ok))
+    let last : Device = g.F.Flash.device c.put_slot.new.flash in
+    done_image a area lawful is_area place has_sector last room (subst (λ (offset : ℕ). Writes a last area place offset (padded_bytes unit (encoded e))) at (subst (λ (xs : List ℕ). Writes a last area place (c.args.scan.now.low - c.slot_size.result) (padded_bytes unit xs)) encoded_is c.in_ok-put_slot.ensures.ok))

@@ -17,4 +17,5 @@ mod PairCalls
 pub mod Scanning
 pub mod SlotSearch
 pub mod Slots16
+mod StepBounds
 mod UnitCalls

@@ -1,4 +1,5 @@
 pub mod Areas
+pub mod Bounds
 pub mod Entries
 pub mod Holding
 pub mod Searches

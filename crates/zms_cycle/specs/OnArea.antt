@@ -105,9 +105,10 @@ pub record IsSource (d : Device) (on : Area) (sector from_sector from_slot : ℕ
   pub listed : IsListedOn d on from_sector from_slot
   pub some : 0 < entry_len_on d on from_sector from_slot
 
--- The units of one slot. A power loss changes no byte.
+-- The units of one slot, at most one. A power loss changes no byte.
 pub record UnitEnds {X E : Type 0} (units : ℕ) (old new : Device) (on : Area) (result : Result X E) :
     Type 0 where
+  pub few : units ≤ 1
   pub lost : OnErr result (sectors_of new on ≡ sectors_of old on)
   pub spends : OnOk result (SpendsBetween old new units units)
   pub in_pieces : OnErr result (LosesWithin SLOT old new)
@@ -116,6 +117,12 @@ pub record UnitEnds {X E : Type 0} (units : ℕ) (old new : Device) (on : Area) 
 -- A slot is read on a rewritable bank, and on no other.
 pub record ReadsGuard (kind : Kind) (before after : ℕ) : Type 0 where
   pub step : kind ≡ Rewritable → after ≡ before + 1
+  pub no_step : kind ≡ Erasing → after ≡ before
+
+-- At most one slot is read, and that on a rewritable bank: the one that a guard looks at. So no list
+-- is.
+pub record ReadsNoList (kind : Kind) (before after : ℕ) : Type 0 where
+  pub step : after ≤ before + 1
   pub no_step : kind ≡ Erasing → after ≡ before
 
 -- Bytes that are programmed piece by piece. A power loss leaves a part of them.
@@ -137,3 +144,23 @@ pub record EntryEnds {X E : Type 0} (piece len : ℕ) (old new : Device) (on : A
       (entry_units len + next_guard old on sector))
   pub in_pieces : OnErr result (LosesWithin piece old new)
   pub spends_lost : OnErr result (SpendsBetween old new 0 (entry_units len))
+
+-- gc-done in what was the guard slot. A power loss keeps the list.
+pub record DoneEnds {X E : Type 0} (old new : Device) (on : Area) (sector : ℕ) (result : Result X E) :
+    Type 0 where
+  pub lost : OnErr result (Keeps 0 old new on sector)
+  pub spends : OnOk result (SpendsBetween old new 1 2)
+  pub guards : OnOk result
+      (SpendsBetween old new (1 + next_guard old on sector) (1 + next_guard old on sector))
+  pub in_pieces : OnErr result (LosesWithin SLOT old new)
+  pub spends_lost : OnErr result (SpendsBetween old new 0 1)
+
+-- The fill of what is free, and the close entry. A power loss keeps the list. On an erasing bank it
+-- changes no byte of the sector.
+pub record CloseEnds {X E : Type 0} (old new : Device) (on : Area) (sector : ℕ) (result : Result X E) :
+    Type 0 where
+  pub lost : OnErr result (Keeps 0 old new on sector)
+  pub idle_lost : kind_on old on ≡ Erasing
+      → OnErr result (sector_bytes new on sector ≡ sector_bytes old on sector)
+  pub spends : OnOk result (SpendsBetween old new 1 (closing_units old on sector))
+  pub spends_lost : OnErr result (SpendsBetween old new 0 (closing_units old on sector))

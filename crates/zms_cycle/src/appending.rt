@@ -4,16 +4,13 @@ ghost use Rattle.std.specs.Int.{w32, to_le_bytes};
 ghost use Rattle.flash_sim.specs.Device.{overwritten};
 ghost use Rattle.flash_map.specs.Area.{sector_bytes, OthersStay};
 ghost use Rattle.flash_map.specs.Units.{padded, padded_bytes};
-ghost use Rattle.flash_map.specs.Pieces.{LosesWithin};
-ghost use Rattle.flash_map.specs.Spending.{SpendsBetween};
 ghost use Rattle.flash_map.specs.Touches.{Touches};
 ghost use Rattle.flash_map.specs.declared.pieces.TheConstants.{PIECE};
-ghost use Rattle.zms_cycle.specs.Areas.{IsZmsSector};
+ghost use Rattle.zms_cycle.specs.Areas.{IsZmsSector, kind_on};
 ghost use Rattle.zms_cycle.specs.Changes.{with_value, MarksDone};
-ghost use Rattle.zms_cycle.specs.OnArea.{IsUsedOn, IsSoundOn, FitsOn, free_on, Makes, Keeps, Adds, next_guard, HasPlace, BytesEnd, EntryEnds};
+ghost use Rattle.zms_cycle.specs.OnArea.{IsUsedOn, IsSoundOn, FitsOn, free_on, Makes, Adds, HasPlace, BytesEnd, EntryEnds, DoneEnds, ReadsGuard, ReadsNoList};
 ghost use Rattle.zms_cycle.specs.States.{IsOpenedOn};
 ghost use Rattle.zms_cycle.specs.Entries.{value_entry, done_entry};
-ghost use Rattle.zms_cycle.specs.declared.reading.TheConstants.{SLOT};
 ghost use Rattle.zms_cycle.specs.Sector.{data_len, free};
 
 use crate::ZEntry;
@@ -122,7 +119,7 @@ fn put_value<F: Flash>(
 
 /// Programs a value, in calls of at most `PIECE` bytes, and then its entry. On a rewritable bank
 /// the guard under the entry is set before it. No bytes are a delete. `opened` is what it has to
-/// know of the sector, so the list is not read.
+/// know of the sector, so the list is not read: it views the slot of the guard, or nothing.
 ///
 /// # Errors
 /// `PowerLost`: the sector's list and marks are as before. On an erasing bank, no more free space
@@ -149,6 +146,7 @@ pub fn put_entry_at<F: Flash, L: Ledger>(
         (Adds (F.device flash.old) (F.device flash.new) area.now sector id bytes.now) }
     ensures ends { let d = F.device flash.old in let e = F.device flash.new in
         EntryEnds PIECE (length bytes.now) d e area.now sector result }
+    ensures steps { ReadsNoList (kind_on (F.device flash.old) area.now) steps.old steps.new }
 {
     let entry = value_entry(opened.cycle, id, bytes, opened.data_end);
     put_value(flash, area, sector, opened.data_end, bytes)?;
@@ -156,7 +154,8 @@ pub fn put_entry_at<F: Flash, L: Ledger>(
 }
 
 /// Programs a value, in calls of at most `PIECE` bytes, and then its entry. On a rewritable bank
-/// the guard under the entry is set before it. No bytes are a delete.
+/// the guard under the entry is set before it. No bytes are a delete. It is `put_entry_at` for a
+/// caller that knows nothing of the sector, which is viewed once.
 ///
 /// # Errors
 /// `PowerLost`: the sector's list and marks are as before. On an erasing bank, no more free space
@@ -182,6 +181,7 @@ pub fn put_entry<F: Flash, L: Ledger>(
         (Adds (F.device flash.old) (F.device flash.new) area.now sector id bytes.now) }
     ensures ends { let d = F.device flash.old in let e = F.device flash.new in
         EntryEnds PIECE (length bytes.now) d e area.now sector result }
+    ensures steps { ReadsNoList (kind_on (F.device flash.old) area.now) (steps.old + 1) steps.new }
 {
     let opened = opened_sector(flash, area, sector, steps);
     put_entry_at(flash, area, sector, &opened, id, bytes, steps)
@@ -202,7 +202,7 @@ fn done_entry(cycle: u8, data_end: u32) -> ZEntry
 
 /// Programs gc-done in the guard slot: a garbage collection has copied all that it keeps into this
 /// sector. On a rewritable bank the guard under gc-done is set before it. `opened` is what it has
-/// to know of the sector, so the list is not read.
+/// to know of the sector, so the list is not read: it views the slot of the guard, or nothing.
 ///
 /// # Errors
 /// `PowerLost`: the sector's list and marks are as before.
@@ -223,21 +223,16 @@ pub fn put_done_at<F: Flash, L: Ledger>(
     ensures others { OthersStay (F.device flash.old) (F.device flash.new) area.now sector }
     ensures ok { OnOk result
         (Makes MarksDone (F.device flash.old) (F.device flash.new) area.now sector) }
-    ensures lost { OnErr result
-        (Keeps 0 (F.device flash.old) (F.device flash.new) area.now sector) }
-    ensures spends { OnOk result (SpendsBetween (F.device flash.old) (F.device flash.new) 1 2) }
-    ensures guards { let units = 1 + next_guard (F.device flash.old) area.now sector in
-        OnOk result (SpendsBetween (F.device flash.old) (F.device flash.new) units units) }
-    ensures in_pieces { OnErr result (LosesWithin SLOT (F.device flash.old) (F.device flash.new)) }
-    ensures spends_lost { OnErr result
-        (SpendsBetween (F.device flash.old) (F.device flash.new) 0 1) }
+    ensures ends { DoneEnds (F.device flash.old) (F.device flash.new) area.now sector result }
+    ensures steps { ReadsGuard (kind_on (F.device flash.old) area.now) steps.old steps.new }
 {
     let entry = done_entry(opened.cycle, opened.data_end);
     put_slot(flash, area, sector, opened.slots + FIRST, &entry, steps)
 }
 
 /// Programs gc-done in the guard slot: a garbage collection has copied all that it keeps into this
-/// sector. On a rewritable bank the guard under gc-done is set before it.
+/// sector. On a rewritable bank the guard under gc-done is set before it. It is `put_done_at` for a
+/// caller that knows nothing of the sector, which is viewed once.
 ///
 /// # Errors
 /// `PowerLost`: the sector's list and marks are as before.
@@ -257,14 +252,8 @@ pub fn put_done<F: Flash, L: Ledger>(
     ensures others { OthersStay (F.device flash.old) (F.device flash.new) area.now sector }
     ensures ok { OnOk result
         (Makes MarksDone (F.device flash.old) (F.device flash.new) area.now sector) }
-    ensures lost { OnErr result
-        (Keeps 0 (F.device flash.old) (F.device flash.new) area.now sector) }
-    ensures spends { OnOk result (SpendsBetween (F.device flash.old) (F.device flash.new) 1 2) }
-    ensures guards { let units = 1 + next_guard (F.device flash.old) area.now sector in
-        OnOk result (SpendsBetween (F.device flash.old) (F.device flash.new) units units) }
-    ensures in_pieces { OnErr result (LosesWithin SLOT (F.device flash.old) (F.device flash.new)) }
-    ensures spends_lost { OnErr result
-        (SpendsBetween (F.device flash.old) (F.device flash.new) 0 1) }
+    ensures ends { DoneEnds (F.device flash.old) (F.device flash.new) area.now sector result }
+    ensures steps { ReadsGuard (kind_on (F.device flash.old) area.now) (steps.old + 1) steps.new }
 {
     let opened = opened_sector(flash, area, sector, steps);
     put_done_at(flash, area, sector, &opened, steps)

@@ -173,7 +173,8 @@ pub fn copy_entry_at<F: Flash, L: Ledger>(
 }
 
 /// Copies an entry of another sector's list: its value, in calls of at most `COPY_PIECE` bytes, and
-/// then the entry. On a rewritable bank the guard under the entry is set before it.
+/// then the entry. On a rewritable bank the guard under the entry is set before it. It is
+/// `copy_entry_at` for a caller that knows nothing of the sector that it copies to.
 ///
 /// # Errors
 /// `PowerLost`: the list and marks of the sector that it copies to are as before. On an erasing

@@ -139,6 +139,7 @@ pub fn put_slot<F: Flash, L: Ledger>(
     ensures in_pieces { OnErr result (LosesWithin SLOT (F.device flash.old) (F.device flash.new)) }
     ensures spends_lost { OnErr result
         (SpendsBetween (F.device flash.old) (F.device flash.new) 0 1) }
+    ensures steps { ReadsGuard (kind_on (F.device flash.old) area.now) steps.old steps.new }
 {
     guard(flash, area, sector, slot + 1, entry.cycle, steps)?;
     put_unit(flash, area, sector, slot, &encode_zentry(entry))

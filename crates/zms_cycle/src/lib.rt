@@ -10,6 +10,7 @@ mod entry;
 #[tactic(auto, using(flash_map::proofs::Touches::then))]
 mod guarding;
 mod holding;
+mod laws;
 #[tactic(auto, using(flash_map::proofs::Touches::then))]
 mod marking;
 mod reading;
@@ -20,6 +21,7 @@ pub use copying::{copy_entry, copy_entry_at};
 pub use entry::{ZEntry, decode_zentry, encode_zentry, fill_unit, zentry_fields};
 pub use guarding::guard;
 pub use holding::{find_bytes, may_have};
+pub use laws::steps_are_bounded;
 pub use marking::{close, close_at, empty_sector};
 pub use reading::{
     FIRST, Opened, SLOT, SectorState, SlotEntry, TAIL, TAIL_AT, can_close, capacity, cost,

@@ -7,7 +7,7 @@ ghost use Rattle.flash_sim.specs.declared.flash.Kind.TheVariants.{Erasing, Rewri
 ghost use Rattle.zms_cycle.specs.Areas.{IsZmsSector, HasSlot, kind_on};
 ghost use Rattle.zms_cycle.specs.Changes.{with_slot, IsFilled, KeepsList, StopsGuarding, StopsEmptying, Closes, Empties, next_cycle};
 ghost use Rattle.zms_cycle.specs.Entries.{fill, empty_entry, close_entry};
-ghost use Rattle.zms_cycle.specs.OnArea.{IsUsedOn, IsSoundOn, IsClosableOn, free_on, Makes, Keeps, next_guard, emptying_units, first_guard_units, closing_units};
+ghost use Rattle.zms_cycle.specs.OnArea.{IsUsedOn, IsSoundOn, IsClosableOn, free_on, Makes, Keeps, next_guard, emptying_units, first_guard_units, closing_units, CloseEnds};
 ghost use Rattle.zms_cycle.specs.States.{IsOpenedOn};
 ghost use Rattle.zms_cycle.specs.Sector.{cycle_of, valid_slots, low, data_end, free, is_sound};
 
@@ -74,8 +74,8 @@ fn empty_by_guards<F: Flash, L: Ledger>(
         (Makes (λ kind. StopsGuarding) (F.device flash.old) (F.device flash.new) area.now sector) }
     ensures guards { let units = emptying_units (F.device flash.old) area.now sector in
         OnOk result (SpendsBetween (F.device flash.old) (F.device flash.new) units units) }
-    ensures spends_lost { OnErr result
-        (SpendsBetween (F.device flash.old) (F.device flash.new) 0 2) }
+    ensures spends_lost { let most = emptying_units (F.device flash.old) area.now sector - 1 in
+        OnErr result (SpendsBetween (F.device flash.old) (F.device flash.new) 0 most) }
 {
     guard(flash, area, sector, 1, cycle, steps)?;
     guard(flash, area, sector, 2, cycle, steps)?;
@@ -105,8 +105,8 @@ fn empty_by_erasing<F: Flash, L: Ledger>(
         (Makes StopsEmptying (F.device flash.old) (F.device flash.new) area.now sector) }
     ensures guards { let units = emptying_units (F.device flash.old) area.now sector in
         OnOk result (SpendsBetween (F.device flash.old) (F.device flash.new) units units) }
-    ensures spends_lost { OnErr result
-        (SpendsBetween (F.device flash.old) (F.device flash.new) 0 1) }
+    ensures spends_lost { let most = emptying_units (F.device flash.old) area.now sector - 1 in
+        OnErr result (SpendsBetween (F.device flash.old) (F.device flash.new) 0 most) }
 {
     let is_used = !is_erased(sector_view(flash, area, sector, steps));
     erase_if(flash, area, sector, is_used)?;
@@ -115,8 +115,9 @@ fn empty_by_erasing<F: Flash, L: Ledger>(
 
 /// Empties a sector by the empty entry of the next cycle. On a rewritable bank, slots 1 and 2 are
 /// guarded first, so that they are not valid under that cycle. On an erasing bank, the sector is
-/// erased first, unless it is all FF. On a rewritable bank slot 3 stays, so the sector as it was
-/// says what the guard of the first entry will take.
+/// erased first, unless it is all FF. The sector as it was says exactly what this spends: 1 to 3
+/// units, and fewer if it is cut. On a rewritable bank slot 3 stays, so the sector as it was says
+/// too what the guard of the first entry will take.
 ///
 /// # Errors
 /// `PowerLost`. On a rewritable bank the sector reads as before (its list, its gc-done, and whether
@@ -144,8 +145,8 @@ pub fn empty_sector<F: Flash, L: Ledger>(
     ensures spends { OnOk result (SpendsBetween (F.device flash.old) (F.device flash.new) 1 3) }
     ensures guards { let units = emptying_units (F.device flash.old) area.now sector in
         OnOk result (SpendsBetween (F.device flash.old) (F.device flash.new) units units) }
-    ensures spends_lost { OnErr result
-        (SpendsBetween (F.device flash.old) (F.device flash.new) 0 2) }
+    ensures spends_lost { let most = emptying_units (F.device flash.old) area.now sector - 1 in
+        OnErr result (SpendsBetween (F.device flash.old) (F.device flash.new) 0 most) }
 {
     let cycle = next_cycle(sector_cycle(flash, area, sector, steps));
     match geometry(flash, area).kind {
@@ -177,6 +178,7 @@ fn fill_slot<F: Flash, L: Ledger>(
     ensures spends { OnOk result (SpendsBetween (F.device flash.old) (F.device flash.new) 0 1) }
     ensures spends_lost { OnErr result
         (SpendsBetween (F.device flash.old) (F.device flash.new) 0 0) }
+    ensures step { steps.new ≡ steps.old + 1 }
 {
     let start = slot_start(flash, area, slot);
     let unit = fill_unit();
@@ -213,6 +215,7 @@ fn fill_slots<F: Flash, L: Ledger>(
     ensures filled { OnOk result
         (IsFilled (sector_bytes (F.device flash.new) area.now sector) bottom top) }
     ensures spends { SpendsBetween (F.device flash.old) (F.device flash.new) 0 (top - bottom) }
+    ensures steps { steps.new ≤ steps.old + (top - bottom) }
 {
     let mut slot = top;
     while slot > bottom {
@@ -248,6 +251,8 @@ fn fill_free<F: Flash, L: Ledger>(
         → F.device flash.new ≡ F.device flash.old }
     ensures spends { SpendsBetween (F.device flash.old) (F.device flash.new) 0
         (closing_units (F.device flash.old) area.now sector - 1) }
+    ensures steps { let fill = closing_units (F.device flash.old) area.now sector - 1 in
+        steps.new ≤ steps.old + fill }
 {
     let geometry = geometry(flash, area);
     match geometry.kind {
@@ -262,7 +267,8 @@ fn fill_free<F: Flash, L: Ledger>(
 
 /// Closes a sector by the close entry, which names the start of the lowest used slot. On a
 /// rewritable bank, every unit between its values and its slots is programmed with the fill unit
-/// first. `opened` is what it has to know of the sector, so the list is not read.
+/// first. `opened` is what it has to know of the sector, so the list is not read: it views no more
+/// units than are free, and none on an erasing bank.
 ///
 /// # Errors
 /// `PowerLost`: the sector's list and marks are as before. On an erasing bank, no byte changed.
@@ -283,18 +289,9 @@ pub fn close_at<F: Flash, L: Ledger>(
     ensures others { OthersStay (F.device flash.old) (F.device flash.new) area.now sector }
     ensures ok { OnOk result
         (Makes Closes (F.device flash.old) (F.device flash.new) area.now sector) }
-    ensures lost { OnErr result
-        (Keeps 0 (F.device flash.old) (F.device flash.new) area.now sector) }
-    ensures idle_lost { let d = F.device flash.old in
-        kind_on d area.now ≡ Erasing
-        → OnErr result
-        (sector_bytes (F.device flash.new) area.now sector ≡ sector_bytes d area.now sector) }
-    ensures spends { OnOk result
-        (SpendsBetween (F.device flash.old) (F.device flash.new) 1
-        (closing_units (F.device flash.old) area.now sector)) }
-    ensures spends_lost { OnErr result
-        (SpendsBetween (F.device flash.old) (F.device flash.new) 0
-        (closing_units (F.device flash.old) area.now sector)) }
+    ensures ends { CloseEnds (F.device flash.old) (F.device flash.new) area.now sector result }
+    ensures steps { let fill = closing_units (F.device flash.old) area.now sector - 1 in
+        steps.new ≤ steps.old + fill }
 {
     let low = geometry(flash, area).sector - (opened.slots + FIRST) * SLOT;
     fill_free(flash, area, sector, opened, steps)?;
@@ -309,7 +306,7 @@ pub fn close_at<F: Flash, L: Ledger>(
 
 /// Closes a sector by the close entry, which names the start of the lowest used slot. On a
 /// rewritable bank, every unit between its values and its slots is programmed with the fill unit
-/// first.
+/// first. It is `close_at` for a caller that knows nothing of the sector, which is viewed once.
 ///
 /// # Errors
 /// `PowerLost`: the sector's list and marks are as before. On an erasing bank, no byte changed.
@@ -329,18 +326,9 @@ pub fn close<F: Flash, L: Ledger>(
     ensures others { OthersStay (F.device flash.old) (F.device flash.new) area.now sector }
     ensures ok { OnOk result
         (Makes Closes (F.device flash.old) (F.device flash.new) area.now sector) }
-    ensures lost { OnErr result
-        (Keeps 0 (F.device flash.old) (F.device flash.new) area.now sector) }
-    ensures idle_lost { let d = F.device flash.old in
-        kind_on d area.now ≡ Erasing
-        → OnErr result
-        (sector_bytes (F.device flash.new) area.now sector ≡ sector_bytes d area.now sector) }
-    ensures spends { OnOk result
-        (SpendsBetween (F.device flash.old) (F.device flash.new) 1
-        (closing_units (F.device flash.old) area.now sector)) }
-    ensures spends_lost { OnErr result
-        (SpendsBetween (F.device flash.old) (F.device flash.new) 0
-        (closing_units (F.device flash.old) area.now sector)) }
+    ensures ends { CloseEnds (F.device flash.old) (F.device flash.new) area.now sector result }
+    ensures steps { let fill = closing_units (F.device flash.old) area.now sector - 1 in
+        steps.new ≤ steps.old + 1 + fill }
 {
     let opened = opened_sector(flash, area, sector, steps);
     close_at(flash, area, sector, &opened, steps)

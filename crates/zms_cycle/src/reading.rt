@@ -442,7 +442,8 @@ pub(crate) fn opened_sector<F: Flash, L: Ledger>(
 ) -> Opened
     requires zms { IsZmsSector (F.device flash.now) area.now sector }
     requires used { IsSome (cycle_of (sector_bytes (F.device flash.now) area.now sector)) }
-    ensures { IsOpenedOn (F.device flash.now) area.now sector result }
+    ensures opened { IsOpenedOn (F.device flash.now) area.now sector result }
+    ensures step { steps.new ≡ steps.old + 1 }
 {
     match state(flash, area, sector, steps) {
         SectorState::Used {

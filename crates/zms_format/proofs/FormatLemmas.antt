@@ -46,17 +46,9 @@ begun_none geometry b some = (rw some refl)
 
 -- ---- what steps spend at most
 
-emptying_three : (bank : BankKind) → emptying_most bank ≤ 3
+pub emptying_three : (bank : BankKind) → emptying_most bank ≤ 3
 emptying_three Rewritable = omega arith
 emptying_three Erasing = omega arith
-
-module _ (bank : BankKind) where
-  begin_lost : (b : List ℕ) → ((units_of bank).begin b).lost ≤ 3
-  begin_lost b = by_flag (is_some (cycle_of b))
-    where
-      by_flag : (used : Bool) → (cond used (just 0) (emptying_units bank b)).lost ≤ 3
-      by_flag true = omega arith
-      by_flag false = emptying_three bank
 
 -- a guard is a unit at most
 guard_within : (bank : BankKind) (cycle : Option ℕ) (slot : ℕ) (b : List ℕ) → guard_units bank cycle slot b ≤ guard_most bank
@@ -94,7 +86,7 @@ first_entry_is_known bank b e none empties =
       done = ap (range 1) same;
     }
 
-guard_one : (bank : BankKind) → guard_most bank ≤ 1
+pub guard_one : (bank : BankKind) → guard_most bank ≤ 1
 guard_one Rewritable = omega arith
 guard_one Erasing = omega arith
 
@@ -112,6 +104,21 @@ emptying_within Erasing b = (least (is_erased b), most (is_erased b))
     most : (t : Bool) → cond t 1 2 ≤ 2
     most true = omega arith
     most false = omega arith
+
+pub emptied_within : (bank : BankKind) (b : List ℕ) → emptying bank b ≤ 3
+emptied_within bank b = let within = (emptying_within bank b).1 in let three = emptying_three bank in omega arith
+
+module _ (bank : BankKind) where
+  pub begin_lost : (b : List ℕ) → ((units_of bank).begin b).lost ≤ 3
+  begin_lost b = by_flag (is_some (cycle_of b))
+    where
+      by_flag : (used : Bool) → (cond used (just 0) (emptying_units bank b)).lost ≤ 3
+      by_flag true = omega arith
+      by_flag false = emptied_within bank b
+
+-- a sector without a cycle is emptied first
+pub begin_emptying : (bank : BankKind) (b : List ℕ) → cycle_of b ≡ None → ((units_of bank).begin b).lost ≡ emptying bank b
+begin_emptying bank b none = ap (λ (t : Bool). (cond t (just 0) (emptying_units bank b)).lost) (ap (λ (o : Option ℕ). is_some o) none)
 
 -- a closed sector holds an empty entry, so it is not erased
 closed_kept : (b : List ℕ) → is_closed b ≡ true → is_erased b ≡ false
@@ -137,7 +144,7 @@ closing_within Erasing b size long = omega arith
 
 module _ (bank : BankKind) where
   emptying_covers : (b : List ℕ) → CoversWhole (emptying_units bank b)
-  emptying_covers b = (emptying_within bank b).1
+  emptying_covers b = omega arith
 
   entry_covers : (b : List ℕ) (units : ℕ) → CoversWhole (entry_units bank b units)
   entry_covers b units = let guard = next_within bank b in omega arith
@@ -163,16 +170,16 @@ module _ (bank : BankKind) where
     any_clears = omega arith;
     copy_in = λ b len. entry_in_any b (cost len / 16);
     done_in = λ b. entry_in_any b 1;
-    clear_lost = λ b. omega arith;
+    clear_lost = λ b. (emptying_within bank b).1;
   }
 
   closed_in : (b : List ℕ) → is_closed b ≡ true → LiesIn ((units_of bank).clear b) (units_of bank).any_clear
   closed_in b closed =
       let within = emptying_within bank b in
-      record { least = closed_least bank b closed; most = within.1; lost = omega arith }
+      record { least = closed_least bank b closed; most = within.1; lost = within.1 }
 
   -- the copy of a pair, with a guard, spends no more than twice the units of the pair
-  copies_most : (pairs : List (ℕ × List ℕ)) → 8 * copies_cost (λ len. ((units_of bank).any_copy len).lost) pairs ≤ copies_cost cost pairs
+  pub copies_most : (pairs : List (ℕ × List ℕ)) → 8 * copies_cost (λ len. ((units_of bank).any_copy len).lost) pairs ≤ copies_cost cost pairs
   copies_most [] = omega arith
   copies_most (p ∷ ps) =
       let rest = copies_most ps in
@@ -187,7 +194,7 @@ module _ (bank : BankKind) where
     where
       by_flag : (clean : Bool) → (cond clean ((units_of bank).begin b) ((units_of bank).clear b)).lost ≤ 3
       by_flag true = begin_lost bank b
-      by_flag false = emptying_three bank
+      by_flag false = emptied_within bank b
 
   round_most : (size : ℕ) (closed opened : List ℕ) (pairs : List (ℕ × List ℕ)) → 512 ≤ size → length closed ≡ size → copies_cost cost pairs ≤ capacity size
       → ((units_of bank).close closed).lost + ((cond (is_clean bank opened) ((units_of bank).begin opened) ((units_of bank).clear opened)).lost + (copies_cost (λ len. ((units_of bank).any_copy len).lost) pairs + ((units_of bank).any_done.lost + (units_of bank).any_clear.lost))) ≤ (units_of bank).round size

@@ -40,9 +40,9 @@ abbrev pub emptying_least : BankKind → ℕ
 emptying_least Rewritable = 1
 emptying_least Erasing = 2
 
--- what an emptying spends; a cut one at most as much as any emptying may
+-- what an emptying spends: exactly so much, by the bytes of the sector
 abbrev pub emptying_units : BankKind → List ℕ → Range
-emptying_units kind b = record { least = emptying kind b; most = emptying kind b; lost = emptying_most kind }
+emptying_units kind b = just (emptying kind b)
 
 -- The guard under the next entry. A sector without a cycle is emptied before, which leaves slot 3
 -- as it is on a rewritable bank.

@@ -1,4 +1,5 @@
 mod Holding
+mod Numbers
 mod OpenLemmas
 mod Places
 mod RoomLemmas

@@ -1,2 +1,3 @@
 pub mod Ends
+pub mod Spending
 pub mod Standing

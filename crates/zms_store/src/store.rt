@@ -5,6 +5,7 @@ ghost use Rattle.flash_map.specs.Faults.{mount_lost};
 ghost use Rattle.flash_map.specs.Spending.{SpendsBetween};
 ghost use Rattle.flash_map.specs.Touches.{Touches};
 ghost use Rattle.zms_store.specs.Ends.{MountEnds, MarksFirst, RoundEnds, KeepsWritten, SameOrWritten, SameBytesOrWritten};
+ghost use Rattle.zms_store.specs.Spending.{most_round, most_mount};
 ghost use Rattle.zms_store.specs.Standing.{IsZmsArea, StandsOn, KeepsItems};
 
 use crate::sectors::ZmsOpen;
@@ -24,9 +25,10 @@ impl Zms {
     /// Reads the area and completes what a power loss left undone: the emptying of a collected
     /// sector, which takes one to three units (two on an erasing bank), or a whole garbage
     /// collection. The items stay, and so do the newest versions of each, even if power is lost
-    /// again. It never spends more than twice the units of a sector. An area at rest stays as it
-    /// is. If anything changed, a sector is in use afterwards, even if power was lost. No byte of
-    /// the collected sector changes before gc-done stands.
+    /// again. It spends at most twice the units of a sector, and at most twice those of what it
+    /// copies and 8 more. An area at rest stays as it is. If anything changed, a sector is in use
+    /// afterwards, even if power was lost. No byte of the collected sector changes before gc-done
+    /// stands.
     ///
     /// # Errors
     /// `Damaged` and `NoMemory`: nothing changed. `PowerLost`, only if the area was not at rest.
@@ -42,6 +44,8 @@ impl Zms {
         ensures ends { MountEnds (F.device flash.old) (F.device flash.new) area result }
         ensures at_most { let d = F.device flash.old in
             SpendsBetween d (F.device flash.new) 0 (2 * (sector_size d area / 16)) }
+        ensures copies { let d = F.device flash.old in
+            SpendsBetween d (F.device flash.new) 0 (most_mount d area) }
         ensures written { KeepsWritten (F.device flash.old) (F.device flash.new) area }
         ensures changed { SameOrWritten (F.device flash.old) (F.device flash.new) area }
         ensures marks { MarksFirst (F.device flash.old) (F.device flash.new) area }
@@ -76,8 +80,9 @@ impl Zms {
     /// Closes the open sector and collects the oldest one, if that is in use. If it is not, on an
     /// erasing bank the next sector is made ready. The items stay, even if power is lost. After a
     /// round, a value fits the open sector exactly if it fits beside the items copied there, and a
-    /// delete fits. If the open sector is clean, nothing changes: on a rewritable bank it is clean
-    /// if its slot 2 is not valid, on an erasing bank if it is blank or fresh.
+    /// delete fits. It spends at most the units that were free, twice those of what it copies, and
+    /// 9. If the open sector is clean, nothing changes: on a rewritable bank it is clean if its
+    /// slot 2 is not valid, on an erasing bank if it is blank or fresh.
     ///
     /// # Errors
     /// `PowerLost`, only if the open sector is not clean: the list is as before or as after the
@@ -100,6 +105,8 @@ impl Zms {
 
         ensures ends { let d = F.device flash.old in let store = self.old.store in
             RoundEnds d (F.device flash.new) store.area store.current result }
+        ensures at_most { let d = F.device flash.old in let store = self.old.store in
+            SpendsBetween d (F.device flash.new) 0 (most_round d store.area store.current) }
         ensures stands { OnOk result (StandsOn (F.device flash.new) self.new) }
         ensures down { OnErr result (self.new.store.up ≡ false) }
     {

@@ -4,6 +4,7 @@ ghost use Rattle.std.specs.FinMap as map;
 ghost use Rattle.flash_map.specs.Faults.{write_lost};
 ghost use Rattle.flash_map.specs.Touches.{Touches};
 ghost use Rattle.zms_store.specs.Ends.{WriteEnds, DeleteEnds, KeepsWritten};
+ghost use Rattle.zms_store.specs.Spending.{WriteSpends, DeleteSpends};
 ghost use Rattle.zms_store.specs.Standing.{StandsOn, IsUndamaged, items_on};
 
 use crate::store::Zms;
@@ -12,7 +13,9 @@ use flash_sim::{Flash, PowerLost, Steps};
 use std::sync::ledger::Ledger;
 
 impl Zms {
-    /// Sets an item. If the item has these bytes already, nothing is programmed.
+    /// Sets an item. If the item has these bytes already, nothing is programmed. If the entry fits
+    /// the open sector, this spends its units and at most 4 more. Otherwise it spends at most three
+    /// times the units of a sector and 9 for each sector but one, besides those.
     ///
     /// # Errors
     /// `TooLong` exactly if the bytes and their entry cost more than a sector has for them: nothing
@@ -37,6 +40,8 @@ impl Zms {
             KeepsWritten d (F.device flash.new) self.old.store.area }
         ensures ends { let d = F.device flash.old in
             WriteEnds d (F.device flash.new) self.old.store.area id bytes.now result }
+        ensures units { let d = F.device flash.old in
+            WriteSpends d (F.device flash.new) self.old.store.area id bytes.now result }
         ensures undamaged { IsUndamaged (F.device flash.new) self.old.store.area }
         ensures stands { write_lost result ≡ false → StandsOn (F.device flash.new) self.new }
         ensures down { write_lost result ≡ true → self.new.store.up ≡ false }
@@ -68,6 +73,8 @@ impl Zms {
             KeepsWritten d (F.device flash.new) self.old.store.area }
         ensures ends { let d = F.device flash.old in
             WriteEnds d (F.device flash.new) self.old.store.area id bytes.now result }
+        ensures units { let d = F.device flash.old in
+            WriteSpends d (F.device flash.new) self.old.store.area id bytes.now result }
         ensures undamaged { IsUndamaged (F.device flash.new) self.old.store.area }
         ensures stands { write_lost result ≡ false → StandsOn (F.device flash.new) self.new }
         ensures down { write_lost result ≡ true → self.new.store.up ≡ false }
@@ -76,7 +83,8 @@ impl Zms {
     }
 
     /// Deletes an item. If the id has none, nothing is programmed; the reserved id FFFFFFFF never
-    /// has one. A delete always finds room.
+    /// has one. A delete always finds room. It spends at most 5 units if it fits the open sector,
+    /// and otherwise at most three times the units of a sector and 14.
     ///
     /// # Errors
     /// `PowerLost`: the items are as before or without this one, and the store is down.
@@ -95,6 +103,8 @@ impl Zms {
             KeepsWritten d (F.device flash.new) self.old.store.area }
         ensures ends { let d = F.device flash.old in
             DeleteEnds d (F.device flash.new) self.old.store.area id result }
+        ensures units { let d = F.device flash.old in
+            DeleteSpends d (F.device flash.new) self.old.store.area id }
         ensures undamaged { IsUndamaged (F.device flash.new) self.old.store.area }
         ensures stands { is_err result ≡ false → StandsOn (F.device flash.new) self.new }
         ensures down { is_err result ≡ true → self.new.store.up ≡ false }

@@ -15,6 +15,7 @@ use Rattle.zms_cycle.proofs.EntryCalls.{ready, ready_fits, ready_aligned, ready_
 use Rattle.zms_cycle.proofs.GuardUnits.{value_under, entry_guard}
 use Rattle.flash_map.specs.declared.pieces.TheConstants.{PIECE}
 use Rattle.zms_cycle.specs.declared.reading.TheConstants.{SLOT}
+use Rattle.zms_cycle.proofs.StepBounds.{reads_none, reads_guard}
 use Rattle.zms_cycle.proofs.appending.put_entry_at.Goals as goal
 
 pub value_entry-entry-requires : goal.value_entry-entry-requires
@@ -91,3 +92,11 @@ returns-clause-ends g c = record {
       on_err_weaker c.put_slot.result (λ within. within_then PIECE (g.F.Flash.device c.args.flash.now) m last (c.args.area.now ∷ []) c.in_ok-put_value.ensures.touches (within_most SLOT PIECE m last (omega arith) within)) c.put_slot.ensures.in_pieces;
   spends_lost = on_err_weaker c.put_slot.result (λ spends. between_within (between_then c.in_ok-put_value.ensures.ends.spends spends) 0 (cost (length c.args.bytes.now) / 16) (omega arith) (omega arith)) c.put_slot.ensures.spends_lost;
 }
+
+pub returns-in_err-put_value-clause-steps : goal.returns-in_err-put_value-clause-steps
+returns-in_err-put_value-clause-steps g c = reads_none (kind_on (g.F.Flash.device c.args.flash.now) c.args.area.now) c.args.steps.now
+
+pub returns-clause-steps : goal.returns-clause-steps
+returns-clause-steps g c =
+    reads_guard (kind_on (g.F.Flash.device c.args.flash.now) c.args.area.now) (kind_on (g.F.Flash.device c.put_value.new.flash) c.args.area.now) c.args.steps.now c.put_slot.new.steps
+    (same_kind (g.F.Flash.device c.args.flash.now) (g.F.Flash.device c.put_value.new.flash) c.args.area.now c.in_ok-put_value.ensures.touches.banks) c.put_slot.ensures.steps

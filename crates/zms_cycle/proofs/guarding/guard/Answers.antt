@@ -10,7 +10,7 @@ use Rattle.zms_cycle.specs.Sector.{slot_of, is_valid_under}
 use Rattle.zms_cycle.specs.Changes.{with_slot, guard_units}
 use Rattle.zms_cycle.proofs.AreaFacts.{size_is, never_erasing}
 use Rattle.zms_cycle.proofs.Slots16.{slot-filled}
-use Rattle.zms_cycle.proofs.UnitCalls.{valid_read, guarded-valid, guarded-other, guarded-erasing, units-valid, units-other, units-erasing, spends_just}
+use Rattle.zms_cycle.proofs.UnitCalls.{valid_read, guarded-valid, guarded-other, guarded-erasing, units-valid, units-other, units-erasing, spends_just, few_units}
 use Rattle.zms_cycle.proofs.guarding.guard.Goals as goal
 
 pub put_unit-requires-clause-erased : goal.put_unit-requires-clause-erased
@@ -45,6 +45,7 @@ returns-then-is_of_cycle-clause-steps g c = record {
 
 pub returns-then-is_of_cycle-clause-ends : goal.returns-then-is_of_cycle-clause-ends
 returns-then-is_of_cycle-clause-ends g c = record {
+  few = few_units (kind_on (g.F.Flash.device c.args.flash.now) c.args.area.now) (Some c.args.cycle) c.args.slot (sector_bytes (g.F.Flash.device c.args.flash.now) c.args.area.now c.args.sector);
   lost = c.put_unit.ensures.ends.lost;
   spends =
       let kind : kind_on (g.F.Flash.device c.args.flash.now) c.args.area.now ≡ Rewritable = sym (ap (λ (shape : Geometry). shape.kind) c.geometry.ensures) ∙ c.in-Rewritable.is in
@@ -67,6 +68,7 @@ returns-in-Erasing-clause-not_valid g c =
 
 pub returns-in-Erasing-clause-ends : goal.returns-in-Erasing-clause-ends
 returns-in-Erasing-clause-ends g c = record {
+  few = few_units (kind_on (g.F.Flash.device c.args.flash.now) c.args.area.now) (Some c.args.cycle) c.args.slot (sector_bytes (g.F.Flash.device c.args.flash.now) c.args.area.now c.args.sector);
   lost = tt;
   spends =
       let kind : kind_on (g.F.Flash.device c.args.flash.now) c.args.area.now ≡ Erasing = sym (ap (λ (shape : Geometry). shape.kind) c.geometry.ensures) ∙ c.in-Erasing.is in
@@ -106,6 +108,7 @@ returns-else-is_of_cycle-clause-steps g c = record {
 
 pub returns-else-is_of_cycle-clause-ends : goal.returns-else-is_of_cycle-clause-ends
 returns-else-is_of_cycle-clause-ends g c = record {
+  few = few_units (kind_on (g.F.Flash.device c.args.flash.now) c.args.area.now) (Some c.args.cycle) c.args.slot (sector_bytes (g.F.Flash.device c.args.flash.now) c.args.area.now c.args.sector);
   lost = tt;
   spends =
       let kind : kind_on (g.F.Flash.device c.args.flash.now) c.args.area.now ≡ Rewritable = sym (ap (λ (shape : Geometry). shape.kind) c.geometry.ensures) ∙ c.in-Rewritable.is in

@@ -16,6 +16,7 @@ returns-clause-ok g c = on_ok_weaker c.area_program.result (unit_written (g.F.Fl
 
 pub returns-clause-ends : goal.returns-clause-ends
 returns-clause-ends g c = record {
+  few = omega arith;
   lost = on_err_weaker c.area_program.result (unit_lost (g.F.Flash.device c.args.flash.now) (g.F.Flash.device c.area_program.new.flash) c.args.area.now c.args.sector c.args.slot c.slot_start-start.result c.args.bytes.now c.requires.zms (g.met.F.Flash.is_lawful c.args.flash.now) c.slot_start-start.ensures c.requires.slot c.requires.unit) c.area_program.ensures.part;
   spends = on_ok_weaker c.area_program.result (unit_spends (g.F.Flash.device c.args.flash.now) (g.F.Flash.device c.area_program.new.flash) c.args.area.now c.args.sector c.args.slot c.slot_start-start.result c.args.bytes.now c.requires.zms (g.met.F.Flash.is_lawful c.args.flash.now) c.slot_start-start.ensures c.requires.slot c.requires.unit (place_of (g.F.Flash.device c.args.flash.now) c.args.area.now c.args.sector c.slot_start-start.result) refl) c.area_program.ensures.ok;
   in_pieces = on_err_weaker c.area_program.result (λ fails. loses_one SLOT (g.F.Flash.device c.args.flash.now) (g.F.Flash.device c.area_program.new.flash) (place_of (g.F.Flash.device c.args.flash.now) c.args.area.now c.args.sector c.slot_start-start.result) c.args.bytes.now fails (omega (arith, c.requires.unit))) c.area_program.ensures.lost;

@@ -1,10 +1,11 @@
-use Rattle.std.proofs.Common.{◌≡◌, ◌+◌, ◌-◌, ◌*◌, List, sym, ap, ◌∙◌, arith}
+use Rattle.std.proofs.Common.{rules, ◌≡◌, ◌+◌, ◌-◌, ◌*◌, List, sym, ap, ◌∙◌, arith}
 use Rattle.std.proofs.lemmas.Result.{on_ok_weaker, on_err_weaker}
 use Rattle.flash_sim.specs.Bank.{bank_at}
 use Rattle.flash_sim.specs.declared.flash.Bank.{Bank}
 use Rattle.flash_sim.specs.Device.{Device}
 use Rattle.flash_map.specs.Area.{sector_bytes, sector_size}
 use Rattle.flash_map.specs.declared.area.Geometry.{Geometry}
+use Rattle.flash_map.proofs.PieceLemmas.{on_err}
 use Rattle.flash_map.proofs.SpendingBounds.{between_then, between_within}
 use Rattle.zms_cycle.specs.Areas.{kind_on}
 use Rattle.zms_cycle.specs.OnArea.{free_on, closing_units}
@@ -65,21 +66,27 @@ returns-clause-ok g c =
     (close_ok (kind_on (g.F.Flash.device c.args.flash.now) c.args.area.now) (sector_bytes (g.F.Flash.device c.args.flash.now) c.args.area.now c.args.sector) (sector_bytes (g.F.Flash.device c.fill_free.new.flash) c.args.area.now c.args.sector) (sector_bytes (g.F.Flash.device c.put_unit.new.flash) c.args.area.now c.args.sector) c.args.opened.now.cycle (c.geometry.result.sector - (c.args.opened.now.slots + 2) * 16) c.close_entry.result c.encode_zentry.result c.requires.sound c.in_ok-fill_free.ensures.keeps c.requires.opened.cycle lowest.lowest c.in_ok-fill_free.ensures.filled c.close_entry.ensures c.encode_zentry.ensures)
     c.put_unit.ensures.ok
 
-pub returns-clause-lost : goal.returns-clause-lost
-returns-clause-lost g c =
-    on_err_weaker c.put_unit.result (λ same. keeps_equal (kind_on (g.F.Flash.device c.args.flash.now) c.args.area.now) (sector_bytes (g.F.Flash.device c.args.flash.now) c.args.area.now c.args.sector) (sector_bytes (g.F.Flash.device c.fill_free.new.flash) c.args.area.now c.args.sector) (sector_bytes (g.F.Flash.device c.put_unit.new.flash) c.args.area.now c.args.sector) c.in_ok-fill_free.ensures.keeps (same_bytes (g.F.Flash.device c.fill_free.new.flash) (g.F.Flash.device c.put_unit.new.flash) c.args.area.now c.args.sector same)) c.put_unit.ensures.ends.lost
+pub returns-clause-ends : goal.returns-clause-ends
+returns-clause-ends g c = record {
+  lost =
+      on_err_weaker c.put_unit.result (λ same. keeps_equal (kind_on (g.F.Flash.device c.args.flash.now) c.args.area.now) (sector_bytes (g.F.Flash.device c.args.flash.now) c.args.area.now c.args.sector) (sector_bytes (g.F.Flash.device c.fill_free.new.flash) c.args.area.now c.args.sector) (sector_bytes (g.F.Flash.device c.put_unit.new.flash) c.args.area.now c.args.sector) c.in_ok-fill_free.ensures.keeps (same_bytes (g.F.Flash.device c.fill_free.new.flash) (g.F.Flash.device c.put_unit.new.flash) c.args.area.now c.args.sector same)) c.put_unit.ensures.ends.lost;
+  idle_lost = λ erasing.
+      on_err_weaker c.put_unit.result
+      (λ same. same_bytes (g.F.Flash.device c.fill_free.new.flash) (g.F.Flash.device c.put_unit.new.flash) c.args.area.now c.args.sector same ∙ ap (λ (d : Device). sector_bytes d c.args.area.now c.args.sector) (c.in_ok-fill_free.ensures.idle erasing))
+      c.put_unit.ensures.ends.lost;
+  spends =
+      let some = closing_some (kind_on (g.F.Flash.device c.args.flash.now) c.args.area.now) (free_on (g.F.Flash.device c.args.flash.now) c.args.area.now c.args.sector) in
+      on_ok_weaker c.put_unit.result (λ spends. between_within (between_then c.in_ok-fill_free.ensures.spends spends) 1 (closing_units (g.F.Flash.device c.args.flash.now) c.args.area.now c.args.sector) (omega arith) (omega arith)) c.put_unit.ensures.ends.spends;
+  spends_lost =
+      on_err_weaker c.put_unit.result (λ spends. between_within (between_then c.in_ok-fill_free.ensures.spends spends) 0 (closing_units (g.F.Flash.device c.args.flash.now) c.args.area.now c.args.sector) (omega arith) (omega arith)) c.put_unit.ensures.ends.spends_lost;
+}
 
-pub returns-clause-idle_lost : goal.returns-clause-idle_lost
-returns-clause-idle_lost g c = λ erasing.
-    on_err_weaker c.put_unit.result
-    (λ same. same_bytes (g.F.Flash.device c.fill_free.new.flash) (g.F.Flash.device c.put_unit.new.flash) c.args.area.now c.args.sector same ∙ ap (λ (d : Device). sector_bytes d c.args.area.now c.args.sector) (c.in_ok-fill_free.ensures.idle erasing))
-    c.put_unit.ensures.ends.lost
-
-pub returns-clause-spends : goal.returns-clause-spends
-returns-clause-spends g c =
-    let some = closing_some (kind_on (g.F.Flash.device c.args.flash.now) c.args.area.now) (free_on (g.F.Flash.device c.args.flash.now) c.args.area.now c.args.sector) in
-    on_ok_weaker c.put_unit.result (λ spends. between_within (between_then c.in_ok-fill_free.ensures.spends spends) 1 (closing_units (g.F.Flash.device c.args.flash.now) c.args.area.now c.args.sector) (omega arith) (omega arith)) c.put_unit.ensures.ends.spends
-
-pub returns-clause-spends_lost : goal.returns-clause-spends_lost
-returns-clause-spends_lost g c =
-    on_err_weaker c.put_unit.result (λ spends. between_within (between_then c.in_ok-fill_free.ensures.spends spends) 0 (closing_units (g.F.Flash.device c.args.flash.now) c.args.area.now c.args.sector) (omega arith) (omega arith)) c.put_unit.ensures.ends.spends_lost
+pub returns-in_err-fill_free-clause-ends : goal.returns-in_err-fill_free-clause-ends
+returns-in_err-fill_free-clause-ends g c = record {
+  lost = on_err c.from_residual.result c.in_err-fill_free.ensures.keeps;
+  idle_lost = λ erasing. on_err c.from_residual.result (ap (λ (d : Device). sector_bytes d c.args.area.now c.args.sector) (c.in_err-fill_free.ensures.idle erasing));
+  spends = search rules;
+  spends_lost =
+      on_err c.from_residual.result
+      (between_within c.in_err-fill_free.ensures.spends 0 (closing_units (g.F.Flash.device c.args.flash.now) c.args.area.now c.args.sector) (omega arith) (omega arith));
+}

@@ -1,14 +1,13 @@
-use Rattle.std.proofs.Common.{◌≡◌, Bool, not, cond, ap, ◌∙◌, arith}
+use Rattle.std.proofs.Common.{◌≡◌, ◌-◌, Bool, not, cond, ap, ◌∙◌, arith}
 use Rattle.std.proofs.lemmas.Result.{on_ok_weaker, on_err_weaker}
 use Rattle.flash_map.specs.Area.{sector_bytes}
 use Rattle.flash_map.specs.Units.{is_erased}
 use Rattle.flash_map.proofs.PieceLemmas.{on_err}
-use Rattle.flash_map.proofs.SpendingBounds.{between_exact, between_then, between_within}
+use Rattle.flash_map.proofs.SpendingBounds.{between_exact, between_most, between_then, between_within}
 use Rattle.zms_cycle.specs.Areas.{kind_on}
 use Rattle.zms_cycle.specs.OnArea.{emptying_units}
 use Rattle.zms_cycle.proofs.AreaFacts.{size_is, still_zms, others_then, others_same}
 use Rattle.zms_cycle.proofs.EmptyCalls.{same_bytes, erased_mid, erased_others, blank_can, emptied_blank, stops_before, stops_blank, emptying_erase}
-use Rattle.zms_cycle.proofs.UnitCalls.{zero_or_one}
 use Rattle.zms_cycle.proofs.marking.empty_by_erasing.Goals as goal
 
 pub put_unit-requires-clause-zms : goal.put_unit-requires-clause-zms
@@ -56,5 +55,10 @@ returns-clause-guards g c =
 
 pub returns-clause-spends_lost : goal.returns-clause-spends_lost
 returns-clause-spends_lost g c =
-    let few = zero_or_one (not c.is_erased-is_used.result) in
-    on_err_weaker c.put_unit.result (λ spends. between_within (between_then (between_exact (g.F.Flash.device c.args.flash.now) (g.F.Flash.device c.erase_if.new.flash) (cond (not c.is_erased-is_used.result) 1 0) c.in_ok-erase_if.ensures.units) spends) 0 1 (omega arith) (omega arith)) c.put_unit.ensures.ends.spends_lost
+    let due : not c.is_erased-is_used.result ≡ not (is_erased (sector_bytes (g.F.Flash.device c.args.flash.now) c.args.area.now c.args.sector)) = ap (λ (t : Bool). not t) (c.is_erased-is_used.ensures ∙ ap is_erased c.sector_view.ensures.bytes) in
+    let all = emptying_erase (kind_on (g.F.Flash.device c.args.flash.now) c.args.area.now) (sector_bytes (g.F.Flash.device c.args.flash.now) c.args.area.now c.args.sector) (not c.is_erased-is_used.result) c.requires.kind due in
+    on_err_weaker c.put_unit.result (λ spends. between_within (between_then (between_exact (g.F.Flash.device c.args.flash.now) (g.F.Flash.device c.erase_if.new.flash) (cond (not c.is_erased-is_used.result) 1 0) c.in_ok-erase_if.ensures.units) spends) 0 (emptying_units (g.F.Flash.device c.args.flash.now) c.args.area.now c.args.sector - 1) (omega arith) (omega arith)) c.put_unit.ensures.ends.spends_lost
+
+pub returns-in_err-erase_if-clause-spends_lost : goal.returns-in_err-erase_if-clause-spends_lost
+returns-in_err-erase_if-clause-spends_lost g c =
+    on_err c.from_residual.result (between_within (between_most (g.F.Flash.device c.args.flash.now) (g.F.Flash.device c.erase_if.new.flash) 0 c.in_err-erase_if.ensures.bound) 0 (emptying_units (g.F.Flash.device c.args.flash.now) c.args.area.now c.args.sector - 1) (omega arith) (omega arith))

@@ -55,3 +55,13 @@ returns-in-Rewritable-clause-spends g c =
     let kind = sym (ap (λ (shape : Geometry). shape.kind) c.geometry-geometry.ensures) ∙ c.in-Rewritable.is in
     let nums = numbers (kind_on (g.F.Flash.device c.args.flash.now) c.args.area.now) (sector_bytes (g.F.Flash.device c.args.flash.now) c.args.area.now c.args.sector) c.geometry-geometry.result.sector c.args.opened.now.slots c.args.opened.now.data_end c.saturating_sub-top.result kind c.requires.sound (size ∙ sym shape) (omega (arith, shape, most)) c.requires.opened.slots c.requires.opened.data_end c.saturating_sub-top.ensures in
     between_within c.fill_slots.ensures.spends 0 (closing_units (g.F.Flash.device c.args.flash.now) c.args.area.now c.args.sector - 1) (omega arith) (fill_few (kind_on (g.F.Flash.device c.args.flash.now) c.args.area.now) (sector_bytes (g.F.Flash.device c.args.flash.now) c.args.area.now c.args.sector) (c.saturating_sub-top.result / 16 - (c.args.opened.now.slots + 2)) kind nums.few)
+
+pub returns-in-Rewritable-clause-steps : goal.returns-in-Rewritable-clause-steps
+returns-in-Rewritable-clause-steps g c =
+    let size = size_is (g.F.Flash.device c.args.flash.now) c.args.area.now c.args.sector c.requires.zms (g.met.F.Flash.is_lawful c.args.flash.now) in
+    let shape = ap (λ (shape : Geometry). shape.sector) c.geometry-geometry.ensures in
+    let most = c.requires.zms.lawful.at_most in
+    let kind = sym (ap (λ (shape : Geometry). shape.kind) c.geometry-geometry.ensures) ∙ c.in-Rewritable.is in
+    let nums = numbers (kind_on (g.F.Flash.device c.args.flash.now) c.args.area.now) (sector_bytes (g.F.Flash.device c.args.flash.now) c.args.area.now c.args.sector) c.geometry-geometry.result.sector c.args.opened.now.slots c.args.opened.now.data_end c.saturating_sub-top.result kind c.requires.sound (size ∙ sym shape) (omega (arith, shape, most)) c.requires.opened.slots c.requires.opened.data_end c.saturating_sub-top.ensures in
+    let few = fill_few (kind_on (g.F.Flash.device c.args.flash.now) c.args.area.now) (sector_bytes (g.F.Flash.device c.args.flash.now) c.args.area.now c.args.sector) (c.saturating_sub-top.result / 16 - (c.args.opened.now.slots + 2)) kind nums.few in
+    omega (arith, few, c.fill_slots.ensures.steps)

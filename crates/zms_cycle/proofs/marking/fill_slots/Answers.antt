@@ -19,6 +19,7 @@ loop-slot-init g c = record {
   others = others_same (g.F.Flash.device c.args.flash.now) (g.F.Flash.device c.args.flash.now) c.args.area.now c.args.sector refl;
   keeps = keeps_same Rewritable 0 (sector_bytes (g.F.Flash.device c.args.flash.now) c.args.area.now c.args.sector);
   filled = λ k from below. absurd (omega arith);
+  read = omega arith;
   spends = between_within (between_none (g.F.Flash.device c.args.flash.now)) 0 (c.args.top - c.args.top) (omega arith) (omega arith);
 }
 
@@ -49,6 +50,7 @@ loop-slot-preserved g c =
           let size = size_is (g.F.Flash.device c.args.flash.now) c.args.area.now c.args.sector c.requires.zms (g.met.F.Flash.is_lawful c.args.flash.now) in
           let long = kept.keeps.kept.long in
           fill_more (sector_bytes (g.F.Flash.device c.loop-slot.flash) c.args.area.now c.args.sector) (sector_bytes (g.F.Flash.device c.fill_slot.new.flash) c.args.area.now c.args.sector) (c.loop-slot.slot - 1) c.loop-slot.slot c.args.top (omega arith) (omega arith) (omega arith) c.in_ok-fill_slot.ensures.ok kept.filled;
+      read = omega (arith, kept.read, kept.below, c.in_ok-fill_slot.ensures.step);
       spends = between_within (between_then kept.spends c.in_ok-fill_slot.ensures.spends) 0 (c.args.top - (c.loop-slot.slot - 1)) (omega arith) (omega arith);
     }
 

@@ -1,4 +1,4 @@
-use Rattle.std.proofs.Common.{◌-◌, ◌≤◌, ◌∷◌, [], false}
+use Rattle.std.proofs.Common.{◌+◌, ◌-◌, ◌≤◌, ◌∷◌, [], false}
 use Rattle.flash_sim.specs.declared.flash.Kind.TheVariants.{Rewritable}
 use Rattle.flash_map.specs.Area.{sector_bytes, OthersStay}
 use Rattle.flash_map.specs.Spending.{SpendsBetween}
@@ -14,6 +14,7 @@ invariant-loop-slot g l = record {
   others : OthersStay (g.F.Flash.device l.initial.flash) (g.F.Flash.device l.flash) l.area l.sector;
   keeps : KeepsList Rewritable 0 (sector_bytes (g.F.Flash.device l.initial.flash) l.area l.sector) (sector_bytes (g.F.Flash.device l.flash) l.area l.sector);
   filled : IsFilled (sector_bytes (g.F.Flash.device l.flash) l.area l.sector) l.slot l.top;
+  read : l.steps ≤ l.initial.steps + (l.top - l.slot);
   spends : SpendsBetween (g.F.Flash.device l.initial.flash) (g.F.Flash.device l.flash) 0 (l.top - l.slot);
 }
 

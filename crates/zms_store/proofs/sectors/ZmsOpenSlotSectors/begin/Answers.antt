@@ -1,4 +1,4 @@
-use Rattle.std.proofs.Common.{rules, ◌≡◌, ℕ, Bool, true, false, Option, Some, None, refl, sym, ap, ◌∙◌}
+use Rattle.std.proofs.Common.{rules, ◌≡◌, ℕ, Bool, true, false, Option, Some, None, refl, sym, ap, ◌∙◌, arith}
 use Rattle.std.proofs.lemmas.Bool.{false≢true}
 use Rattle.flash_sim.specs.Device.{Device}
 use Rattle.flash_map.specs.declared.area.Area.{Area}
@@ -10,6 +10,9 @@ use Rattle.flash_map.specs.declared.area.Role.TheVariants.{Zms as zms_role}
 use Rattle.std.specs.Prelude.{IsSome, is_some}
 use Rattle.zms_cycle.specs.Sector.{cycle_of}
 use Rattle.flash_map.proofs.PieceLemmas.{on_err}
+use Rattle.flash_map.proofs.SpendingBounds.{between_within}
+use Rattle.zms_format.proofs.FormatLemmas.{begin_emptying}
+use Rattle.zms_format.specs.Formats.{units_of}
 use Rattle.zms_store.proofs.OpenLemmas.{kept_cycle, kept_emptied}
 use Rattle.zms_store.proofs.sectors.ZmsOpenSlotSectors.begin.Goals as goal
 
@@ -61,7 +64,13 @@ returns-in_err-empty_sector-clause-ends g c = record {
       on_err c.from_residual.result
       (begin_room u (sector_at (sectors_of a area) c.args.place) (sector_at (sectors_of e area) c.args.place) (no_cycle (cycle_of (sector_at (sectors_of a area) c.args.place)) c.args.self.now.cycle c.is_some.result cycle c.is_some.ensures c.if-is_some.false) c.in_err-empty_sector.ensures.lost);
   spends = search rules;
-  spends_lost = search rules;
+  spends_lost =
+      let a : Device = g.F.Flash.device c.args.flash.now in
+      let area : Area = c.args.area.now in
+      let u : Geometry = geometry_of a area in
+      let cycle : c.args.self.now.cycle ≡ cycle_of (sector_at (sectors_of a area) c.args.place) = kept_cycle u (sector_at (sectors_of a area) c.args.place) c.args.self.now c.requires.kept in
+      let most = begin_emptying u.kind (sector_at (sectors_of a area) c.args.place) (no_cycle (cycle_of (sector_at (sectors_of a area) c.args.place)) c.args.self.now.cycle c.is_some.result cycle c.is_some.ensures c.if-is_some.false) in
+      on_err c.from_residual.result (between_within c.in_err-empty_sector.ensures.spends_lost 0 ((units_of u.kind).begin (sector_at (sectors_of a area) c.args.place)).lost (omega arith) (omega arith));
 }
 
 pub returns-clause-ends : goal.returns-clause-ends

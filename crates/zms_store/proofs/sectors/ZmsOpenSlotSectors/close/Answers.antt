@@ -62,13 +62,13 @@ returns-clause-ends g c = record {
       let b : List ℕ = sector_at (sectors_of a area) c.args.place in
       let wide = large_there zms_role a area (g.met.F.Flash.is_lawful c.args.flash.now) c.requires.area c.args.place c.requires.inside in
       let e : Device = g.F.Flash.device c.close_at.new.flash in
-      on_err_weaker c.close_at.result (λ h. inl (keeps u (sector_at (sectors_of a area) c.args.place) (sector_at (sectors_of e area) c.args.place) wide 0 h)) c.close_at.ensures.lost;
+      on_err_weaker c.close_at.result (λ h. inl (keeps u (sector_at (sectors_of a area) c.args.place) (sector_at (sectors_of e area) c.args.place) wide 0 h)) c.close_at.ensures.ends.lost;
   blank_lost =
       let a : Device = g.F.Flash.device c.args.flash.now in
       let area : Area = c.args.area.now in
       let u : Geometry = geometry_of a area in
       let e : Device = g.F.Flash.device c.close_at.new.flash in
-      close_cut _ u.kind (sector_at (sectors_of a area) c.args.place) (sector_at (sectors_of e area) c.args.place) c.close_at.result c.requires.used c.close_at.ensures.idle_lost;
-  spends = search rules;
-  spends_lost = search rules;
+      close_cut _ u.kind (sector_at (sectors_of a area) c.args.place) (sector_at (sectors_of e area) c.args.place) c.close_at.result c.requires.used c.close_at.ensures.ends.idle_lost;
+  spends = c.close_at.ensures.ends.spends;
+  spends_lost = c.close_at.ensures.ends.spends_lost;
 }

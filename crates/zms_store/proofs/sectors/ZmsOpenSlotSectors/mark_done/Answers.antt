@@ -31,7 +31,7 @@ returns-clause-ok g c = record {
       let area : Area = c.args.area.now in
       let u : Geometry = geometry_of a area in
       let e : Device = g.F.Flash.device c.put_done_at.new.flash in
-      ready_spends u.kind (sector_at (sectors_of a area) c.args.place) c.requires.here.ready a e 1 c.in_ok-put_done_at.ensures.guards;
+      ready_spends u.kind (sector_at (sectors_of a area) c.args.place) c.requires.here.ready a e 1 c.in_ok-put_done_at.ensures.ends.guards;
 }
 
 pub overflow_add-self : goal.overflow_add-self

@@ -1,0 +1,8 @@
+use Rattle.std.proofs.Common.{ℕ, subst}
+use Rattle.zms_cycle.specs.Areas.{kind_on}
+use Rattle.zms_cycle.specs.OnArea.{ReadsGuard}
+use Rattle.zms_cycle.proofs.appending.put_done.Goals as goal
+
+pub returns-clause-steps : goal.returns-clause-steps
+returns-clause-steps g c =
+    subst (λ (n : ℕ). ReadsGuard (kind_on (g.F.Flash.device c.args.flash.now) c.args.area.now) n c.put_done_at.new.steps) c.opened_sector-opened.ensures.step c.put_done_at.ensures.steps

@@ -1,0 +1,9 @@
+//! What the steps in a sector spend at most. The function does nothing: its contract is the law.
+
+ghost use Rattle.zms_cycle.specs.Bounds.{StepsAreBounded};
+
+/// Whatever the bytes of a sector: a guard spends at most 1 unit, an emptying 1 to 3, and a close 1
+/// to a sixteenth of the free bytes and 1.
+pub fn steps_are_bounded()
+    ensures bounded { StepsAreBounded }
+{}

@@ -30,7 +30,8 @@ use Rattle.item_session.specs.Device.{RestsOn, rules_on, state_of, turned_on}
 use Rattle.session_table.specs.Bench.{Keeps}
 use Rattle.item_session.specs.LineDone.{LineDone, Redoes, WritesBy, powered_for}
 use Rattle.item_session.specs.Step.{Step}
-use Rattle.item_session.proofs.AccountLemmas.{at_most, kept, lost, units_most}
+use Rattle.session_table.proofs.CountLemmas.{at_most, units_most}
+use Rattle.item_session.proofs.AccountLemmas.{kept, lost}
 use Rattle.item_laws.proofs.ItemsCost.{items_cost-is}
 use Rattle.item_session.proofs.StateLemmas.{stays_there}
 

@@ -20,7 +20,8 @@ use Rattle.item_session.specs.LineDone.{LineDone}
 use Rattle.item_session.specs.Standing.{damage_on}
 use Rattle.session_table.specs.Rules.{IsCounted}
 use Rattle.item_session.specs.Step.{State}
-use Rattle.item_session.proofs.AccountLemmas.{kept, lost, units_are}
+use Rattle.session_table.proofs.CountLemmas.{units_are}
+use Rattle.item_session.proofs.AccountLemmas.{kept, lost}
 use Rattle.item_laws.proofs.ItemsCost.{items_cost-is}
 use Rattle.item_session.proofs.LineLemmas.{delete_no_mount, few_units, kept_beside, set_no_mount}
 use Rattle.item_session.proofs.StateLemmas.{absent_or_not, adds_there, gets_changes, gets_if, keeps_there, list_same, loses_changes, loses_if, sound_there, stays_if, stays_there, stored_or_not}

@@ -11,16 +11,15 @@ use Rattle.script_lines.specs.Forms.Said.{bytes, number}
 use Rattle.script_lines.specs.Script.{ReadsLines}
 use Rattle.item_session.specs.declared.ids.Ids.{Ids}
 use Rattle.item_session.specs.declared.ids.Ids.TheVariants.{Short, Long}
-use Rattle.item_session.specs.declared.ids.TheConstants.{SHORT_END, LONG_END}
 use Rattle.item_session.specs.declared.line.Line.{Line}
 use Rattle.item_session.specs.declared.line.Line.TheVariants.{Set, Get, Delete, Older, Space, Cut, Uncut, Mount}
 use Rattle.item_session.specs.declared.reading.Command.{Command}
 use Rattle.item_session.specs.declared.reading.Command.TheVariants as commands
 
--- the end of ids
+-- The end of ids: the greatest is one less.
 abbrev pub ids_end : Ids → ℕ
-ids_end Short = SHORT_END
-ids_end Long = LONG_END
+ids_end Short = 0xFFFF
+ids_end Long = 0xFFFFFFFF
 
 -- the lines on items whose ids are below `ids`
 abbrev pub item_forms : ℕ → List Form

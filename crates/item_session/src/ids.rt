@@ -30,9 +30,10 @@ pub(crate) struct ShortIds;
 pub(crate) struct LongIds;
 
 impl IdsEnd for ShortIds {
-    ghost use Rattle.item_session.specs.declared.ids.TheConstants.{SHORT_END};
+    ghost use Rattle.item_session.specs.declared.ids.Ids.TheVariants.{Short};
+    ghost use Rattle.item_session.specs.Line.{ids_end};
 
-    ghost below = { SHORT_END };
+    ghost below = { ids_end Short };
 
     fn end() -> u64 {
         SHORT_END
@@ -40,9 +41,10 @@ impl IdsEnd for ShortIds {
 }
 
 impl IdsEnd for LongIds {
-    ghost use Rattle.item_session.specs.declared.ids.TheConstants.{LONG_END};
+    ghost use Rattle.item_session.specs.declared.ids.Ids.TheVariants.{Long};
+    ghost use Rattle.item_session.specs.Line.{ids_end};
 
-    ghost below = { LONG_END };
+    ghost below = { ids_end Long };
 
     fn end() -> u64 {
         LONG_END

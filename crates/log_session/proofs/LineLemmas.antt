@@ -26,7 +26,8 @@ use Rattle.log_session.specs.LineDone.{LineDone, MountsBy, PutsBy, ReportsChance
 use Rattle.log_session.specs.Standing.{IsMounted}
 use Rattle.session_table.specs.Rules.{IsCounted}
 use Rattle.log_session.specs.Step.{Step}
-use Rattle.log_session.proofs.AccountLemmas.{at_most, kept, lost, units_are, units_most}
+use Rattle.session_table.proofs.CountLemmas.{at_most, units_are, units_most}
+use Rattle.log_session.proofs.AccountLemmas.{kept, lost}
 
 none_spent : (units spent : ℕ) → units ≡ 0 → units ≡ spent - spent
 none_spent units spent is = omega (arith, is)
@@ -170,14 +171,26 @@ unplanned area old new is =
 same_log : (area : Area) (old new : Device) → items_on new area ≡ items_on old area → log_on new area ≡ log_on old area
 same_log area old new same = ap log_of same
 
-module _ (area : Area) (old mid new : Device) (on : mid ≡ turned_on old) (none : ring_damage mid area ≡ None) (keeps : KeepsItems mid new area) where
+-- what changed nothing spent nothing
+idle_spends : (mid new : Device) (units : ℕ) → units ≡ new.spent - mid.spent → new ≡ mid → Done units ≡ Done 0
+idle_spends mid new units are same =
+    let spent : new.spent ≡ mid.spent = ap (λ (d : Device). d.spent) same in
+    let no_unit : units ≡ 0 = omega (arith, are, spent) in
+    ap (λ (n : ℕ). Done n) no_unit
+
+-- and lost no power
+not_idle : {A : Type 0} (mid new : Device) → mid.is_on ≡ true → new.is_on ≡ false → new ≡ mid → A
+not_idle mid new on off same = absurd (false≢true (sym off ∙ ap (λ (d : Device). d.is_on) same ∙ on))
+
+module _ (area : Area) (old mid new : Device) (on : mid ≡ turned_on old) (none : ring_damage mid area ≡ None) (keeps : KeepsItems mid new area) (idle : erases_on old area ≡ 0 → new ≡ mid) where
   -- as the bench was before power was turned on
-  by_mount : (answer : Answer) → units_of answer ≤ erases_on mid area → (is_lost answer ≡ false → IsCounted new.spent → units_of answer ≡ erases_on mid area) → MountsBy area answer old new
-  by_mount answer most all = let here = subst (λ (d : Device). KeepsItems d new area) on keeps in record {
+  by_mount : (answer : Answer) → units_of answer ≤ erases_on mid area → (is_lost answer ≡ false → IsCounted new.spent → units_of answer ≡ erases_on mid area) → (new ≡ mid → answer ≡ Done 0) → MountsBy area answer old new
+  by_mount answer most all spends_none = let here = subst (λ (d : Device). KeepsItems d new area) on keeps in record {
     undamaged = ap (λ (d : Device). ring_damage d area) (sym on) ∙ none;
     at_most = subst (λ (d : Device). units_of answer ≤ erases_on d area) on most;
     all = λ whole counts. all whole counts ∙ ap (λ (d : Device). erases_on d area) on;
     items = record { undamaged = here.undamaged; items = here.items; filled = here.filled };
+    rests = λ rest. (spends_none (idle rest), idle rest ∙ on);
   }
 
   same_items : items_on new area ≡ items_on old area
@@ -217,13 +230,15 @@ module _ (area : Area) (old mid new : Device) (on : mid ≡ turned_on old) (none
   mount_done units are spends touches =
       mount_whole units (are ∙ ap (λ (d : Device). new.spent - d.spent) on) (subst (λ (d : Device). Touches (area ∷ []) d new false) on touches)
       (by_mount (Done units) (subst (λ (n : ℕ). n ≤ erases_on mid area) (sym are) (units_most mid.spent new.spent (erases_on mid area) spends))
-      (λ whole counts. are ∙ sym (units_are mid.spent new.spent (erases_on mid area) spends counts)))
+      (λ whole counts. are ∙ sym (units_are mid.spent new.spent (erases_on mid area) spends counts))
+      (idle_spends mid new units are))
 
   pub mount_lost : (units : ℕ) → units ≡ new.spent - mid.spent → SpendsAtMost mid new (erases_on mid area) → Touches (area ∷ []) mid new true → LineDone area Mount (Lost units false) old new
   mount_lost units are spends touches =
       let few : new.spent - mid.spent ≤ spends.0 = units_most mid.spent new.spent spends.0 spends.2 in
       mount_cut units (are ∙ ap (λ (d : Device). new.spent - d.spent) on) (subst (λ (d : Device). Touches (area ∷ []) d new true) on touches)
-      (by_mount (Lost units false) (at_most units spends.0 (erases_on mid area) (subst (λ (n : ℕ). n ≤ spends.0) (sym are) few) spends.1) (λ whole counts. absurd (false≢true (sym whole))))
+      (by_mount (Lost units false) (at_most units spends.0 (erases_on mid area) (subst (λ (n : ℕ). n ≤ spends.0) (sym are) few) spends.1) (λ whole counts. absurd (false≢true (sym whole)))
+      (not_idle mid new (ap (λ (d : Device). d.is_on) on) (touches.ends (ap (λ (d : Device). d.is_on) on)).off))
 
 -- a log that is mounted is at rest
 pub at_rest : (d : Device) (area : Area) (log : Option EventLog) → IsMounted d area log → d.is_on ≡ true → erases_on d area ≡ 0

@@ -1,6 +1,5 @@
 -- A mount as a line, as the code has it.
-use Rattle.std.proofs.Common.{◌≡◌, ℕ, ◌-◌, true, false, [], ◌∷◌, Option, None, Some, Result, Ok, Err, sym, ap, subst, ◌∙◌, arith}
-use Rattle.std.proofs.lemmas.Bool.{false≢true}
+use Rattle.std.proofs.Common.{◌≡◌, ℕ, ◌-◌, true, false, [], ◌∷◌, Option, None, Some, Result, Ok, Err, ap, subst, ◌∙◌}
 use Rattle.flash_sim.specs.Device.{Device}
 use Rattle.flash_map.specs.declared.area.Area.{Area}
 use Rattle.flash_map.specs.declared.faults.Damaged.{Damaged}
@@ -16,6 +15,11 @@ use Rattle.log_session.specs.declared.answer.Answer.TheVariants.{Done, Lost}
 use Rattle.log_session.specs.LineDone.{LineDone, turned_on}
 use Rattle.log_session.specs.Standing.{IsMounted, ShowsDamage}
 use Rattle.log_session.proofs.LineLemmas.{mount_done, mount_lost as mount_cut}
+
+-- a mount of an area at rest does nothing
+pub idle_mount : (area given : Area) (old mid new : Device) → mid ≡ turned_on old → given ≡ area → (erases_on mid given ≡ 0 → new ≡ mid) → erases_on old area ≡ 0 → new ≡ mid
+idle_mount area given old mid new on same idle rests =
+    idle (ap (λ (d : Device). erases_on d given) on ∙ ap (λ (a : Area). erases_on old a) same ∙ rests)
 
 module _ (area given : Area) (old mid new : Device) (on : mid ≡ turned_on old) (same : given ≡ area) (r : Result EventLog MountFault)
     (touches : Touches (given ∷ []) mid new (mount_lost r)) (ends : LogMounts mid new given r) where
@@ -38,8 +42,8 @@ module _ (area given : Area) (old mid new : Device) (on : mid ≡ turned_on old)
   -- ---- it was carried out
 
   module _ (log : EventLog) (whole : r ≡ Ok log) where
-    pub whole_line : (units : ℕ) → units ≡ new.spent - mid.spent → LineDone area Mount (Done units) old new
-    whole_line units spent = let e = ended (Ok log) whole in mount_done area old mid new on e.0 e.3 units spent e.4 (touched (Ok log) whole)
+    pub whole_line : (units : ℕ) → units ≡ new.spent - mid.spent → (erases_on old area ≡ 0 → new ≡ mid) → LineDone area Mount (Done units) old new
+    whole_line units spent idle = let e = ended (Ok log) whole in mount_done area old mid new on e.0 e.3 idle units spent e.4 (touched (Ok log) whole)
 
     pub whole_mounted : IsMounted new area (Some log)
     whole_mounted = let e = ended (Ok log) whole in (e.2, λ now. e.1)
@@ -53,8 +57,8 @@ module _ (area given : Area) (old mid new : Device) (on : mid ≡ turned_on old)
   -- ---- power was lost in it
 
   module _ (lost : r ≡ Err PowerLost) where
-    pub lost_line : (units : ℕ) → units ≡ new.spent - mid.spent → LineDone area Mount (Lost units false) old new
-    lost_line units spent = let e = ended (Err PowerLost) lost in mount_cut area old mid new on e.0 e.1 units spent e.2 (touched (Err PowerLost) lost)
+    pub lost_line : (units : ℕ) → units ≡ new.spent - mid.spent → (erases_on old area ≡ 0 → new ≡ mid) → LineDone area Mount (Lost units false) old new
+    lost_line units spent idle = let e = ended (Err PowerLost) lost in mount_cut area old mid new on e.0 e.1 idle units spent e.2 (touched (Err PowerLost) lost)
 
     pub lost_off : new.is_on ≡ false
     lost_off = let cut = touched (Err PowerLost) lost in (cut.ends powered).off
@@ -65,9 +69,6 @@ module _ (area given : Area) (old mid new : Device) (on : mid ≡ turned_on old)
     pub lost_sound : ring_damage new area ≡ None
     lost_sound = let e = ended (Err PowerLost) lost in e.1.undamaged
 
-    pub not_idle : {A : Type 0} → new ≡ mid → A
-    not_idle idle = absurd (false≢true (sym lost_off ∙ ap (λ (d : Device). d.is_on) idle ∙ powered))
-
   -- ---- it was not
 
   pub damaged_shown : (damaged : Damaged) → r ≡ Err (HasDamage damaged) → ShowsDamage area old new damaged
@@ -75,15 +76,3 @@ module _ (area given : Area) (old mid new : Device) (on : mid ≡ turned_on old)
 
   pub has_memory : r ≡ Err NoMemory → ⊥
   has_memory is = ended (Err NoMemory) is
-
--- a mount of an area at rest does nothing
-pub idle_mount : (area given : Area) (old mid new : Device) → mid ≡ turned_on old → given ≡ area → (erases_on mid given ≡ 0 → new ≡ mid) → erases_on old area ≡ 0 → new ≡ mid
-idle_mount area given old mid new on same idle rests =
-    idle (ap (λ (d : Device). erases_on d given) on ∙ ap (λ (a : Area). erases_on old a) same ∙ rests)
-
--- and spends nothing
-pub idle_spends : (mid new : Device) (units : ℕ) → new ≡ mid → units ≡ new.spent - mid.spent → Done units ≡ Done 0
-idle_spends mid new units same are =
-    let spent : new.spent ≡ mid.spent = ap (λ (d : Device). d.spent) same in
-    let none : units ≡ 0 = omega arith in
-    ap (λ (n : ℕ). Done n) none

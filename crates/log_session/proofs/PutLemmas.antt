@@ -27,7 +27,8 @@ use Rattle.log_session.specs.declared.line.Line.TheVariants.{Put}
 use Rattle.log_session.specs.declared.answer.Answer.TheVariants.{Appended, Lost}
 use Rattle.log_session.specs.LineDone.{AppendsOn, LineDone}
 use Rattle.log_session.specs.Step.{Drops, KeepsAll, PutUnits, header_units, most_to_put, record_units, records_cost}
-use Rattle.log_session.proofs.AccountLemmas.{at_most, kept, lost, units_are, units_most}
+use Rattle.session_table.proofs.CountLemmas.{at_most, units_are, units_most}
+use Rattle.log_session.proofs.AccountLemmas.{kept, lost}
 use Rattle.log_session.proofs.LineLemmas.{kept_beside, log_is, put_no_mount, put_no_records}
 
 -- ---- what is dropped

@@ -19,7 +19,7 @@ use Rattle.session_table.specs.Follows.{Follows}
 use Rattle.log_session.specs.declared.line.Line.{Line}
 use Rattle.log_session.specs.declared.line.Line.TheVariants.{Put, Records, Mount}
 use Rattle.log_session.specs.declared.answer.Answer.{Answer}
-use Rattle.log_session.specs.declared.answer.Answer.TheVariants.{Appended, Lost}
+use Rattle.log_session.specs.declared.answer.Answer.TheVariants.{Appended, Done, Lost}
 use Rattle.log_session.specs.Plan.{units_of, is_lost, units_in, losses_in, replan, Allows, plan_after, Planned, plan_through, PlansNoLoss}
 use Rattle.session_table.specs.Rules.{IsCounted}
 use Rattle.log_session.specs.Step.{State, Step}
@@ -74,12 +74,13 @@ PutsBy area (Put body) (Lost units chance) old new = AppendsOn area body (Err Po
 PutsBy area line answer old new = ⊤
 
 -- An area that shows no damage is mounted: the erases that are due are carried out, some or all of
--- them if power is lost, and all items stay, the torn ones too.
+-- them if power is lost, and all items stay, the torn ones too. At rest nothing is done.
 pub record MountsBy (area : Area) (answer : Answer) (old new : Device) : Type 0 where
   pub undamaged : ring_damage old area ≡ None
   pub at_most : units_of answer ≤ erases_on old area
   pub all : is_lost answer ≡ false → IsCounted new.spent → units_of answer ≡ erases_on old area
   pub items : KeepsItems old new area
+  pub rests : erases_on old area ≡ 0 → (answer ≡ Done 0) × (new ≡ turned_on old)
 
 -- the plan alone may differ
 abbrev pub SameButPlan : Device → Device → Type 0

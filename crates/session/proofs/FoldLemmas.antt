@@ -8,6 +8,8 @@ use Rattle.flash_map.specs.declared.area.Area.{Area}
 use Rattle.flash_map.specs.declared.area.Geometry.{Geometry}
 use Rattle.flash_map.specs.declared.faults.Damaged.{Damaged}
 use Rattle.handlers.specs.declared.handler.HandlerKind.{HandlerKind}
+use Rattle.handlers.specs.declared.registry.RegistryOf.{RegistryOf}
+use Rattle.handlers.specs.Held.{HandlerState}
 use Rattle.handlers.specs.Registry.{Registered}
 use Rattle.script_lines.specs.declared.line.Line.{Line}
 use Rattle.script_lines.specs.declared.line.Line.TheVariants.{Mount}
@@ -18,6 +20,7 @@ use Rattle.session_table.proofs.FollowsLemmas.{kept, last, one, seen}
 use Rattle.session_table.proofs.RunLemmas.{runs_of}
 use Rattle.session.specs.declared.fault.SessionFault.{SessionFault}
 use Rattle.session.specs.declared.fault.SessionFault.TheVariants.{Damaged as IsDamaged, NoMemory}
+use Rattle.session.specs.Handling.{Boxes, LineMoves, RunLeaves, RunMoves, StaysAtDamage, boxes}
 use Rattle.session.specs.OnMap.{LacksAnswer, LineRan, LineStops, Ran, RunEnds, StopsAt, damage_in, moment}
 
 suc_is : (i : ℕ) → suc i ≡ i + 1
@@ -106,6 +109,53 @@ module _ (m : Meanings) (damage : Area → Geometry → List (List ℕ) → Opti
     runs = whole (Mount ∷ take i lines) answers first now so_far;
     stops = unchanged (take i lines) (drop i lines) now.device;
   }
+
+-- the same with the handlers that lines move
+module _ {B : Type 0} (state : B → HandlerState) (m : Meanings) (damage : Area → Geometry → List (List ℕ) → Option Damaged) (rests : Area → Geometry → List (List ℕ) → Type 0) (areas : List Area) where
+  abbrev pub MovedTo : List Line → ℕ → List Answer → Boxes B → Boxes B → Type 0
+  MovedTo lines i answers first now = Follows (LineMoves state m damage rests areas) (Mount ∷ take i lines) answers first now
+
+  pub opened_moves : (lines : List Line) (answer : Answer) (first now : Boxes B) → LineMoves state m damage rests areas Mount answer first now → MovedTo lines 0 ([] ++ answer ∷ []) first now
+  opened_moves lines answer first now is = one (LineMoves state m damage rests areas) Mount answer first now is
+
+  pub moves_more : (lines : List Line) (i : ℕ) (line : Line) (answers : List Answer) (answer : Answer) (first mid new : Boxes B) → i < length lines → line ≡ get_or lines i line → MovedTo lines i answers first mid
+      → LineMoves state m damage rests areas line answer mid new → MovedTo lines (i + 1) (answers ++ answer ∷ []) first new
+  moves_more lines i line answers answer first mid new below is so_far done =
+      subst (λ (prefix : List Line). Follows (LineMoves state m damage rests areas) (Mount ∷ prefix) (answers ++ answer ∷ []) first new) (sym (lines_on lines i line below is))
+      (last (LineMoves state m damage rests areas) (Mount ∷ take i lines) line answers answer first mid new so_far done)
+
+  pub moved : (lines : List Line) (i : ℕ) (answers : List Answer) (first : Boxes B) (now : Device) (registry : RegistryOf B) (left : List B) → length lines ≤ i → MovedTo lines i answers first (boxes now registry left)
+      → RunMoves state m damage rests areas (Mount ∷ lines) answers first now registry
+  moved lines i answers first now registry left all so_far =
+      (left, subst (λ (prefix : List Line). Follows (LineMoves state m damage rests areas) (Mount ∷ prefix) answers first (boxes now registry left)) (take_all i lines all) so_far)
+
+  -- a mount found damage: that which opens the map, or this line
+  pub left_first : (lines : List Line) (first : Boxes B) (new : Device) (fault : SessionFault) → LineStops m damage areas Mount first.device new fault → RunLeaves state m damage rests areas (Mount ∷ lines) (Err fault) first new first.registry
+  left_first lines first new (IsDamaged place damaged) stops = record {
+    prefix = [];
+    rest = lines;
+    are = refl;
+    answers = [];
+    mid = first;
+    moves = refl;
+    stops = stops;
+    stays = refl;
+  }
+  left_first lines first new NoMemory stops = tt
+
+  pub left_at : (lines : List Line) (i : ℕ) (line : Line) (answers : List Answer) (first mid : Boxes B) (new : Device) (registry : RegistryOf B) (left : List B) (fault : SessionFault) → i < length lines → line ≡ get_or lines i line → MovedTo lines i answers first mid
+      → LineStops m damage areas line mid.device new fault → StaysAtDamage fault mid.left left mid.registry registry → RunLeaves state m damage rests areas (Mount ∷ lines) (Err fault) first new registry
+  left_at lines i line answers first mid new registry left (IsDamaged place damaged) below is so_far stops same = record {
+    prefix = Mount ∷ take i lines;
+    rest = drop (i + 1) lines;
+    are = ap (λ (rest : List Line). Mount ∷ rest) (lines_at lines i line below is ∙ ap (λ (l : Line). take i lines ++ l ∷ drop (i + 1) lines) stops.0);
+    answers = answers;
+    mid = mid;
+    moves = so_far;
+    stops = (refl, stops.1, stops.2);
+    stays = same.1;
+  }
+  left_at lines i line answers first mid new registry left NoMemory below is so_far stops same = tt
 
 -- a map without damage stops no line but for memory
 pub no_damage : (m : Meanings) (damage : Area → Geometry → List (List ℕ) → Option Damaged) (areas : List Area) (line : Line) (old new : Device) (fault : SessionFault) → damage_in damage areas old ≡ None → LineStops m damage areas line old new fault → fault ≡ NoMemory

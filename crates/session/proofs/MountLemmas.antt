@@ -19,7 +19,8 @@ use Rattle.flash_map.specs.Spending.{Spends}
 use Rattle.flash_map.specs.Touches.{Touches}
 use Rattle.flash_map.proofs.Apart.{same_apart}
 use Rattle.flash_map.proofs.Touches.{then, wider}
-use Rattle.fcb_ring.specs.Standing.{erases_on, ring_damage}
+use Rattle.fcb_ring.specs.Entries.{entries}
+use Rattle.fcb_ring.specs.Standing.{KeepsEntries, entries_on, erases_on, ring_damage}
 use Rattle.backend_api.specs.Ends.{MountEnds}
 use Rattle.backend_api.specs.Map.{Map}
 use Rattle.migrator.specs.declared.selecting.Selector.{Selector}
@@ -34,7 +35,7 @@ use Rattle.session.specs.declared.mounting.MapFault.{MapFault}
 use Rattle.session.specs.declared.mounting.MapFault.TheVariants.{Damaged as MapDamaged, PowerLost, NoMemory}
 use Rattle.session.specs.declared.session.Session.{Session}
 use Rattle.session.specs.Mounting.{MapEnds, ReadsSame, SelectorEnds, map_lost, mounted_as, selected_as}
-use Rattle.session.specs.OnMap.{HasSelector, IsAtRest, IsServedMap, BeginsMount, active_area, damage_in, selector_found, selector_place, selectors, turned_on}
+use Rattle.session.specs.OnMap.{HasSelector, IsAtRest, IsServedMap, BeginsMount, SameRecords, active_area, damage_in, selector_found, selector_place, selectors, turned_on}
 use Rattle.session.proofs.ActiveAreas.{area_there, selected, served_still, has_still, active_there, active_lawful, apart_active, selector_beside, selector_still, active_beside}
 use Rattle.session.proofs.DamageLemmas.{damage_none, none_damage, selector_shows, active_shows, none_at, none_beside}
 
@@ -110,6 +111,9 @@ module _ (areas : List Area) (place : ℕ) (area : Area) (old new : Device) (r :
 
   pub chosen_active : (ring_damage old area ≡ None → (all : List Area) → active_in all new area ≡ active_in all old area) → selector_damage_on areas old ≡ None → active_on areas new ≡ active_on areas old
   chosen_active active is = active-on areas new area is_selector ∙ active (sym (shows old) ∙ is) areas ∙ sym (active-on areas old area is_selector)
+
+  pub chosen_records : (ring_damage old area ≡ None → KeepsEntries old new area) → selector_damage_on areas old ≡ None → SameRecords areas old new
+  chosen_records keeps is = λ s same. subst (λ (a : Area). entries_on new a ≡ entries_on old a) (some_area area s (sym is_selector ∙ same)) (keeps (sym (shows old) ∙ is)).are
 
   pub chosen_idle : (erases_on old area ≡ 0 → new ≡ old) → ((s : Area) → selector_of areas ≡ Some s → erases_on old s ≡ 0) → new ≡ old
   chosen_idle idle rests = idle (rests area is_selector)
@@ -202,6 +206,7 @@ module _ {K : Type 0} (serves : Area → Geometry → Type 0) (mounted_on : K �
     pub none : selector_damage_on areas d ≡ None
     pub sound : selector_damage_on areas mid ≡ None
     pub active : active_on areas mid ≡ active_on areas d
+    pub records : SameRecords areas d mid
     pub has : HasSelector areas mid selector
 
   module _ (d mid e : Device) (selector : Option Selector) (place : ℕ) (r : Result (Settings K) MountFault) (lawful : IsLawful e.banks e.bytes) (s : Selected d mid selector) (is_place : place ≡ active_on areas mid) (m : SettingsMounted mid e (active_area areas mid) r) where
@@ -236,6 +241,7 @@ module _ {K : Type 0} (serves : Area → Geometry → Type 0) (mounted_on : K �
       touches = subst (λ (x : Device). Touches (selectors areas) x mid false) (powered d s.powered_on) s.touches;
       units = s.units area is;
       active = s.active;
+      records = s.records area is;
     })
 
     begins : e ≡ mid → BeginsMount areas d e
@@ -273,6 +279,11 @@ module _ {K : Type 0} (serves : Area → Geometry → Type 0) (mounted_on : K �
         let at_d : Touches (active_area areas d ∷ []) mid e (mount_lost r) = subst (λ (p : ℕ). Touches (area_at areas p ∷ []) mid e (mount_lost r)) s.active m.touches in
         let second : Touches both mid e (mount_lost r) = wider both (λ y has. Contains-append_right (selectors areas) (active_area areas d ∷ []) y has) at_d in
         subst (λ (b : Bool). Touches both d e b) (mounted_lost selector place r ∙ ap map_lost (sym is)) (then first second)
+
+    pub map_records : SameRecords areas d e
+    map_records x is =
+        still (λ area geometry sectors. entries geometry.unit sectors) mid e x m.touches.banks (selector_beside serves areas mid e map_mid s.lawful_mid lawful m.touches.banks m.touches.outside x is)
+        ∙ s.records x is
 
     pub map_sound : damage_in damage areas d ≡ None → damage_in damage areas e ≡ None
     map_sound is =

@@ -39,7 +39,7 @@ use Rattle.session_table.specs.Bench.{Keeps, area_at, is_selector, places_of, st
 use Rattle.session_table.specs.Commands.{StopsForNames, all_puts}
 use Rattle.session_table.specs.State.{State}
 use Rattle.session.specs.Moving.{answer_to}
-use Rattle.session.specs.OnMap.{BeginsMove, DoneBeside, DoneWithin, IsServedMap, StandsOnMap, active_area, damage_in, meanings, moment, move_bound}
+use Rattle.session.specs.OnMap.{BeginsMove, DoneBeside, DoneWithin, IsServedMap, SameSelector, StandsOnMap, active_area, damage_in, may_choose, meanings, moment, move_bound}
 use Rattle.session.proofs.AccountLemmas.{kept, lost}
 use Rattle.session.proofs.BoundLemmas.{spent_most}
 use Rattle.session.proofs.ActiveAreas.{area_there, image, selector_listed}
@@ -80,12 +80,14 @@ module _ {K : Type 0} (mounted_on : K → Area) (damage : Area → Geometry → 
     pub reads : ReadsAs damage contents areas e (on contents d (active_area areas d))
     pub ends : MigrateEnds mounted_on damage contents room areas s (active_on areas d) (on contents d (active_area areas d)) d e r
     pub at_most : SpendsAtMost d e (migrate_units d areas s (active_on areas d) (len (on contents d (active_area areas d))))
+    pub stays : is_refused r ≡ true → sectors_of e s ≡ sectors_of d s
 
   -- from an area that is the active one
   pub migrated : (source : Area) (active : ℕ) (r x : Result (K × ℕ) MigrateFault) → active ≡ active_on areas d → source ≡ active_area areas d → r ≡ x → selector_of areas ≡ Some s
       → Touches (worked_on areas s active) d e (migrate_lost r) → ReadsAs damage contents areas e (on contents d source)
-      → MigrateEnds mounted_on damage contents room areas s active (on contents d source) d e r → SpendsAtMost d e (migrate_units d areas s active (len (on contents d source))) → Migrated x
-  migrated source active r x is_active is_source is selected touches reads ends at_most = subst Migrated is (record {
+      → MigrateEnds mounted_on damage contents room areas s active (on contents d source) d e r → SpendsAtMost d e (migrate_units d areas s active (len (on contents d source)))
+      → (is_refused r ≡ true → sectors_of e s ≡ sectors_of d s) → Migrated x
+  migrated source active r x is_active is_source is selected touches reads ends at_most stays = subst Migrated is (record {
     selected = selected;
     touches = subst (λ (place : ℕ). Touches (worked_on areas s place) d e (migrate_lost r)) is_active touches;
     reads = subst (λ (a : Area). ReadsAs damage contents areas e (on contents d a)) is_source reads;
@@ -93,6 +95,7 @@ module _ {K : Type 0} (mounted_on : K → Area) (damage : Area → Geometry → 
         (subst (λ (a : Area). MigrateEnds mounted_on damage contents room areas s active (on contents d a) d e r) is_source ends);
     at_most = subst (λ (place : ℕ). SpendsAtMost d e (migrate_units d areas s place (len (on contents d (active_area areas d))))) is_active
         (subst (λ (a : Area). SpendsAtMost d e (migrate_units d areas s active (len (on contents d a)))) is_source at_most);
+    stays = stays;
   })
 
   pub sound_by : (r : Result (K × ℕ) MigrateFault) → Migrated r → damage_in damage areas e ≡ None
@@ -249,6 +252,20 @@ module _ {K : Type 0} (mounted_on : K → Area) (damage : Area → Geometry → 
     pub refused_by : (fault : MigrateFault) (answer : Answer) (o : Option Answer) → o ≡ answer_to fault (after - before) → o ≡ Some answer → Migrated (Err fault) → DoneBeside (meanings contents room chance tears) areas Migrate answer d e
     refused_by fault answer o is some m = at_fault fault answer (sym is ∙ some) m
 
+  -- where the settings were not moved, and power was not lost, the selector stays
+  same_for : (r : Result (K × ℕ) MigrateFault) → Migrated r → is_refused r ≡ true → SameSelector areas d e
+  same_for r m refused x is = subst (λ (a : Area). sectors_of e a ≡ sectors_of d a) (some_same s x (sym m.selected ∙ is)) (m.stays refused)
+
+  same_at : (fault : MigrateFault) (units : ℕ) (answer : Answer) → answer_to fault units ≡ Some answer → Migrated (Err fault) → may_choose Migrate answer ≡ false → SameSelector areas d e
+  same_at HasNoTarget units answer is m none = same_for (Err HasNoTarget) m refl
+  same_at (HasNoSpace need live) units answer is m none = same_for (Err (HasNoSpace need live)) m refl
+  same_at TooManyNames units answer is m none = same_for (Err TooManyNames) m refl
+  same_at PowerLost units answer is m none = absurd (false≢true (sym none ∙ ap (λ (x : Answer). may_choose Migrate x) (sym (some_same (Lost units false) answer is))))
+  same_at NoMemory units answer is m none = same_for (Err NoMemory) m refl
+
+  pub same_by : (fault : MigrateFault) (units : ℕ) (answer : Answer) (o : Option Answer) → o ≡ answer_to fault units → o ≡ Some answer → Migrated (Err fault) → may_choose Migrate answer ≡ false → SameSelector areas d e
+  same_by fault units answer o is some m none = same_at fault units answer (sym is ∙ some) m none
+
   -- memory was wanting
   begins : (fault : MigrateFault) → answer_to fault 0 ≡ None → Migrated (Err fault) → BeginsMove (meanings contents room chance tears) areas d e
   begins HasNoTarget none m = absurd (none-some NoTarget (sym none))
@@ -263,6 +280,7 @@ module _ {K : Type 0} (mounted_on : K → Area) (damage : Area → Geometry → 
     at_most = moves_most (Err NoMemory) m;
     touches = m.touches;
     active = stays_active m.selected m.ends.3;
+    stays = m.stays refl;
   }
 
   no_answer : (fault : MigrateFault) (units : ℕ) → answer_to fault units ≡ None → answer_to fault 0 ≡ None

@@ -30,7 +30,7 @@ use Rattle.session.specs.declared.mounting.MapFault.{MapFault}
 use Rattle.session.specs.declared.mounting.MapFault.TheVariants.{Damaged as MapDamaged, PowerLost, NoMemory}
 use Rattle.session.specs.declared.session.Session.{Session}
 use Rattle.session.specs.Mounting.{MapEnds, ReadsSame, answered, map_lost}
-use Rattle.session.specs.OnMap.{CarriedBeside, DoesNothing, DoneWithin, IsAtRest, IsReady, LineStops, BeginsMount, active_area, active_damage, damage_in, meanings, moment, mount_bound, selectors, turned_on}
+use Rattle.session.specs.OnMap.{CarriedBeside, DoesNothing, DoneWithin, IsAtRest, IsReady, LineStops, BeginsMount, SameRecords, active_area, active_damage, damage_in, meanings, moment, mount_bound, selectors, turned_on}
 use Rattle.session.proofs.AccountLemmas.{kept, lost}
 use Rattle.session.proofs.ActiveAreas.{active_powered, selector_powered, image, selector_listed}
 use Rattle.session.proofs.ChangeLemmas.{seen, state_is}
@@ -137,6 +137,7 @@ module _ {K : Type 0} (mounted_on : K → Area) (stands : K → Geometry → Lis
     pub touches : Touches (selectors areas ++ active_area areas d ∷ []) d e (map_lost x)
     pub ends : MapEnds mounted_on stands runs damage contents areas d e x
     pub sound : damage_in damage areas d ≡ None → damage_in damage areas e ≡ None
+    pub records : selector_damage_on areas d ≡ None → SameRecords areas d e
     pub idle : IsAtRest rests areas d → e ≡ d
     pub most : SpendsAtMost d e (mount_bound areas d)
 
@@ -159,6 +160,7 @@ module _ {K : Type 0} (mounted_on : K → Area) (stands : K → Geometry → Lis
     touches = opens.touches;
     units = opens.units;
     active = opens.active ∙ active_powered areas old;
+    records = opens.records;
   })
 
   module _ (old e : Device) (before after : ℕ) (from : before ≡ old.spent) (to : after ≡ e.spent) where
@@ -177,10 +179,12 @@ module _ {K : Type 0} (mounted_on : K → Area) (stands : K → Geometry → Lis
         record {
           done = within.done;
           touches = within.touches;
+          plans = λ replans. absurd (replans refl);
           most = within.most;
           finds = λ is. (first, selector_sound damage areas old e (sound_on (Ok session) m) first second, inl second);
           few = λ is. few_by areas old e before after from to m.most;
           undamaged = sound_on (Ok session) m;
+          records = λ none. m.records m.ends.3;
         }
     done_by (Err PowerLost) m = λ registry pool.
         let within : DoneWithin (meanings contents room chance tears) areas Mount (Lost (after - before) false) (moment old registry pool) (moment e registry pool) =
@@ -188,10 +192,12 @@ module _ {K : Type 0} (mounted_on : K → Area) (stands : K → Geometry → Lis
         record {
           done = within.done;
           touches = within.touches;
+          plans = λ replans. absurd (replans refl);
           most = within.most;
           finds = λ is. (sym (selector_powered areas old) ∙ m.ends.0, m.ends.1, elim m.ends.2 [ inl none ↦ inl (sym (shown_powered damage areas old) ∙ none) | inr touches ↦ inr (refl, touches) ]);
           few = λ is. few_by areas old e before after from to m.most;
           undamaged = sound_on (Err PowerLost) m;
+          records = λ none. m.records m.ends.0;
         }
     done_by (Err (MapDamaged place damaged)) m = tt
     done_by (Err NoMemory) m = tt

@@ -24,6 +24,8 @@ use Rattle.script_lines.specs.declared.line.Line.{Line}
 use Rattle.script_lines.specs.declared.line.Line.TheVariants.{Set, Get, Del, Register, Load, Direct, Save, Commit, RunSet, RunGet, Names, Mount, Cut, Uncut, Migrate}
 use Rattle.script_lines.specs.declared.answer.Answer.{Answer}
 use Rattle.script_lines.specs.declared.answer.Answer.TheVariants.{Off}
+use Rattle.script_lines.specs.Plan.{replan}
+use Rattle.script_lines.specs.Plan.Replan.{keeps as keeps_plan}
 use Rattle.session_table.specs.Bench.{Meanings, area_at, is_selector, places_of, rules_of, worked_on}
 use Rattle.session_table.specs.Rules.{Rules}
 use Rattle.session_table.specs.Step.{needs_power}
@@ -31,7 +33,7 @@ use Rattle.session_table.proofs.PlaceLemmas.{IsWithin}
 use Rattle.session_table.proofs.RunLemmas.{keeps_within}
 use Rattle.session.specs.declared.fault.SessionFault.{SessionFault}
 use Rattle.session.specs.declared.fault.SessionFault.TheVariants.{NoMemory}
-use Rattle.session.specs.OnMap.{BeginsLine, CarriedBeside, DoneBeside, DoneWithin, HasSelector, IsAtRest, IsReady, IsServedMap, LineCarried, LineStops, StandsOnActive, StandsOnMap, StaysOnArea, StopsUnchanged, active_area, damage_in, is_local, moment, takes_memory}
+use Rattle.session.specs.OnMap.{BeginsLine, CarriedBeside, DoneBeside, DoneWithin, HasSelector, IsAtRest, IsReady, IsServedMap, LeavesSelector, LineCarried, LineStops, SameButPlan, SameSelector, StandsOnActive, StandsOnMap, StaysOnArea, StopsUnchanged, active_area, damage_in, is_local, may_choose, moment, takes_memory}
 use Rattle.session.proofs.ActiveAreas.{active_still, selector_still, has_still, selector_beside, active_beside, area_there}
 use Rattle.session.proofs.DamageLemmas.{damage_none, none_damage, none_beside}
 
@@ -89,6 +91,12 @@ migrate_is_none e = cc
 
 pub mount_needs_none : (line : Line) → needs_power line ≡ true → line ≡ Mount → ⊥
 mount_needs_none line needs is = false≢true (ap needs_power (sym is) ∙ needs)
+
+-- a line that needs power is not about the plan
+pub plain_powered : (line : Line) → needs_power line ≡ true → replan line ≡ keeps_plan
+plain_powered (Cut units) needs = absurd (false≢true needs)
+plain_powered Uncut needs = absurd (false≢true needs)
+plain_powered line needs = refl
 
 pub mount_not_local : (line : Line) → is_local line ≡ true → line ≡ Mount → ⊥
 mount_not_local line local is = false≢true (ap is_local (sym is) ∙ local)
@@ -167,21 +175,38 @@ local_begins m areas (Cut units) d e local same = absurd (false≢true local)
 local_begins m areas Uncut d e local same = absurd (false≢true local)
 local_begins m areas Migrate d e local same = absurd (false≢true local)
 
+-- a line that is no mount and leaves the selector
+leaves : (line : Line) (areas : List Area) (d e : Device) → (line ≡ Mount → ⊥) → SameSelector areas d e → LeavesSelector line areas d e
+leaves Mount areas d e other same = absurd (other refl)
+leaves line areas d e other same = same
+
 module _ (m : Meanings) (damage : Area → Geometry → List (List ℕ) → Option Damaged) (areas : List Area) (line : Line) (d e : Device) where
-  pub carried : (answer : Answer) → (line ≡ Mount → ⊥) → (damage_in damage areas d ≡ None → damage_in damage areas e ≡ None) → DoneBeside m areas line answer d e → CarriedBeside m damage areas line answer d e
-  carried answer other sound done registry pool =
+  pub carried : (answer : Answer) → (line ≡ Mount → ⊥) → ((replan line ≡ keeps_plan → ⊥) → SameButPlan d e) → (damage_in damage areas d ≡ None → damage_in damage areas e ≡ None) → (may_choose line answer ≡ false → SameSelector areas d e) → DoneBeside m areas line answer d e
+      → CarriedBeside m damage areas line answer d e
+  carried answer other plan sound same done registry pool =
       let within = done registry pool in
-      record { done = within.done; touches = within.touches; most = within.most; finds = λ is. absurd (other is); few = λ is. absurd (other is); undamaged = sound }
+      record { done = within.done; touches = within.touches; plans = plan; most = within.most; finds = λ is. absurd (other is); few = λ is. absurd (other is); undamaged = sound; records = λ none. leaves line areas d e other (same none) }
 
   -- by the line that it is
-  pub carried_as : (other : Line) (answer : Answer) → line ≡ other → (other ≡ Mount → ⊥) → (damage_in damage areas d ≡ None → damage_in damage areas e ≡ None) → DoneBeside m areas other answer d e → CarriedBeside m damage areas line answer d e
-  carried_as other answer is not_it sound done =
-      carried answer (λ mounts. not_it (sym is ∙ mounts)) sound (subst (λ (l : Line). DoneBeside m areas l answer d e) (sym is) done)
+  pub carried_as : (other : Line) (answer : Answer) → line ≡ other → (other ≡ Mount → ⊥) → SameButPlan d e → (damage_in damage areas d ≡ None → damage_in damage areas e ≡ None) → DoneBeside m areas other answer d e → CarriedBeside m damage areas line answer d e
+  carried_as other answer is not_it plan sound done =
+      carried answer (λ mounts. not_it (sym is ∙ mounts)) (λ replans. plan) sound (λ none s at. ap (λ (x : Device). sectors_of x s) plan) (subst (λ (l : Line). DoneBeside m areas l answer d e) (sym is) done)
 
-  pub carried_if : (result : Result Answer SessionFault) (r others : List Registered) (p left : List HandlerKind) → (line ≡ Mount → ⊥) → (damage_in damage areas d ≡ None → damage_in damage areas e ≡ None)
+  pub carried_if : (serves : Area → Geometry → Type 0) (result : Result Answer SessionFault) (r others : List Registered) (p left : List HandlerKind) → IsServedMap serves areas d → IsLawful d.banks d.bytes → IsLawful e.banks e.bytes
+      → is_local line ≡ true → (line ≡ Mount → ⊥) → replan line ≡ keeps_plan → (damage_in damage areas d ≡ None → damage_in damage areas e ≡ None)
       → IfOk result (λ answer. DoneWithin m areas line answer (moment d r p) (moment e others left)) → IfOk result (λ answer. LineCarried m damage areas line answer (moment d r p) (moment e others left))
-  carried_if (Ok answer) r others p left other sound done = record { done = done.done; touches = done.touches; most = done.most; finds = λ is. absurd (other is); few = λ is. absurd (other is); undamaged = sound }
-  carried_if (Err fault) r others p left other sound done = tt
+  carried_if serves (Ok answer) r others p left map lawful lawful_new local other plain sound done = record {
+    done = done.done;
+    touches = done.touches;
+    plans = λ replans. absurd (replans plain);
+    most = done.most;
+    finds = λ is. absurd (other is);
+    few = λ is. absurd (other is);
+    undamaged = sound;
+    records = λ none.
+        leaves line areas d e other (selector_beside serves areas d e map lawful lawful_new done.done.keeps.banks (outside_local m areas line answer d e r others p left local done));
+  }
+  carried_if serves (Err fault) r others p left map lawful lawful_new local other plain sound done = tt
 
 -- for want of memory a line that changes no bench stopped
 pub never_changed : {T E : Type 0} (line : Line) (d : Device) (result : Result T E) → takes_memory line ≡ true → OnErr result (StopsUnchanged line d d)

@@ -1,20 +1,28 @@
 -- Lines on handlers.
-use Rattle.std.specs.Prelude.{◌≡◌, ℕ, ◌<◌, ◌++◌, ◌∷◌, [], true, false, List, length, take, slice_index_or, Option, Some, None, All}
+use Rattle.std.specs.Prelude.{◌≡◌, ℕ, ◌<◌, ◌++◌, ◌∷◌, [], ⊤, true, false, List, length, take, slice_index_or, Option, Some, None, Result, Ok, Err, All}
 use Rattle.std.specs.List.{list_any, remove, slice_get}
+use Rattle.flash_sim.specs.Device.{Device}
+use Rattle.flash_map.specs.declared.area.Area.{Area}
+use Rattle.flash_map.specs.declared.area.Geometry.{Geometry}
+use Rattle.flash_map.specs.declared.faults.Damaged.{Damaged}
 use Rattle.handlers.specs.declared.handler.HandlerKind.{HandlerKind}
 use Rattle.handlers.specs.Held.{HandlerState}
-use Rattle.handlers.specs.Registry.{Registered}
+use Rattle.handlers.specs.Registry.{Registered, registered}
 use Rattle.handlers.specs.declared.registry.RegistryOf.{RegistryOf}
 use Rattle.handlers.specs.declared.registry.Row.{Row}
 use Rattle.settings_core.specs.Deliveries as deliveries
 use Rattle.script_lines.specs.declared.answer.Answer.{Answer}
-use Rattle.script_lines.specs.declared.answer.Answer.TheVariants.{Done}
+use Rattle.script_lines.specs.declared.answer.Answer.TheVariants.{Done, Off}
 use Rattle.script_lines.specs.declared.line.Line.{Line}
-use Rattle.script_lines.specs.declared.line.Line.TheVariants.{Register}
+use Rattle.script_lines.specs.declared.line.Line.TheVariants.{Register, Load, Commit, RunSet, Mount}
 use Rattle.script_lines.specs.declared.lists.Give.{Give}
+use Rattle.session_table.specs.Bench.{Meanings, Moment}
+use Rattle.session_table.specs.Follows.{Follows}
 use Rattle.session_table.specs.State.{State}
 use Rattle.session_table.specs.Step.{same_kind, without_first}
-use Rattle.session.specs.OnMap.{kinds, IsFresh}
+use Rattle.session.specs.declared.fault.SessionFault.{SessionFault}
+use Rattle.session.specs.declared.fault.SessionFault.TheVariants.{Damaged as IsDamaged, NoMemory}
+use Rattle.session.specs.OnMap.{kinds, IsFresh, LineRan, LineStops, moment}
 
 -- a state with these handlers registered, and handlers of these kinds left
 abbrev pub beside : State → List Registered → List HandlerKind → State
@@ -64,10 +72,90 @@ module _ {B : Type 0} where
       RegistersFirst state subtree kind before after old.rows.items new.rows.items
   RegisterMoves state subtree kind answer before after old new = (after ≡ before) × (new ≡ old)
 
-  -- which handlers a line moves from those that are left into the registry: only a registration
-  -- moves one
+  -- with power off no handler is called, and the registry stays
+  abbrev pub StaysWhileOff : Answer → RegistryOf B → RegistryOf B → Type 0
+  StaysWhileOff Off old new = new ≡ old
+  StaysWhileOff answer old new = ⊤
+
+  -- Which handlers a line moves from those that are left into the registry: only a registration
+  -- moves one. The registry stays at all other lines but those that, with power on, give its
+  -- handlers values or commit them.
   abbrev pub MovesHandlers : (B → HandlerState) → Line → Answer → List B → List B → RegistryOf B
       → RegistryOf B → Type 0
   MovesHandlers state (Register subtree kind) answer before after old new =
       RegisterMoves state subtree kind answer before after old new
-  MovesHandlers state line answer before after old new = after ≡ before
+  MovesHandlers state (Load subtree) answer before after old new =
+      (after ≡ before) × StaysWhileOff answer old new
+  MovesHandlers state Commit answer before after old new = (after ≡ before) × StaysWhileOff answer old new
+  MovesHandlers state (RunSet name value) answer before after old new =
+      (after ≡ before) × StaysWhileOff answer old new
+  MovesHandlers state line answer before after old new = (after ≡ before) × (new ≡ old)
+
+  -- where a mount found damage, the handlers that are left and the registry stay
+  abbrev pub StaysAtDamage : SessionFault → List B → List B → RegistryOf B → RegistryOf B → Type 0
+  StaysAtDamage (IsDamaged place damaged) before after old new = (after ≡ before) × (new ≡ old)
+  StaysAtDamage NoMemory before after old new = ⊤
+
+  -- which handlers a line moves, whether it is answered or found damage
+  abbrev pub LeavesHandlers : (B → HandlerState) → Line → Result Answer SessionFault → List B → List B
+      → RegistryOf B → RegistryOf B → Type 0
+  LeavesHandlers state line (Ok answer) before after old new =
+      MovesHandlers state line answer before after old new
+  LeavesHandlers state line (Err fault) before after old new = StaysAtDamage fault before after old new
+
+-- ---- a run
+
+-- a bench, the handlers that are registered, and those that are left
+pub record Boxes (B : Type 0) : Type 0 where
+  pub device : Device
+  pub registry : RegistryOf B
+  pub left : List B
+
+module _ {B : Type 0} where
+  abbrev pub boxes : Device → RegistryOf B → List B → Boxes B
+  boxes device registry left = record { device = device; registry = registry; left = left }
+
+  -- as the table sees them
+  abbrev pub moment_of : (B → HandlerState) → Boxes B → Moment
+  moment_of state now = moment now.device (registered state now.registry) (kinds state now.left)
+
+  -- a line of a run was carried out, and moved handlers
+  pub record LineMoves (state : B → HandlerState) (m : Meanings)
+      (damage : Area → Geometry → List (List ℕ) → Option Damaged)
+      (rests : Area → Geometry → List (List ℕ) → Type 0) (areas : List Area) (line : Line) (answer : Answer)
+      (old new : Boxes B) : Type 0 where
+    pub ran : LineRan m damage rests areas line answer (moment_of state old) (moment_of state new)
+    pub moves : MovesHandlers state line answer old.left new.left old.registry new.registry
+
+  -- Lines were carried out one after another, and moved handlers. At the end some are left.
+  abbrev pub RunMoves : (B → HandlerState) → Meanings
+      → (Area → Geometry → List (List ℕ) → Option Damaged) → (Area → Geometry → List (List ℕ) → Type 0)
+      → List Area → List Line → List Answer → Boxes B → Device → RegistryOf B → Type 0
+  RunMoves state m damage rests areas lines answers old new registry =
+      (left : List B)
+      × Follows (LineMoves state m damage rests areas) lines answers old (boxes new registry left)
+
+  -- The first lines were carried out, and moved handlers. A mount then found damage: the registry is
+  -- as the first lines left it.
+  pub record MovesUntil (state : B → HandlerState) (m : Meanings)
+      (damage : Area → Geometry → List (List ℕ) → Option Damaged)
+      (rests : Area → Geometry → List (List ℕ) → Type 0) (areas : List Area) (lines : List Line)
+      (fault : SessionFault) (old : Boxes B) (new : Device) (registry : RegistryOf B) : Type 0 where
+    pub prefix : List Line
+    pub rest : List Line
+    pub are : lines ≡ prefix ++ Mount ∷ rest
+    pub answers : List Answer
+    pub mid : Boxes B
+    pub moves : Follows (LineMoves state m damage rests areas) prefix answers old mid
+    pub stops : LineStops m damage areas Mount mid.device new fault
+    pub stays : registry ≡ mid.registry
+
+  -- which handlers a run moves, whether all lines were carried out or one found damage
+  abbrev pub RunLeaves : (B → HandlerState) → Meanings
+      → (Area → Geometry → List (List ℕ) → Option Damaged) → (Area → Geometry → List (List ℕ) → Type 0)
+      → List Area → List Line → Result (List Answer) SessionFault → Boxes B → Device → RegistryOf B → Type 0
+  RunLeaves state m damage rests areas lines (Ok answers) old new registry =
+      RunMoves state m damage rests areas lines answers old new registry
+  RunLeaves state m damage rests areas lines (Err (IsDamaged place damaged)) old new registry =
+      MovesUntil state m damage rests areas lines (IsDamaged place damaged) old new registry
+  RunLeaves state m damage rests areas lines (Err NoMemory) old new registry = ⊤

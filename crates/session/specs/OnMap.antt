@@ -8,11 +8,11 @@ use Rattle.flash_sim.specs.declared.flash.Loss.{Loss}
 use Rattle.flash_map.specs.declared.area.Area.{Area}
 use Rattle.flash_map.specs.declared.area.Geometry.{Geometry}
 use Rattle.flash_map.specs.declared.faults.Damaged.{Damaged}
-use Rattle.flash_map.specs.Area.{geometry_of, value_limit}
+use Rattle.flash_map.specs.Area.{geometry_of, sectors_of, value_limit}
 use Rattle.flash_map.specs.On.{on, HoldsOn, StandsOn}
 use Rattle.flash_map.specs.Spending.{Spends, SpendsAtMost}
 use Rattle.flash_map.specs.Touches.{Touches}
-use Rattle.fcb_ring.specs.Standing.{erases_on}
+use Rattle.fcb_ring.specs.Standing.{entries_on, erases_on}
 use Rattle.handlers.specs.declared.handler.HandlerKind.{HandlerKind}
 use Rattle.handlers.specs.Held.{HandlerState, fresh}
 use Rattle.handlers.specs.Registry.{Registered}
@@ -30,7 +30,7 @@ use Rattle.settings_core.specs.Saving.{AreLawful, exported}
 use Rattle.script_lines.specs.declared.line.Line.{Line}
 use Rattle.script_lines.specs.declared.line.Line.TheVariants.{Set, Del, Register, Load, Save, Commit, RunSet, RunGet, Mount, Cut, Uncut, Migrate}
 use Rattle.script_lines.specs.declared.answer.Answer.{Answer}
-use Rattle.script_lines.specs.declared.answer.Answer.TheVariants.{Done}
+use Rattle.script_lines.specs.declared.answer.Answer.TheVariants.{Done, Lost}
 use Rattle.script_lines.specs.Plan.{is_lost, replan, units_of}
 use Rattle.script_lines.specs.Plan.Replan.{keeps}
 use Rattle.session_table.specs.Bench.{Meanings, Moment, LineDone, Runs, area_at, is_selector, places_of, rules_of}
@@ -162,7 +162,28 @@ move_bound m areas d =
     (λ selector. migrate_units d areas selector (active_on areas d)
     (len (on m.contents d (active_area areas d)))) (selector_of areas) 0
 
+-- the map's selector, if there is one, has the same records
+abbrev pub SameRecords : List Area → Device → Device → Type 0
+SameRecords areas old new = (s : Area) → selector_of areas ≡ Some s → entries_on new s ≡ entries_on old s
+
+-- its sectors are the same
+abbrev pub SameSelector : List Area → Device → Device → Type 0
+SameSelector areas old new = (s : Area) → selector_of areas ≡ Some s → sectors_of new s ≡ sectors_of old s
+
 -- ---- one line
+
+-- a migration that moved the settings, or in which power was lost, may have put a record into
+-- the selector
+abbrev pub may_choose : Line → Answer → Bool
+may_choose Migrate (Done units) = true
+may_choose Migrate (Lost units chance) = true
+may_choose line answer = false
+
+-- a line that puts no record leaves the selector as it is; a mount, which finishes what a choice
+-- that was cut left to do, leaves its records
+abbrev pub LeavesSelector : Line → List Area → Device → Device → Type 0
+LeavesSelector Mount areas old new = SameRecords areas old new
+LeavesSelector line areas old new = SameSelector areas old new
 
 -- a mount turns power on first
 abbrev pub powered_for : Line → Device → Device
@@ -183,6 +204,10 @@ TouchesWorked m areas line answer old new =
     replan line ≡ keeps
     → Touches (areas_worked_on m areas line answer old) (powered_for line old) new (is_lost answer)
 
+-- the plan alone may differ
+abbrev pub SameButPlan : Device → Device → Type 0
+SameButPlan old new = new ≡ record old { plan = new.plan }
+
 -- a save and a migration spent at most their bound, even if they were cut
 abbrev pub KeepsWithin : Meanings → List Area → Line → Answer → Moment → Type 0
 KeepsWithin m areas (Save subtree) answer old = units_of answer ≤ save_bound m areas subtree old
@@ -197,17 +222,20 @@ pub record DoneWithin (m : Meanings) (areas : List Area) (line : Line) (answer :
   pub touches : TouchesWorked m areas line answer old.device new.device
   pub most : KeepsWithin m areas line answer old
 
--- A line was carried out by the table, and touched the bench only where it works. A mount, even one
--- that was cut, found no damage and kept within its bound, as did a save and a migration. A map
--- without damage shows none afterwards.
+-- A line was carried out by the table, and touched the bench only where it works. A line on the plan
+-- changed nothing else. A mount, even one that was cut, found no damage and kept within its bound, as
+-- did a save and a migration. A map without damage shows none afterwards. Only a migration that moved
+-- the settings, or was cut, may have put a record into the selector.
 pub record LineCarried (m : Meanings) (damage : Area → Geometry → List (List ℕ) → Option Damaged)
     (areas : List Area) (line : Line) (answer : Answer) (old new : Moment) : Type 0 where
   pub done : LineDone m areas line answer old new
   pub touches : TouchesWorked m areas line answer old.device new.device
+  pub plans : (replan line ≡ keeps → ⊥) → SameButPlan old.device new.device
   pub most : KeepsWithin m areas line answer old
   pub finds : line ≡ Mount → FindsNone damage areas answer old.device new.device
   pub few : line ≡ Mount → units_of answer ≤ mount_bound areas old.device
   pub undamaged : damage_in damage areas old.device ≡ None → damage_in damage areas new.device ≡ None
+  pub records : may_choose line answer ≡ false → LeavesSelector line areas old.device new.device
 
 -- a mount spent nothing, and did no more than to turn power on
 abbrev pub DoesNothing : Answer → Device → Device → Type 0
@@ -253,7 +281,7 @@ is_handled (RunGet name) = true
 is_handled line = false
 
 -- Power was turned on, and the selector was mounted, which shows no damage before or after. The
--- mount finished what a choice that was cut had left to do.
+-- mount finished what a choice that was cut had left to do, and put no record.
 pub record OpensSelector (areas : List Area) (old new : Device) : Type 0 where
   pub selector : Area
   pub is : selector_of areas ≡ Some selector
@@ -262,13 +290,14 @@ pub record OpensSelector (areas : List Area) (old new : Device) : Type 0 where
   pub touches : Touches (selectors areas) (turned_on old) new false
   pub units : Spends (turned_on old) new (erases_on old selector)
   pub active : active_on areas new ≡ active_on areas old
+  pub records : entries_on new selector ≡ entries_on old selector
 
 -- power was turned on, and the selector, if the map has one, may have been mounted
 abbrev pub BeginsMount : List Area → Device → Device → Type 0
 BeginsMount areas old new = (new ≡ turned_on old) ⊎ OpensSelector areas old new
 
--- There is a target. It and the selector may have changed, within the bound of a migration; the
--- active area is the same.
+-- There is a target. It may have changed, within the bound of a migration; the selector and the active
+-- area are the same.
 pub record BeginsMove (m : Meanings) (areas : List Area) (old new : Device) : Type 0 where
   pub selector : Area
   pub is : selector_of areas ≡ Some selector
@@ -277,6 +306,7 @@ pub record BeginsMove (m : Meanings) (areas : List Area) (old new : Device) : Ty
   pub at_most : SpendsAtMost old new (move_bound m areas old)
   pub touches : Touches (worked_on areas selector (active_on areas old)) old new false
   pub active : active_on areas new ≡ active_on areas old
+  pub stays : sectors_of new selector ≡ sectors_of old selector
 
 -- carrying the line out takes memory
 abbrev pub takes_memory : Line → Bool

@@ -6,7 +6,7 @@ ghost use Rattle.flash_map.specs.Touches.{Touches};
 ghost use Rattle.fcb_ring.specs.Standing.{erases_on};
 ghost use Rattle.migrator.specs.Active.{active_on, selector_damage_on};
 ghost use Rattle.migrator.specs.Areas.{IsLawfulMap, selector_of};
-ghost use Rattle.session.specs.OnMap.{HasSelector, IsAtRest, IsServedMap, active_area, damage_in, mount_bound, selector_erases, selectors};
+ghost use Rattle.session.specs.OnMap.{HasSelector, IsAtRest, IsServedMap, SameRecords, active_area, damage_in, mount_bound, selector_erases, selectors};
 ghost use Rattle.session.specs.Mounting.{MapEnds, SelectorEnds, answered, map_lost, mounted_as, selected_as};
 
 use crate::areas::selector_place;
@@ -65,6 +65,8 @@ fn mount_selector<F: Flash, L: Ledger>(
         → selector_damage_on map.now (F.device flash.new) ≡ None }
     ensures active { selector_damage_on map.now (F.device flash.old) ≡ None
         → active_on map.now (F.device flash.new) ≡ active_on map.now (F.device flash.old) }
+    ensures records { selector_damage_on map.now (F.device flash.old) ≡ None
+        → SameRecords map.now (F.device flash.old) (F.device flash.new) }
     ensures idle { ((area : area_type) → selector_of map.now ≡ Some area
         → erases_on (F.device flash.old) area ≡ 0) → F.device flash.new ≡ F.device flash.old }
     ensures units { OnOk result ((area : area_type) → selector_of map.now ≡ Some area
@@ -137,6 +139,8 @@ pub(crate) fn mount_map<K: Backend, F: Flash, L: Ledger>(
         MapEnds K.mounted_on K.stands K.runs K.damage K.contents map.now d e result }
     ensures sound { damage_in K.damage map.now (F.device flash.old) ≡ None
         → damage_in K.damage map.now (F.device flash.new) ≡ None }
+    ensures records { selector_damage_on map.now (F.device flash.old) ≡ None
+        → SameRecords map.now (F.device flash.old) (F.device flash.new) }
     ensures rests { IsAtRest K.rests map.now (F.device flash.old)
         → F.device flash.new ≡ F.device flash.old }
     ensures at_most { SpendsAtMost (F.device flash.old) (F.device flash.new)

@@ -1,8 +1,8 @@
 // The move of all settings to the next area.
-ghost use Rattle.std.specs.Prelude.{◌≡◌, true, None, Some, IfOk, OnErr, OnOk};
+ghost use Rattle.std.specs.Prelude.{◌≡◌, true, false, None, Some, IfOk, OnErr, OnOk};
 ghost use Rattle.script_lines.specs.declared.line.Line.TheVariants.{Migrate};
 ghost use Rattle.session.specs.Moving.{answer_to};
-ghost use Rattle.session.specs.OnMap.{BeginsMove, DoneBeside, IsReady, IsServedMap, StandsOnMap, damage_in, meanings};
+ghost use Rattle.session.specs.OnMap.{BeginsMove, DoneBeside, IsReady, IsServedMap, SameSelector, StandsOnMap, damage_in, may_choose, meanings};
 
 use backend_api::Backend;
 use flash_map::FlashMap;
@@ -34,6 +34,9 @@ pub fn move_settings<K: Backend, B: Bench, L: Ledger>(
         (meanings K.contents K.room K.chance K.tears) map.now Migrate answer d
         (B.device bench.new)) }
     ensures sound { damage_in K.damage map.now (B.device bench.new) ≡ None }
+    ensures selector { let d = B.device bench.old in let e = B.device bench.new in
+        IfOk result
+        (λ answer. may_choose Migrate answer ≡ false → SameSelector map.now d e) }
     ensures stops { let m = meanings K.contents K.room K.chance K.tears in
         OnErr result (BeginsMove m map.now (B.device bench.old) (B.device bench.new)) }
     ensures ready { let e = B.device bench.new in

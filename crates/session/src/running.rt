@@ -5,6 +5,7 @@ ghost use Rattle.script_lines.specs.Answer.{CanReport};
 ghost use Rattle.script_lines.specs.declared.line.Line.TheVariants.{Mount};
 ghost use Rattle.settings_core.specs.Saving.{AreLawful};
 ghost use Rattle.session.specs.declared.fault.SessionFault.TheVariants.{NoMemory};
+ghost use Rattle.session.specs.Handling.{RunLeaves, boxes};
 ghost use Rattle.session.specs.OnMap.{IsAtRest, IsFresh, IsServed, IsServedMap, RunEnds, damage_in, kinds, limit_of, meanings, moment};
 ghost use Rattle.session.specs.Texts.{AreLabelled};
 
@@ -21,12 +22,13 @@ use std::sync::ledger::Ledger;
 
 /// Mounts a map and carries out lines one after another. It returns the answers to the mount and to
 /// each line. The handlers of the pool hold nothing; those that lines register move from it into
-/// the registry. If power is on after the last line, another mount of the map would have nothing to
-/// do. A map without damage has none afterwards, whatever the result. If the labels of the map are
-/// lawful, each answer has a text (`answer_text`).
+/// the registry, each time the first of the kind. If power is on after the last line, another mount
+/// of the map would have nothing to do. A map without damage has none afterwards, whatever the
+/// result. If the labels of the map are lawful, each answer has a text (`answer_text`).
 ///
 /// # Errors
-/// `Damaged` with the damage that a mount found; a map without damage does not give it. `NoMemory`.
+/// `Damaged` with the damage that a mount found; a map without damage does not give it. The registry
+/// is then as the lines before left it. `NoMemory`.
 /// The bench is then as the first lines left it, except that the next one, a mount or a migration,
 /// may have begun.
 pub fn run_lines<K: Backend, B: Bench, L: Ledger>(
@@ -47,6 +49,9 @@ pub fn run_lines<K: Backend, B: Bench, L: Ledger>(
         RunEnds (meanings K.contents K.room K.chance K.tears) K.damage K.rests map.now
         (Mount ∷ lines.now) (moment d (registered state registry.old) (kinds state pool.items)) e
         (registered state registry.new) result }
+    ensures moves { let d = B.device bench.old in let e = B.device bench.new in
+        RunLeaves state (meanings K.contents K.room K.chance K.tears) K.damage K.rests map.now
+        (Mount ∷ lines.now) result (boxes d registry.old pool.items) e registry.new }
     ensures undamaged { let d = B.device bench.old in let e = B.device bench.new in
         damage_in K.damage map.now d ≡ None → damage_in K.damage map.now e ≡ None }
     ensures serves { let d = B.device bench.old in

@@ -5,7 +5,7 @@ ghost use Rattle.handlers.specs.Registry.{registered};
 ghost use Rattle.script_lines.specs.declared.answer.Answer.TheVariants.{Done};
 ghost use Rattle.script_lines.specs.declared.line.Line.TheVariants.{Mount, Migrate};
 ghost use Rattle.session_table.specs.Step.{needs_power};
-ghost use Rattle.session.specs.Handling.{MovesHandlers};
+ghost use Rattle.session.specs.Handling.{LeavesHandlers, MovesHandlers};
 ghost use Rattle.session.specs.Mounting.{down};
 ghost use Rattle.session.specs.OnMap.{CarriedBeside, DoesNothing, DoneWithin, IsAtRest, IsReady, IsServed, IsServedMap, LineCarried, LineStops, damage_in, is_local, kinds, limit_of, meanings, moment, StandsOnActive, StaysOnArea, HandlersFit, StopsUnchanged};
 
@@ -90,17 +90,18 @@ impl<K: Backend> Session<K> {
 
     /// Carries out a line. With power off, every line but `mount`, `cut` and `uncut` answers `off`.
     /// A mount of a map at rest spends nothing. No mount, save or migration spends more than its
-    /// bound (`mount_bound`, `save_bound`, `move_bound`). A map without damage has none afterwards,
+    /// bound (`mount_bound`, `save_bound`, `move_bound`). Only a migration that moved the settings,
+    /// or was cut, may put a record into the selector. A map without damage has none afterwards,
     /// whatever the result. A `register` that answers `Done` moves the first handler of the kind
     /// out of the pool, behind the registered ones. No other line that is answered changes the
-    /// pool.
+    /// pool, and none but `load`, `commit` and `rset` changes the registry.
     ///
     /// # Errors
-    /// `Damaged`, only for a mount, with the damage that the map shows. `NoMemory`, only for a line
-    /// that takes memory: `set`, `del`, `save`, `commit`, `cut`, `uncut` and lines that answer
-    /// `off` take none. The bench is then as before, with two exceptions. A mount has turned power
-    /// on, and may have mounted the selector. A migration may have changed the target and the
-    /// selector, which names the same area. After either error the session must be opened again.
+    /// `Damaged`, only for a mount, with the damage that the map shows; the pool and the registry
+    /// are as before. `NoMemory`, only for a line that takes memory: `set`, `del`, `save`, `commit`,
+    /// `cut`, `uncut` and lines that answer `off` take none. The bench is then as before, with two
+    /// exceptions. A mount has turned power on, and may have mounted the selector. A migration may
+    /// have changed the target. After either error the session must be opened again.
     pub fn carry_out<B: Bench, L: Ledger>(
         &mut self,
         alloc: Global,
@@ -142,9 +143,7 @@ impl<K: Backend> Session<K> {
         ensures handlers { let hs = registered state registry.new in
             HandlersFit state (limit_of map.now) hs pool.new.items }
         ensures moves { let before = pool.old.items in
-            IfOk result
-            (λ answer. MovesHandlers state line.now answer before pool.new.items registry.old
-            registry.new) }
+            LeavesHandlers state line.now result before pool.new.items registry.old registry.new }
     {
         if !needs_power(line) {
             return self.without_power(alloc, line, bench, map, steps);

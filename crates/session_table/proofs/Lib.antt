@@ -1,5 +1,6 @@
 mod ActiveLemmas
 pub mod CommandLemmas
+pub mod CountLemmas
 pub mod FollowsLemmas
 pub mod PlaceLemmas
 mod PlainLemmas

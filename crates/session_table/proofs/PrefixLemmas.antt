@@ -150,7 +150,7 @@ applied_then settings first more = fold-append applied settings first more
 -- from a state on, with the commands that stand before it
 record Continues (r : Rules) (lines : List Line) (answers : List Answer) (first : Map) (before : List Command) (old new : State) : Type 0 where
   pub log : List Command
-  pub runs : Follows (LogStep r) lines answers (record { state = old; log = before }) (record { state = new; log = log })
+  pub runs : Follows (LogStep r first) lines answers (record { state = old; log = before }) (record { state = new; log = log })
   pub settings : new.settings ≡ all_applied first log
 
 continues : (r : Rules) (lines : List Line) (answers : List Answer) (first : Map) (before : List Command) (old new : State) → old.settings ≡ all_applied first before
@@ -165,7 +165,11 @@ continues r (line ∷ lines) (answer ∷ answers) first before old new so_far ru
     let tail = continues r lines answers first (before ++ head.done) runs.0 new mid runs.2 (All-tail (λ answer. is_torn answer ≡ false) answer answers whole) in
     record {
       log = tail.log;
-      runs = (record { state = runs.0; log = before ++ head.done }, (runs.1, (head.done, head.stand, refl)), tail.runs);
+      runs = (
+        record { state = runs.0; log = before ++ head.done },
+        record { step = runs.1; done = head.done; stand = head.stand; log = refl; settings = mid },
+        tail.runs,
+      );
       settings = tail.settings;
     }
 

@@ -1,5 +1,5 @@
 -- What becomes of the commands of a run.
-use Rattle.std.proofs.Common.{◌≡◌, ℕ, Bool, true, false, List, [], ◌∷◌, ◌++◌, map, refl, sym, ap, subst, ◌∙◌}
+use Rattle.std.proofs.Common.{◌≡◌, ℕ, true, false, List, [], ◌∷◌, ◌++◌, map, refl, sym, ap, subst}
 use Rattle.script_lines.specs.declared.line.Line.{Line}
 use Rattle.script_lines.specs.declared.line.Line.TheVariants.{Set, Get, Del as Delete, Register, Load, Direct, Save, Commit, RunSet, RunGet, Names, Mount, Cut, Uncut, Migrate}
 use Rattle.script_lines.specs.declared.answer.Answer.{Answer}
@@ -12,7 +12,7 @@ use Rattle.session_table.specs.Prefix.{Stand}
 use Rattle.session_table.specs.Rules.{Rules}
 use Rattle.session_table.specs.State.{State}
 use Rattle.session_table.specs.Step.{Step, CommandsLost}
-use Rattle.session_table.specs.Torn.{Deed, Does, DoAll, TornAt, BecomeOf, Applied, DeedStep, IsAfterDeeds}
+use Rattle.session_table.specs.Torn.{Deed, DoAll, BecomeOf, DeedStep, IsAfterDeeds}
 use Rattle.session_table.specs.Torn.Deed.{did, tore}
 use Rattle.session_table.proofs.CommandLemmas.{none_applied, one_applied}
 use Rattle.session_table.proofs.PrefixLemmas.{After, step_after}
@@ -104,7 +104,11 @@ module _ (r : Rules) where
       let tail = goes_on lines answers first (before ++ head.deeds) runs.0 new mid runs.2 in
       record {
         deeds = tail.deeds;
-        runs = (record { state = runs.0; deeds = before ++ head.deeds }, (runs.1, (head.deeds, head.become, refl)), tail.runs);
+        runs = (
+          record { state = runs.0; deeds = before ++ head.deeds },
+          record { step = runs.1; done = head.deeds; become = head.become; deeds = refl; settings = head.made },
+          tail.runs,
+        );
         settings = tail.settings;
       }
 

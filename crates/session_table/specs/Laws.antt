@@ -20,8 +20,8 @@ LeavesUnitsOpen r =
     → All (λ answer. is_plain answer ≡ true) answers
     → (map without_units answers ≡ plain_answers r lines old) × (new ≡ plain_state r lines old)
 
--- Wherever power is lost, the settings are those after a prefix of each line's commands that has
--- every acknowledged one, unless units spelt another record.
+-- Wherever power is lost, the settings after each line are those after a prefix of the commands of each
+-- line so far that has every acknowledged one, unless units spelt another record.
 abbrev pub HoldsAcknowledged : Rules → Type 0
 HoldsAcknowledged r =
     (lines : List Line) (answers : List Answer) (old new : State) → Follows (Step r) lines answers old new

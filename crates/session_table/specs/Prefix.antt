@@ -8,6 +8,7 @@ use Rattle.script_lines.specs.declared.answer.Answer.TheVariants.{Done, Lost, Sa
 use Rattle.script_lines.specs.declared.answer.SaveEnd.TheVariants.{Whole}
 use Rattle.script_lines.specs.Plan.{is_lost}
 use Rattle.backend_api.specs.Commands.{Command, all_applied}
+use Rattle.backend_api.specs.Map.{Map}
 use Rattle.session_table.specs.Commands.{commands_of}
 use Rattle.session_table.specs.Follows.{Follows}
 use Rattle.session_table.specs.Rules.{Rules}
@@ -38,17 +39,21 @@ pub record Logged : Type 0 where
   pub state : State
   pub log : List Command
 
-abbrev pub LogStep : Rules → Line → Answer → Logged → Logged → Type 0
-LogStep r line answer old new =
-    Step r line answer old.state new.state
-    × ((done : List Command) × Stand answer (commands_of line old.state) done × (new.log ≡ old.log ++ done))
+-- A line adds those of its commands that stand. The settings after it are what all commands that stand
+-- so far make of the first ones.
+pub record LogStep (r : Rules) (start : Map) (line : Line) (answer : Answer) (old new : Logged) : Type 0 where
+  pub step : Step r line answer old.state new.state
+  pub done : List Command
+  pub stand : Stand answer (commands_of line old.state) done
+  pub log : new.log ≡ old.log ++ done
+  pub settings : new.state.settings ≡ all_applied start new.log
 
--- The log has the commands that stand, line by line. Applied to the first settings, they give
--- the last ones.
+-- The log has the commands that stand, line by line. Applied to the first settings, they give those
+-- after each line, and so the last ones.
 pub record IsAfterPrefix (r : Rules) (lines : List Line) (answers : List Answer) (old new : State) :
     Type 0 where
   pub log : List Command
-  pub runs : Follows (LogStep r) lines answers (record { state = old; log = [] })
+  pub runs : Follows (LogStep r old.settings) lines answers (record { state = old; log = [] })
       (record { state = new; log = log })
   pub settings : new.settings ≡ all_applied old.settings log
 

@@ -49,11 +49,13 @@ pub record Applied : Type 0 where
   pub state : State
   pub deeds : List Deed
 
-abbrev pub DeedStep : Rules → Line → Answer → Applied → Applied → Type 0
-DeedStep r line answer old new =
-    Step r line answer old.state new.state
-    × ((deeds : List Deed) × BecomeOf old.state.active answer (commands_of line old.state) deeds
-    × (new.deeds ≡ old.deeds ++ deeds))
+-- A line adds what became of its commands, which leads from the settings before it to those after it.
+pub record DeedStep (r : Rules) (line : Line) (answer : Answer) (old new : Applied) : Type 0 where
+  pub step : Step r line answer old.state new.state
+  pub done : List Deed
+  pub become : BecomeOf old.state.active answer (commands_of line old.state) done
+  pub deeds : new.deeds ≡ old.deeds ++ done
+  pub settings : DoAll r done old.state.settings new.state.settings
 
 -- The deeds, line by line, lead from the first settings to the last ones.
 pub record IsAfterDeeds (r : Rules) (lines : List Line) (answers : List Answer) (old new : State) :

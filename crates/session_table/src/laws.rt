@@ -19,9 +19,10 @@ pub fn units_are_open<K: Backend>()
         banks last) }
 {}
 
-/// Wherever power is lost, the settings are those that commands of the lines make, in their order:
-/// all of each line that was done, as many as a refused save reports, and the first so many of each
-/// line in which power was lost. The one exception: units that spell another record by chance.
+/// Wherever power is lost, the settings after each line are those that commands of the lines so far
+/// make, in their order: all of each line that was done, as many as a refused save reports, and the
+/// first so many of each line in which power was lost. The one exception: units that spell another
+/// record by chance.
 pub fn acknowledged_commands_stand<K: Backend>()
     ensures { (areas : List Area) (banks : List Bank) (last : ℕ)
         → HoldsAcknowledged
@@ -30,9 +31,10 @@ pub fn acknowledged_commands_stand<K: Backend>()
         banks last) }
 {}
 
-/// Wherever power is lost, the settings follow from what became of the commands, in their order:
-/// all of each line that was done, as many as a refused save reports, and the first so many of each
-/// line in which power was lost. The next one of such a line may be torn by chance.
+/// Wherever power is lost, the settings after each line follow from those before it and from what
+/// became of its commands, in their order: all of a line that was done, as many as a refused save
+/// reports, and the first so many of a line in which power was lost. The next one of such a line
+/// may be torn by chance.
 pub fn torn_commands_report<K: Backend>()
     ensures { (areas : List Area) (banks : List Bank) (last : ℕ)
         → ReportsDeeds

@@ -2,7 +2,7 @@
 use Rattle.std.proofs.Common.{◌≡◌, ◌-◌, Err, refl, ap, ◌∙◌}
 use Rattle.flash_map.specs.declared.faults.MountFault.{MountFault}
 use Rattle.flash_map.specs.declared.faults.MountFault.TheVariants.{Damaged as HasDamage, PowerLost, NoMemory}
-use Rattle.log_session.proofs.MountLemmas.{damaged_shown, has_memory, idle_mount, idle_spends, lost_before, lost_line, lost_off, lost_sound, not_idle, whole_before, whole_line, whole_mounted, whole_sound}
+use Rattle.log_session.proofs.MountLemmas.{damaged_shown, has_memory, idle_mount, lost_before, lost_line, lost_off, lost_sound, whole_before, whole_line, whole_mounted, whole_sound}
 use Rattle.log_session.proofs.mounting.mount.Goals as goal
 
 pub returns-in-Ok-clause-done : goal.returns-in-Ok-clause-done
@@ -10,7 +10,7 @@ returns-in-Ok-clause-done g c =
     let d = g.B.Flash.device c.args.bench.now in
     let m = g.B.Flash.device c.restore.new.self in
     let e = g.B.Flash.device c.mount-end.new.flash in
-    let line = whole_line c.args.area.now c.args.area.now d m e c.restore.ensures refl c.mount-end.result c.mount-end.ensures.touches c.mount-end.ensures.ends c.in-Ok.log c.in-Ok.is (e.spent - m.spent) refl in
+    let line = whole_line c.args.area.now c.args.area.now d m e c.restore.ensures refl c.mount-end.result c.mount-end.ensures.touches c.mount-end.ensures.ends c.in-Ok.log c.in-Ok.is (e.spent - m.spent) refl (idle_mount c.args.area.now c.args.area.now d m e c.restore.ensures refl c.mount-end.ensures.idle) in
     rw (c.spent.ensures, c.spent-before.ensures) line
 
 pub returns-in-Ok-clause-mounted : goal.returns-in-Ok-clause-mounted
@@ -40,8 +40,9 @@ returns-in-Ok-clause-rests g c =
     let m = g.B.Flash.device c.restore.new.self in
     let e = g.B.Flash.device c.mount-end.new.flash in
     λ rests.
-    let none = idle_spends m e (e.spent - m.spent) (idle_mount c.args.area.now c.args.area.now d m e c.restore.ensures refl c.mount-end.ensures.idle rests) refl in
-    rw (c.spent.ensures, c.spent-before.ensures) none
+    let line = whole_line c.args.area.now c.args.area.now d m e c.restore.ensures refl c.mount-end.result c.mount-end.ensures.touches c.mount-end.ensures.ends c.in-Ok.log c.in-Ok.is (e.spent - m.spent) refl (idle_mount c.args.area.now c.args.area.now d m e c.restore.ensures refl c.mount-end.ensures.idle) in
+    let none = (line.mounts refl).rests rests in
+    rw (c.spent.ensures, c.spent-before.ensures) none.0
 
 pub returns-in-Err-PowerLost-clause-done : goal.returns-in-Err-PowerLost-clause-done
 returns-in-Err-PowerLost-clause-done g c =
@@ -50,7 +51,7 @@ returns-in-Err-PowerLost-clause-done g c =
     let e = g.B.Flash.device c.mount-end.new.flash in
     let which : c.in-Err-PowerLost.field-0 ≡ PowerLost = rw c.in-Err-PowerLost.is at c.in-Err-PowerLost.field-0-is in
     let end : c.mount-end.result ≡ Err PowerLost = c.in-Err-PowerLost.is ∙ ap (λ (fault : MountFault). Err fault) which in
-    let line = lost_line c.args.area.now c.args.area.now d m e c.restore.ensures refl c.mount-end.result c.mount-end.ensures.touches c.mount-end.ensures.ends end (e.spent - m.spent) refl in
+    let line = lost_line c.args.area.now c.args.area.now d m e c.restore.ensures refl c.mount-end.result c.mount-end.ensures.touches c.mount-end.ensures.ends end (e.spent - m.spent) refl (idle_mount c.args.area.now c.args.area.now d m e c.restore.ensures refl c.mount-end.ensures.idle) in
     rw (c.spent.ensures, c.spent-before.ensures) line
 
 pub returns-in-Err-PowerLost-clause-mounted : goal.returns-in-Err-PowerLost-clause-mounted
@@ -87,7 +88,10 @@ returns-in-Err-PowerLost-clause-rests g c =
     let e = g.B.Flash.device c.mount-end.new.flash in
     let which : c.in-Err-PowerLost.field-0 ≡ PowerLost = rw c.in-Err-PowerLost.is at c.in-Err-PowerLost.field-0-is in
     let end : c.mount-end.result ≡ Err PowerLost = c.in-Err-PowerLost.is ∙ ap (λ (fault : MountFault). Err fault) which in
-    λ rests. not_idle c.args.area.now c.args.area.now d m e c.restore.ensures refl c.mount-end.result c.mount-end.ensures.touches c.mount-end.ensures.ends end (idle_mount c.args.area.now c.args.area.now d m e c.restore.ensures refl c.mount-end.ensures.idle rests)
+    λ rests.
+    let line = lost_line c.args.area.now c.args.area.now d m e c.restore.ensures refl c.mount-end.result c.mount-end.ensures.touches c.mount-end.ensures.ends end (e.spent - m.spent) refl (idle_mount c.args.area.now c.args.area.now d m e c.restore.ensures refl c.mount-end.ensures.idle) in
+    let none = (line.mounts refl).rests rests in
+    rw (c.spent.ensures, c.spent-before.ensures) none.0
 
 pub returns-in-Err-Damaged-clause-damaged : goal.returns-in-Err-Damaged-clause-damaged
 returns-in-Err-Damaged-clause-damaged g c =

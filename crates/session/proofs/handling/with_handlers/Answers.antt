@@ -8,14 +8,14 @@ use Rattle.flash_map.specs.On.{on}
 use Rattle.backend_api.specs.Map.{IsSettings}
 use Rattle.handlers.specs.Registry.{registered}
 use Rattle.script_lines.specs.declared.line.Line.{Line}
-use Rattle.script_lines.specs.declared.line.Line.TheVariants.{Register, Load, Save, Commit, RunSet, RunGet}
+use Rattle.script_lines.specs.declared.line.Line.TheVariants.{Register, Load, Save, RunSet, RunGet}
 use Rattle.session_table.specs.Bench.{state_of}
 use Rattle.session_table.specs.State.{State}
 use Rattle.session_table.specs.Step.{Registers, Loads, Offers, Asks}
 use Rattle.session.specs.Handling.{MovesHandlers, beside}
 use Rattle.session.specs.OnMap.{DoneWithin, active_area, kinds, limit_of, meanings, moment, takes_memory, IsServed}
 use Rattle.session.proofs.ActiveArea.{active-lawful, active-limit}
-use Rattle.session.proofs.MovesLemmas.{moves_as, moves_one}
+use Rattle.session.proofs.MovesLemmas.{moves_as, moves_commit, moves_load, moves_offer, moves_one}
 use Rattle.session.proofs.ReadyLemmas.{never_changed}
 use Rattle.session.proofs.HandlerLemmas.{if-ok, registers, loads, commits, offers, asks}
 use Rattle.session.proofs.handling.with_handlers.Goals as goal
@@ -87,7 +87,8 @@ returns-in-Load g c =
       };
       stops = never_changed c.args.line.now (g.B.Flash.device c.args.bench.now) c.load_settings.result (ap takes_memory c.in-Load.is);
       sound = λ none. none;
-      moves = moves_as (λ b. (goal.Handler-dyn g (b.vtable, b.value)).state b.value) c.args.pool.now.items c.args.registry.now c.load_settings.new.registry c.args.line.now (Load c.in-Load.subtree) c.load_settings.result c.in-Load.is (λ answer. refl);
+      moves = moves_load (λ b. (goal.Handler-dyn g (b.vtable, b.value)).state b.value) c.args.pool.now.items c.args.registry.now c.load_settings.new.registry c.args.line.now c.in-Load.subtree (on g.K.Backend.contents d (g.K.Backend.mounted_on c.args.settings.now.backend))
+          (registered (λ b. (goal.Handler-dyn g (b.vtable, b.value)).state b.value) c.args.registry.now) (registered (λ b. (goal.Handler-dyn g (b.vtable, b.value)).state b.value) c.load_settings.new.registry) c.load_settings.result c.in-Load.is c.load_settings.ensures.done;
     }
 
 pub returns-in-Save : goal.returns-in-Save
@@ -102,7 +103,7 @@ returns-in-Save g c = record {
   stays = c.save_settings.ensures.stays;
   sound = λ none. c.save_settings.ensures.sound;
   stops = tt;
-  moves = moves_one (λ b. (goal.Handler-dyn g (b.vtable, b.value)).state b.value) c.args.pool.now.items c.args.registry.now c.args.registry.now c.args.line.now (Save c.in-Save.subtree) c.save_settings.result c.in-Save.is refl;
+  moves = moves_one (λ b. (goal.Handler-dyn g (b.vtable, b.value)).state b.value) c.args.pool.now.items c.args.registry.now c.args.registry.now c.args.line.now (Save c.in-Save.subtree) c.save_settings.result c.in-Save.is (refl, refl);
 }
 
 pub returns-in-Commit : goal.returns-in-Commit
@@ -122,7 +123,8 @@ returns-in-Commit g c = record {
   };
   sound = λ none. none;
   stops = tt;
-  moves = moves_one (λ b. (goal.Handler-dyn g (b.vtable, b.value)).state b.value) c.args.pool.now.items c.args.registry.now c.commit_handlers.new.registry c.args.line.now Commit c.commit_handlers.result c.in-Commit.is refl;
+  moves = moves_commit (λ b. (goal.Handler-dyn g (b.vtable, b.value)).state b.value) c.args.pool.now.items c.args.registry.now c.commit_handlers.new.registry c.args.line.now
+      (registered (λ b. (goal.Handler-dyn g (b.vtable, b.value)).state b.value) c.args.registry.now) (registered (λ b. (goal.Handler-dyn g (b.vtable, b.value)).state b.value) c.commit_handlers.new.registry) c.commit_handlers.result c.in-Commit.is c.commit_handlers.ensures.done;
 }
 
 pub returns-in-RunSet : goal.returns-in-RunSet
@@ -144,7 +146,8 @@ returns-in-RunSet g c = record {
   };
   stops = never_changed c.args.line.now (g.B.Flash.device c.args.bench.now) c.offer_value.result (ap takes_memory c.in-RunSet.is);
   sound = λ none. none;
-  moves = moves_as (λ b. (goal.Handler-dyn g (b.vtable, b.value)).state b.value) c.args.pool.now.items c.args.registry.now c.offer_value.new.registry c.args.line.now (RunSet c.in-RunSet.name c.in-RunSet.value) c.offer_value.result c.in-RunSet.is (λ answer. refl);
+  moves = moves_offer (λ b. (goal.Handler-dyn g (b.vtable, b.value)).state b.value) c.args.pool.now.items c.args.registry.now c.offer_value.new.registry c.args.line.now c.in-RunSet.name c.in-RunSet.value
+      (registered (λ b. (goal.Handler-dyn g (b.vtable, b.value)).state b.value) c.args.registry.now) (registered (λ b. (goal.Handler-dyn g (b.vtable, b.value)).state b.value) c.offer_value.new.registry) c.offer_value.result c.in-RunSet.is c.offer_value.ensures.done;
 }
 
 pub returns-in-RunGet : goal.returns-in-RunGet
@@ -165,7 +168,7 @@ returns-in-RunGet g c = record {
   };
   stops = never_changed c.args.line.now (g.B.Flash.device c.args.bench.now) c.ask_handler.result (ap takes_memory c.in-RunGet.is);
   sound = λ none. none;
-  moves = moves_as (λ b. (goal.Handler-dyn g (b.vtable, b.value)).state b.value) c.args.pool.now.items c.args.registry.now c.args.registry.now c.args.line.now (RunGet c.in-RunGet.name) c.ask_handler.result c.in-RunGet.is (λ answer. refl);
+  moves = moves_as (λ b. (goal.Handler-dyn g (b.vtable, b.value)).state b.value) c.args.pool.now.items c.args.registry.now c.args.registry.now c.args.line.now (RunGet c.in-RunGet.name) c.ask_handler.result c.in-RunGet.is (λ answer. (refl, refl));
 }
 
 pub register_handler-requires : goal.register_handler-requires

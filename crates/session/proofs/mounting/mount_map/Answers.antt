@@ -8,7 +8,7 @@ use Rattle.flash_map.specs.Lawful.{IsLawfulFor}
 use Rattle.session.proofs.ActiveAreas.{active_within, active_lawful, active_serves, served_still}
 use Rattle.session.specs.Mounting.{map_lost}
 use Rattle.session.specs.OnMap.{active_area}
-use Rattle.session.proofs.MountLemmas.{Selected, SettingsMounted, stopped_touches, stopped_ends, stopped_sound, at_active, settled, map_ends, map_touches, map_sound, map_rests}
+use Rattle.session.proofs.MountLemmas.{Selected, SettingsMounted, stopped_touches, stopped_ends, stopped_sound, at_active, settled, map_ends, map_touches, map_sound, map_records, map_rests}
 use Rattle.session.proofs.MountUnits.{stopped_most, map_most}
 use Rattle.session.proofs.mounting.mount_map.Goals as goal
 
@@ -22,6 +22,7 @@ returns-in-Err g c =
       touches = stopped_touches g.K.Backend.serves areas d mid (map_lost c.mount_selector.result) c.requires.map (g.met.F.Flash.is_lawful c.args.flash.now) (g.met.F.Flash.is_lawful c.mount_selector.new.flash) c.mount_selector.ensures.touches c.mount_selector.ensures.idle g.K.Backend.mounted_on g.K.Backend.stands g.K.Backend.runs g.K.Backend.damage g.K.Backend.contents c.in-Err.fault lost;
       ends = stopped_ends g.K.Backend.serves areas d mid (map_lost c.mount_selector.result) c.requires.map (g.met.F.Flash.is_lawful c.args.flash.now) (g.met.F.Flash.is_lawful c.mount_selector.new.flash) c.mount_selector.ensures.touches c.mount_selector.ensures.idle g.K.Backend.mounted_on g.K.Backend.stands g.K.Backend.runs g.K.Backend.damage g.K.Backend.contents c.in-Err.fault lost c.requires.on c.in-Err.ensures.sound c.in-Err.ensures.active c.in-Err.ensures.ends;
       sound = stopped_sound g.K.Backend.serves areas d mid (map_lost c.mount_selector.result) c.requires.map (g.met.F.Flash.is_lawful c.args.flash.now) (g.met.F.Flash.is_lawful c.mount_selector.new.flash) c.mount_selector.ensures.touches c.mount_selector.ensures.idle g.K.Backend.mounted_on g.K.Backend.stands g.K.Backend.runs g.K.Backend.damage g.K.Backend.contents c.in-Err.ensures.sound c.in-Err.ensures.active;
+      records = c.in-Err.ensures.records;
       rests = λ rest. c.in-Err.ensures.idle rest.selector;
       at_most = stopped_most areas d mid c.mount_selector.ensures.at_most;
     }
@@ -57,6 +58,7 @@ returns g c =
       none = c.in-Ok.ensures.ends.0;
       sound = c.mount_selector.ensures.sound c.in-Ok.ensures.ends.0;
       active = c.mount_selector.ensures.active c.in-Ok.ensures.ends.0;
+      records = c.mount_selector.ensures.records c.in-Ok.ensures.ends.0;
       has = c.in-Ok.ensures.ends.1;
     } in
     let on_it : SettingsMounted g.K.Backend.serves g.K.Backend.mounted_on g.K.Backend.stands g.K.Backend.runs g.K.Backend.damage g.K.Backend.contents g.K.Backend.rests areas mid e c.area_at.result c.mount-mounted.result =
@@ -76,6 +78,7 @@ returns g c =
       touches = map_touches g.K.Backend.serves g.K.Backend.mounted_on g.K.Backend.stands g.K.Backend.runs g.K.Backend.damage g.K.Backend.contents g.K.Backend.rests areas d mid e c.in-Ok.selector c.active_place-place.result c.mount-mounted.result (g.met.F.Flash.is_lawful c.mount-mounted.new.flash) before c.active_place-place.ensures after c.mounted_as.result c.mounted_as.ensures;
       ends = map_ends g.K.Backend.serves g.K.Backend.mounted_on g.K.Backend.stands g.K.Backend.runs g.K.Backend.damage g.K.Backend.contents g.K.Backend.rests areas d mid e c.in-Ok.selector c.active_place-place.result c.mount-mounted.result (g.met.F.Flash.is_lawful c.mount-mounted.new.flash) before c.active_place-place.ensures after c.mounted_as.result c.mounted_as.ensures;
       sound = map_sound g.K.Backend.serves g.K.Backend.mounted_on g.K.Backend.stands g.K.Backend.runs g.K.Backend.damage g.K.Backend.contents g.K.Backend.rests areas d mid e c.in-Ok.selector c.active_place-place.result c.mount-mounted.result (g.met.F.Flash.is_lawful c.mount-mounted.new.flash) before c.active_place-place.ensures after;
+      records = λ was. map_records g.K.Backend.serves g.K.Backend.mounted_on g.K.Backend.stands g.K.Backend.runs g.K.Backend.damage g.K.Backend.contents g.K.Backend.rests areas d mid e c.in-Ok.selector c.active_place-place.result c.mount-mounted.result (g.met.F.Flash.is_lawful c.mount-mounted.new.flash) before c.active_place-place.ensures after;
       rests = map_rests g.K.Backend.serves g.K.Backend.mounted_on g.K.Backend.stands g.K.Backend.runs g.K.Backend.damage g.K.Backend.contents g.K.Backend.rests areas d mid e c.in-Ok.selector c.active_place-place.result c.mount-mounted.result (g.met.F.Flash.is_lawful c.mount-mounted.new.flash) before c.active_place-place.ensures after;
       at_most =
           map_most areas d mid e c.area_at.result c.mount_selector.ensures.touches.banks (c.mount_selector.ensures.active c.in-Ok.ensures.ends.0)

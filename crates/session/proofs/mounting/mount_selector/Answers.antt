@@ -2,7 +2,7 @@
 use Rattle.std.proofs.Common.{refl, sym, ◌∙◌}
 use Rattle.std.proofs.lemmas.Option.{none-some}
 use Rattle.session.proofs.ActiveAreas.{found_within, selected, selector_ring, unselected}
-use Rattle.session.proofs.MountLemmas.{chosen_touches, chosen_ends, chosen_sound, chosen_active, chosen_idle, chosen_units, none_ends}
+use Rattle.session.proofs.MountLemmas.{chosen_touches, chosen_ends, chosen_sound, chosen_active, chosen_idle, chosen_records, chosen_units, none_ends}
 use Rattle.session.proofs.MountUnits.{selector_most, spends_nothing}
 use Rattle.session.specs.OnMap.{selector_erases}
 use Rattle.session.proofs.mounting.mount_selector.Goals as goal
@@ -24,6 +24,8 @@ returns-in-Some g c = record {
       c.mount-mounted.ensures.sound;
   active = chosen_active c.args.map.now c.in-Some.place c.area_at.result (g.F.Flash.device c.args.flash.now) (g.F.Flash.device c.mount-mounted.new.flash) c.mount-mounted.result (sym c.selector_place.ensures ∙ c.in-Some.is) c.area_at.ensures
       c.mount-mounted.ensures.active;
+  records = chosen_records c.args.map.now c.in-Some.place c.area_at.result (g.F.Flash.device c.args.flash.now) (g.F.Flash.device c.mount-mounted.new.flash) c.mount-mounted.result (sym c.selector_place.ensures ∙ c.in-Some.is) c.area_at.ensures
+      c.mount-mounted.ensures.list;
   idle = chosen_idle c.args.map.now c.in-Some.place c.area_at.result (g.F.Flash.device c.args.flash.now) (g.F.Flash.device c.mount-mounted.new.flash) c.mount-mounted.result (sym c.selector_place.ensures ∙ c.in-Some.is) c.area_at.ensures
       c.mount-mounted.ensures.idle;
   units = chosen_units c.args.map.now c.in-Some.place c.area_at.result (g.F.Flash.device c.args.flash.now) (g.F.Flash.device c.mount-mounted.new.flash) c.mount-mounted.result (sym c.selector_place.ensures ∙ c.in-Some.is) c.area_at.ensures
@@ -34,6 +36,9 @@ returns-in-Some g c = record {
 
 pub returns-in-None-clause-ends : goal.returns-in-None-clause-ends
 returns-in-None-clause-ends g c = none_ends c.args.map.now (g.F.Flash.device c.args.flash.now) (unselected c.args.map.now (sym c.selector_place.ensures ∙ c.in-None.is))
+
+pub returns-in-None-clause-records : goal.returns-in-None-clause-records
+returns-in-None-clause-records g c = λ was s is. refl
 
 pub returns-in-None-clause-units : goal.returns-in-None-clause-units
 returns-in-None-clause-units g c = λ area is. absurd (none-some area (sym (unselected c.args.map.now (sym c.selector_place.ensures ∙ c.in-None.is)) ∙ is))

@@ -18,7 +18,7 @@ returns-in-Set g c = record {
   handlers = c.requires.handlers;
   sound = λ none. c.set_setting.ensures.sound;
   stops = tt;
-  moves = moves_one (λ b. (goal.Handler-dyn g (b.vtable, b.value)).state b.value) c.args.pool.now.items c.args.registry.now c.args.registry.now c.args.line.now (Set c.in-Set.name c.in-Set.value) c.set_setting.result c.in-Set.is refl;
+  moves = moves_one (λ b. (goal.Handler-dyn g (b.vtable, b.value)).state b.value) c.args.pool.now.items c.args.registry.now c.args.registry.now c.args.line.now (Set c.in-Set.name c.in-Set.value) c.set_setting.result c.in-Set.is (refl, refl);
 }
 
 pub returns-in-Del : goal.returns-in-Del
@@ -28,7 +28,7 @@ returns-in-Del g c = record {
   handlers = c.requires.handlers;
   sound = λ none. c.delete_setting.ensures.sound;
   stops = tt;
-  moves = moves_one (λ b. (goal.Handler-dyn g (b.vtable, b.value)).state b.value) c.args.pool.now.items c.args.registry.now c.args.registry.now c.args.line.now (Del c.in-Del.name) c.delete_setting.result c.in-Del.is refl;
+  moves = moves_one (λ b. (goal.Handler-dyn g (b.vtable, b.value)).state b.value) c.args.pool.now.items c.args.registry.now c.args.registry.now c.args.line.now (Del c.in-Del.name) c.delete_setting.result c.in-Del.is (refl, refl);
 }
 
 pub returns-in-Get : goal.returns-in-Get
@@ -42,7 +42,7 @@ returns-in-Get g c = record {
   stops = never_changed c.args.line.now (g.B.Flash.device c.args.bench.now) c.get_setting.result (ap takes_memory c.in-Get.is);
   handlers = c.requires.handlers;
   sound = λ none. none;
-  moves = moves_as (λ b. (goal.Handler-dyn g (b.vtable, b.value)).state b.value) c.args.pool.now.items c.args.registry.now c.args.registry.now c.args.line.now (Get c.in-Get.name) c.get_setting.result c.in-Get.is (λ answer. refl);
+  moves = moves_as (λ b. (goal.Handler-dyn g (b.vtable, b.value)).state b.value) c.args.pool.now.items c.args.registry.now c.args.registry.now c.args.line.now (Get c.in-Get.name) c.get_setting.result c.in-Get.is (λ answer. (refl, refl));
 }
 
 pub returns-in-Direct : goal.returns-in-Direct
@@ -56,7 +56,7 @@ returns-in-Direct g c = record {
   stops = never_changed c.args.line.now (g.B.Flash.device c.args.bench.now) c.report_settings.result (ap takes_memory c.in-Direct.is);
   handlers = c.requires.handlers;
   sound = λ none. none;
-  moves = moves_as (λ b. (goal.Handler-dyn g (b.vtable, b.value)).state b.value) c.args.pool.now.items c.args.registry.now c.args.registry.now c.args.line.now (Direct c.in-Direct.subtree) c.report_settings.result c.in-Direct.is (λ answer. refl);
+  moves = moves_as (λ b. (goal.Handler-dyn g (b.vtable, b.value)).state b.value) c.args.pool.now.items c.args.registry.now c.args.registry.now c.args.line.now (Direct c.in-Direct.subtree) c.report_settings.result c.in-Direct.is (λ answer. (refl, refl));
 }
 
 pub returns-in-Names : goal.returns-in-Names
@@ -70,7 +70,7 @@ returns-in-Names g c = record {
   stops = never_changed c.args.line.now (g.B.Flash.device c.args.bench.now) c.report_all.result (ap takes_memory c.in-Names.is);
   handlers = c.requires.handlers;
   sound = λ none. none;
-  moves = moves_as (λ b. (goal.Handler-dyn g (b.vtable, b.value)).state b.value) c.args.pool.now.items c.args.registry.now c.args.registry.now c.args.line.now Names c.report_all.result c.in-Names.is (λ answer. refl);
+  moves = moves_as (λ b. (goal.Handler-dyn g (b.vtable, b.value)).state b.value) c.args.pool.now.items c.args.registry.now c.args.registry.now c.args.line.now Names c.report_all.result c.in-Names.is (λ answer. (refl, refl));
 }
 
 pub set_setting-requires : goal.set_setting-requires

@@ -16,6 +16,7 @@ returns g c =
       touches = c.mount_map-mounted.ensures.touches;
       ends = c.mount_map-mounted.ensures.ends;
       sound = c.mount_map-mounted.ensures.sound;
+      records = c.mount_map-mounted.ensures.records;
       idle = c.mount_map-mounted.ensures.rests;
       most = c.mount_map-mounted.ensures.at_most;
     } in

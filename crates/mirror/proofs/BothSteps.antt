@@ -2,18 +2,21 @@
 use Rattle.std.proofs.Common.{◌≡◌, ◌≢◌, ◌⊎◌, ℕ, ◌+◌, ◌<◌, ◌≤◌, Bool, true, false, List, [], ◌∷◌, Option, Some, None, refl, sym, ap, subst, ◌∙◌, inl, inr, arith}
 use Rattle.std.specs.Ordering.{eq_by_cmp}
 use Rattle.std.specs.FinMap as maps
+use Rattle.std.specs.List.{list_all}
 use Rattle.std.proofs.lemmas.Bool.{cases_Bool, false≢true}
 use Rattle.flash_sim.specs.Device.{Device}
 use Rattle.flash_map.specs.declared.area.Area.{Area}
 use Rattle.flash_map.specs.declared.area.Geometry.{Geometry}
 use Rattle.flash_map.specs.declared.faults.Damaged.{Damaged}
 use Rattle.flash_map.specs.Area.{AreApart, geometry_of, sectors_of, value_limit}
-use Rattle.flash_map.specs.On.{on, StandsOn}
+use Rattle.flash_map.specs.On.{on, HoldsOn, StandsOn}
 use Rattle.flash_map.specs.Spending.{Spends, SpendsAtMost}
+use Rattle.flash_map.specs.Units.{is_erased}
 use Rattle.flash_map.proofs.SpendingLemmas.{spends_then}
 use Rattle.backend_api.specs.Ends.{SpendsSome}
 use Rattle.backend_api.specs.Map.{Map, IsStored}
 use Rattle.backend_api.specs.Room.{Room, command_units}
+use Rattle.backend_api.specs.Written.{StaysWritten}
 use Rattle.backend_api.proofs.LeastLemmas.{cmp}
 use Rattle.backend_api.proofs.MapLemmas.{insert-stored, ties_itself, ties_same}
 use Rattle.migrator.specs.Migrating.{room_on}
@@ -21,6 +24,7 @@ use Rattle.migrator.proofs.Copies.{geometry-same}
 use Rattle.migrator.proofs.Moving.{still}
 use Rattle.migrator.proofs.Spent.{most_then}
 use Rattle.mirror.specs.declared.sides.Side.{Side}
+use Rattle.mirror.specs.Mounting.{KeepsBytes}
 use Rattle.mirror.specs.Mirrored.{BothHave, IsCut, IsCutBoth, IsDone, IsMirror, SameSide, SideStands}
 use Rattle.mirror.specs.Room.{Fits, FitsOn, IsRoomBy, IsTight, IsTightOn, Prices, prices_on, too_many_on}
 use Rattle.mirror.proofs.CommandSteps.{side-still}
@@ -49,6 +53,36 @@ put-or-same room p sectors limit m name value is fits few loose = elim (stored-o
   | inl stored ↦ subst (λ (n : Map). Fits room p sectors limit n) (sym (insert-stored m name value stored)) fits
   | inr other ↦ put-fits room p is sectors limit m fits name value few (loose other)
 ]
+
+-- what holds of an area holds of it on another device, where its sectors are the same
+pub holds-still : (holds : Area → Geometry → List (List ℕ) → Type 0) (a d : Device) (area : Area) → d.banks ≡ a.banks → sectors_of d area ≡ sectors_of a area → HoldsOn holds a area → HoldsOn holds d area
+holds-still holds a d area banks same is =
+    subst (λ (g : Geometry). holds area g (sectors_of d area)) (sym (geometry-same a d area banks))
+    (subst (λ (s : List (List ℕ)). holds area (geometry_of a area) s) (sym same) is)
+
+-- ---- the bytes of an area
+
+module _ (rests : Area → Geometry → List (List ℕ) → Type 0) where
+  pub same-bytes : (d m : Device) (area : Area) → sectors_of m area ≡ sectors_of d area → KeepsBytes rests d m area
+  same-bytes d m area same = record { written = λ blank. sym (ap (list_all is_erased) same) ∙ blank; unchanged = λ is. same }
+
+  -- a call on the area that does nothing at rest
+  pub mounted-bytes : (d m : Device) (area : Area) → (HoldsOn rests d area → m ≡ d) → StaysWritten d m area → KeepsBytes rests d m area
+  mounted-bytes d m area rest stays = record { written = stays; unchanged = λ is. ap (λ (x : Device). sectors_of x area) (rest is) }
+
+  -- a call beside the area, and then one on it
+  pub bytes-behind : (d m e : Device) (area : Area) → m.banks ≡ d.banks → sectors_of m area ≡ sectors_of d area → KeepsBytes rests m e area → KeepsBytes rests d e area
+  bytes-behind d m e area banks same kept = record {
+    written = λ blank. sym (ap (list_all is_erased) same) ∙ kept.written blank;
+    unchanged = λ is. kept.unchanged (holds-still rests d m area banks same is) ∙ same;
+  }
+
+  -- a call on the area, and then one beside it
+  pub bytes-before : (d m e : Device) (area : Area) → KeepsBytes rests d m area → sectors_of e area ≡ sectors_of m area → KeepsBytes rests d e area
+  bytes-before d m e area kept same = record {
+    written = λ blank. kept.written (sym (ap (list_all is_erased) same) ∙ blank);
+    unchanged = λ is. same ∙ kept.unchanged is;
+  }
 
 module _ {S : Type 0} (mounted : S → Area) (stands : S → Geometry → List (List ℕ) → Type 0) (contents : Area → Geometry → List (List ℕ) → Map) (room : Area → Geometry → Room) (prices : Area → Geometry → Prices) where
   -- what fits an area on one device fits it on another

@@ -89,7 +89,7 @@ module _ (damage : Area → Geometry → List (List ℕ) → Option Damaged) (co
       (reads_empty : (x : Device) (area : Area) → IsLawful x.banks x.bytes → IsLawfulFor x.banks area → serves area (geometry_of x area) → is_blank_on x area ≡ true → on contents x area ≡ maps.empty)
       (reads_rest : (x : Device) (area : Area) → IsLawful x.banks x.bytes → IsLawfulFor x.banks area → serves area (geometry_of x area) → is_blank_on x area ≡ true → HoldsOn rests x area)
       (e : Device) (t o : Area) (there : slice_get areas (trusted_on areas d) ≡ Some t) (beside : slice_get areas (other_place areas (trusted_on areas d)) ≡ Some o)
-      (active : active_on areas e ≡ trusted_on areas d) (spares : SparesBoth damage contents m e t o)
+      (active : active_on areas e ≡ trusted_on areas d) (spares : SparesBoth damage contents rests m e t o)
       (idle : HoldsOn rests m t → HoldsOn rests m o → HoldsMap damage contents m o (on contents m t) → e ≡ m) where
     abbrev here : ℕ
     here = trusted_on areas d
@@ -116,7 +116,7 @@ module _ (damage : Area → Geometry → List (List ℕ) → Option Damaged) (co
     nothing-done : is_blank_at areas e here ≡ true → (e ≡ m) × (is_blank_on m o ≡ true)
     nothing-done blank =
         let mapped : IsMirrorMap serves areas m = map-still serves areas d map m touches.banks in
-        let now : is_blank_on m t ≡ true = spares.written (sym (blank-here areas e here t there) ∙ blank) in
+        let now : is_blank_on m t ≡ true = spares.bytes.written (sym (blank-here areas e here t there) ∙ blank) in
         let was : is_blank_on d t ≡ true = sym (ap (list_all is_erased) t-same) ∙ now in
         let other-was : is_blank_at areas d next ≡ true =
         both-blank (is_blank_at areas d here) (is_blank_at areas d next) here next (other-is serves areas d map here).differs (blank-here areas d here t there ∙ was)

@@ -19,9 +19,9 @@ use Rattle.flash_map.proofs.SpendingLemmas.{most_weaker}
 use Rattle.flash_map.specs.declared.faults.MountFault.{MountFault}
 use Rattle.flash_map.specs.declared.faults.MountFault.TheVariants.{Damaged as MountDamaged, PowerLost as MountLost, NoMemory as MountNoMemory}
 use Rattle.flash_map.proofs.Touches.{first_of_two, second_of_two, then, wider}
-use Rattle.fcb_ring.specs.Entries.{states}
+use Rattle.fcb_ring.specs.Entries.{HasEntries, states}
 use Rattle.fcb_ring.specs.Rings.{first_damage}
-use Rattle.fcb_ring.specs.Standing.{erases_due, erases_on, ring_damage}
+use Rattle.fcb_ring.specs.Standing.{entries_on, erases_due, erases_on, ring_damage}
 use Rattle.backend_api.specs.Map.{Map}
 use Rattle.backend_api.specs.Room.{Room, mount_units}
 use Rattle.migrator.specs.Active.{active_in, active_on, selector_damage_on}
@@ -33,10 +33,11 @@ use Rattle.migrator.proofs.Spent.{most_then}
 use Rattle.mirror.specs.declared.mounting.MirrorMount.{MirrorMount}
 use Rattle.mirror.specs.declared.mounting.MirrorMount.TheVariants.{Damaged as IsDamaged, Unfit, PowerLost, NoMemory}
 use Rattle.mirror.specs.declared.mirror.Mirror.{Mirror}
-use Rattle.mirror.specs.Mounting.{BothEnds, FindsDamage, FindsUnfit, FitsAt, IsCutTrust, KeepsArea, KeepsOther, KeepsTrusted, MirrorMounts, MountsBoth, NamesTrusted, SelectorRests, SparesBoth, TrustEnds, UnfitAt, both_mounts, both_units, fault_at, mount_lost, other_place, other_units, trust_units, worked_on}
+use Rattle.mirror.specs.Mounting.{BothEnds, FindsDamage, FindsUnfit, FitsAt, IsCutTrust, KeepsArea, KeepsTrusted, MirrorMounts, MountsBoth, NamesTrusted, SelectorRests, SparesAreas, SparesBoth, TrustEnds, UnfitAt, both_mounts, both_units, fault_at, mount_lost, other_place, other_units, trust_units, worked_on}
+use Rattle.mirror.specs.Naming.{NamesOnce, SparesRecords}
 use Rattle.mirror.specs.Room.{FitsOn, Prices}
 use Rattle.mirror.specs.Trusted.{damage_shown, selector_place, trusted_damage, trusted_on}
-use Rattle.mirror.proofs.BothSteps.{fits-still}
+use Rattle.mirror.proofs.BothSteps.{bytes-behind, fits-still, holds-still, same-bytes}
 use Rattle.mirror.proofs.TrustSteps.{damage-with}
 
 -- ---- the selector's damage where its sectors stay
@@ -262,26 +263,55 @@ mounts-spend d m e s t o before now banks same first second =
     (subst (λ (g : Geometry). SpendsAtMost m e (mount_units (geometry_of d t) + other_units g (maps.len now))) (geometry-same d m o banks)
     (subst (λ (g : Geometry). SpendsAtMost m e (mount_units g + other_units (geometry_of m o) (maps.len now))) (geometry-same d m t banks) second)))
 
--- ---- an other area that holds the map
+-- ---- what it spares
 
-module _ (damage : Area → Geometry → List (List ℕ) → Option Damaged) (contents : Area → Geometry → List (List ℕ) → Map) (d m : Device) (s t o : Area) (banks : m.banks ≡ d.banks) (o-same : sectors_of m o ≡ sectors_of d o) (first : SpendsAtMost d m (trust_units d s)) where
+-- the records of the selector, which nothing else touches
+pub records-behind : (areas : List Area) (d m e : Device) (s : Area) (lost : Bool) → e.banks ≡ m.banks → sectors_of e s ≡ sectors_of m s → SparesRecords areas false d m s → SparesRecords areas lost d e s
+records-behind areas d m e s lost banks same did = record {
+  stay = λ named. holds-still (λ area geometry sectors. HasEntries geometry.unit sectors (entries_on d s)) m e s banks same (did.stay named);
+  more = λ whole differs. let once : NamesOnce areas d m s (trusted_on areas d) = did.more refl differs in record {
+    mounted = once.mounted;
+    named = once.named;
+    ring = once.ring;
+    mounted_banks = once.mounted_banks;
+    named_banks = once.named_banks;
+    here = once.here;
+    kept = once.kept;
+    open_ring = once.open_ring;
+    chosen = once.chosen;
+    still = same ∙ once.still;
+  };
+}
+
+module _ (damage : Area → Geometry → List (List ℕ) → Option Damaged) (contents : Area → Geometry → List (List ℕ) → Map) (rests : Area → Geometry → List (List ℕ) → Type 0) (d m : Device) (s t o : Area) (banks : m.banks ≡ d.banks)
+    (t-same : sectors_of m t ≡ sectors_of d t) (o-same : sectors_of m o ≡ sectors_of d o) (first : SpendsAtMost d m (trust_units d s)) where
   -- the selector alone was worked on
-  pub copy-first : KeepsOther damage contents d m s t o
-  copy-first none holds = record {
-    holds = record { sound = still damage d m o banks o-same ∙ holds.sound; reads = still contents d m o banks o-same ∙ holds.reads };
-    at_most = most_weaker d m (trust_units d s) (trust_units d s + both_mounts d t o) (within (trust_units d s) (both_mounts d t o)) first;
+  pub spares-selector : (areas : List Area) (lost : Bool) → (selector_damage_on areas d ≡ None → SparesRecords areas lost d m s) → SparesAreas damage contents rests areas lost d m s t o
+  spares-selector areas lost records = record {
+    records = records;
+    bytes = same-bytes rests d m t t-same;
+    held = λ none holds. record {
+      holds = record { sound = still damage d m o banks o-same ∙ holds.sound; reads = still contents d m o banks o-same ∙ holds.reads };
+      bytes = same-bytes rests d m o o-same;
+      at_most = most_weaker d m (trust_units d s) (trust_units d s + both_mounts d t o) (within (trust_units d s) (both_mounts d t o)) first;
+    };
   }
 
   -- and then both areas
-  pub copy-then : (e : Device) → sectors_of m t ≡ sectors_of d t → SparesBoth damage contents m e t o → KeepsOther damage contents d e s t o
-  copy-then e t-same spares none holds =
-      let read : on contents m t ≡ on contents d t = still contents d m t banks t-same in
-      let after = spares.held (still damage d m t banks t-same ∙ none)
-      (record { sound = still damage d m o banks o-same ∙ holds.sound; reads = still contents d m o banks o-same ∙ holds.reads ∙ sym read }) in
-      record {
-        holds = record { sound = after.holds.sound; reads = after.holds.reads ∙ read };
-        at_most =
-            most_then d m e (trust_units d s) (both_mounts d t o) first
-            (subst (λ (g : Geometry). SpendsAtMost m e (mount_units (geometry_of d t) + mount_units g)) (geometry-same d m o banks)
-            (subst (λ (g : Geometry). SpendsAtMost m e (mount_units g + mount_units (geometry_of m o))) (geometry-same d m t banks) after.at_most));
-      }
+  pub spares-all : (e : Device) → SparesBoth damage contents rests m e t o → (areas : List Area) (lost : Bool) → (selector_damage_on areas d ≡ None → SparesRecords areas lost d e s) → SparesAreas damage contents rests areas lost d e s t o
+  spares-all e spares areas lost records = record {
+    records = records;
+    bytes = bytes-behind rests d m e t banks t-same spares.bytes;
+    held = λ none holds.
+        let read : on contents m t ≡ on contents d t = still contents d m t banks t-same in
+        let after = spares.held (still damage d m t banks t-same ∙ none)
+        (record { sound = still damage d m o banks o-same ∙ holds.sound; reads = still contents d m o banks o-same ∙ holds.reads ∙ sym read }) in
+        record {
+          holds = record { sound = after.holds.sound; reads = after.holds.reads ∙ read };
+          bytes = bytes-behind rests d m e o banks o-same after.bytes;
+          at_most =
+              most_then d m e (trust_units d s) (both_mounts d t o) first
+              (subst (λ (g : Geometry). SpendsAtMost m e (mount_units (geometry_of d t) + mount_units g)) (geometry-same d m o banks)
+              (subst (λ (g : Geometry). SpendsAtMost m e (mount_units g + mount_units (geometry_of m o))) (geometry-same d m t banks) after.at_most));
+        };
+  }

@@ -1,7 +1,7 @@
 -- A mount of the trusted side, and then of the other one: what each leaves, and what it spends.
 use Rattle.std.proofs.Common.{◌≡◌, ◌≢◌, ◌⊎◌, ℕ, ◌+◌, ◌≤◌, Bool, true, false, List, [], ◌∷◌, Option, Some, None, Result, Ok, Err, refl, sym, ap, subst, ◌∙◌, inl, inr, arith}
 use Rattle.std.specs.FinMap as maps
-use Rattle.std.specs.List.{list_all, slice_get}
+use Rattle.std.specs.List.{slice_get}
 use Rattle.std.proofs.lemmas.Option.{none-some}
 use Rattle.flash_sim.specs.Bank.{IsLawful}
 use Rattle.flash_sim.specs.Device.{Device}
@@ -16,13 +16,12 @@ use Rattle.flash_map.specs.Area.{geometry_of, sectors_of}
 use Rattle.flash_map.specs.On.{on, HoldsOn, StandsOn}
 use Rattle.flash_map.specs.Spending.{SpendsAtMost}
 use Rattle.flash_map.specs.Touches.{Touches}
-use Rattle.flash_map.specs.Units.{is_erased}
 use Rattle.flash_map.proofs.Apart.{same_apart}
 use Rattle.flash_map.proofs.SpendingLemmas.{most_weaker}
 use Rattle.backend_api.specs.Ends.{MountEnds}
 use Rattle.backend_api.specs.Map.{Map}
 use Rattle.backend_api.specs.Room.{Room, mount_units}
-use Rattle.backend_api.specs.Written.{StaysWritten, is_blank_on}
+use Rattle.backend_api.specs.Written.{StaysWritten}
 use Rattle.migrator.specs.Migrating.{fill_units}
 use Rattle.migrator.proofs.Copies.{geometry-same}
 use Rattle.migrator.proofs.Moving.{still}
@@ -34,7 +33,7 @@ use Rattle.mirror.specs.declared.mirror.Mirror.{Mirror}
 use Rattle.mirror.specs.Mounting.{BothEnds, FitsAt, HoldEnds, HoldsMap, KeepsArea, KeepsCopy, OtherEnds, SideEnds, SparesBoth, both_mounts, both_units, mount_lost, other_place, other_units}
 use Rattle.mirror.specs.Room.{IsMirrored, Prices}
 use Rattle.mirror.specs.Trusted.{IsMirrorMap}
-use Rattle.mirror.proofs.BothSteps.{fits-still}
+use Rattle.mirror.proofs.BothSteps.{bytes-before, bytes-behind, fits-still, mounted-bytes, same-bytes}
 use Rattle.mirror.proofs.MapSteps.{other-is, some-area}
 
 -- an area that may be mirrored is none of records
@@ -69,8 +68,13 @@ module _ (damage : Area → Geometry → List (List ℕ) → Option Damaged) (co
   -- ---- one area, whose mount keeps what it holds
 
   pub held-on : (d m : Device) (area : Area) (settings : Map) → (on damage d area ≡ None → on damage m area ≡ None) → (on damage d area ≡ None → on contents m area ≡ on contents d area)
-      → HoldsMap damage contents d area settings → HoldsMap damage contents m area settings
-  held-on d m area settings sound keeps holds = record { sound = sound holds.sound; reads = keeps holds.sound ∙ holds.reads }
+      → (HoldsOn rests d area → m ≡ d) → StaysWritten d m area → SpendsAtMost d m (mount_units (geometry_of d area))
+      → HoldsMap damage contents d area settings → KeepsCopy damage contents rests d m area settings (mount_units (geometry_of d area))
+  held-on d m area settings sound keeps rest stays units holds = record {
+    holds = record { sound = sound holds.sound; reads = keeps holds.sound ∙ holds.reads };
+    bytes = mounted-bytes rests d m area rest stays;
+    at_most = units;
+  }
 
   -- one that is damaged holds no map
   pub not-held : {S : Type 0} (d m : Device) (area : Area) (settings : Map) (r : Result S MountFault) (shown : Damaged) → r ≡ Err (HasDamage shown) → MountEnds (on damage d area) d m r → ¬ HoldsMap damage contents d area settings
@@ -116,12 +120,12 @@ module _ (damage : Area → Geometry → List (List ℕ) → Option Damaged) (co
   pub record OtherDone (m e : Device) (t o : Area) : Type 0 where
     pub banks : e.banks ≡ m.banks
     pub beside : sectors_of e t ≡ sectors_of m t
-    pub held : HoldsMap damage contents m o (on contents m t) → KeepsCopy damage contents m e o (on contents m t) (mount_units (geometry_of m o))
+    pub held : HoldsMap damage contents m o (on contents m t) → KeepsCopy damage contents rests m e o (on contents m t) (mount_units (geometry_of m o))
     pub idle : HoldsMap damage contents m o (on contents m t) → HoldsOn rests m o → e ≡ m
     pub units : SpendsAtMost m e (other_units (geometry_of m o) (maps.len (on contents m t)))
 
   pub other-done : (m e : Device) (b o x t : Area) → b ≡ o → x ≡ t → e.banks ≡ m.banks → sectors_of e x ≡ sectors_of m x
-      → (HoldsMap damage contents m b (on contents m x) → KeepsCopy damage contents m e b (on contents m x) (mount_units (geometry_of m b))) → (HoldsMap damage contents m b (on contents m x) → HoldsOn rests m b → e ≡ m)
+      → (HoldsMap damage contents m b (on contents m x) → KeepsCopy damage contents rests m e b (on contents m x) (mount_units (geometry_of m b))) → (HoldsMap damage contents m b (on contents m x) → HoldsOn rests m b → e ≡ m)
       → SpendsAtMost m e (other_units (geometry_of m b) (maps.len (on contents m x))) → OtherDone m e t o
   other-done m e b o x t b_is x_is banks beside held idle units =
       subst (λ (y : Area). OtherDone m e y o) x_is (subst (λ (y : Area). OtherDone m e x y) b_is (record { banks = banks; beside = beside; held = held; idle = idle; units = units }))
@@ -129,12 +133,13 @@ module _ (damage : Area → Geometry → List (List ℕ) → Option Damaged) (co
   -- ---- what both leave
 
   module _ (d m : Device) (t o : Area) (one : SideDone d m t o) where
-    pub spares-first : SparesBoth damage contents d m t o
+    pub spares-first : SparesBoth damage contents rests d m t o
     spares-first = record {
-      written = one.written;
+      bytes = mounted-bytes rests d m t one.rest one.written;
       kept = λ none. record { undamaged = one.undamaged none; reads = one.reads none };
       held = λ none holds. record {
         holds = record { sound = still damage d m o one.banks one.beside ∙ holds.sound; reads = still contents d m o one.banks one.beside ∙ holds.reads };
+        bytes = same-bytes rests d m o one.beside;
         at_most = most_weaker d m (mount_units (geometry_of d t)) (both_mounts d t o) (within (mount_units (geometry_of d t)) (mount_units (geometry_of d o))) one.units;
       };
     }
@@ -143,14 +148,15 @@ module _ (damage : Area → Geometry → List (List ℕ) → Option Damaged) (co
     units-first names = most_weaker d m (mount_units (geometry_of d t)) (both_units d t o names) (within (mount_units (geometry_of d t)) (other_units (geometry_of d o) names)) one.units
 
     module _ (e : Device) (two : OtherDone m e t o) where
-      pub spares-then : SparesBoth damage contents d e t o
+      pub spares-then : SparesBoth damage contents rests d e t o
       spares-then = record {
-        written = λ blank. one.written (sym (ap (list_all is_erased) two.beside) ∙ blank);
+        bytes = bytes-before rests d m e t (mounted-bytes rests d m t one.rest one.written) two.beside;
         kept = λ none. record { undamaged = still damage m e t two.banks two.beside ∙ one.undamaged none; reads = still contents m e t two.banks two.beside ∙ one.reads none };
         held = λ none holds.
             let after = two.held (record { sound = still damage d m o one.banks one.beside ∙ holds.sound; reads = still contents d m o one.banks one.beside ∙ holds.reads ∙ sym (one.reads none) }) in
             record {
               holds = record { sound = after.holds.sound; reads = after.holds.reads ∙ one.reads none };
+              bytes = bytes-behind rests d m e o one.banks one.beside after.bytes;
               at_most =
                   most_then d m e (mount_units (geometry_of d t)) (mount_units (geometry_of d o)) one.units
                   (subst (λ (g : Geometry). SpendsAtMost m e (mount_units g)) (geometry-same d m o one.banks) after.at_most);

@@ -23,12 +23,12 @@ use Rattle.flash_map.proofs.Apart.{same_apart}
 use Rattle.flash_map.proofs.SpendingLemmas.{most_weaker, spends_most}
 use Rattle.fcb_ring.specs.Changing.{header_units, record_units}
 use Rattle.fcb_ring.specs.declared.ring.Ring.{Ring}
-use Rattle.fcb_ring.specs.Standing.{IsRingArea, erases_on, ring_damage}
+use Rattle.fcb_ring.specs.Standing.{IsRingArea, KeepsEntries, erases_on, ring_damage}
 use Rattle.backend_api.specs.Written.{is_blank_on}
 use Rattle.migrator.specs.declared.selecting.Selector.{Selector}
 use Rattle.migrator.specs.Active.{active_in, active_on, selector_damage_on}
 use Rattle.migrator.specs.Areas.{IsLawfulMap, is_store, is_store_at, selector_of, stores, target}
-use Rattle.migrator.specs.Choosing.{ChooseEnds, IsOpen, OldOrChosen, SelectorMounts, choice_units}
+use Rattle.migrator.specs.Choosing.{ChooseEnds, Chooses, IsOpen, OldOrChosen, SelectorMounts, choice_units}
 use Rattle.fcb_ring.proofs.RestLemmas.{ready-rests}
 use Rattle.migrator.proofs.AreaLemmas.{store-within, target-store}
 use Rattle.migrator.proofs.Migration.{active-on, active-store, selector-apart, selector-at, store-of}
@@ -36,6 +36,7 @@ use Rattle.migrator.proofs.Spent.{header-same, most_none, most_then, record-same
 use Rattle.mirror.specs.declared.mounting.MirrorMount.{MirrorMount}
 use Rattle.mirror.specs.declared.mounting.MirrorMount.TheVariants.{Damaged as IsDamaged, Unfit, PowerLost, NoMemory}
 use Rattle.mirror.specs.Mounting.{IsCutTrust, NameEnds, NamesTrusted, TrustEnds, fault_at, trust_units}
+use Rattle.mirror.specs.Naming.{SparesRecords}
 use Rattle.mirror.specs.Trusted.{IsMirrorMap, is_blank_at, selector_found, selector_place, trusted_on, trusted_with}
 
 some-same : {X : Type 0} (x y : X) → Some x ≡ Some y → x ≡ y
@@ -247,3 +248,37 @@ open-rests e ring s same opened = subst (λ (x : Area). erases_on e x ≡ 0) sam
 pub chosen-opens : {E : Type 0} (areas : List Area) (d e : Device) (before after : Ring) (index : ℕ) (r : Result (Unit {0}) E) → ChooseEnds areas d e before after index r → OnOk r (IsOpen e after)
 chosen-opens areas d e before after index (Ok x) ends = ends.0
 chosen-opens areas d e before after index (Err x) ends = tt
+
+-- ---- the records of the selector
+
+module _ (areas : List Area) (d m : Device) (s : Area) (none : ring_damage d s ≡ None) (list : KeepsEntries d m s) where
+  -- it was not mounted
+  pub records-fault : (r : Result Selector MountFault) (fault : MountFault) (lost : Bool) → r ≡ Err fault → store_lost {T = Selector} (Err fault) ≡ lost → SelectorMounts d m s r → SparesRecords areas lost d m s
+  records-fault r fault lost is said ends = record {
+    stay = λ named. list;
+    more = λ whole differs. absurd (by fault (said ∙ whole) (subst (λ (x : Result Selector MountFault). SelectorMounts d m s x) is ends));
+  }
+    where
+      by : (f : MountFault) → store_lost {T = Selector} (Err f) ≡ false → SelectorMounts d m s (Err f) → ⊥
+      by (MountDamaged shown) whole did = none-some shown (sym none ∙ did.0)
+      by MountLost whole did = false≢true (sym whole)
+      by MountNoMemory whole did = did
+
+  -- it was, and named the trusted area, or did not for want of power
+  pub records-then : (e : Device) (ring : Ring) (active trusted : ℕ) (lost : Bool) → m.banks ≡ d.banks → e.banks ≡ m.banks → ring.area ≡ s → IsOpen m ring → active ≡ active_on areas d → trusted ≡ trusted_on areas d
+      → (active ≡ trusted → e ≡ m) → (lost ≡ false → active ≢ trusted → Chooses areas m e ring trusted) → SparesRecords areas lost d e s
+  records-then e ring active trusted lost first second here opened was is idle chooses = record {
+    stay = λ named. subst (λ (x : Device). KeepsEntries d x s) (sym (idle (was ∙ named ∙ sym is))) list;
+    more = λ whole differs. record {
+      mounted = m;
+      named = e;
+      ring = ring;
+      mounted_banks = first;
+      named_banks = second ∙ first;
+      here = here;
+      kept = list;
+      open_ring = opened;
+      chosen = subst (λ (n : ℕ). Chooses areas m e ring n) is (chooses whole (λ same. differs (sym was ∙ same ∙ is)));
+      still = refl;
+    };
+  }

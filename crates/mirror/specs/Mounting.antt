@@ -27,6 +27,7 @@ use Rattle.mirror.specs.declared.mounting.MirrorMount.TheVariants.{Damaged as Is
 use Rattle.mirror.specs.declared.mirror.Mirror.{Mirror}
 use Rattle.mirror.specs.declared.sides.Side.{Side}
 use Rattle.mirror.specs.Mirrored.{IsMirror, SideStands}
+use Rattle.mirror.specs.Naming.{SparesRecords}
 use Rattle.mirror.specs.Room.{Prices, FitsOn, IsMirrored}
 use Rattle.mirror.specs.Trusted.{damage_shown, selector_place, trusted_on}
 
@@ -172,12 +173,20 @@ pub record HoldsMap (damage : Area → Geometry → List (List ℕ) → Option D
   pub sound : on damage d area ≡ None
   pub reads : on contents d area ≡ settings
 
--- An area that holds these settings is not repaired: it holds them afterwards, however the call ends,
--- and the call spends no more than this.
+-- The area is not formatted: it is all FF afterwards only if it was so before. If a mount of it has
+-- nothing to do, its bytes stay.
+pub record KeepsBytes (rests : Area → Geometry → List (List ℕ) → Type 0) (old new : Device) (area : Area) :
+    Type 0 where
+  pub written : StaysWritten old new area
+  pub unchanged : HoldsOn rests old area → sectors_of new area ≡ sectors_of old area
+
+-- An area that holds these settings is neither repaired nor formatted: it holds them afterwards, however
+-- the call ends, and the call spends no more than this.
 pub record KeepsCopy (damage : Area → Geometry → List (List ℕ) → Option Damaged)
-    (contents : Area → Geometry → List (List ℕ) → Map) (old new : Device) (area : Area) (settings : Map)
-    (most : ℕ) : Type 0 where
+    (contents : Area → Geometry → List (List ℕ) → Map) (rests : Area → Geometry → List (List ℕ) → Type 0)
+    (old new : Device) (area : Area) (settings : Map) (most : ℕ) : Type 0 where
   pub holds : HoldsMap damage contents new area settings
+  pub bytes : KeepsBytes rests old new area
   pub at_most : SpendsAtMost old new most
 
 -- How the mount of the other area ends: it holds the map of the trusted one; or there is no store,
@@ -260,15 +269,16 @@ module _ (damage : Area → Geometry → List (List ℕ) → Option Damaged)
       (FitsAt room prices areas old place (on contents old trusted)
       × FitsAt room prices areas old (other_place areas place) (on contents old trusted))
 
-  -- What a mount of both areas keeps, however it ends. The trusted one keeps its settings, and is
-  -- all FF afterwards only if it was so before. If the other one holds the same map, it is not
-  -- repaired.
-  pub record SparesBoth (old new : Device) (trusted other : Area) : Type 0 where
-    pub written : StaysWritten old new trusted
+  -- What a mount of both areas keeps, however it ends. The trusted one keeps its settings, and is not
+  -- formatted. If the other one holds the same map, it is neither repaired nor formatted.
+  pub record SparesBoth (rests : Area → Geometry → List (List ℕ) → Type 0) (old new : Device)
+      (trusted other : Area) : Type 0 where
+    pub bytes : KeepsBytes rests old new trusted
     pub kept : on damage old trusted ≡ None → KeepsArea old new trusted
     pub held :
         on damage old trusted ≡ None → HoldsMap damage contents old other (on contents old trusted)
-        → KeepsCopy damage contents old new other (on contents old trusted) (both_mounts old trusted other)
+        → KeepsCopy damage contents rests old new other (on contents old trusted)
+        (both_mounts old trusted other)
 
 -- how the mount of both areas ends; the one at this place is trusted
 abbrev pub BothEnds : {S : Type 0} → (S → Area) → (S → Geometry → List (List ℕ) → Type 0)
@@ -428,12 +438,16 @@ both_units d trusted other names =
 abbrev pub trust_units : Device → Area → ℕ
 trust_units d selector = erases_on d selector + choice_units d selector
 
--- An other area that is not damaged and holds the map of the trusted one is not repaired: it holds
--- that map afterwards, however the mount ends, and the mount spends no more than the selector's mount,
--- one choice, and the mounts of both areas.
-abbrev pub KeepsOther : (Area → Geometry → List (List ℕ) → Option Damaged)
-    → (Area → Geometry → List (List ℕ) → Map) → Device → Device → Area → Area → Area → Type 0
-KeepsOther damage contents old new selector trusted other =
-    on damage old trusted ≡ None → HoldsMap damage contents old other (on contents old trusted)
-    → KeepsCopy damage contents old new other (on contents old trusted)
-    (trust_units old selector + both_mounts old trusted other)
+-- What a mount spares, however it ends. The selector gets no record that it does not need. The trusted
+-- area is not formatted. An other area that is not damaged and holds the map of the trusted one is neither
+-- repaired nor formatted: it holds the map afterwards, and the mount spends no more than the selector's
+-- mount, one choice, and the mounts of both areas.
+pub record SparesAreas (damage : Area → Geometry → List (List ℕ) → Option Damaged)
+    (contents : Area → Geometry → List (List ℕ) → Map) (rests : Area → Geometry → List (List ℕ) → Type 0)
+    (areas : List Area) (lost : Bool) (old new : Device) (selector trusted other : Area) : Type 0 where
+  pub records : selector_damage_on areas old ≡ None → SparesRecords areas lost old new selector
+  pub bytes : KeepsBytes rests old new trusted
+  pub held :
+      on damage old trusted ≡ None → HoldsMap damage contents old other (on contents old trusted)
+      → KeepsCopy damage contents rests old new other (on contents old trusted)
+      (trust_units old selector + both_mounts old trusted other)

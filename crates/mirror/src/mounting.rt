@@ -3,7 +3,7 @@ ghost use Rattle.std.specs.Prelude.{◌≡◌, ◌+◌, ◌<◌, ◌∷◌, [], 
 ghost use Rattle.std.specs.FinMap as finite;
 ghost use Rattle.std.specs.List.{slice_get};
 ghost use Rattle.flash_map.specs.declared.area.Area.{Area as area_type};
-ghost use Rattle.flash_map.specs.Area.{AreApart, geometry_of, sectors_of};
+ghost use Rattle.flash_map.specs.Area.{geometry_of, sectors_of};
 ghost use Rattle.flash_map.specs.Lawful.{IsLawfulFor};
 ghost use Rattle.flash_map.specs.On.{on, HoldsOn, StandsOn};
 ghost use Rattle.flash_map.specs.Spending.{SpendsAtMost};
@@ -14,7 +14,7 @@ ghost use Rattle.backend_api.specs.Written.{StaysWritten};
 ghost use Rattle.migrator.specs.Areas.{is_store_at, selector_of};
 ghost use Rattle.migrator.specs.Migrating.{fill_units};
 ghost use Rattle.mirror.specs.Mirrored.{SideStands};
-ghost use Rattle.mirror.specs.Mounting.{BothEnds, BothFitEnds, FitEnds, HoldEnds, HoldsMap, IsAtRest, IsKeptIf, IsNotRefused, KeepsCopy, KeepsOther, MayCopyTrusted, MirrorMounts, OtherEnds, RepairsAs, SideEnds, SparesBoth, both_units, fault_at, mount_lost, other_place, other_units, trust_units, worked_on};
+ghost use Rattle.mirror.specs.Mounting.{BothEnds, BothFitEnds, FitEnds, HoldEnds, HoldsMap, IsAtRest, IsKeptIf, IsNotRefused, KeepsCopy, MayCopyTrusted, MirrorMounts, OtherEnds, RepairsAs, SideEnds, SparesAreas, SparesBoth, both_units, fault_at, mount_lost, other_place, other_units, trust_units, worked_on};
 ghost use Rattle.mirror.specs.Room.{IsMirrored};
 ghost use Rattle.mirror.specs.Trusted.{IsMirrorMap, MirrorReads, trusted_on};
 
@@ -171,11 +171,9 @@ fn mount_other<K: Priced, F: Flash, L: Ledger>(
     area: Area,
     steps: &mut Steps<L>,
 ) -> Result<Option<K>, MirrorMount>
-    requires lawful_trusted { IsLawfulFor (F.device flash.old).banks (K.mounted_on trusted.now) }
-    requires stands_trusted { StandsOn K.mounted_on K.stands (F.device flash.old) trusted.now }
-    requires lawful { IsLawfulFor (F.device flash.old).banks area }
-    requires serves { K.serves area (geometry_of (F.device flash.old) area) }
-    requires apart { AreApart area (K.mounted_on trusted.now) }
+    requires other { let d = F.device flash.old in
+        MayCopyTrusted K.serves K.mounted_on K.stands K.contents K.room K.prices d trusted.now
+        area }
 
     ensures touches { Touches (area ∷ []) (F.device flash.old) (F.device flash.new)
         (mount_lost result) }
@@ -186,7 +184,8 @@ fn mount_other<K: Priced, F: Flash, L: Ledger>(
         (on K.contents d (K.mounted_on trusted.now)) result }
     ensures held { let d = F.device flash.old in let e = F.device flash.new in
         (settings : map_type) → HoldsMap K.damage K.contents d area settings
-        → HoldsMap K.damage K.contents e area settings }
+        → KeepsCopy K.damage K.contents K.rests d e area settings
+        (mount_units (geometry_of d area)) }
     ensures rests { HoldsOn K.rests (F.device flash.old) area
         → F.device flash.new ≡ F.device flash.old }
     ensures at_most { let d = F.device flash.old in
@@ -265,7 +264,8 @@ fn open_other<K: Priced, F: Flash, L: Ledger>(
     ensures held { let d = F.device flash.old in let e = F.device flash.new in
         let settings = on K.contents d (K.mounted_on trusted.now) in
         HoldsMap K.damage K.contents d area settings
-        → KeepsCopy K.damage K.contents d e area settings (mount_units (geometry_of d area)) }
+        → KeepsCopy K.damage K.contents K.rests d e area settings
+        (mount_units (geometry_of d area)) }
     ensures idle { let d = F.device flash.old in
         let settings = on K.contents d (K.mounted_on trusted.now) in
         HoldsMap K.damage K.contents d area settings → HoldsOn K.rests d area
@@ -317,7 +317,7 @@ fn mount_both<K: Priced, F: Flash, L: Ledger>(
     ensures spares { let d = F.device flash.old in let e = F.device flash.new in
         (trusted other : area_type) → slice_get map.now place ≡ Some trusted
         → slice_get map.now (other_place map.now place) ≡ Some other
-        → SparesBoth K.damage K.contents d e trusted other }
+        → SparesBoth K.damage K.contents K.rests d e trusted other }
     ensures idle { let d = F.device flash.old in
         (trusted other : area_type) → slice_get map.now place ≡ Some trusted
         → slice_get map.now (other_place map.now place) ≡ Some other → HoldsOn K.rests d trusted
@@ -373,10 +373,13 @@ impl<K: Priced> Mirror<K> {
     ///
     /// Whatever the result, the same area is trusted afterwards, and the mirror reads as the same
     /// map. An other area that holds this map is not repaired, even if power is lost: it holds the
-    /// map afterwards too, and the mount spends no unit of a repair. A mount spends at most the
-    /// units and erases of the selector's mount, one choice, the mounts of both areas, and one
-    /// repair for the map's names. If there is nothing to do, it spends nothing. It takes memory for
-    /// each name, and a repair for each value too.
+    /// map afterwards too, and the mount spends no unit of a repair. Neither this area nor the
+    /// trusted one is formatted: it is all FF only if it was all FF before. If a mount of it alone
+    /// has nothing to do, its bytes stay. A mount spends at most the units and erases of the
+    /// selector's mount, one choice, the mounts of both areas, and one repair for the map's names.
+    /// If there is nothing to do, it spends nothing. A selector that names the trusted area keeps its
+    /// records. One that names the other area gets exactly one more, unless power is lost. A mount
+    /// takes memory for each name, and a repair for each value too.
     ///
     /// # Errors
     /// `Damaged` exactly if the selector or the trusted area is damaged; no byte of a store area
@@ -415,7 +418,8 @@ impl<K: Priced> Mirror<K> {
             (selector trusted other : area_type) → selector_of map.now ≡ Some selector
             → slice_get map.now (trusted_on map.now d) ≡ Some trusted
             → slice_get map.now (other_place map.now (trusted_on map.now d)) ≡ Some other
-            → KeepsOther K.damage K.contents d e selector trusted other }
+            → SparesAreas K.damage K.contents K.rests map.now (mount_lost result) d e selector
+            trusted other }
         ensures at_most { let d = F.device flash.old in
             (selector trusted other : area_type) → selector_of map.now ≡ Some selector
             → slice_get map.now (trusted_on map.now d) ≡ Some trusted

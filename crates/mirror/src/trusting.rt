@@ -1,12 +1,13 @@
 // The mount of the selector, and the choice of the trusted area.
-ghost use Rattle.std.specs.Prelude.{◌≡◌, ◌<◌, ◌∷◌, [], true, is_err, length, OnOk, Some};
+ghost use Rattle.std.specs.Prelude.{◌≡◌, ◌≢◌, ◌<◌, ◌∷◌, [], true, is_err, length, OnOk, Some};
 ghost use Rattle.flash_map.specs.declared.area.Area.{Area as area_type};
 ghost use Rattle.flash_map.specs.Spending.{SpendsAtMost};
 ghost use Rattle.flash_map.specs.Touches.{Touches};
-ghost use Rattle.migrator.specs.Active.{active_in, active_on};
+ghost use Rattle.migrator.specs.Active.{active_in, active_on, selector_damage_on};
 ghost use Rattle.migrator.specs.Areas.{IsLawfulMap, is_store_at, selector_of, target};
-ghost use Rattle.migrator.specs.Choosing.{IsOpen, choice_units};
+ghost use Rattle.migrator.specs.Choosing.{Chooses, IsOpen, choice_units};
 ghost use Rattle.mirror.specs.Mounting.{NameEnds, SelectorRests, TrustEnds, fault_at, mount_lost, trust_units};
+ghost use Rattle.mirror.specs.Naming.{SparesRecords};
 ghost use Rattle.mirror.specs.Trusted.{IsMirrorMap, is_blank_at, trusted_on, trusted_with};
 
 use crate::areas::{is_blank, selector_place};
@@ -75,6 +76,9 @@ fn name_trusted<F: Flash, L: Ledger>(
         trusted result }
     ensures opened { OnOk result (IsOpen (F.device flash.new) selector.new.ring) }
     ensures area { selector.new.ring.area ≡ selector.old.ring.area }
+    ensures chosen { let d = F.device flash.old in let e = F.device flash.new in
+        OnOk result
+        (active ≢ trusted → Chooses map.now d e selector.old.ring trusted) }
     ensures idle { active ≡ trusted → F.device flash.new ≡ F.device flash.old }
     ensures at_most { let d = F.device flash.old in
         SpendsAtMost d (F.device flash.new) (choice_units d selector.old.ring.area) }
@@ -99,6 +103,10 @@ pub(crate) fn trust<K: Priced, F: Flash, L: Ledger>(
     ensures idle { let d = F.device flash.old in
         SelectorRests map.now d → active_on map.now d ≡ trusted_on map.now d
         → F.device flash.new ≡ d }
+    ensures records { let d = F.device flash.old in let e = F.device flash.new in
+        (selector : area_type) → selector_of map.now ≡ Some selector
+        → selector_damage_on map.now d ≡ None
+        → SparesRecords map.now (mount_lost result) d e selector }
     ensures at_most { let d = F.device flash.old in
         (selector : area_type) → selector_of map.now ≡ Some selector
         → SpendsAtMost d (F.device flash.new) (trust_units d selector) }

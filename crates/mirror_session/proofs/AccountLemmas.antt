@@ -1,28 +1,15 @@
 -- Counts and plan of a call on areas.
-use Rattle.std.proofs.Common.{◌≡◌, ℕ, ◌+◌, ◌-◌, ◌^◌, ◌<◌, ◌≤◌, Bool, true, false, cond, List, sym, ap, subst, ◌∙◌, arith, MatchBool}
-use Rattle.flash_sim.specs.Device.{Device, Plan, Lasts, LostAfter, counted, lowered, dropped}
+use Rattle.std.proofs.Common.{◌≡◌, ◌-◌, Bool, true, false, List, sym, ap, subst, ◌∙◌}
+use Rattle.flash_sim.specs.Device.{Device}
 use Rattle.flash_map.specs.declared.area.Area.{Area}
 use Rattle.flash_map.specs.Touches.{Touches}
 use Rattle.script_lines.specs.Plan.{Replan, plan_by}
 use Rattle.script_lines.specs.Plan.Replan.{keeps}
 use Rattle.mirror_session.specs.declared.line.Line.{Line}
 use Rattle.mirror_session.specs.declared.answer.Answer.{Answer}
-use Rattle.mirror_session.specs.Plan.{as_plain, units_of, is_lost, replan}
+use Rattle.mirror_session.specs.Plan.{as_plain, units_of, is_lost, PlansNoLoss, replan, plan_after}
 use Rattle.mirror_session.specs.LineDone.{Accounts, Keeps}
-
-spent_is : (spent spent' more : ℕ) → spent' ≡ counted spent more → spent + (spent' - spent) ≡ spent'
-spent_is spent spent' more is = omega arith
-
--- as long as the count is not at its end, it gives the units
-pub units_are : (spent spent' more : ℕ) → spent' ≡ counted spent more → spent' < 2 ^ 64 - 1 → more ≡ spent' - spent
-units_are spent spent' more is below = omega arith
-
--- and else no more than they are
-pub units_most : (spent spent' more : ℕ) → spent' ≡ counted spent more → spent' - spent ≤ more
-units_most spent spent' more is = omega arith
-
-pub counted_none : (count : ℕ) → count ≡ counted count 0
-counted_none count = omega arith
+use Rattle.session_table.proofs.CountLemmas.{counted_none, counts, lasted}
 
 -- what a call on the areas leaves alone
 pub kept_beside : (areas : List Area) (old new : Device) (cut : Bool) → Touches areas old new cut → Keeps areas 0 old new
@@ -31,31 +18,13 @@ kept_beside areas old new cut touches = record { banks = touches.banks; loaded =
 -- a call in which power lasted
 pub kept : (areas : List Area) (line : Line) (answer : Answer) (old new : Device) → Touches areas old new false → replan line answer ≡ keeps → is_lost answer ≡ false → units_of answer ≡ new.spent - old.spent
     → Accounts line answer old new
-kept areas line answer old new touches stays lasts units = record {
-  spent = ap (λ (n : ℕ). old.spent + n) units ∙ spent_is old.spent new.spent touches.units touches.spent;
-  losses = touches.ends.losses ∙ counted_none old.losses ∙ sym (ap (λ (b : Bool). counted old.losses (cond b 1 0)) lasts);
-  allows = λ counts.
-      let real : touches.units ≡ units_of answer = units_are old.spent new.spent touches.units touches.spent counts ∙ sym units in
-      subst (λ (b : Bool). MatchBool b (LostAfter old.plan (units_of answer)) (Lasts old.plan (units_of answer))) (sym lasts) (subst (λ (n : ℕ). Lasts old.plan n) real touches.ends.lasts);
-  plan = λ counts.
-      let real : touches.units ≡ units_of answer = units_are old.spent new.spent touches.units touches.spent counts ∙ sym units in
-      touches.ends.plan ∙ ap (lowered old.plan) real
-      ∙ sym (ap (λ (b : Bool). cond b (dropped old.plan) (lowered old.plan (units_of answer))) lasts)
-      ∙ sym (ap (λ (n : Replan). plan_by n old.plan (as_plain answer)) stays);
-  unplanned = λ free never. (touches.ends.plan ∙ ap (λ (plan : Plan). lowered plan touches.units) never, touches.ends.losses);
-}
+kept areas line answer old new touches stays lasts units =
+    counts areas (units_of answer) (is_lost answer) (plan_after old.plan line answer) (PlansNoLoss line) old new (subst (λ (b : Bool). Touches areas old new b) (sym lasts) touches)
+    (lasted (is_lost answer) old lasts) units (ap (λ (n : Replan). plan_by n old.plan (as_plain answer)) stays)
 
 -- a call in which power was lost
 pub lost : (areas : List Area) (line : Line) (answer : Answer) (old new : Device) → old.is_on ≡ true → Touches areas old new true → replan line answer ≡ keeps → is_lost answer ≡ true → units_of answer ≡ new.spent - old.spent
     → Accounts line answer old new
 lost areas line answer old new on touches stays is units =
-    let cut = touches.ends on in
-    record {
-      spent = ap (λ (n : ℕ). old.spent + n) units ∙ spent_is old.spent new.spent touches.units touches.spent;
-      losses = cut.losses ∙ sym (ap (λ (b : Bool). counted old.losses (cond b 1 0)) is);
-      allows = λ counts.
-          let real : touches.units ≡ units_of answer = units_are old.spent new.spent touches.units touches.spent counts ∙ sym units in
-          subst (λ (b : Bool). MatchBool b (LostAfter old.plan (units_of answer)) (Lasts old.plan (units_of answer))) (sym is) (subst (λ (n : ℕ). LostAfter old.plan n) real cut.lost);
-      plan = λ counts. cut.plan ∙ sym (ap (λ (b : Bool). cond b (dropped old.plan) (lowered old.plan (units_of answer))) is) ∙ sym (ap (λ (n : Replan). plan_by n old.plan (as_plain answer)) stays);
-      unplanned = λ free never. absurd (subst (λ (plan : Plan). LostAfter plan touches.units) never cut.lost);
-    }
+    counts areas (units_of answer) (is_lost answer) (plan_after old.plan line answer) (PlansNoLoss line) old new (subst (λ (b : Bool). Touches areas old new b) (sym is) touches)
+    (λ cut. on) units (ap (λ (n : Replan). plan_by n old.plan (as_plain answer)) stays)

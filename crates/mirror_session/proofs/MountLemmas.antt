@@ -19,14 +19,13 @@ use Rattle.migrator.proofs.Migration.{active-on, active-store, selector-at}
 use Rattle.mirror.specs.declared.mirror.Mirror.{Mirror}
 use Rattle.mirror.specs.declared.mounting.MirrorMount.{MirrorMount}
 use Rattle.mirror.specs.declared.mounting.MirrorMount.TheVariants.{Damaged as HasDamage, Unfit as IsNotFit, PowerLost, NoMemory as WantsMemory}
-use Rattle.mirror.specs.Mounting.{FitsAt, IsAtRest, IsCutMount, KeepsOther, MirrorMounts, UnfitAt, both_units, mount_lost, other_place, trust_units, worked_on}
+use Rattle.mirror.specs.Mounting.{FitsAt, IsAtRest, IsCutMount, MirrorMounts, SparesAreas, UnfitAt, both_units, mount_lost, other_place, trust_units, worked_on}
 use Rattle.mirror.specs.Mirrored.{FitBoth}
 use Rattle.mirror.specs.Room.{FitsOn}
 use Rattle.mirror.specs.Trusted.{BothRead, IsMirrorMap, MirrorReads, trusted_on}
 use Rattle.session_table.specs.Bench.{area_at}
 use Rattle.session.proofs.ActiveAreas.{area_there, selector_powered, store_there}
 use Rattle.mirror_session.specs.declared.line.Line.TheVariants.{Mount}
-use Rattle.mirror_session.specs.declared.answer.Answer.{Answer}
 use Rattle.mirror_session.specs.Answer.{done, lost}
 use Rattle.mirror_session.specs.declared.fault.SessionFault.TheVariants.{Damaged as SessionDamaged, Unfit as SessionUnfit, NoMemory as SessionMemory}
 use Rattle.mirror_session.specs.Bench.{Meanings, beside_in, is_gone, moment, rules_of, state_of}
@@ -153,13 +152,16 @@ module _ {S : Type 0} (mounted_on : S → Area) (stands : S → Geometry → Lis
   abbrev IdleOnMount : Type 0
   IdleOnMount = IdleFrom mid
 
-  -- it does not repair a copy
-  abbrev CopyFrom : Device → Type 0
-  CopyFrom d = (selector trusted other : Area) → selector_of areas ≡ Some selector → slice_get areas (trusted_on areas d) ≡ Some trusted → slice_get areas (other_place areas (trusted_on areas d)) ≡ Some other
-      → KeepsOther m.damage m.contents d new selector trusted other
+  -- what it spares
+  abbrev CopyFrom : Bool → Device → Type 0
+  CopyFrom lost d = (selector trusted other : Area) → selector_of areas ≡ Some selector → slice_get areas (trusted_on areas d) ≡ Some trusted → slice_get areas (other_place areas (trusted_on areas d)) ≡ Some other
+      → SparesAreas m.damage m.contents m.rests areas lost d new selector trusted other
 
   abbrev CopyOnMount : Type 0
-  CopyOnMount = CopyFrom mid
+  CopyOnMount = CopyFrom (mount_lost result) mid
+
+  copied : CopyOnMount → (x : Result (Mirror S) MirrorMount) → result ≡ x → CopyFrom (mount_lost x) before
+  copied copy x is = subst (λ (y : Result (Mirror S) MirrorMount). CopyFrom (mount_lost y) before) is (subst (CopyFrom (mount_lost result)) on_first copy)
 
   at_rest_on : AtRest m areas old → AtRest m areas before
   at_rest_on is = record {
@@ -257,7 +259,7 @@ module _ {S : Type 0} (mounted_on : S → Area) (stands : S → Geometry → Lis
 
     whole_spares : (units : ℕ) → units ≡ new.spent - mid.spent → IdleOnMount → CopyOnMount → MountSpares m areas (done units) old new
     whole_spares units are idle copy = record {
-      copy = subst CopyFrom on_first copy;
+      copy = copied copy (Ok mirror) whole;
       rests = λ is. (none_spent units are (unchanged idle is), unchanged idle is);
     }
 
@@ -312,9 +314,9 @@ module _ {S : Type 0} (mounted_on : S → Area) (stands : S → Geometry → Lis
     ]
 
     -- power is on at rest
-    lost_spares : (answer : Answer) → IdleOnMount → CopyOnMount → MountSpares m areas answer old new
-    lost_spares answer idle copy = record {
-      copy = subst CopyFrom on_first copy;
+    lost_spares : (units : ℕ) → IdleOnMount → CopyOnMount → MountSpares m areas (lost units) old new
+    lost_spares units idle copy = record {
+      copy = copied copy (Err PowerLost) cut;
       rests = λ is. absurd (false≢true (sym off_now ∙ ap (λ (d : Device). d.is_on) (unchanged idle is)));
     }
 
@@ -333,7 +335,7 @@ module _ {S : Type 0} (mounted_on : S → Area) (stands : S → Geometry → Lis
           quiet = λ is. absurd (false≢true is);
           cuts = tt;
           finds = (cut_so.trust.sound, found, within_most units are most, cut_so.trust.sound_still);
-          spares = lost_spares (lost units) idle copy;
+          spares = lost_spares units idle copy;
           fits = tt;
           fit = fit;
           both = λ was_both power. absurd (never_on new.is_on power);
@@ -376,7 +378,7 @@ module _ {S : Type 0} (mounted_on : S → Area) (stands : S → Geometry → Lis
       read = same ∙ ap (λ (d : Device). trusted_on areas d) on_first;
       keeps = keeps_reading;
       rests = λ is. unchanged idle is;
-      copy = subst CopyFrom on_first copy;
+      copy = subst (λ (lost : Bool). CopyFrom lost before) whole (copied copy x is);
       at_most = subst SpendsFrom on_first most;
     }
 

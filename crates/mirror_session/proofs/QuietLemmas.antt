@@ -26,7 +26,8 @@ use Rattle.mirror_session.specs.Plan.{units_of, is_lost, replan}
 use Rattle.mirror_session.specs.Bench.{Meanings, beside_in, is_gone, labelled, moment, rules_of, state_of}
 use Rattle.mirror_session.specs.LineDone.{BothNow, Cuts, Finds, FitsThen, Keeps, LineDone, Replaced, Spares, StaysSound, powered_for, replaces, worked_on}
 use Rattle.mirror_session.specs.Step.{Step, needs_power}
-use Rattle.mirror_session.proofs.AccountLemmas.{counted_none, kept, kept_beside}
+use Rattle.session_table.proofs.CountLemmas.{counted_none}
+use Rattle.mirror_session.proofs.AccountLemmas.{kept, kept_beside}
 
 none_spent : (units spent : ℕ) → units ≡ 0 → units ≡ spent - spent
 none_spent units spent is = omega (arith, is)

@@ -35,7 +35,7 @@ use Rattle.mirror_session.specs.LineDone.{FitNow, FitsBoth, LineDone, blanked}
 use Rattle.mirror_session.specs.Standing.{IsHeld, IsReady}
 use Rattle.mirror_session.specs.State.{State, trusted_of}
 use Rattle.mirror_session.specs.Step.{Replaces}
-use Rattle.mirror_session.proofs.AccountLemmas.{counted_none}
+use Rattle.session_table.proofs.CountLemmas.{counted_none}
 use Rattle.mirror_session.proofs.BlankLemmas.{blank_lawful, is_blank, outside_blank}
 use Rattle.mirror_session.proofs.HeldLemmas.{at_here, at_there, beside_here, beside_there, differs, reads_on}
 use Rattle.mirror_session.proofs.MountLemmas.{never_on, trusted_there}

@@ -25,7 +25,7 @@ use Rattle.mirror_session.specs.LineDone.{BothNow, FitNow, FitsThen, Keeps, Line
 use Rattle.mirror_session.specs.Running.{LineStops, Ran, RunStops, StopsAt, ReportsUnfit, is_mounted, mounted_in, replaced_in}
 use Rattle.session_table.specs.Rules.{IsCounted}
 use Rattle.mirror_session.specs.Step.{Step}
-use Rattle.mirror_session.proofs.AccountLemmas.{counted_none}
+use Rattle.session_table.proofs.CountLemmas.{counted_none}
 
 module _ (m : Meanings) (areas : List Area) where
   spent_rises : (lines : List Line) (answers : List Answer) (old new : Moment) → Follows (LineDone m areas) lines answers old new → old.device.spent ≤ new.device.spent

@@ -15,7 +15,7 @@ use Rattle.settings_core.specs.Carrying.{command_of}
 use Rattle.migrator.specs.Active.{active_on, selector_damage_on}
 use Rattle.migrator.specs.Areas.{is_store, selector_of}
 use Rattle.mirror.specs.Mirrored.{IsCutBoth}
-use Rattle.mirror.specs.Mounting.{KeepsOther, both_units, other_place, trust_units}
+use Rattle.mirror.specs.Mounting.{SparesAreas, both_units, other_place, trust_units}
 use Rattle.mirror.specs.Room.{Fits}
 use Rattle.mirror.specs.Trusted.{BothRead, damage_shown, trusted_on}
 use Rattle.script_lines.specs.declared.answer.Answer.TheVariants as settings
@@ -130,13 +130,16 @@ Finds m areas Mount (Plain (settings.Lost units chance)) old new =
 Finds m areas line answer old new = ⊤
 
 -- What a mount leaves alone. At rest it answers `ok 0`, turns power on, and does nothing else. Even if
--- it is cut, it does not repair an other area that holds the settings that are read.
+-- it is cut, it does not format the area that is read, and neither repairs nor formats an other area that
+-- holds the same settings. A selector that names the area that is read keeps its records; one that names
+-- the other area gets exactly one more, unless the mount is cut.
 pub record MountSpares (m : Meanings) (areas : List Area) (answer : Answer) (old new : Device) : Type 0 where
   pub rests : AtRest m areas old → (answer ≡ done 0) × (new ≡ turned_on old)
   pub copy : (selector trusted other : Area) → selector_of areas ≡ Some selector
       → slice_get areas (trusted_on areas old) ≡ Some trusted
       → slice_get areas (other_place areas (trusted_on areas old)) ≡ Some other
-      → KeepsOther m.damage m.contents (turned_on old) new selector trusted other
+      → SparesAreas m.damage m.contents m.rests areas (is_lost answer) (turned_on old) new selector trusted
+      other
 
 abbrev pub Spares : Meanings → List Area → Line → Answer → Device → Device → Type 0
 Spares m areas Mount answer old new = MountSpares m areas answer old new

@@ -11,7 +11,7 @@ use Rattle.backend_api.specs.Map.{Map}
 use Rattle.flash_map.specs.declared.faults.Damaged.{Damaged as Found}
 use Rattle.migrator.specs.Active.{selector_damage_on}
 use Rattle.migrator.specs.Areas.{selector_of}
-use Rattle.mirror.specs.Mounting.{FindsDamage, IsUnfit, KeepsOther, LacksMemory, both_units, other_place, trust_units}
+use Rattle.mirror.specs.Mounting.{FindsDamage, IsUnfit, LacksMemory, SparesAreas, both_units, other_place, trust_units}
 use Rattle.mirror.specs.Trusted.{MirrorReads, damage_shown, trusted_on}
 use Rattle.script_lines.specs.declared.answer.Answer.TheVariants as settings
 use Rattle.session_table.specs.Bench.{area_at, StaysUnplanned}
@@ -63,9 +63,10 @@ takes_memory (Blank label) = true
 takes_memory line = false
 
 -- What a mount that stops leaves, whatever it stopped for. It turned power on, and changed nothing
--- outside the areas of the map. The same area is read, as the same map. At rest nothing changes, and
--- the other area, if it holds the settings that are read, is not repaired. No more is spent than a mount
--- may.
+-- outside the areas of the map. The same area is read, as the same map, and is not formatted. At rest
+-- nothing changes, and the other area, if it holds the settings that are read, is neither repaired nor
+-- formatted. The selector keeps its records if it names the area that is read; else it gets exactly one
+-- more. No more is spent than a mount may.
 pub record MountStops (m : Meanings) (areas : List Area) (old new : Device) : Type 0 where
   pub touches : Touches areas (turned_on old) new false
   pub read : trusted_on areas new ≡ trusted_on areas old
@@ -75,7 +76,7 @@ pub record MountStops (m : Meanings) (areas : List Area) (old new : Device) : Ty
   pub copy : (selector trusted other : Area) → selector_of areas ≡ Some selector
       → slice_get areas (trusted_on areas old) ≡ Some trusted
       → slice_get areas (other_place areas (trusted_on areas old)) ≡ Some other
-      → KeepsOther m.damage m.contents (turned_on old) new selector trusted other
+      → SparesAreas m.damage m.contents m.rests areas false (turned_on old) new selector trusted other
   pub at_most : (selector trusted other : Area) → selector_of areas ≡ Some selector
       → slice_get areas (trusted_on areas old) ≡ Some trusted
       → slice_get areas (other_place areas (trusted_on areas old)) ≡ Some other

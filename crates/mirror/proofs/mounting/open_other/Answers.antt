@@ -3,13 +3,10 @@ use Rattle.std.specs.FinMap as maps
 use Rattle.flash_sim.specs.Device.{Device}
 use Rattle.flash_map.proofs.Touches.{then}
 use Rattle.flash_map.specs.declared.area.Area.{Area}
-use Rattle.flash_map.specs.Area.{geometry_of, AreApart}
-use Rattle.flash_map.specs.Lawful.{IsLawfulFor}
 use Rattle.flash_map.specs.On.{on, HoldsOn}
 use Rattle.flash_map.specs.Touches.{Touches}
 use Rattle.migrator.proofs.Moving.{still}
-use Rattle.backend_api.specs.Room.{mount_units}
-use Rattle.mirror.specs.Mounting.{HoldsMap, KeepsCopy}
+use Rattle.mirror.specs.Mounting.{HoldsMap}
 use Rattle.mirror.proofs.RepairSteps.{may-copy-still}
 use Rattle.mirror.proofs.SideSteps.{is-due, opened-first, opened-then}
 use Rattle.mirror.proofs.mounting.open_other.Goals as goal
@@ -20,19 +17,11 @@ returns-in-Ok-None-clause-touches g c =
 
 pub returns-in-Ok-Some-clause-held : goal.returns-in-Ok-Some-clause-held
 returns-in-Ok-Some-clause-held g c =
-    let d : Device = g.F.Flash.device c.args.flash.now in
-    let m : Device = g.F.Flash.device c.mount_other-mounted.new.flash in
-    let settings = on g.K.Backend.contents d (g.K.Backend.mounted_on c.args.trusted.now) in
-    subst (λ (x : Area). HoldsMap g.K.Backend.damage g.K.Backend.contents d x settings → KeepsCopy g.K.Backend.damage g.K.Backend.contents d m x settings (mount_units (geometry_of d x))) refl
-    (λ holds. record { holds = c.mount_other-mounted.ensures.held settings holds; at_most = c.mount_other-mounted.ensures.at_most })
+    c.mount_other-mounted.ensures.held (on g.K.Backend.contents (g.F.Flash.device c.args.flash.now) (g.K.Backend.mounted_on c.args.trusted.now))
 
 pub returns-in-Err-clause-held : goal.returns-in-Err-clause-held
 returns-in-Err-clause-held g c =
-    let d : Device = g.F.Flash.device c.args.flash.now in
-    let m : Device = g.F.Flash.device c.mount_other-mounted.new.flash in
-    let settings = on g.K.Backend.contents d (g.K.Backend.mounted_on c.args.trusted.now) in
-    subst (λ (x : Area). HoldsMap g.K.Backend.damage g.K.Backend.contents d x settings → KeepsCopy g.K.Backend.damage g.K.Backend.contents d m x settings (mount_units (geometry_of d x))) refl
-    (λ holds. record { holds = c.mount_other-mounted.ensures.held settings holds; at_most = c.mount_other-mounted.ensures.at_most })
+    c.mount_other-mounted.ensures.held (on g.K.Backend.contents (g.F.Flash.device c.args.flash.now) (g.K.Backend.mounted_on c.args.trusted.now))
 
 pub returns-in-Ok-None-clause-held : goal.returns-in-Ok-None-clause-held
 returns-in-Ok-None-clause-held g c holds =
@@ -74,23 +63,8 @@ returns-in-Ok-None-clause-at_most g c =
     opened-then d m (g.F.Flash.device c.repair.new.flash) c.args.area c.args.area (on g.K.Backend.contents d source) (on g.K.Backend.contents m source) c.in-Ok-None.ensures.touches.banks refl
     (still g.K.Backend.contents d m source c.in-Ok-None.ensures.touches.banks c.mount_other-mounted.ensures.trusted) c.mount_other-mounted.ensures.at_most c.repair.ensures.at_most
 
-pub mount_other-mounted-requires-clause-lawful_trusted : goal.mount_other-mounted-requires-clause-lawful_trusted
-mount_other-mounted-requires-clause-lawful_trusted g c = c.requires.other.lawful_trusted
-
-pub mount_other-mounted-requires-clause-stands_trusted : goal.mount_other-mounted-requires-clause-stands_trusted
-mount_other-mounted-requires-clause-stands_trusted g c = c.requires.other.stands_trusted
-
-pub mount_other-mounted-requires-clause-lawful : goal.mount_other-mounted-requires-clause-lawful
-mount_other-mounted-requires-clause-lawful g c =
-    subst (λ (x : Area). IsLawfulFor (g.F.Flash.device c.args.flash.now).banks x) (sym refl) c.requires.other.lawful
-
-pub mount_other-mounted-requires-clause-serves : goal.mount_other-mounted-requires-clause-serves
-mount_other-mounted-requires-clause-serves g c =
-    subst (λ (x : Area). g.K.Backend.serves x (geometry_of (g.F.Flash.device c.args.flash.now) x)) (sym refl) c.requires.other.served
-
-pub mount_other-mounted-requires-clause-apart : goal.mount_other-mounted-requires-clause-apart
-mount_other-mounted-requires-clause-apart g c =
-    subst (λ (x : Area). AreApart x (g.K.Backend.mounted_on c.args.trusted.now)) (sym refl) c.requires.other.apart
+pub mount_other-mounted-requires : goal.mount_other-mounted-requires
+mount_other-mounted-requires g c = record { other = c.requires.other }
 
 pub repair-requires : goal.repair-requires
 repair-requires g c =

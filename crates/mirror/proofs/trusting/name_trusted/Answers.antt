@@ -23,3 +23,6 @@ returns-then-active-trusted-clause-at_most g c = let d = g.F.Flash.device c.args
 pub returns-clause-opened : goal.returns-clause-opened
 returns-clause-opened g c =
     chosen-opens c.args.map.now (g.F.Flash.device c.args.flash.now) (g.F.Flash.device c.choose.new.flash) c.args.selector.now.ring c.choose.new.self.ring _ c.choose.result c.choose.ensures.ends
+
+pub returns-then-active-trusted-clause-chosen : goal.returns-then-active-trusted-clause-chosen
+returns-then-active-trusted-clause-chosen g c differs = absurd (differs c.if-active-trusted.true)

@@ -3,15 +3,18 @@ use Rattle.flash_sim.specs.Device.{Device}
 use Rattle.flash_map.specs.declared.area.Area.{Area}
 use Rattle.flash_map.specs.Touches.{Touches}
 use Rattle.flash_map.proofs.Touches.{then}
-use Rattle.fcb_ring.specs.Standing.{IsRingArea, ring_damage}
-use Rattle.migrator.specs.Active.{active_in}
+use Rattle.fcb_ring.specs.Standing.{IsRingArea, KeepsEntries, ring_damage}
+use Rattle.migrator.specs.Active.{active_in, active_on}
 use Rattle.migrator.specs.Areas.{is_store_at, selector_of}
 use Rattle.migrator.specs.declared.selecting.Selector.{Selector}
 use Rattle.migrator.proofs.Migration.{active-on}
 use Rattle.mirror.specs.declared.mounting.MirrorMount.{MirrorMount}
 use Rattle.mirror.specs.Mounting.{NameEnds, TrustEnds, mount_lost}
+use Rattle.mirror.specs.Naming.{SparesRecords}
+use Rattle.mirror.specs.Trusted.{trusted_on}
+use Rattle.std.proofs.lemmas.Bool.{false≢true}
 use Rattle.mirror.proofs.MountSteps.{fault-lost}
-use Rattle.mirror.proofs.TrustSteps.{active-stores, open-rests, selector-here, selector-most, selector-ring, selector-within, trust-cut, trust-fault, trust-first, trust-named, trust-then, trusted-beside}
+use Rattle.mirror.proofs.TrustSteps.{active-stores, damage-with, open-rests, records-fault, records-then, selector-here, selector-most, selector-ring, selector-within, trust-cut, trust-fault, trust-first, trust-named, trust-then, trusted-beside}
 use Rattle.mirror.proofs.trusting.trust.Goals as goal
 
 some-area : (x y : Area) → Some x ≡ Some y → x ≡ y
@@ -162,3 +165,47 @@ returns-in-Err-name_trusted-clause-at_most g c selector is =
     let here : c.area_at.result ≡ selector = selector-here c.args.map.now selector c.area_at.result c.selector_place-place.result is c.selector_place-place.ensures c.area_at.ensures in
     trust-then d m (g.F.Flash.device c.name_trusted.new.flash) c.area_at.result c.in-Ok.selector.ring.area selector c.in-Ok.ensures.touches.banks here (c.in-Ok.ensures.ends.2 ∙ here)
     (selector-most d m c.area_at.result c.mount.result c.mount.ensures.ends c.mount.ensures.units c.mount.ensures.bound) c.name_trusted.ensures.at_most
+
+pub returns-in-Err-clause-records : goal.returns-in-Err-clause-records
+returns-in-Err-clause-records g c selector is none =
+    let d : Device = g.F.Flash.device c.args.flash.now in
+    let m : Device = g.F.Flash.device c.mount.new.flash in
+    let here : c.area_at.result ≡ selector = selector-here c.args.map.now selector c.area_at.result c.selector_place-place.result is c.selector_place-place.ensures c.area_at.ensures in
+    let sound : ring_damage d c.area_at.result ≡ None = ap (ring_damage d) here ∙ sym (damage-with c.args.map.now d selector is) ∙ none in
+    subst (λ (x : Area). SparesRecords c.args.map.now (mount_lost {T = ℕ} (Err c.fault_at.result)) d m x) here
+    (records-fault c.args.map.now d m c.area_at.result sound (c.mount.ensures.list sound) c.mount.result c.in-Err.fault (mount_lost {T = ℕ} (Err c.fault_at.result)) c.in-Err.is
+    (fault-lost Selector ℕ c.selector_place-place.result c.in-Err.fault c.fault_at.result c.fault_at.ensures) c.mount.ensures.ends)
+
+pub returns-in-Ok-name_trusted-clause-records : goal.returns-in-Ok-name_trusted-clause-records
+returns-in-Ok-name_trusted-clause-records g c selector given none =
+    let d : Device = g.F.Flash.device c.args.flash.now in
+    let m : Device = g.F.Flash.device c.mount.new.flash in
+    let e : Device = g.F.Flash.device c.name_trusted.new.flash in
+    let areas = c.args.map.now in
+    let at : c.area_at.result ≡ selector = selector-here areas selector c.area_at.result c.selector_place-place.result given c.selector_place-place.ensures c.area_at.ensures in
+    let here : c.in-Ok.selector.ring.area ≡ selector = c.in-Ok.ensures.ends.2 ∙ at in
+    let first : Touches (selector ∷ []) d m false = subst (λ (x : Area). Touches (x ∷ []) d m false) at c.in-Ok.ensures.touches in
+    let active : c.active-active.result ≡ active_on areas d = c.active-active.ensures ∙ ap (active_in areas m) c.in-Ok.ensures.ends.2 ∙ c.mount.ensures.active c.in-Ok.ensures.ends.0 areas ∙ ap (active_in areas d) at ∙ sym (active-on areas d selector given) in
+    let stores : is_store_at areas c.active-active.result ≡ true = subst (λ (n : ℕ). is_store_at areas n ≡ true) (sym c.active-active.ensures) (active-stores g.K.Backend.serves areas d c.requires.map m c.in-Ok.selector.ring.area) in
+    let is : c.trusted_with-trusted.result ≡ trusted_on areas d = c.trusted_with-trusted.ensures.trusted
+    ∙ trusted-beside g.K.Backend.serves areas d m selector false c.requires.map given (g.met.F.Flash.is_lawful c.args.flash.now) (g.met.F.Flash.is_lawful c.mount.new.flash) first c.active-active.result active stores in
+    let list : KeepsEntries d m selector = subst (λ (x : Area). KeepsEntries d m x) at (c.mount.ensures.list c.in-Ok.ensures.ends.0) in
+    records-then areas d m selector (sym (damage-with areas d selector given) ∙ none) list e c.in-Ok.selector.ring c.active-active.result c.trusted_with-trusted.result false first.banks c.in-Ok-name_trusted.ensures.touches.banks here c.in-Ok.ensures.ends.1 active is
+    c.name_trusted.ensures.idle (λ whole differs. c.in-Ok-name_trusted.ensures.chosen differs)
+
+pub returns-in-Err-name_trusted-clause-records : goal.returns-in-Err-name_trusted-clause-records
+returns-in-Err-name_trusted-clause-records g c selector given none =
+    let d : Device = g.F.Flash.device c.args.flash.now in
+    let m : Device = g.F.Flash.device c.mount.new.flash in
+    let e : Device = g.F.Flash.device c.name_trusted.new.flash in
+    let areas = c.args.map.now in
+    let at : c.area_at.result ≡ selector = selector-here areas selector c.area_at.result c.selector_place-place.result given c.selector_place-place.ensures c.area_at.ensures in
+    let here : c.in-Ok.selector.ring.area ≡ selector = c.in-Ok.ensures.ends.2 ∙ at in
+    let first : Touches (selector ∷ []) d m false = subst (λ (x : Area). Touches (x ∷ []) d m false) at c.in-Ok.ensures.touches in
+    let active : c.active-active.result ≡ active_on areas d = c.active-active.ensures ∙ ap (active_in areas m) c.in-Ok.ensures.ends.2 ∙ c.mount.ensures.active c.in-Ok.ensures.ends.0 areas ∙ ap (active_in areas d) at ∙ sym (active-on areas d selector given) in
+    let stores : is_store_at areas c.active-active.result ≡ true = subst (λ (n : ℕ). is_store_at areas n ≡ true) (sym c.active-active.ensures) (active-stores g.K.Backend.serves areas d c.requires.map m c.in-Ok.selector.ring.area) in
+    let is : c.trusted_with-trusted.result ≡ trusted_on areas d = c.trusted_with-trusted.ensures.trusted
+    ∙ trusted-beside g.K.Backend.serves areas d m selector false c.requires.map given (g.met.F.Flash.is_lawful c.args.flash.now) (g.met.F.Flash.is_lawful c.mount.new.flash) first c.active-active.result active stores in
+    let list : KeepsEntries d m selector = subst (λ (x : Area). KeepsEntries d m x) at (c.mount.ensures.list c.in-Ok.ensures.ends.0) in
+    records-then areas d m selector (sym (damage-with areas d selector given) ∙ none) list e c.in-Ok.selector.ring c.active-active.result c.trusted_with-trusted.result true first.banks c.in-Err-name_trusted.ensures.touches.banks here c.in-Ok.ensures.ends.1 active is
+    c.name_trusted.ensures.idle (λ whole. absurd (false≢true (sym whole)))

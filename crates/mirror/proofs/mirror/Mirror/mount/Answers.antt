@@ -11,12 +11,12 @@ use Rattle.flash_map.proofs.Apart.{same_apart}
 use Rattle.migrator.specs.Areas.{is_store_at}
 use Rattle.migrator.proofs.Migration.{selector-apart}
 use Rattle.mirror.specs.declared.mirror.Mirror.{Mirror}
-use Rattle.mirror.specs.Mounting.{BothEnds, HoldsMap, both_units, mount_lost, other_place, worked_on}
+use Rattle.mirror.specs.Mounting.{BothEnds, HoldsMap, SparesAreas, both_units, mount_lost, other_place, worked_on}
 use Rattle.mirror.specs.Trusted.{trusted_on}
 use Rattle.migrator.proofs.Moving.{still}
 use Rattle.mirror.proofs.KeepSteps.{keeps-both, keeps-fault, rests-behind, trusted-both, trusted-fault}
 use Rattle.mirror.proofs.MapSteps.{map-still, other-is, store-there}
-use Rattle.mirror.proofs.MountSteps.{both-touch, copy-first, copy-then, first-touches, lost-same, mounts-fault, mounts-first, mounts-spend, mounts-then, selector-active-still, selector-damage-still}
+use Rattle.mirror.proofs.MountSteps.{both-touch, first-touches, lost-same, mounts-fault, mounts-first, mounts-spend, mounts-then, records-behind, selector-active-still, selector-damage-still, spares-all, spares-selector}
 use Rattle.mirror.proofs.TrustSteps.{store-beside, trusted-again, trusted-stores}
 use Rattle.mirror.proofs.mirror.Mirror.mount.Goals as goal
 
@@ -180,8 +180,13 @@ returns-in-Err-clause-copy g c selector trusted other is there beside =
     let areas = c.args.map.now in
     let first = c.in-Err.ensures.touches selector is in
     let others = other-is g.K.Backend.serves areas d c.requires.map (trusted_on areas d) in
-    let o-same = store-beside g.K.Backend.serves areas d m selector (mount_lost {T = ℕ} (Err c.in-Err.fault)) c.requires.map is (g.met.F.Flash.is_lawful c.args.flash.now) (g.met.F.Flash.is_lawful c.trust.new.flash) first (other_place areas (trusted_on areas d)) other beside others.stores in
-    copy-first g.K.Backend.damage g.K.Backend.contents d m selector trusted other first.banks o-same (c.trust.ensures.at_most selector is)
+    let flash = g.met.F.Flash.is_lawful c.args.flash.now in
+    let mid = g.met.F.Flash.is_lawful c.trust.new.flash in
+    let lost = mount_lost {T = ℕ} (Err c.in-Err.fault) in
+    let t-same = store-beside g.K.Backend.serves areas d m selector lost c.requires.map is flash mid first (trusted_on areas d) trusted there (trusted-stores g.K.Backend.serves areas d c.requires.map) in
+    let o-same = store-beside g.K.Backend.serves areas d m selector lost c.requires.map is flash mid first (other_place areas (trusted_on areas d)) other beside others.stores in
+    subst (λ (l : Bool). SparesAreas g.K.Backend.damage g.K.Backend.contents g.K.Backend.rests areas l d m selector trusted other) (lost-same ℕ (Mirror g.row.K.Denot) c.in-Err.fault)
+    (spares-selector g.K.Backend.damage g.K.Backend.contents g.K.Backend.rests d m selector trusted other first.banks t-same o-same (c.trust.ensures.at_most selector is) areas lost (c.in-Err.ensures.records selector is))
 
 pub returns-clause-copy : goal.returns-clause-copy
 returns-clause-copy g c selector trusted other is there beside =
@@ -196,5 +201,9 @@ returns-clause-copy g c selector trusted other is there beside =
     let mid = g.met.F.Flash.is_lawful c.trust.new.flash in
     let t-same = store-beside g.K.Backend.serves areas d m selector false c.requires.map is flash mid first (trusted_on areas d) trusted there (trusted-stores g.K.Backend.serves areas d c.requires.map) in
     let o-same = store-beside g.K.Backend.serves areas d m selector false c.requires.map is flash mid first (other_place areas (trusted_on areas d)) other beside others.stores in
-    copy-then g.K.Backend.damage g.K.Backend.contents d m selector trusted other first.banks o-same (c.trust.ensures.at_most selector is) e t-same
-    (c.mount_both.ensures.spares trusted other (ap (slice_get areas) at ∙ there) (ap (λ (n : ℕ). slice_get areas (other_place areas n)) at ∙ beside))
+    let here = ap (slice_get areas) at ∙ there in
+    let next = ap (λ (n : ℕ). slice_get areas (other_place areas n)) at ∙ beside in
+    let banks : e.banks ≡ m.banks = (c.mount_both.ensures.touches trusted other here next).banks in
+    spares-all g.K.Backend.damage g.K.Backend.contents g.K.Backend.rests d m selector trusted other first.banks t-same o-same (c.trust.ensures.at_most selector is) e
+    (c.mount_both.ensures.spares trusted other here next) areas (mount_lost c.mount_both.result)
+    (λ none. records-behind areas d m e selector (mount_lost c.mount_both.result) banks (c.mount_both.ensures.selector selector is) (c.in-Ok.ensures.records selector is none))

@@ -1,16 +1,16 @@
 -- Bytes of one sector, copied piece by piece to another.
-use Rattle.std.proofs.Common.{◌≡◌, ◌⊎◌, inl, inr, ℕ, ◌+◌, ◌-◌, ◌/◌, ◌%◌, ◌<◌, ◌≤◌, List, [], ◌++◌, length, get_or, set, take, drop, replicate, min, refl, sym, ap, subst, ◌∙◌, arith}
-use Rattle.std.specs.Prelude.{slice_range}
+use Rattle.std.proofs.Common.{◌≡◌, ◌⊎◌, inl, inr, true, ℕ, ◌+◌, ◌-◌, ◌/◌, ◌%◌, ◌<◌, ◌≤◌, Result, Ok, Err, List, [], ◌++◌, length, get_or, set, take, drop, replicate, min, refl, sym, ap, subst, ◌∙◌, arith}
+use Rattle.std.specs.Prelude.{slice_range, is_err}
 use Rattle.std.proofs.lemmas.List.{take_all, take-append-le, drop-append-le, length-take-le, length-drop, get_or-set_other, take-replicate}
 use Rattle.std.proofs.Math.Seq.{take-append-add}
-use Rattle.std.proofs.lemmas.Bool.{cases_lt}
+use Rattle.std.proofs.lemmas.Bool.{cases_lt, false≢true}
 use Rattle.flash_sim.specs.Device.{Device, overwritten}
 use Rattle.flash_map.specs.declared.area.Area.{Area}
 use Rattle.flash_map.specs.declared.copies.Source.{Source}
 use Rattle.flash_map.specs.Area.{sectors_of, sector_bytes, Writes}
-use Rattle.flash_map.specs.Copies.{source}
+use Rattle.flash_map.specs.Copies.{source, pieces_of, TakesViews}
 use Rattle.flash_map.specs.Units.{IsUnit, padded, padded_bytes}
-use Rattle.flash_map.specs.Spending.{Spends}
+use Rattle.flash_map.specs.Spending.{Spends, SpendsAtMost, SpendsOrLoses}
 use Rattle.flash_map.proofs.Places.{range_range}
 use Rattle.flash_map.proofs.Sectors.{overwritten_nil}
 use Rattle.flash_map.proofs.SpendingLemmas.{spends_none}
@@ -111,3 +111,34 @@ writes_nothing d area sector offset bytes =
 
 pub spends_nothing : (d : Device) (unit : ℕ) → Spends d d (0 / unit)
 spends_nothing d unit = subst (λ (n : ℕ). Spends d d n) (sym (zero-div unit)) (spends_none d)
+
+-- ---- its views
+
+-- a piece more is done
+pub record IsNextPiece (done end all : ℕ) : Type 0 where
+  pub whole : end < all → end % 32 ≡ 0
+  pub one_more : pieces_of end ≡ pieces_of done + 1
+  pub few : pieces_of end ≤ pieces_of all
+
+pub next_piece : (done end all : ℕ) → done < all → done % 32 ≡ 0 → end ≡ min all (done + 32) → IsNextPiece done end all
+next_piece done end all below whole is = record { whole = λ less. omega arith; one_more = omega arith; few = omega arith }
+
+-- whole units have as many pieces as the bytes in them
+pub pieces_padded : (unit : ℕ) → IsUnit unit → (n : ℕ) → pieces_of (padded unit n) ≡ pieces_of n
+unfolding padded
+pieces_padded = by_unit (λ unit. (n : ℕ) → pieces_of (padded unit n) ≡ pieces_of n) (λ n. omega arith) (λ n. omega arith) (λ n. omega arith)
+
+-- a call that took just so many, cut or not
+pub viewed : {X E : Type 0} (views before after : ℕ) (result : Result X E) → after ≡ before + views → TakesViews views before after result
+viewed views before after (Ok x) is = record { whole = is; cut = tt }
+viewed views before after (Err e) is = let le : after ≤ before + views = omega (arith, is) in record { whole = tt; cut = le }
+
+-- one that was cut
+pub viewed_lost : {X E : Type 0} (views before after : ℕ) (result : Result X E) → is_err result ≡ true → after ≤ before + views → TakesViews views before after result
+viewed_lost views before after (Ok x) is le = absurd (false≢true is)
+viewed_lost views before after (Err e) is le = record { whole = tt; cut = le }
+
+-- what a cut copy spent
+pub spent_lost : {X E : Type 0} (old new : Device) (units : ℕ) (result : Result X E) → is_err result ≡ true → SpendsAtMost old new units → SpendsOrLoses old new units result
+spent_lost old new units (Ok x) is most = absurd (false≢true is)
+spent_lost old new units (Err e) is most = record { whole = tt; cut = most }

@@ -1,5 +1,5 @@
 -- How many units and erases a call carries out.
-use Rattle.std.specs.Prelude.{◌≡◌, ℕ, ◌≤◌}
+use Rattle.std.specs.Prelude.{◌≡◌, ℕ, ◌≤◌, Result, OnOk, OnErr}
 use Rattle.flash_sim.specs.Device.{Device, counted}
 
 -- exactly so many
@@ -16,3 +16,8 @@ pub record SpendsBetween (old new : Device) (least most : ℕ) : Type 0 where
   pub at_least : least ≤ units
   pub at_most : units ≤ most
   pub spent : new.spent ≡ counted old.spent units
+
+-- A call that completes spends exactly so many. One that is cut spends no more.
+pub record SpendsOrLoses {X E : Type 0} (old new : Device) (units : ℕ) (result : Result X E) : Type 0 where
+  pub whole : OnOk result (Spends old new units)
+  pub cut : OnErr result (SpendsAtMost old new units)

@@ -1,10 +1,10 @@
 // Copying from one sector of an area to another.
 ghost use Rattle.std.specs.Prelude.{◌≡◌, ◌+◌, ◌-◌, ◌/◌, ◌≤◌, ◌<◌, ◌^◌, ◌++◌, ◌∷◌, [], length, replicate, is_err, slice_range, OnOk, OnErr};
 ghost use Rattle.flash_map.specs.Area.{IsLawfulArea, unit_of, sector_size, sector_bytes, Writes, WritesPart};
-ghost use Rattle.flash_map.specs.Copies.{source};
+ghost use Rattle.flash_map.specs.Copies.{source, pieces_of, TakesViews};
 ghost use Rattle.flash_map.specs.Pieces.{CanProgramAll, LosesWithin};
 ghost use Rattle.flash_map.specs.declared.copies.TheConstants.{COPY_PIECE};
-ghost use Rattle.flash_map.specs.Spending.{Spends, SpendsAtMost};
+ghost use Rattle.flash_map.specs.Spending.{SpendsOrLoses};
 ghost use Rattle.flash_map.specs.Touches.{Touches};
 ghost use Rattle.flash_map.specs.Units.{padded, padded_bytes};
 
@@ -26,7 +26,7 @@ pub struct Source {
 /// The most bytes that `copy_padded` programs in one call. Every unit divides it.
 pub const COPY_PIECE: u32 = 32;
 
-// Some bytes of a sector, at most a piece, with FF behind them.
+// Some bytes of a sector, at most a piece, with FF behind them. It views them once.
 fn piece_of<F: Flash, L: Ledger>(
     flash: &F,
     area: &Area,
@@ -37,8 +37,9 @@ fn piece_of<F: Flash, L: Ledger>(
     requires has_sector { from.sector < area.now.sectors }
     requires short { from.len ≤ COPY_PIECE }
     requires inside { from.offset + from.len ≤ sector_size (F.device flash.now) area.now }
-    ensures { let d = F.device flash.now in
+    ensures bytes { let d = F.device flash.now in
         result ≡ source d area.now from ++ replicate (32 - from.len) 0xFF }
+    ensures step { steps.new ≡ steps.old + 1 }
 {
     let mut piece = [0xFF; 32];
     let seen = area_view(flash, area, from.sector, from.offset, from.len, steps);
@@ -47,7 +48,8 @@ fn piece_of<F: Flash, L: Ledger>(
 }
 
 /// Copies a range of bytes from another sector, with FF behind them up to whole units. It programs
-/// upward, in pieces of at most `COPY_PIECE` bytes, through a buffer of its own.
+/// upward, in pieces of at most `COPY_PIECE` bytes, through a buffer of its own. It views each piece
+/// once.
 ///
 /// # Errors
 /// `PowerLost` if power was off: nothing changed. Or if it was lost in the call: fewer than all
@@ -76,19 +78,17 @@ pub fn copy_padded<F: Flash, L: Ledger>(
         OnOk result
         (Writes d (F.device flash.new) area.now sector offset
         (padded_bytes (unit_of d area.now) (source d area.now from))) }
-    ensures spent { let unit = unit_of (F.device flash.old) area.now in
-        OnOk result
-        (Spends (F.device flash.old) (F.device flash.new) (padded unit from.len / unit)) }
-
     ensures lost { let d = F.device flash.old in
         OnErr result
         (WritesPart d (F.device flash.new) area.now sector offset
         (padded_bytes (unit_of d area.now) (source d area.now from))) }
     ensures in_pieces { OnErr result
         (LosesWithin COPY_PIECE (F.device flash.old) (F.device flash.new)) }
-    ensures spent_at_most { let unit = unit_of (F.device flash.old) area.now in
-        OnErr result
-        (SpendsAtMost (F.device flash.old) (F.device flash.new) (padded unit from.len / unit)) }
+
+    ensures spent { let unit = unit_of (F.device flash.old) area.now in
+        SpendsOrLoses (F.device flash.old) (F.device flash.new) (padded unit from.len / unit)
+        result }
+    ensures views { TakesViews (pieces_of from.len) steps.old steps.new result }
 {
     let all = padded(geometry(flash, area).unit, from.len);
     let mut done = 0;

@@ -1,5 +1,7 @@
 -- The calls of a collection, in the words of the code.
 use Rattle.std.proofs.Common.{◌≡◌, ◌⊎◌, ℕ, ◌*◌, ◌≤◌, true, false, List, [], length, refl, sym, ap, subst, ◌∙◌, inl, inr}
+use Rattle.std.specs.Prelude.{Result, Ok, Err, OnOk, is_err}
+use Rattle.std.proofs.lemmas.Bool.{false≢true}
 use Rattle.flash_sim.specs.Bank.{IsLawful}
 use Rattle.flash_sim.specs.Device.{Device}
 use Rattle.flash_map.specs.declared.area.Area.{Area}
@@ -8,15 +10,15 @@ use Rattle.flash_map.specs.declared.area.Role.{Role}
 use Rattle.flash_map.specs.Area.{geometry_of, sector_at, sectors_of, ChangesOnly}
 use Rattle.item_laws.specs.Area.{next, open_sector, is_closed_at}
 use Rattle.item_laws.specs.Forms.{Collecting, to_copy}
-use Rattle.item_laws.proofs.Places.{after-apart}
+use Rattle.item_laws.proofs.Places.{after, after-apart}
 use Rattle.item_laws.proofs.Rings.{next-closed, open-not_closed}
 use Rattle.item_laws.proofs.RingSteps.{reads}
 use Rattle.item_store.specs.SectorFormat.{Range, LiesIn, SectorFormat, IsSectorFormat}
 use Rattle.item_store.specs.Steps.{Keeps, KeepsMarks, Marks, StopsClearing}
-use Rattle.item_store.specs.Spending.{both, copies, collect_units, ready_units, again_units}
+use Rattle.item_store.specs.Spending.{both, copies, collect_with, victim_units, collect_units, ready_units, again_units}
 use Rattle.item_store.specs.Standing.{IsStoreArea, KeepsItems, SpendsIn, SpendsUpTo}
 use Rattle.item_store.specs.Collecting.{HasBegun, HasCopied, StopsCopying, CollectsAt, KeepsOrCollects}
-use Rattle.item_store.proofs.Areas.{keeps_then, same_geometry, size_there, large_there, stopped, has_stopped, stopped-keeps, victim_cut, collected_at, collects-keeps, only_else, only_then}
+use Rattle.item_store.proofs.Areas.{keeps_then, same_geometry, size_there, large_there, stopped, has_stopped, stopped-keeps, victim_cut, collected_at, collects-keeps, only_else, only_length, only_then}
 use Rattle.item_store.proofs.CollectSteps.{start_stops, start_form, start_none, start_copies, again_collects, mark_room, mark_cut, prepare_cut}
 use Rattle.item_store.proofs.ListSteps.{stopped-list, whole-list, again-list, cut-list}
 use Rattle.item_store.proofs.Ranges.{both-in, first-lost, then-lost, within-in, within-lost}
@@ -28,6 +30,11 @@ to_geometry P a d area banks p = subst P (same_geometry a d area banks) p
 
 pub from_geometry : (P : Geometry → Type 0) (a d : Device) (area : Area) → d.banks ≡ a.banks → P (geometry_of a area) → P (geometry_of d area)
 from_geometry P a d area banks p = subst P (sym (same_geometry a d area banks)) p
+
+-- a result that is an `Err` is no `Ok`
+pub no_ok : {X E : Type 0} (r : Result X E) (P : Type 0) → is_err r ≡ true → OnOk r P
+no_ok (Ok x) P e = absurd (false≢true e)
+no_ok (Err x) P e = tt
 
 module _ (format_of : Geometry → SectorFormat) (role : Role) (a : Device) (area : Area) (place : ℕ) (law : IsSectorFormat (format_of (geometry_of a area))) (lawful : IsLawful a.banks a.bytes) (is : IsStoreArea role a.banks area) (form : Collecting (format_of (geometry_of a area)).reading (sectors_of a area) place) where
   abbrev k : SectorFormat
@@ -77,8 +84,8 @@ module _ (format_of : Geometry → SectorFormat) (role : Role) (a : Device) (are
         → SpendsUpTo d e ((format_of (geometry_of d area)).units.done (sector_at (sectors_of d area) place)) → SpendsUpTo a e (collect_units (format_of (geometry_of a area)) (sectors_of a area) place)
     mark_spends_lost e first mark =
         let here : SpendsUpTo d e (k.units.done (sector_at (sectors_of d area) place)) = to_geometry (λ u. SpendsUpTo d e ((format_of u).units.done (sector_at (sectors_of d area) place))) a d area banks mark in
-        then-lost a d e (copies k (to_copy k.reading old place)) (both k.units.any_done k.units.any_clear) first
-        (first-lost d e k.units.any_done k.units.any_clear (within-lost d e (k.units.done (sector_at (sectors_of d area) place)) k.units.any_done done_in here))
+        then-lost a d e (copies k (to_copy k.reading old place)) (both k.units.any_done (victim_units k old place)) first
+        (first-lost d e k.units.any_done (victim_units k old place) (within-lost d e (k.units.done (sector_at (sectors_of d area) place)) k.units.any_done done_in here))
 
     -- the emptying of the victim
 
@@ -121,28 +128,25 @@ module _ (format_of : Geometry → SectorFormat) (role : Role) (a : Device) (are
           within-in d e (k.units.done (sector_at (sectors_of d area) place)) k.units.any_done done_in
           (to_geometry (λ u. SpendsIn d e ((format_of u).units.done (sector_at (sectors_of d area) place))) a d area banks mark)
 
-      victim_closed : k.reading.is_closed (sector_at (sectors_of e area) victim) ≡ true
-      victim_closed =
+      -- the victim's bytes are still those before the collection
+      victim_clear : k.units.clear (sector_at (sectors_of e area) victim) ≡ victim_units k old place
+      victim_clear =
           let same : sector_at (sectors_of e area) (next old place) ≡ sector_at old (next old place) = only_else old (sectors_of e area) place (next old place) (only_then old (sectors_of d area) (sectors_of e area) place has.only only) (after-apart (length old) place form.ring.within form.ring.several) in
-          let shut : k.reading.is_closed (sector_at old (next old place)) ≡ true = next-closed k.reading old place 0 form.ring ∙ refl in
-          ap (λ (v : ℕ). k.reading.is_closed (sector_at (sectors_of e area) v)) at ∙ ap k.reading.is_closed same ∙ shut
-
-      clear_in : LiesIn (k.units.clear (sector_at (sectors_of e area) victim)) k.units.any_clear
-      clear_in = law.clear_in (sector_at (sectors_of e area) victim) victim_closed
+          ap (λ (v : ℕ). k.units.clear (sector_at (sectors_of e area) v)) at ∙ ap k.units.clear same
 
       pub spends_all : (z : Device) → SpendsIn a d (copies (format_of (geometry_of a area)) (to_copy (format_of (geometry_of a area)).reading (sectors_of a area) place))
           → SpendsIn d e ((format_of (geometry_of d area)).units.done (sector_at (sectors_of d area) place)) → SpendsIn e z ((format_of (geometry_of e area)).units.clear (sector_at (sectors_of e area) victim)) → SpendsIn a z (collect_units (format_of (geometry_of a area)) (sectors_of a area) place)
       spends_all z first mark clear =
           let here : SpendsIn e z (k.units.clear (sector_at (sectors_of e area) victim)) = to_geometry (λ u. SpendsIn e z ((format_of u).units.clear (sector_at (sectors_of e area) victim))) a e area more_banks clear in
-          both-in a d z (copies k (to_copy k.reading old place)) (both k.units.any_done k.units.any_clear) first
-          (both-in d e z k.units.any_done k.units.any_clear (marked_spends mark) (within-in e z (k.units.clear (sector_at (sectors_of e area) victim)) k.units.any_clear clear_in here))
+          both-in a d z (copies k (to_copy k.reading old place)) (both k.units.any_done (victim_units k old place)) first
+          (both-in d e z k.units.any_done (victim_units k old place) (marked_spends mark) (subst (λ (r : Range). SpendsIn e z r) victim_clear here))
 
       pub spends_all_lost : (z : Device) → SpendsIn a d (copies (format_of (geometry_of a area)) (to_copy (format_of (geometry_of a area)).reading (sectors_of a area) place))
           → SpendsIn d e ((format_of (geometry_of d area)).units.done (sector_at (sectors_of d area) place)) → SpendsUpTo e z ((format_of (geometry_of e area)).units.clear (sector_at (sectors_of e area) victim)) → SpendsUpTo a z (collect_units (format_of (geometry_of a area)) (sectors_of a area) place)
       spends_all_lost z first mark clear =
           let here : SpendsUpTo e z (k.units.clear (sector_at (sectors_of e area) victim)) = to_geometry (λ u. SpendsUpTo e z ((format_of u).units.clear (sector_at (sectors_of e area) victim))) a e area more_banks clear in
-          then-lost a d z (copies k (to_copy k.reading old place)) (both k.units.any_done k.units.any_clear) first
-          (then-lost d e z k.units.any_done k.units.any_clear (marked_spends mark) (within-lost e z (k.units.clear (sector_at (sectors_of e area) victim)) k.units.any_clear clear_in here))
+          then-lost a d z (copies k (to_copy k.reading old place)) (both k.units.any_done (victim_units k old place)) first
+          (then-lost d e z k.units.any_done (victim_units k old place) (marked_spends mark) (subst (λ (r : Range). SpendsUpTo e z r) victim_clear here))
 
   pub not_closed : is_closed_at (format_of (geometry_of a area)).reading (sectors_of a area) place ≡ false
   not_closed = open-not_closed k.reading old place 0 form.ring
@@ -172,10 +176,18 @@ module _ (format_of : Geometry → SectorFormat) (role : Role) (a : Device) (are
     pub again_lists : (e : Device) → KeepsOrCollects (format_of (geometry_of d area)) (sectors_of d area) (sectors_of e area) place → KeepsOrCollects (format_of (geometry_of a area)) (sectors_of a area) (sectors_of e area) place
     again_lists e either = again-list k law old place form (sectors_of d area) begun (sectors_of e area) (to_geometry (λ u. KeepsOrCollects (format_of u) (sectors_of d area) (sectors_of e area) place) a d area banks either)
 
+    -- the victim is another sector, and stays
+    victim_same : victim_units k (sectors_of d area) place ≡ victim_units k old place
+    victim_same =
+        let same_next : next (sectors_of d area) place ≡ next old place = ap (λ (n : ℕ). after n place) (only_length old (sectors_of d area) place begun.only) in
+        ap (λ (v : ℕ). k.units.clear (sector_at (sectors_of d area) v)) same_next
+        ∙ ap k.units.clear (only_else old (sectors_of d area) place (next old place) begun.only (after-apart (length old) place form.ring.within form.ring.several))
+
     units_same : collect_units (format_of (geometry_of d area)) (sectors_of d area) place ≡ collect_units k old place
     units_same =
         ap (λ (u : Geometry). collect_units (format_of u) (sectors_of d area) place) (same_geometry a d area banks)
-        ∙ ap (λ ps. both (copies k ps) (both k.units.any_done k.units.any_clear)) (start_copies k law old (sectors_of d area) place form begun)
+        ∙ ap (λ (r : Range). collect_with k (sectors_of d area) place r) victim_same
+        ∙ ap (λ ps. both (copies k ps) (both k.units.any_done (victim_units k old place))) (start_copies k law old (sectors_of d area) place form begun)
 
     pub again_spends : (e : Device) → SpendsIn a d (ready_units (format_of (geometry_of a area)) (sectors_of a area) place) → SpendsIn d e (collect_units (format_of (geometry_of d area)) (sectors_of d area) place) → SpendsIn a e (again_units (format_of (geometry_of a area)) (sectors_of a area) place)
     again_spends e first later = both-in a d e (ready_units k old place) (collect_units k old place) first (subst (λ (r : Range). SpendsIn d e r) units_same later)

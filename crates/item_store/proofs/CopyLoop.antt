@@ -1,7 +1,8 @@
 -- The copies of a collection, one slot of the victim after the other.
-use Rattle.std.proofs.Common.{◌≡◌, ℕ, ◌+◌, ◌*◌, ◌<◌, ◌≤◌, true, false, List, [], ◌∷◌, length, Option, Some, None, refl, sym, ap, subst, ◌∙◌, inl, inr, arith}
+use Rattle.std.proofs.Common.{◌≡◌, ℕ, ◌+◌, ◌*◌, ◌<◌, ◌≤◌, Bool, true, false, cond, ◌&&◌, eqb, ltb, List, [], ◌∷◌, length, Option, Some, None, refl, sym, ap, subst, ◌∙◌, inl, inr, arith}
 use Rattle.std.specs.Prelude.{Result, Ok, Err, OnOk, OnErr, IsErr, is_err}
-use Rattle.std.specs.Option.{option_map}
+use Rattle.std.specs.Option.{option_map, option_and_then}
+use Rattle.std.proofs.lemmas.Bool.{ltb-true}
 use Rattle.flash_sim.specs.Device.{Device}
 use Rattle.flash_map.specs.declared.area.Area.{Area}
 use Rattle.flash_map.specs.Area.{sector_at, sectors_of, ChangesOnly}
@@ -16,9 +17,9 @@ use Rattle.item_laws.proofs.Places.{after}
 use Rattle.item_laws.proofs.Rings.{next-closed}
 use Rattle.item_laws.proofs.RingSteps.{reads}
 use Rattle.item_laws.specs.Entries.{Entries, AreEntries}
-use Rattle.item_laws.specs.Live.{live_in, live_to, bytes_of, cost_of}
+use Rattle.item_laws.specs.Live.{is_at, is_live, last_placed, live_in, live_to, bytes_of, cost_of}
 use Rattle.item_laws.proofs.CopyLemmas as laws
-use Rattle.item_laws.proofs.LiveLemmas.{option_cases}
+use Rattle.item_laws.proofs.LiveLemmas.{option_cases, some_none}
 use Rattle.item_store.specs.declared.entry.Entry.{Entry}
 use Rattle.item_store.specs.declared.entry.Placed.{Placed}
 use Rattle.item_store.specs.SectorFormat.{SectorFormat, IsSectorFormat, placed_at, slots}
@@ -62,6 +63,24 @@ module _ (k : SectorFormat) (law : IsSectorFormat k) where
     pub sector : p.sector ≡ place
     pub slot_is : p.slot ≡ slot
     pub read : option_map (placed_at place) (k.in_slot (sector_at sectors place) slot) ≡ Some p
+    pub some : 0 < p.len
+
+  one_kept : (f g : Placed) → Some f ≡ Some g → f ≡ g
+  one_kept f g e = cc
+
+  -- an entry that is kept by three tests has passed the last
+  last_test : (one two three : Bool) (f g : Placed) → cond (one && two && three) (Some f) None ≡ Some g → (three ≡ true) × (f ≡ g)
+  last_test true true true f g e = (refl, one_kept f g e)
+  last_test true true false f g e = absurd (some_none g (sym e))
+  last_test true false three f g e = absurd (some_none g (sym e))
+  last_test false two three f g e = absurd (some_none g (sym e))
+
+  -- so a live one has bytes
+  live-some : (last : Option Placed) (f g : Placed) → cond (is_at (slots k) f last) (Some f) None ≡ Some g → 0 < g.len
+  live-some None f g e = absurd (some_none g (sym e))
+  live-some (Some q) f g e =
+      let passed = last_test (eqb q.sector f.sector) (eqb q.slot f.slot) (ltb 0 f.len) f g e in
+      subst (λ (h : Placed). 0 < h.len) passed.1 (ltb-true 0 f.len passed.0)
 
   pub live-bytes : (sectors : List (List ℕ)) (place slot : ℕ) (p : Placed) → k.within (sector_at sectors place) ≡ true → k.first ≤ slot → slot < k.first + k.count (sector_at sectors place) → live_in (slots k) sectors place slot ≡ Some p → IsLive sectors place slot p
   live-bytes sectors place slot p sound from listed is =
@@ -71,6 +90,10 @@ module _ (k : SectorFormat) (law : IsSectorFormat k) where
         sector = l.sector;
         slot_is = ap (λ (q : Placed). q.slot) l.is ∙ law.own_slot (sector_at sectors place) slot l.entry l.read;
         read = ap (option_map (placed_at place)) l.read ∙ ap (λ (q : Placed). Some q) (sym l.is);
+        some =
+            let own : Placed = placed_at place l.entry in
+            live-some (last_placed (slots k) sectors own.id) own p
+            (sym (ap (λ (o : Option Entry). option_and_then (λ f. cond (is_live (slots k) sectors f) (Some f) None) (option_map (placed_at place) o)) l.read) ∙ is);
       }
 
   -- what the slots up to this one cost, with this one, at any price

@@ -93,6 +93,15 @@ marks-push first old new before p same bits marks = record {
     by_own last true = own_item (eqb p.len 0)
     by_own last false = refl
 
+-- one entry more that changes no mark
+pub marks-same : (first : ℕ) (marks : Marks) (before : List Placed) (p : Placed) (id len : ℕ) → p.id ≡ id → p.len ≡ len
+    → ((n : ℕ) → n < 512 → has_bit marks.bits n ≡ cond (eqb id (marks.first + n)) (not (eqb len 0)) (has_bit marks.bits n)) → HasMarks first marks before → HasMarks first marks (before ++ p ∷ [])
+marks-same first marks before p id len same long bits has =
+    marks-push first marks marks before p refl
+    (λ n small.
+    bits n small ∙ ap (λ (i : ℕ). cond (eqb i (marks.first + n)) (not (eqb len 0)) (has_bit marks.bits n)) (sym same)
+    ∙ ap (λ (l : ℕ). cond (eqb p.id (marks.first + n)) (not (eqb l 0)) (has_bit marks.bits n)) (sym long)) has
+
 -- ---- the items of an area
 
 module _ {T : Type 0} (role : Role) (format_of : Geometry → SectorFormat) (kept : Geometry → List ℕ → T) (d : Device) (store : Store T) (law : IsSectorFormat (format_of (geometry_of d store.area))) (lawful : IsLawful d.banks d.bytes) (on : StandsOn role format_of kept d store) where

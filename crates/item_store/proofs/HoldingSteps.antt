@@ -1,8 +1,7 @@
 -- Looking for an item by its bytes: entries that hold them, and what stands behind these.
-use Rattle.std.proofs.Common.{◌≡◌, ℕ, ◌+◌, ◌-◌, ◌<◌, ◌≤◌, Bool, true, false, not, ◌&&◌, eqb, leb, List, [], ◌∷◌, ◌++◌, ◌||◌, length, Option, Some, None, refl, sym, ap, subst, ◌∙◌, inl, inr, arith}
+use Rattle.std.proofs.Common.{◌≡◌, ℕ, zero, suc, ◌+◌, ◌-◌, ◌%◌, ◌<◌, ◌≤◌, Bool, true, false, not, ◌&&◌, eqb, leb, ◌⊎◌, List, [], ◌∷◌, ◌++◌, ◌||◌, length, Option, Some, None, refl, sym, ap, subst, ◌∙◌, inl, inr, arith}
 use Rattle.std.specs.Prelude.{IfSome}
 use Rattle.std.specs.FinMap.{get}
-use Rattle.std.specs.List.{flat_map}
 use Rattle.std.specs.Option.{option_eq, option_map, option_or, option_to_list}
 use Rattle.std.proofs.lemmas.Bool.{false≢true, cases_eq, cases_lt, eq-eqb, ne_eqb, le-leb, cond-true, cond-false}
 use Rattle.flash_sim.specs.Bank.{IsLawful}
@@ -10,34 +9,36 @@ use Rattle.flash_sim.specs.Device.{Device}
 use Rattle.flash_map.specs.declared.area.Role.{Role}
 use Rattle.flash_map.specs.declared.area.Geometry.{Geometry}
 use Rattle.flash_map.specs.Area.{geometry_of, sector_at, sectors_of}
+use Rattle.item_laws.specs.Area.{open_sector}
 use Rattle.item_laws.specs.Bytes.{HasBytes}
 use Rattle.item_laws.specs.Items.{Items, value_of}
 use Rattle.item_laws.specs.Live.{all_placed, counted_in, last_of, last_placed, bytes_of}
-use Rattle.item_laws.specs.RoundParts.{places_after, places_before}
+use Rattle.item_laws.specs.RoundParts.{places_after}
 use Rattle.item_laws.proofs.AreaReads.{length-sectors}
 use Rattle.item_laws.proofs.LiveLemmas.{option_cases, some_none}
-use Rattle.item_laws.proofs.Newest.{last-append}
+use Rattle.item_laws.proofs.Newest.{last-all, last-append}
 use Rattle.item_laws.proofs.Places.{after, before, after-last, after-inner, after-within, before-first, before-inner}
 use Rattle.item_store.specs.declared.entry.Entry.{Entry}
 use Rattle.item_store.specs.declared.entry.IdRange.{IdRange}
 use Rattle.item_store.specs.declared.entry.Placed.{Placed}
 use Rattle.item_store.specs.declared.store.Store.{Store}
 use Rattle.item_store.specs.Asking.{NoneIsItem}
+use Rattle.item_store.specs.Cached.{latest_of, latest_on}
 use Rattle.item_store.specs.Holding.{Holds, NoneHolds, IsFirstHolder, NoneLater}
 use Rattle.item_store.specs.SectorFormat.{SectorFormat, IsSectorFormat, placed_at, slots}
-use Rattle.item_store.specs.Lasts.{in_range, AreOthers, counted_from, given_at}
+use Rattle.item_store.specs.Lasts.{in_range, IsOther, AreOthers, given_at}
 use Rattle.item_store.specs.Latest.{last_of_id}
 use Rattle.item_store.specs.Listed.{IsListed, IsPlaced, items_on}
 use Rattle.item_store.specs.Seen.{AreBehind, behind}
 use Rattle.item_store.specs.Stands.{StandsOn}
 use Rattle.item_store.proofs.AskingSteps.{own-id, same_some}
+use Rattle.item_store.proofs.CacheSteps.{latest-none, latest-placed}
 use Rattle.item_store.proofs.CostSteps.{before-after, start_seen, more_seen}
 use Rattle.item_store.proofs.LastsSlots.{covered-is}
 use Rattle.item_store.proofs.LastsWalk.{begun-last, covered-all}
 use Rattle.item_store.proofs.IndexSteps.{prefix-other}
-use Rattle.item_store.proofs.LiveSteps.{own-last, later_at, later_step, stand_behind}
-use Rattle.item_store.proofs.ReadFacts.{counts_on, current_on, last_placed_on, value_by}
-use Rattle.item_store.proofs.SearchSteps.{up-to-enough}
+use Rattle.item_store.proofs.LiveSteps.{own-last, later_all, later_at, later_step, stand_behind}
+use Rattle.item_store.proofs.ReadFacts.{counts_on, current_on, last_placed_on, some_sectors, value_by}
 
 -- ---- places
 
@@ -63,11 +64,19 @@ fewer-behind count current at next low high apart is =
     ap (λ (j : ℕ). length (places_after count current j)) back ∙ ap length (before-after count current next low inside (λ e. next-apart count current at low high apart (sym is ∙ e))) in
     omega (arith, long)
 
+-- a sector that is so many places before the open one
+pub same-place : (current count back i place here : ℕ) → place < count → i ≡ back → (back ≤ current → here + back ≡ current) → (current < back → here + back ≡ current + count) → (place + i ≡ current) ⊎ (place + i ≡ current + count) → here ≡ place
+same-place current count back i place here inside is near far at =
+    elim (cases_lt current back) [
+      | inl later ↦ let own = far later in elim at [ inl one ↦ absurd (omega (arith, one, is, later)) | inr two ↦ omega (arith, own, two, is) ]
+      | inr up ↦ let own = near up in elim at [ inl one ↦ omega (arith, own, one, is) | inr two ↦ absurd (omega (arith, two, is, up, inside)) ]
+    ]
+
 -- ---- no entry behind a place has an id
 
-or-first-none : {X : Type 0} (o rest : Option X) → option_or o rest ≡ None → o ≡ None
-or-first-none None rest e = refl
-or-first-none (Some x) rest e = e
+or-second : {X : Type 0} (o rest : Option X) → option_or o rest ≡ None → rest ≡ None
+or-second None rest e = e
+or-second (Some x) rest e = absurd (some_none x e)
 
 itself : (id : ℕ) → in_range id id id ≡ true
 itself id = let same : id ≤ id = omega arith in ap (λ (t : Bool). t && leb id id) (le-leb id id same) ∙ le-leb id id same
@@ -98,12 +107,6 @@ module _ (k : SectorFormat) (sectors : List (List ℕ)) (current id : ℕ) (low 
       let from = listed.from in
       let to = listed.listed in
       none-from p.sector (p.slot - k.first + 1) (omega arith) (subst (λ (n : ℕ). AreOthers k (sector_at sectors p.sector) n (k.count (sector_at sectors p.sector)) id id) is others) ∙ none
-
-  -- then the sectors behind it have none
-  pub later-behind : (p : Placed) → NoneLater k sectors current p id → last_of_id id (behind k sectors current p.sector) ≡ None
-  later-behind p none =
-      or-first-none (last_of_id id (behind k sectors current p.sector)) (last_of_id id (counted_from k sectors current p.sector (p.slot - k.first + 1)))
-      (sym (last-append (λ (q : Placed). eqb q.id id) (counted_from k sectors current p.sector (p.slot - k.first + 1)) (behind k sectors current p.sector)) ∙ none)
 
 -- two answers of which neither rules out more than it may
 pub or-rules-out : (one other both : Bool) → both ≡ (one || other) → both ≡ false → (one ≡ false) × (other ≡ false)
@@ -162,6 +165,32 @@ module _ (k : SectorFormat) (b : List ℕ) (items : Items) (ids : IdRange) (byte
         | inr behind ↦ none slot e behind to read holds
       ]
 
+-- ---- the latest entry of a cache slot
+
+-- none behind it has an id of that cache slot
+none-behind-latest : (k : SectorFormat) (sectors : List (List ℕ)) (id : ℕ) (p : Placed) (later : List Placed) → AreBehind k sectors p later → latest_of (id % 64) (all_placed (slots k) sectors) ≡ Some p → last_of_id id later ≡ None
+none-behind-latest k sectors id p later at latest =
+    latest-none id later
+    (elim (option_cases (latest_of (id % 64) later)) [
+      | inl none ↦ none
+      | inr (q, some) ↦
+          let own : latest_of (id % 64) (p ∷ later) ≡ Some q =
+          last-append (λ (r : Placed). eqb (r.id % 64) (id % 64)) (p ∷ []) later ∙ ap (λ (o : Option Placed). option_or o (latest_of (id % 64) (p ∷ []))) some in
+          let found : latest_of (id % 64) (all_placed (slots k) sectors) ≡ Some q =
+          ap (latest_of (id % 64)) at.split ∙ last-append (λ (r : Placed). eqb (r.id % 64) (id % 64)) at.prefix (p ∷ later) ∙ ap (λ (o : Option Placed). option_or o (latest_of (id % 64) at.prefix)) own in
+          let same : q ≡ p = one_placed q p (sym found ∙ latest) in
+          let apart : q.sector ≡ p.sector → q.slot ≡ p.slot → ⊥ =
+          subst (λ (o : Option Placed). IfSome o (λ r. r.sector ≡ p.sector → r.slot ≡ p.slot → ⊥)) some
+          (last-all (λ (r : Placed). eqb (r.id % 64) (id % 64)) (λ (r : Placed). r.sector ≡ p.sector → r.slot ≡ p.slot → ⊥) later None tt at.apart) in
+          absurd (apart (ap (λ (r : Placed). r.sector) same) (ap (λ (r : Placed). r.slot) same))
+    ])
+
+-- an entry of another id before others
+skip-other : (id place : ℕ) (e : Option Entry) (later : List Placed) → IsOther id id e → last_of_id id later ≡ None → last_of_id id (option_to_list (option_map (placed_at place) e) ++ later) ≡ None
+skip-other id place None later other none = none
+skip-other id place (Some e) later other none =
+    prefix-other id (placed_at place e) later (ne_eqb e.id id (λ (same : e.id ≡ id). false≢true (sym other ∙ ap (in_range id id) same ∙ itself id))) ∙ none
+
 -- ---- a store on its area
 
 module _ {T : Type 0} (role : Role) (format_of : Geometry → SectorFormat) (kept : Geometry → List ℕ → T) (d : Device) (store : Store T) (law : IsSectorFormat (format_of (geometry_of d store.area))) (lawful : IsLawful d.banks d.bytes) (on : StandsOn role format_of kept d store) where
@@ -170,6 +199,12 @@ module _ {T : Type 0} (role : Role) (format_of : Geometry → SectorFormat) (kep
 
   abbrev here : List (List ℕ)
   here = sectors_of d store.area
+
+  -- the latest entry of an id's cache slot stands in its slot
+  pub placed-latest : (id : ℕ) (p : Placed) → Some p ≡ latest_on format_of d store.area id → IsPlaced (format_of (geometry_of d store.area)) (sectors_of d store.area) store.current p
+  placed-latest id p is =
+      subst (λ (j : ℕ). IsPlaced k here j p) (sym on.current)
+      (subst (λ (o : Option Placed). IfSome o (IsPlaced k here (open_sector k.reading here))) (sym is) (latest-placed k law here (id % 64) (some_sectors role format_of kept d store law lawful on)))
 
   module _ (p : Placed) (placed : IsPlaced (format_of (geometry_of d store.area)) (sectors_of d store.area) store.current p) where
     -- how many slots stand before it in its sector
@@ -205,29 +240,48 @@ module _ {T : Type 0} (role : Role) (format_of : Geometry → SectorFormat) (kep
     value-last none =
         value_by role format_of kept d store law lawful on (Some p) p.id (sym (last-at p (later_at k law here store.current p.sector (n + 1)) (at-slot n p more read-at) (none-at p.id none)))
 
-    -- the entry in the slot before it is the last of its id where neither it nor one behind it has the id
-    pub last-before : (id slot : ℕ) (q : Placed) → (p.id ≡ id → ⊥) → NoneLater (format_of (geometry_of d store.area)) (sectors_of d store.area) store.current p id
-        → (format_of (geometry_of d store.area)).first < p.slot → slot ≡ p.slot - 1
-        → Some q ≡ option_map (placed_at p.sector) ((format_of (geometry_of d store.area)).in_slot (sector_at (sectors_of d store.area) p.sector) slot) → q.id ≡ id
-        → Some q ≡ last_placed (slots (format_of (geometry_of d store.area))) (sectors_of d store.area) id
-    last-before id slot q other none behind-first is found own =
-        let back : slot ≡ k.first + (n - 1) = omega arith in
-        let up : n - 1 + 1 ≡ n = omega arith in
-        let read : option_map (placed_at p.sector) (k.in_slot (sector_at here p.sector) (k.first + (n - 1))) ≡ Some q =
-        sym (found ∙ ap (λ (m : ℕ). option_map (placed_at p.sector) (k.in_slot (sector_at here p.sector) m)) back) in
-        let at : AreBehind k here q (later_at k law here store.current p.sector n) =
-        subst (λ (m : ℕ). AreBehind k here q (later_at k law here store.current p.sector m)) up (at-slot (n - 1) q (omega (arith, more)) read) in
+    -- no slot from one on, up to its own, has the id
+    free-from : (id steps from : ℕ) → from + steps ≡ n → AreOthers k (sector_at here p.sector) from n id id → last_of_id id (later_at k law here store.current p.sector n) ≡ None → last_of_id id (later_at k law here store.current p.sector from) ≡ None
+    free-from id zero from at others none = let same : n ≡ from = omega (arith, at) in subst (λ (m : ℕ). last_of_id id (later_at k law here store.current p.sector m) ≡ None) same none
+    free-from id (suc steps) from at others none =
+        let inside : from < k.count (sector_at here p.sector) = omega (arith, at, more) in
+        let rest : last_of_id id (later_at k law here store.current p.sector (from + 1)) ≡ None = free-from id steps (from + 1) (omega (arith, at)) (λ slot low high. others slot (omega (arith, low)) high) none in
+        ap (last_of_id id) (sym (later_step k law here store.current p.sector from inside))
+        ∙ skip-other id p.sector (k.in_slot (sector_at here p.sector) (k.first + from)) (later_at k law here store.current p.sector (from + 1)) (others (k.first + from) (omega arith) (omega (arith, at))) rest
+
+    -- It is the latest one of its cache slot, and of another id. None from its slot on has the id.
+    none-above : (id : ℕ) → latest_of (id % 64) (all_placed (slots k) here) ≡ Some p → (p.id ≡ id → ⊥) → last_of_id id (later_at k law here store.current p.sector n) ≡ None
+    none-above id latest other =
         let next : p ∷ later_at k law here store.current p.sector (n + 1) ≡ later_at k law here store.current p.sector n =
         ap (λ (o : Option Placed). option_to_list o ++ later_at k law here store.current p.sector (n + 1)) (sym read-at) ∙ later_step k law here store.current p.sector n more in
-        let free : last_of_id id (later_at k law here store.current p.sector n) ≡ None =
-        ap (last_of_id id) (sym next) ∙ prefix-other id p (later_at k law here store.current p.sector (n + 1)) (ne_eqb p.id id other) ∙ none-at id none in
-        sym (ap (last_placed (slots k) here) (sym own) ∙ last-at q (later_at k law here store.current p.sector n) at (ap (λ (j : ℕ). last_of_id j (later_at k law here store.current p.sector n)) own ∙ free))
+        ap (last_of_id id) (sym next) ∙ prefix-other id p (later_at k law here store.current p.sector (n + 1)) (ne_eqb p.id id other)
+        ∙ none-behind-latest k here id p (later_at k law here store.current p.sector (n + 1)) (at-slot n p more read-at) latest
 
-    -- a search up to its sector is enough where none behind it has the id
-    pub last-up-to : (id : ℕ) → NoneLater (format_of (geometry_of d store.area)) (sectors_of d store.area) store.current p id
-        → last_of (slots (format_of (geometry_of d store.area))) id (flat_map (counted_in (slots (format_of (geometry_of d store.area))) (sectors_of d store.area) store.current) (places_before (length (sectors_of d store.area)) store.current p.sector ++ p.sector ∷ []))
-        ≡ last_placed (slots (format_of (geometry_of d store.area))) (sectors_of d store.area) id
-    last-up-to id none = up-to-enough k here store.current p.sector on.current low-on placed.listed.within id (later-behind k here store.current id low-on p none)
+    -- nor has one of its sector, if none of the slots before it has
+    pub none-here : (id : ℕ) → latest_of (id % 64) (all_placed (slots (format_of (geometry_of d store.area))) (sectors_of d store.area)) ≡ Some p → (p.id ≡ id → ⊥)
+        → AreOthers (format_of (geometry_of d store.area)) (sector_at (sectors_of d store.area) p.sector) 0 (p.slot - (format_of (geometry_of d store.area)).first) id id
+        → last_of (slots (format_of (geometry_of d store.area))) id (counted_in (slots (format_of (geometry_of d store.area))) (sectors_of d store.area) store.current p.sector) ≡ None
+    none-here id latest other others =
+        let free : last_of_id id (later_at k law here store.current p.sector 0) ≡ None = free-from id n 0 (omega arith) others (none-above id latest other) in
+        or-second (last_of_id id (behind k here store.current p.sector)) (last_of_id id (counted_in (slots k) here store.current p.sector))
+        (sym (last-append (λ (q : Placed). eqb q.id id) (counted_in (slots k) here store.current p.sector) (behind k here store.current p.sector))
+        ∙ ap (last_of_id id) (sym (later_all k law here store.current p.sector placed.counts)) ∙ free)
+
+    -- The last of the slots before it that has the id holds the last entry of the id.
+    pub last-near : (id reach slot : ℕ) (q : Placed) → latest_of (id % 64) (all_placed (slots (format_of (geometry_of d store.area))) (sectors_of d store.area)) ≡ Some p → (p.id ≡ id → ⊥) → 0 < reach
+        → reach ≤ p.slot - (format_of (geometry_of d store.area)).first
+        → AreOthers (format_of (geometry_of d store.area)) (sector_at (sectors_of d store.area) p.sector) reach (p.slot - (format_of (geometry_of d store.area)).first) id id
+        → slot ≡ (format_of (geometry_of d store.area)).first + (reach - 1)
+        → Some q ≡ option_map (placed_at p.sector) ((format_of (geometry_of d store.area)).in_slot (sector_at (sectors_of d store.area) p.sector) slot) → q.id ≡ id
+        → Some q ≡ last_placed (slots (format_of (geometry_of d store.area))) (sectors_of d store.area) id
+    last-near id reach slot q latest other some few others back found own =
+        let up : reach - 1 + 1 ≡ reach = omega (arith, some) in
+        let read : option_map (placed_at p.sector) (k.in_slot (sector_at here p.sector) (k.first + (reach - 1))) ≡ Some q =
+        sym (found ∙ ap (λ (m : ℕ). option_map (placed_at p.sector) (k.in_slot (sector_at here p.sector) m)) back) in
+        let at : AreBehind k here q (later_at k law here store.current p.sector reach) =
+        subst (λ (m : ℕ). AreBehind k here q (later_at k law here store.current p.sector m)) up (at-slot (reach - 1) q (omega (arith, some, few, more)) read) in
+        let free : last_of_id id (later_at k law here store.current p.sector reach) ≡ None = free-from id (n - reach) reach (omega (arith, few)) others (none-above id latest other) in
+        sym (ap (last_placed (slots k) here) (sym own) ∙ last-at q (later_at k law here store.current p.sector reach) at (ap (λ (j : ℕ). last_of_id j (later_at k law here store.current p.sector reach)) own ∙ free))
 
   module _ (ids : IdRange) (bytes : List ℕ) (place start : ℕ) (p : Placed) (inside : place < store.area.sectors) (low : (format_of (geometry_of d store.area)).first ≤ start)
       (holder : IsFirstHolder (format_of (geometry_of d store.area)) (sector_at (sectors_of d store.area) place) place ids bytes start p) where

@@ -1,5 +1,5 @@
 -- What steps one after the other spend, within their ranges.
-use Rattle.std.proofs.Common.{◌≡◌, ℕ, ◌+◌, ◌≤◌, max, Bool, true, false, cond, List, [], ◌∷◌, length, arith}
+use Rattle.std.proofs.Common.{◌≡◌, ℕ, ◌+◌, ◌≤◌, max, Bool, true, false, cond, eqb, List, [], ◌∷◌, length, arith}
 use Rattle.std.specs.Prelude.{is_err, Result, Ok, Err, OnOk, OnErr}
 use Rattle.std.proofs.lemmas.Bool.{false≢true}
 use Rattle.std.proofs.lemmas.List.Sums.{sum_by-cons}
@@ -14,7 +14,7 @@ use Rattle.item_store.specs.declared.entry.Redo.{Redo}
 use Rattle.item_store.specs.declared.entry.Redo.TheVariants.{Nothing, ClearNext, CollectAgain}
 use Rattle.item_store.specs.Collecting.{redo_units}
 use Rattle.item_store.specs.SectorFormat.{Range, LiesIn, CoversWhole, SectorFormat, IsSectorFormat, is_clean_at, making_ready}
-use Rattle.item_store.specs.Spending.{none, both, copies, collect_units, ready_units, again_units, has_victim, round_units}
+use Rattle.item_store.specs.Spending.{none, both, copies, collect_with, victim_units, collect_units, ready_units, again_with, again_units, has_victim, round_clear, round_units}
 use Rattle.item_store.specs.Standing.{SpendsBy, SpendsIn, SpendsUpTo}
 
 -- ---- how a call ended
@@ -65,6 +65,30 @@ within-in a b one wide lies spends = between_within spends wide.least wide.most 
 pub within-lost : (a b : Device) (one wide : Range) → LiesIn one wide → SpendsUpTo a b one → SpendsUpTo a b wide
 within-lost a b one wide lies spends = between_within spends 0 wide.lost (omega arith) lies.lost
 
+pub lies_same : (range : Range) → LiesIn range range
+lies_same range = record { least = omega arith; most = omega arith; lost = omega arith }
+
+max-more : (a b c d : ℕ) → a ≤ c → b ≤ d → max a b ≤ max c d
+max-more a b c d first second = omega arith
+
+pub both-lies : (one other wide wider : Range) → LiesIn one wide → LiesIn other wider → LiesIn (both one other) (both wide wider)
+both-lies one other wide wider first second =
+    let one_least = first.least in
+    let one_most = first.most in
+    let one_lost = first.lost in
+    let least = second.least in
+    let most = second.most in
+    let lost = second.lost in
+    record {
+      least = omega arith;
+      most = omega arith;
+      lost = max-more one.lost (one.most + other.lost) wide.lost (wide.most + wider.lost) one_lost (omega arith);
+    }
+
+pub cond-lies : (t : Bool) (one other wide wider : Range) → LiesIn one wide → LiesIn other wider → LiesIn (cond t one other) (cond t wide wider)
+cond-lies true one other wide wider first second = first
+cond-lies false one other wide wider first second = second
+
 -- both are covered
 pub both-covers : (one other : Range) → CoversWhole one → CoversWhole other → CoversWhole (both one other)
 both-covers one other first second = let le = max-second one.lost (one.most + other.lost) in omega arith
@@ -97,22 +121,31 @@ one-lost : (t : Bool) (one other : Range) (most : ℕ) → other.lost ≤ most �
 one-lost true one other most le = max-first one.lost most
 one-lost false one other most le = let second = max-second one.lost most in omega arith
 
+-- each of the two
+one-most : (t : Bool) (one other : Range) (most : ℕ) → one.lost ≤ most → other.lost ≤ most → (cond t one other).lost ≤ most
+one-most true one other most first second = first
+one-most false one other most first second = second
+
 module _ (k : SectorFormat) (law : IsSectorFormat k) where
   copied-covers : (pairs : List (ℕ × List ℕ)) → CoversWhole (copies k pairs)
   copied-covers pairs = copies-cover (λ len. (k.units.any_copy len).most) (λ len. (k.units.any_copy len).lost) law.units.any_copies pairs
 
-  -- gc-done, and the emptying of the victim
-  done-covers : CoversWhole (both k.units.any_done k.units.any_clear)
-  done-covers = both-covers k.units.any_done k.units.any_clear law.units.any_dones law.units.any_clears
+  -- gc-done and the emptying of the victim, behind them
+  with-covers : (sectors : List (List ℕ)) (place : ℕ) (emptying : Range) → CoversWhole emptying → CoversWhole (collect_with k sectors place emptying)
+  with-covers sectors place emptying covers =
+      both-covers (copies k (to_copy k.reading sectors place)) (both k.units.any_done emptying) (copied-covers (to_copy k.reading sectors place)) (both-covers k.units.any_done emptying law.units.any_dones covers)
+
+  with-lost : (sectors : List (List ℕ)) (place : ℕ) (emptying : Range) → emptying.lost ≤ k.units.any_clear.lost → (collect_with k sectors place emptying).lost ≤ copies_cost (λ len. (k.units.any_copy len).lost) (to_copy k.reading sectors place) + (k.units.any_done.lost + k.units.any_clear.lost)
+  with-lost sectors place emptying le =
+      let outer = both-lost (copies k (to_copy k.reading sectors place)) (both k.units.any_done emptying) (copied-covers (to_copy k.reading sectors place)) in
+      let inner = both-lost k.units.any_done emptying law.units.any_dones in
+      omega arith
 
   collect-covers : (sectors : List (List ℕ)) (place : ℕ) → CoversWhole (collect_units k sectors place)
-  collect-covers sectors place = both-covers (copies k (to_copy k.reading sectors place)) (both k.units.any_done k.units.any_clear) (copied-covers (to_copy k.reading sectors place)) done-covers
+  collect-covers sectors place = with-covers sectors place (victim_units k sectors place) (law.units.clears (sector_at sectors (next sectors place)))
 
   collect-lost : (sectors : List (List ℕ)) (place : ℕ) → (collect_units k sectors place).lost ≤ copies_cost (λ len. (k.units.any_copy len).lost) (to_copy k.reading sectors place) + (k.units.any_done.lost + k.units.any_clear.lost)
-  collect-lost sectors place =
-      let outer = both-lost (copies k (to_copy k.reading sectors place)) (both k.units.any_done k.units.any_clear) (copied-covers (to_copy k.reading sectors place)) in
-      let inner = both-lost k.units.any_done k.units.any_clear law.units.any_dones in
-      omega arith
+  collect-lost sectors place = with-lost sectors place (victim_units k sectors place) (law.units.clear_lost (sector_at sectors (next sectors place)))
 
   ready-covers : (sectors : List (List ℕ)) (place : ℕ) → CoversWhole (ready_units k sectors place)
   ready-covers sectors place =
@@ -147,29 +180,46 @@ module _ (k : SectorFormat) (law : IsSectorFormat k) where
     opening-covers : CoversWhole opening
     opening-covers = one-covers k.opens_ready (ready_units k sectors opened) none (ready-covers sectors opened) none-covers
 
-    again-covers : CoversWhole (again_units k sectors opened)
-    again-covers = both-covers (ready_units k sectors opened) (collect_units k sectors opened) (ready-covers sectors opened) (collect-covers sectors opened)
+    -- with one
+
+    clear-covers : CoversWhole (round_clear k sectors place)
+    clear-covers =
+        let last = next sectors (next sectors place) in
+        one-covers (eqb last place) k.units.any_clear (k.units.clear (sector_at sectors last)) law.units.any_clears (law.units.clears (sector_at sectors last))
+
+    clear-most : (round_clear k sectors place).lost ≤ k.units.any_clear.lost
+    clear-most =
+        let last = next sectors (next sectors place) in
+        one-most (eqb last place) k.units.any_clear (k.units.clear (sector_at sectors last)) k.units.any_clear.lost (omega arith) (law.units.clear_lost (sector_at sectors last))
+
+    abbrev passing : Range
+    passing = again_with k sectors opened (round_clear k sectors place)
+
+    passing-covers : CoversWhole passing
+    passing-covers =
+        both-covers (ready_units k sectors opened) (collect_with k sectors opened (round_clear k sectors place)) (ready-covers sectors opened)
+        (with-covers sectors opened (round_clear k sectors place) clear-covers)
 
     pub round-covers : CoversWhole (round_units k sectors place)
     round-covers =
-        both-covers (k.units.close (sector_at sectors place)) (cond (has_victim k sectors place) (again_units k sectors opened) opening) (law.units.closes (sector_at sectors place))
-        (one-covers (has_victim k sectors place) (again_units k sectors opened) opening again-covers opening-covers)
+        both-covers (k.units.close (sector_at sectors place)) (cond (has_victim k sectors place) passing opening) (law.units.closes (sector_at sectors place))
+        (one-covers (has_victim k sectors place) passing opening passing-covers opening-covers)
 
     opening-lost : (t : Bool) → (cond t (ready_units k sectors opened) none).lost ≤ (ready_units k sectors opened).lost
     opening-lost true = omega arith
     opening-lost false = omega arith
 
-    rest-lost : (t : Bool) → (cond t (again_units k sectors opened) opening).lost
+    rest-lost : (t : Bool) → (cond t passing opening).lost
         ≤ (ready_units k sectors opened).lost + (copies_cost (λ len. (k.units.any_copy len).lost) (to_copy k.reading sectors opened) + (k.units.any_done.lost + k.units.any_clear.lost))
     rest-lost false = let le = opening-lost k.opens_ready in omega arith
     rest-lost true =
-        let inner = both-lost (ready_units k sectors opened) (collect_units k sectors opened) (ready-covers sectors opened) in
-        let later = collect-lost sectors opened in
+        let inner = both-lost (ready_units k sectors opened) (collect_with k sectors opened (round_clear k sectors place)) (ready-covers sectors opened) in
+        let later = with-lost sectors opened (round_clear k sectors place) clear-most in
         omega arith
 
     pub round-lost : (round_units k sectors place).lost ≤ (k.units.close (sector_at sectors place)).lost
         + ((making_ready k (sector_at sectors (next sectors place))).lost + (copies_cost (λ len. (k.units.any_copy len).lost) (to_copy k.reading sectors (next sectors place)) + (k.units.any_done.lost + k.units.any_clear.lost)))
     round-lost =
-        let outer = both-lost (k.units.close (sector_at sectors place)) (cond (has_victim k sectors place) (again_units k sectors opened) opening) (law.units.closes (sector_at sectors place)) in
+        let outer = both-lost (k.units.close (sector_at sectors place)) (cond (has_victim k sectors place) passing opening) (law.units.closes (sector_at sectors place)) in
         let later = rest-lost (has_victim k sectors place) in
         omega arith

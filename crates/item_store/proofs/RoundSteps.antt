@@ -1,7 +1,7 @@
 -- A whole round of close and collect, and the room that it leaves.
 use Rattle.std.proofs.Common.{◌≡◌, ℕ, ◌+◌, ◌*◌, ◌<◌, ◌≤◌, Bool, true, false, not, ◌||◌, cond, eqb, leb, List, [], ◌∷◌, ◌++◌, length, map, sym, ap, subst, ◌∙◌, inl, inr, ◌⊎◌, arith}
 use Rattle.std.specs.List.{flat_map, All}
-use Rattle.std.proofs.lemmas.Bool.{false≢true, cases_Bool, cases_eq, cond-false, eq-eqb, ne_eqb, leb-true, le-leb, ltb-false, not_from_true, not_from_false}
+use Rattle.std.proofs.lemmas.Bool.{false≢true, cases_Bool, cases_eq, cond-true, cond-false, eq-eqb, ne_eqb, leb-true, le-leb, ltb-false, not_from_true, not_from_false}
 use Rattle.std.proofs.lemmas.List.Elements.{All-nil, All-cons}
 use Rattle.flash_map.specs.Area.{sector_at, ChangesOnly}
 use Rattle.item_laws.specs.Items.{last}
@@ -16,14 +16,15 @@ use Rattle.item_laws.proofs.Parts.{map_agree}
 use Rattle.item_laws.proofs.RingSteps.{reads}
 use Rattle.item_laws.proofs.Places.{after, after-within, after-apart, flat_map-agree}
 use Rattle.item_laws.proofs.Rounding.{round_blank, round_collected}
-use Rattle.item_store.specs.SectorFormat.{SectorFormat, IsSectorFormat, making_ready, entries, fits}
+use Rattle.item_store.specs.SectorFormat.{Range, LiesIn, SectorFormat, IsSectorFormat, making_ready, entries, fits}
 use Rattle.item_store.specs.Steps.{Keeps, Closes, StopsClearing}
-use Rattle.item_store.specs.Spending.{none, both, copies, collect_units, ready_units, again_units, open_units, has_victim}
+use Rattle.item_store.specs.Spending.{none, both, copies, collect_with, victim_units, collect_units, ready_units, again_with, again_units, open_units, has_victim, round_clear}
 use Rattle.item_store.specs.Standing.{KeepsItems}
 use Rattle.item_store.specs.Collecting.{HasOpened, CollectsAt, DoesPassAt}
 use Rattle.item_store.proofs.VersionLemmas.{keeps_all}
 use Rattle.item_store.proofs.Areas.{keeps-by, keeps_list, only_length, only_else, copied-le}
 use Rattle.item_store.proofs.PutSteps.{HasNotPut, has_not_put}
+use Rattle.item_store.proofs.Ranges.{lies_same, both-lies, cond-lies}
 use Rattle.item_store.proofs.WrittenSteps.{closed-used}
 
 -- two comparisons that come to the same
@@ -282,11 +283,42 @@ module _ (k : SectorFormat) (law : IsSectorFormat k) where
         ∙ ap (λ ps. live_pairs ps (flat_map (pairs_at R mid) (rest (length old) q))) (pairs_same (next old q))
         ∙ ap (live_pairs (pairs_at R old (next old q))) (flat_map-agree (pairs_at R mid) (pairs_at R old) (rest (length old) q) (everywhere (rest (length old) q)))
 
+    -- the emptying of the victim, whose bytes are those before the round if the area has another sector
+    clear-lies : LiesIn (victim_units k mid (next old place)) (round_clear k old place)
+    clear-lies =
+        let last : ℕ = next old (next old place) in
+        let there : victim_units k mid (next old place) ≡ k.units.clear (sector_at mid (next old (next old place))) = ap (λ (v : ℕ). k.units.clear (sector_at mid v)) same_next in
+        elim (cases_eq (next old (next old place)) place) [
+          | inl e ↦
+              let any : round_clear k old place ≡ k.units.any_clear = cond-true (eqb last place) k.units.any_clear (k.units.clear (sector_at old last)) (eq-eqb last place e) in
+              let shut : R.is_closed (sector_at mid (next old (next old place))) ≡ true = ap (is_closed_at R mid) e ∙ closes.list.closed in
+              subst (λ (r : Range). LiesIn (victim_units k mid (next old place)) r) (sym any)
+              (subst (λ (r : Range). LiesIn r k.units.any_clear) (sym there) (law.clear_in (sector_at mid (next old (next old place))) shut))
+          | inr apart ↦
+              let own : round_clear k old place ≡ k.units.clear (sector_at old last) = cond-false (eqb last place) k.units.any_clear (k.units.clear (sector_at old last)) (ne_eqb last place apart) in
+              let same : victim_units k mid (next old place) ≡ round_clear k old place = there ∙ ap k.units.clear (only_else old mid place (next old (next old place)) only apart) ∙ sym own in
+              subst (λ (r : Range). LiesIn (victim_units k mid (next old place)) r) same (lies_same (victim_units k mid (next old place)))
+        ]
+
     -- what is left of them behind the close
-    pub units-opened : open_units k mid (next old place)
-        ≡ cond (has_victim k old place) (again_units k old (next old place)) (cond k.opens_ready (ready_units k old (next old place)) none)
-    units-opened =
+    units-are : open_units k mid (next old place)
+        ≡ cond (has_victim k old place) (again_with k old (next old place) (victim_units k mid (next old place))) (cond k.opens_ready (ready_units k old (next old place)) none)
+    units-are =
         let q = next old place in
         ap (λ (t : Bool). cond t (again_units k mid q) (cond k.opens_ready (ready_units k mid q) none)) (sym victim-is)
         ∙ ap (λ (b : List ℕ). cond (has_victim k old place) (both (making_ready k b) (collect_units k mid q)) (cond k.opens_ready (making_ready k b) none)) opened-same
-        ∙ ap (λ ps. cond (has_victim k old place) (both (ready_units k old q) (both (copies k ps) (both k.units.any_done k.units.any_clear))) (cond k.opens_ready (ready_units k old q) none)) copies-same
+        ∙ ap (λ ps. cond (has_victim k old place) (both (ready_units k old q) (both (copies k ps) (both k.units.any_done (victim_units k mid q)))) (cond k.opens_ready (ready_units k old q) none)) copies-same
+
+    pub units-opened : LiesIn (open_units k mid (next old place))
+        (cond (has_victim k old place) (again_with k old (next old place) (round_clear k old place)) (cond k.opens_ready (ready_units k old (next old place)) none))
+    units-opened =
+        let q : ℕ = next old place in
+        let now : Range = victim_units k mid (next old place) in
+        let before : Range = round_clear k old place in
+        let copied : Range = copies k (to_copy k.reading old (next old place)) in
+        let opening : Range = cond k.opens_ready (ready_units k old (next old place)) none in
+        let marked : LiesIn (both k.units.any_done now) (both k.units.any_done before) = both-lies k.units.any_done now k.units.any_done before (lies_same k.units.any_done) clear-lies in
+        let collected : LiesIn (collect_with k old q now) (collect_with k old q before) = both-lies copied (both k.units.any_done now) copied (both k.units.any_done before) (lies_same copied) marked in
+        let again : LiesIn (again_with k old q now) (again_with k old q before) = both-lies (ready_units k old q) (collect_with k old q now) (ready_units k old q) (collect_with k old q before) (lies_same (ready_units k old q)) collected in
+        subst (λ (r : Range). LiesIn r (cond (has_victim k old place) (again_with k old (next old place) (round_clear k old place)) (cond k.opens_ready (ready_units k old (next old place)) none))) (sym units-are)
+        (cond-lies (has_victim k old place) (again_with k old q now) opening (again_with k old q before) opening again (lies_same opening))

@@ -4,6 +4,7 @@ use Rattle.std.specs.Prelude.{IfSome}
 use Rattle.std.specs.List.{flat_map, range_with_len}
 use Rattle.std.specs.Option.{option_or}
 use Rattle.std.proofs.lemmas.Bool.{lt-ltb, le-ltb}
+use Rattle.std.proofs.lemmas.List.{append-nil}
 use Rattle.std.proofs.lemmas.List.Concat.{flat_map-append}
 use Rattle.item_laws.specs.Area.{round, open_sector}
 use Rattle.item_laws.specs.Live.{all_placed, counted_in, last_of, last_placed}
@@ -42,6 +43,18 @@ up-far count current place le =
     ∙ ap (λ (js : List ℕ). range_with_len (current + 1) (count - (current + 1)) ++ js) (range-append 0 place 1 ∙ ap (λ (j : ℕ). range_with_len 0 place ++ j ∷ []) at)
     ∙ sym (append_assoc (range_with_len (current + 1) (count - (current + 1))) (range_with_len 0 place) (place ∷ []))
     ∙ ap (λ (js : List ℕ). js ++ place ∷ []) (sym before)
+
+-- ---- the places before one
+
+pub before-near : (count current place : ℕ) → current < place → range_with_len (current + 1) (place - (current + 1)) ≡ places_before count current place
+before-near count current place lt =
+    sym (ap (λ (t : Bool). cond t (range_with_len (current + 1) (place - (current + 1))) (range_with_len (current + 1) (count - (current + 1)) ++ range_with_len 0 place)) (lt-ltb current place lt))
+
+pub before-far : (count current place : ℕ) → place ≤ current → range_with_len (current + 1) (count - (current + 1)) ++ range_with_len 0 (place - 0) ≡ places_before count current place
+before-far count current place le =
+    let width : place - 0 ≡ place = omega arith in
+    ap (λ (n : ℕ). range_with_len (current + 1) (count - (current + 1)) ++ range_with_len 0 n) width
+    ∙ sym (ap (λ (t : Bool). cond t (range_with_len (current + 1) (place - (current + 1))) (range_with_len (current + 1) (count - (current + 1)) ++ range_with_len 0 place)) (le-ltb current place le))
 
 -- ---- no entry behind them has the id
 
@@ -82,3 +95,13 @@ module _ (k : SectorFormat) (sectors : List (List ℕ)) (current place : ℕ) (i
 
     pub search-enough : last_of (slots k) id (flat_map (counted_in (slots k) sectors current) (places_before (length sectors) current place ++ place ∷ [])) ≡ last_placed (slots k) sectors id
     search-enough = up-to-enough id (latest-none id (behind k sectors current place) none-behind)
+
+    -- nor has one of it: a search before it is enough
+    pub search-before : last_of (slots k) id (counted_in (slots k) sectors current place) ≡ None
+        → last_of (slots k) id (flat_map (counted_in (slots k) sectors current) (places_before (length sectors) current place)) ≡ last_placed (slots k) sectors id
+    search-before none =
+        let before : List Placed = flat_map (counted_in (slots k) sectors current) (places_before (length sectors) current place) in
+        let here : last_of_id id (flat_map (counted_in (slots k) sectors current) (place ∷ [])) ≡ None = ap (last_of_id id) (append-nil (counted_in (slots k) sectors current place)) ∙ none in
+        sym (ap (last_of_id id) (flat_map-append (counted_in (slots k) sectors current) (places_before (length sectors) current place) (place ∷ []))
+        ∙ last-append (λ (r : Placed). eqb r.id id) before (flat_map (counted_in (slots k) sectors current) (place ∷ [])) ∙ ap (λ (o : Option Placed). option_or o (last_of_id id before)) here)
+        ∙ search-enough

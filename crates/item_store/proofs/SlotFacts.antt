@@ -1,5 +1,5 @@
 -- One slot of the victim, in the words of the code.
-use Rattle.std.proofs.Common.{◌≡◌, ℕ, ◌+◌, ◌-◌, ◌*◌, ◌<◌, ◌≤◌, Bool, true, false, Option, List, [], ◌∷◌, length, sym, ap, subst, ◌∙◌, arith}
+use Rattle.std.proofs.Common.{◌≡◌, ℕ, ◌+◌, ◌-◌, ◌*◌, ◌^◌, ◌<◌, ◌≤◌, Bool, true, false, Option, List, [], ◌∷◌, length, sym, ap, subst, ◌∙◌, arith}
 use Rattle.std.specs.Prelude.{is_some}
 use Rattle.flash_sim.specs.Bank.{IsLawful}
 use Rattle.flash_sim.specs.Device.{Device}
@@ -29,6 +29,20 @@ current_within a area place within = omega (arith, length-sectors a area)
 
 pub next_within : (a : Device) (area : Area) (place : ℕ) → place < length (sectors_of a area) → next (sectors_of a area) place < area.sectors
 next_within a area place within = let next_in = after-within (length (sectors_of a area)) place within in omega (arith, length-sectors a area)
+
+-- ---- the numbers of slots
+
+pub none_yet : (first : ℕ) → first - first ≡ 0
+none_yet first = omega arith
+
+pub back_at : (own first slot : ℕ) → first ≡ own → first ≤ slot → own + (slot - first) ≡ slot
+back_at own first slot is from = omega (arith, is, from)
+
+pub slot_in : (first slot count : ℕ) → first ≤ slot → slot < first + count → slot - first < count
+slot_in first slot count from more = omega (arith, from, more)
+
+pub below_few : (first slot count : ℕ) → first ≤ slot → slot < first + count → count ≤ 2 ^ 15 → slot - first < 2 ^ 15
+below_few first slot count from more few = omega (arith, from, more, few)
 
 module _ (format_of : Geometry → SectorFormat) (role : Role) (a d : Device) (area : Area) (place victim first slot : ℕ) (law : IsSectorFormat (format_of (geometry_of a area))) (lawful : IsLawful a.banks a.bytes) (is : IsStoreArea role a.banks area) (form : Collecting (format_of (geometry_of a area)).reading (sectors_of a area) place) (at : victim ≡ next (sectors_of a area) place)
     (first_is : first ≡ (format_of (geometry_of a area)).first) (from : first ≤ slot) (so_far : IsCopying (format_of (geometry_of a area)) a d area place (slot - first)) where

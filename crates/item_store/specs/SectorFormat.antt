@@ -39,7 +39,7 @@ pub record Units : Type 0 where
   pub close : List ℕ → Range
   pub clear : List ℕ → Range
   -- the same in any sector, and the emptying of any closed one: the units of a collection follow from
-  -- what is copied, not from what the bytes of a sector become on the way
+  -- what is copied and from the victim's bytes, not from what the bytes of a sector become on the way
   pub any_copy : ℕ → Range
   pub any_done : Range
   pub any_clear : Range

@@ -25,18 +25,30 @@ copies k pairs = record {
   lost = copies_cost (λ len. (k.units.any_copy len).lost) pairs;
 }
 
--- copying, gc-done and the emptying of the victim, with this sector open
+-- The steps of a collection into this open sector: the copies, gc-done, and the emptying of the
+-- victim, which spends so much.
+abbrev pub collect_with : SectorFormat → List (List ℕ) → ℕ → Range → Range
+collect_with k sectors place emptying =
+    both (copies k (to_copy k.reading sectors place)) (both k.units.any_done emptying)
+
+-- The victim is the next sector, and its bytes say what its emptying spends.
+abbrev pub victim_units : SectorFormat → List (List ℕ) → ℕ → Range
+victim_units k sectors place = k.units.clear (sector_at sectors (next sectors place))
+
 abbrev pub collect_units : SectorFormat → List (List ℕ) → ℕ → Range
-collect_units k sectors place =
-    both (copies k (to_copy k.reading sectors place)) (both k.units.any_done k.units.any_clear)
+collect_units k sectors place = collect_with k sectors place (victim_units k sectors place)
 
 -- the open sector is made ready
 abbrev pub ready_units : SectorFormat → List (List ℕ) → ℕ → Range
 ready_units k sectors place = making_ready k (sector_at sectors place)
 
 -- the open sector is made ready before
+abbrev pub again_with : SectorFormat → List (List ℕ) → ℕ → Range → Range
+again_with k sectors place emptying =
+    both (ready_units k sectors place) (collect_with k sectors place emptying)
+
 abbrev pub again_units : SectorFormat → List (List ℕ) → ℕ → Range
-again_units k sectors place = both (ready_units k sectors place) (collect_units k sectors place)
+again_units k sectors place = again_with k sectors place (victim_units k sectors place)
 
 -- A sector that just became the open one: if the next sector is closed, that is collected into it.
 abbrev pub open_units : SectorFormat → List (List ℕ) → ℕ → Range
@@ -51,10 +63,17 @@ has_victim k sectors place =
     let victim = next sectors (next sectors place) in
     (victim == place) || is_closed_at k.reading sectors victim
 
+-- The emptying of a round's victim, by its bytes before the round. With two sectors the victim is
+-- the sector that the round closes: then it is that of any closed sector.
+abbrev pub round_clear : SectorFormat → List (List ℕ) → ℕ → Range
+round_clear k sectors place =
+    let victim = next sectors (next sectors place) in
+    if victim == place then k.units.any_clear else k.units.clear (sector_at sectors victim)
+
 -- A round of close and collect from this open sector. Without a victim there is nothing to collect.
 abbrev pub round_units : SectorFormat → List (List ℕ) → ℕ → Range
 round_units k sectors place =
     let opened = next sectors place in
     both (k.units.close (sector_at sectors place))
-    (if has_victim k sectors place then again_units k sectors opened
+    (if has_victim k sectors place then again_with k sectors opened (round_clear k sectors place)
     else (if k.opens_ready then ready_units k sectors opened else none))

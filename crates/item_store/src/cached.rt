@@ -22,6 +22,10 @@ pub const CACHE_SLOTS: usize = 64;
 impl Notes for Cache {
     ghost noted = { λ start limit cache placed. IsCacheOf cache placed };
 
+    fn is_moot(&self, _id: u32, _len: u32) -> bool {
+        false
+    }
+
     fn note(&mut self, placed: &Placed) {
         Cache::note(self, placed.id, placed.sector, placed.slot);
     }

@@ -1,5 +1,5 @@
 // The least free id of a range, by one walk over the list that notes a bit for each candidate.
-ghost use Rattle.std.specs.Prelude.{◌≡◌, ◌+◌, ◌<◌, ◌≤◌, ◌&&◌, ◌==◌, ℕ, [], not, if◌then◌else◌};
+ghost use Rattle.std.specs.Prelude.{◌≡◌, ◌+◌, ◌<◌, ◌≤◌, ◌&&◌, ◌==◌, ℕ, [], not, true, if◌then◌else◌};
 ghost use Rattle.item_store.specs.OnSector.{IsOpenAt};
 ghost use Rattle.item_store.specs.declared.free.TheConstants.{MOST_CANDIDATES};
 ghost use Rattle.item_store.specs.Free.{is_unmarked, HasMarks, HasTaken, IsFirstUnmarked, IsLeastFree};
@@ -43,6 +43,27 @@ impl Marks {
         }
     }
 
+    // Whether noting that an id has an item, or that it has none, changes no mark.
+    fn is_moot(&self, id: u32, has_item: bool) -> bool
+        ensures { result ≡ true → (n : ℕ) → n < MOST_CANDIDATES
+            → has_bit self.now.bits n
+            ≡ (if id == self.now.first + n then has_item else has_bit self.now.bits n) }
+    {
+        let id = id as u64;
+        if id < self.first {
+            return true;
+        }
+        let n = id - self.first;
+        if n >= MOST_CANDIDATES as u64 {
+            return true;
+        }
+        if has_bit(&self.bits, n as u32) {
+            has_item
+        } else {
+            !has_item
+        }
+    }
+
     // Notes whether an id has an item, if it is one of these.
     fn note(&mut self, id: u32, has_item: bool)
         ensures first { self.new.first ≡ self.old.first }
@@ -71,6 +92,14 @@ pub struct Taken {
 
 impl Notes for Taken {
     ghost noted = { λ start limit taken placed. HasTaken start taken placed };
+
+    fn is_moot(&self, id: u32, len: u32) -> bool {
+        let has_item = len != 0;
+        if !self.lower.is_moot(id, has_item) {
+            return false;
+        }
+        self.upper.is_moot(id, has_item)
+    }
 
     fn note(&mut self, placed: &Placed) {
         let has_item = placed.len != 0;

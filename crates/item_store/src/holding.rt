@@ -1,5 +1,5 @@
 // Looking for an item by its bytes: ids and bytes are compared before CRCs.
-ghost use Rattle.std.specs.Prelude.{◌≡◌, ◌+◌, ◌<◌, ◌^◌, ◌||◌, true, false, Some, length, option_map};
+ghost use Rattle.std.specs.Prelude.{◌≡◌, ◌+◌, ◌<◌, ◌≤◌, ◌^◌, ◌||◌, true, false, Some, length, option_map};
 ghost use Rattle.std.specs.FinMap as map;
 ghost use Rattle.flash_map.specs.Area.{sectors_of};
 ghost use Rattle.item_laws.specs.Items.{value_of};
@@ -13,7 +13,6 @@ ghost use Rattle.item_store.specs.Stands.{StandsOn};
 
 use crate::entry::{IdPair, IdRange, MayHave, Placed};
 use crate::open_area::OpenArea;
-use crate::searching::find_up_to;
 use crate::sectors::SlotSectors;
 use crate::store::Store;
 use flash_sim::{Flash, Steps};
@@ -135,69 +134,6 @@ impl<T: SlotSectors> Store<T> {
         }
     }
 
-    // The last entry of another id, which no entry behind this one has. The slot before is looked
-    // at first: there a new name has its value.
-    fn last_near<F: Flash, L: Ledger>(
-        &self,
-        flash: &F,
-        holder: &Placed,
-        id: u32,
-        steps: &mut Steps<L>,
-    ) -> Option<Placed>
-        requires stands { StandsOn T.role T.format_of T.kept (F.device flash.now) self.now }
-        requires placed { IsPlacedOn T.format_of (F.device flash.now) self.now.area self.now.current
-            holder.now }
-        requires other { holder.now.id ≡ id → ⊥ }
-        requires none { let d = F.device flash.now in
-            NoneLater (format_on T.format_of d self.now.area) (sectors_of d self.now.area)
-            self.now.current holder.now id }
-        ensures { let d = F.device flash.now in let area = self.now.area in
-            result ≡ last_placed (slots (format_on T.format_of d area)) (sectors_of d area) id }
-    {
-        let on = OpenArea {
-            area: &self.area,
-            current: self.current,
-            opened: self.opened,
-        };
-        if holder.slot > T::first_slot() {
-            let slot = holder.slot - 1;
-            if let Some(placed) = T::entry_in(flash, &self.area, holder.sector, slot, steps) {
-                if placed.id == id {
-                    return Some(placed);
-                }
-            }
-        }
-        find_up_to(flash, &on, holder.sector, id, steps)
-    }
-
-    // The bytes of the item of another id. It is looked for near the entry if no entry behind that
-    // may have the id.
-    fn item_near<'a, F: Flash, L: Ledger>(
-        &self,
-        flash: &'a F,
-        holder: &Placed,
-        may_be_later: bool,
-        id: u32,
-        steps: &mut Steps<L>,
-    ) -> Option<&'a [u8]>
-        requires stands { StandsOn T.role T.format_of T.kept (F.device flash.now) self.now }
-        requires placed { IsPlacedOn T.format_of (F.device flash.now) self.now.area self.now.current
-            holder.now }
-        requires other { holder.now.id ≡ id → ⊥ }
-        requires none { let d = F.device flash.now in
-            may_be_later ≡ false
-            → NoneLater (format_on T.format_of d self.now.area) (sectors_of d self.now.area)
-            self.now.current holder.now id }
-        ensures { option_map (λ bytes. bytes.now) result
-            ≡ map.get (items_on T.format_of (F.device flash.now) self.now.area) id }
-    {
-        if may_be_later {
-            return self.get(flash, id, steps);
-        }
-        let placed = self.last_near(flash, holder, id, steps)?;
-        self.bytes_at(flash, &placed, steps)
-    }
-
     // The item of an entry that holds the bytes, and the item a step above it; `None` if the item
     // of the id does not have these bytes.
     fn holder_at<'a, F: Flash, L: Ledger>(
@@ -223,13 +159,13 @@ impl<T: SlotSectors> Store<T> {
     {
         let ids = IdPair {
             lower: holder.id,
-            upper: holder.id + step,
+            upper: holder.id,
         };
         let may = self.may_have_later(flash, holder, &ids, steps);
         if !self.gives_item(flash, holder, may.lower, bytes, steps) {
             return None;
         }
-        let above = self.item_near(flash, holder, may.upper, ids.upper, steps);
+        let above = self.get(flash, holder.id + step, steps);
         Some(Holder {
             id: holder.id,
             above,
@@ -274,11 +210,26 @@ impl<T: SlotSectors> Store<T> {
         None
     }
 
+    // The place so many sectors before the open one, in the round to it.
+    fn newest_but(&self, back: u32) -> u32
+        requires current { self.now.current < self.now.area.sectors }
+        requires back { back < self.now.area.sectors }
+        ensures inside { result < self.now.area.sectors }
+        ensures near { back ≤ self.now.current → result + back ≡ self.now.current }
+        ensures far { self.now.current < back
+            → result + back ≡ self.now.current + self.now.area.sectors }
+    {
+        if back <= self.current {
+            self.current - back
+        } else {
+            self.area.sectors - (back - self.current)
+        }
+    }
+
     /// An id of the range whose item has these bytes, with the item `step` above it; any of them if
-    /// several have, `None` if none has. It searches sector after sector, and compares ids and
-    /// bytes before CRCs. It then reads the ids behind an entry that holds the bytes. An id that
-    /// these may have is looked up as `get` does. The list is searched for the item above if that
-    /// does not stand in the slot before the entry.
+    /// several have, `None` if none has. It searches sector after sector, the newest first, and
+    /// compares ids and bytes before CRCs. It then reads the ids behind an entry that holds the
+    /// bytes. An id that these may have is looked up as `get` does, and so is the item above.
     pub fn holder_of<'a, F: Flash, L: Ledger>(
         &self,
         flash: &'a F,
@@ -296,7 +247,8 @@ impl<T: SlotSectors> Store<T> {
         if bytes.is_empty() {
             return None;
         }
-        for place in 0..self.area.sectors {
+        for back in 0..self.area.sectors {
+            let place = self.newest_but(back);
             let found = self.holder_in(flash, place, ids, step, bytes, steps);
             if found.is_some() {
                 return found;

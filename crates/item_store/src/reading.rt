@@ -1,14 +1,15 @@
 // Reading items.
-ghost use Rattle.std.specs.Prelude.{◌≡◌, ◌+◌, ◌<◌, ◌≤◌, false, Some, None, is_some, IfSome, option_map};
+ghost use Rattle.std.specs.Prelude.{◌≡◌, ◌+◌, ◌-◌, ◌<◌, ◌≤◌, false, Some, None, is_some, IfSome, option_map};
 ghost use Rattle.std.specs.FinMap as map;
 ghost use Rattle.flash_sim.specs.Bank.{IsLawful};
 ghost use Rattle.flash_sim.specs.Device.{Device};
 ghost use Rattle.flash_map.specs.Area.{sectors_of};
 ghost use Rattle.item_laws.specs.Items.{value_of};
-ghost use Rattle.item_laws.specs.Live.{bytes_of};
+ghost use Rattle.item_laws.specs.Live.{bytes_of, last_placed};
 ghost use Rattle.item_laws.specs.NextIds.{is_between, Follows, IsAtMost, IsLeastOf, IsNextId};
 ghost use Rattle.item_store.specs.OnSector.{sector_on};
 ghost use Rattle.item_store.specs.Cached.{latest_on};
+ghost use Rattle.item_store.specs.Lasts.{AreOthers};
 ghost use Rattle.item_store.specs.SectorFormat.{slots};
 ghost use Rattle.item_store.specs.Listed.{format_on, items_on, entries_on, IsPlacedOn};
 ghost use Rattle.item_store.specs.Older.{IsNextOlder, newest_before};
@@ -16,7 +17,7 @@ ghost use Rattle.item_store.specs.Stands.{StandsOn};
 
 use crate::entry::Placed;
 use crate::open_area::OpenArea;
-use crate::searching::find_up_to;
+use crate::searching::{find_before, find_up_to};
 use crate::sectors::SlotSectors;
 use crate::store::Store;
 use crate::walking::walk;
@@ -83,8 +84,96 @@ impl<T: SlotSectors> Store<T> {
         T::entry_in(flash, &self.area, sector, slot, steps)
     }
 
-    // The bytes of an item, by its last entry: no entry behind the sector of the latest one of its
-    // cache slot has the id.
+    // How many slots before the latest entry of an id's cache slot, in its sector, have to be read
+    // for the id. It reads their ids, from the last back, and checks no CRC.
+    fn reach_before<F: Flash, L: Ledger>(
+        &self,
+        flash: &F,
+        latest: &Placed,
+        id: u32,
+        steps: &mut Steps<L>,
+    ) -> u32
+        requires stands { StandsOn T.role T.format_of T.kept (F.device flash.now) self.now }
+        requires latest { Some latest.now
+            ≡ latest_on T.format_of (F.device flash.now) self.now.area id }
+        ensures few { result
+            ≤ latest.now.slot - (format_on T.format_of (F.device flash.now) self.now.area).first }
+        ensures others { let d = F.device flash.now in
+            let k = format_on T.format_of d self.now.area in
+            AreOthers k (sector_on d self.now.area latest.now.sector) result
+            (latest.now.slot - k.first) id id }
+    {
+        let before = latest.slot - T::first_slot();
+        T::reach_of(flash, &self.area, latest.sector, before, id, id, steps)
+    }
+
+    // The entry in the last of the slots that have to be read, if it has the id. It is the last
+    // entry of the id, where the latest one of its cache slot is of another id.
+    fn last_before<F: Flash, L: Ledger>(
+        &self,
+        flash: &F,
+        latest: &Placed,
+        reach: u32,
+        id: u32,
+        steps: &mut Steps<L>,
+    ) -> Option<Placed>
+        requires stands { StandsOn T.role T.format_of T.kept (F.device flash.now) self.now }
+        requires latest { Some latest.now
+            ≡ latest_on T.format_of (F.device flash.now) self.now.area id }
+        requires other { latest.now.id ≡ id → ⊥ }
+        requires some_left { 0 < reach }
+        requires few { reach
+            ≤ latest.now.slot - (format_on T.format_of (F.device flash.now) self.now.area).first }
+        requires others { let d = F.device flash.now in
+            let k = format_on T.format_of d self.now.area in
+            AreOthers k (sector_on d self.now.area latest.now.sector) reach
+            (latest.now.slot - k.first) id id }
+        ensures { let d = F.device flash.now in let area = self.now.area in
+            IfSome result
+            (λ p. Some p
+            ≡ last_placed (slots (format_on T.format_of d area)) (sectors_of d area) id) }
+    {
+        let slot = T::first_slot() + (reach - 1);
+        if let Some(placed) = T::entry_in(flash, &self.area, latest.sector, slot, steps) {
+            if placed.id == id {
+                return Some(placed);
+            }
+        }
+        None
+    }
+
+    // The last entry of an id, where the latest one of its cache slot is of another id. No entry
+    // behind that one has the id. It may be a delete.
+    fn last_entry<F: Flash, L: Ledger>(
+        &self,
+        flash: &F,
+        latest: &Placed,
+        id: u32,
+        steps: &mut Steps<L>,
+    ) -> Option<Placed>
+        requires stands { StandsOn T.role T.format_of T.kept (F.device flash.now) self.now }
+        requires latest { Some latest.now
+            ≡ latest_on T.format_of (F.device flash.now) self.now.area id }
+        requires other { latest.now.id ≡ id → ⊥ }
+        ensures { let d = F.device flash.now in let area = self.now.area in
+            result ≡ last_placed (slots (format_on T.format_of d area)) (sectors_of d area) id }
+    {
+        let on = OpenArea {
+            area: &self.area,
+            current: self.current,
+            opened: self.opened,
+        };
+        let reach = self.reach_before(flash, latest, id, steps);
+        if reach == 0 {
+            return find_before(flash, &on, latest.sector, id, steps);
+        }
+        if let Some(placed) = self.last_before(flash, latest, reach, id, steps) {
+            return Some(placed);
+        }
+        find_up_to(flash, &on, latest.sector, id, steps)
+    }
+
+    // The bytes of an item, by its last entry.
     fn search<'a, F: Flash, L: Ledger>(
         &self,
         flash: &'a F,
@@ -95,15 +184,11 @@ impl<T: SlotSectors> Store<T> {
         requires stands { StandsOn T.role T.format_of T.kept (F.device flash.now) self.now }
         requires latest { Some latest.now
             ≡ latest_on T.format_of (F.device flash.now) self.now.area id }
+        requires other { latest.now.id ≡ id → ⊥ }
         ensures { option_map (λ bytes. bytes.now) result
             ≡ map.get (items_on T.format_of (F.device flash.now) self.now.area) id }
     {
-        let on = OpenArea {
-            area: &self.area,
-            current: self.current,
-            opened: self.opened,
-        };
-        let placed = find_up_to(flash, &on, latest.sector, id, steps)?;
+        let placed = self.last_entry(flash, latest, id, steps)?;
         self.bytes_at(flash, &placed, steps)
     }
 

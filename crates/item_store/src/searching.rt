@@ -42,3 +42,30 @@ pub fn find_up_to<T: SlotSectors, F: Flash, L: Ledger>(
     }
     find_among(flash, on, on.current + 1, on.area.sectors, id, steps)
 }
+
+/// The same in the sectors before this one.
+pub fn find_before<T: SlotSectors, F: Flash, L: Ledger>(
+    flash: &F,
+    on: &OpenArea<'_, T>,
+    place: u32,
+    id: u32,
+    steps: &mut Steps<L>,
+) -> Option<Placed>
+    requires on { IsKeptAt T.role T.kept (F.device flash.now) on.now }
+    requires inside { place < on.now.area.now.sectors }
+    ensures { let d = F.device flash.now in let area = on.now.area.now in
+        let k = format_on T.format_of d area in
+        result
+        ≡ last_of (slots k) id
+        (flat_map (counted_in (slots k) (sectors_of d area) on.now.current)
+        (places_before (length (sectors_of d area)) on.now.current place)) }
+{
+    if on.current < place {
+        return find_among(flash, on, on.current + 1, place, id, steps);
+    }
+    let newest = find_among(flash, on, 0, place, id, steps);
+    if newest.is_some() {
+        return newest;
+    }
+    find_among(flash, on, on.current + 1, on.area.sectors, id, steps)
+}

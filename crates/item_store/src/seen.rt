@@ -96,6 +96,10 @@ impl Seen {
 impl Notes for Seen {
     ghost noted = { λ start limit seen placed. HasSeen limit seen placed };
 
+    fn is_moot(&self, _id: u32, _len: u32) -> bool {
+        false
+    }
+
     fn note(&mut self, placed: &Placed) {
         self.add(placed.id);
     }

@@ -1,5 +1,5 @@
 -- What collections, rounds and mounts of NVS spend, to the unit.
-use Rattle.std.proofs.Common.{◌≡◌, ℕ, ◌+◌, ◌*◌, ◌/◌, max, Bool, true, false, cond, List, ap, ◌∙◌, arith}
+use Rattle.std.proofs.Common.{◌≡◌, ℕ, ◌+◌, ◌*◌, ◌/◌, max, Bool, true, false, cond, eqb, List, refl, ap, ◌∙◌, arith}
 use Rattle.std.proofs.Math.Nat.{add-mul, div-eq_of_eq-mul_left}
 use Rattle.flash_sim.specs.Device.{Device, counted}
 use Rattle.flash_map.specs.Spending.{Spends}
@@ -9,7 +9,7 @@ use Rattle.item_laws.specs.PairRounds.{copies_cost}
 use Rattle.item_laws.specs.Area.{next, is_blank_at}
 use Rattle.item_laws.specs.Forms.{to_copy}
 use Rattle.item_store.specs.SectorFormat.{Range}
-use Rattle.item_store.specs.Spending.{none, both, collect_units, again_units, has_victim, round_units}
+use Rattle.item_store.specs.Spending.{none, both, collect_units, again_with, again_units, has_victim, round_units}
 use Rattle.item_store.specs.Standing.{SpendsIn}
 use Rattle.nvs_store.specs.Geometry.{slot_size, cost}
 use Rattle.nvs_store.specs.Scans.{reading}
@@ -76,6 +76,11 @@ module _ (unit : ℕ) (is-unit : IsUnit unit) where
       let turned : (2 * slot_size unit + copied) / unit ≡ (slot_size unit + (copied + slot_size unit)) / unit = ap (λ (n : ℕ). n / unit) (omega arith) in
       omega arith
 
+  -- an erase is one unit, whatever is erased
+  one_erase : (t : Bool) → cond t (just 1) (just 1) ≡ just 1
+  one_erase true = refl
+  one_erase false = refl
+
   -- the close alone where there is no victim; the sector that becomes the open one is erased before, unless it is blank
   pub round-exact : (sectors : List (List ℕ)) (place : ℕ) → round_units (format_in unit) sectors place
       ≡ just (cond (has_victim (format_in unit) sectors place) ((2 * slot_size unit + copies_cost (cost unit) (to_copy (reading unit) sectors (next sectors place))) / unit + 1 + cond (is_blank_at (reading unit) sectors (next sectors place)) 0 1) (slot_size unit / unit))
@@ -88,6 +93,8 @@ module _ (unit : ℕ) (is-unit : IsUnit unit) where
       let row = two_slots (copies_cost (cost unit) pairs) rest (let c = copies_whole unit is-unit pairs in let s = slots_whole in omega arith) in
       let one = copies_in pairs in
       let erase : ℕ = cond (is_blank_at (reading unit) sectors (next sectors place)) 0 1 in
-      ap (λ (r : Range). both (just (slot_size unit / unit)) (cond victim r none)) (again-exact sectors (next sectors place))
+      let last : ℕ = next sectors (next sectors place) in
+      ap (λ (r : Range). both (just (slot_size unit / unit)) (cond victim (again_with (format_in unit) sectors (next sectors place) r) none)) (one_erase (eqb last place))
+      ∙ ap (λ (r : Range). both (just (slot_size unit / unit)) (cond victim r none)) (again-exact sectors (next sectors place))
       ∙ close_first victim (slot_size unit / unit) ((copies_cost (cost unit) pairs + slot_size unit) / unit + 1 + erase)
       ∙ ap (λ (n : ℕ). just (cond victim n (slot_size unit / unit))) (omega arith)

@@ -1,3 +1,4 @@
+mod NotedSlots
 mod OpenLemmas
 mod Places
 mod RoomLemmas

@@ -1,5 +1,5 @@
 // The entries of one sector, over its bytes.
-ghost use Rattle.std.specs.Prelude.{◌≡◌, ◌+◌, ◌*◌, ◌^◌, ◌<◌, ◌≤◌, IfSome, List, ◌++◌, length, map, slice_range};
+ghost use Rattle.std.specs.Prelude.{◌≡◌, ◌+◌, ◌*◌, ◌^◌, ◌<◌, ◌≤◌, ℕ, IfSome, List, ◌++◌, length, map, slice_range, true};
 ghost use Rattle.std.specs.Option.{option_map, option_to_list};
 ghost use Rattle.flash_map.specs.Units.{IsUnit};
 ghost use Rattle.item_laws.specs.Live.{last_in};
@@ -107,7 +107,32 @@ pub fn reach_in(bytes: &[u8], unit: u32, slots: u32, least: u32, most: u32) -> u
     0
 }
 
-// Notes the entry in a slot, if there is one.
+// The length of data that a slot names that starts at this place. The CRC is not checked.
+fn len_at(bytes: &[u8], start: usize) -> u32
+    requires { start + 8 ≤ length bytes.now }
+    ensures { result ≡ (fields_of (slice_range bytes.now start (start + 8))).len }
+{
+    u16::from_le_bytes([bytes[start + 4], bytes[start + 5]]) as u32
+}
+
+// Whether the entry in a slot changes no note, if there is one. The CRC is not checked.
+fn is_moot<N: Notes>(bytes: &[u8], unit: u32, slot: u32, notes: &N) -> bool
+    requires unit { IsUnit unit }
+    requires short { length bytes.now ≤ 2 ^ 15 }
+    requires inside { (slot + 1) * slot_size unit ≤ length bytes.now }
+    ensures { (place : ℕ) (start : N) (before : List PlacedEntry) → result ≡ true
+        → N.noted start 0xFFFF notes.now before
+        → N.noted start 0xFFFF notes.now
+        (before
+        ++ option_to_list
+        (option_map (placed_at place) ((format_in unit).in_slot bytes.now slot))) }
+{
+    let size = slot_size(unit);
+    let start = bytes.len() - ((slot + 1) * size) as usize;
+    notes.is_moot(id_at(bytes, start), len_at(bytes, start))
+}
+
+// Notes the entry in a slot, if there is one. The CRC of one that changes no note is not checked.
 fn note_slot<N: Notes>(bytes: &[u8], unit: u32, place: u32, slot: u32, notes: &mut N)
     requires unit { IsUnit unit }
     requires short { length bytes.now ≤ 2 ^ 15 }
@@ -118,6 +143,9 @@ fn note_slot<N: Notes>(bytes: &[u8], unit: u32, place: u32, slot: u32, notes: &m
         ++ option_to_list
         (option_map (placed_at place) ((format_in unit).in_slot bytes.now slot))) }
 {
+    if is_moot(bytes, unit, slot, notes) {
+        return;
+    }
     match counting_entry(bytes, unit, slot) {
         Some(found) => notes.note(&placed(found.at(place))),
         None => {}

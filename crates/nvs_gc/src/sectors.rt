@@ -139,11 +139,11 @@ impl SlotSectors for NvsOpen {
         &self,
         flash: &F,
         area: &Area,
-        place: u32,
-        steps: &mut Steps<L>,
+        _place: u32,
+        _steps: &mut Steps<L>,
     ) -> u32 {
-        let unit = geometry(flash, area).unit;
-        used_count(sector_view(flash, area, place, steps), unit)
+        let own = geometry(flash, area);
+        (own.sector - self.low) / slot_size(own.unit) - 1
     }
 
     fn slots<F: Flash, L: Ledger>(flash: &F, area: &Area, place: u32, steps: &mut Steps<L>) -> u32 {

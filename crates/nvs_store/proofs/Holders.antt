@@ -1,20 +1,21 @@
 -- Look-ups that compare ids and bytes before CRCs.
-use Rattle.std.proofs.Common.{◌≡◌, ℕ, ◌+◌, ◌-◌, ◌*◌, ◌/◌, ◌<◌, ◌≤◌, Bool, true, false, ◌&&◌, ◌||◌, leb, eqb, List, length, Option, Some, None, sym, ap, subst, ◌∙◌, inl, inr, le-leb, eq-eqb, arith}
+use Rattle.std.proofs.Common.{◌≡◌, ℕ, Bool, ◌+◌, ◌-◌, ◌*◌, ◌/◌, ◌<◌, ◌≤◌, true, false, ◌&&◌, leb, eqb, List, length, Option, Some, None, refl, sym, ap, subst, ◌∙◌, inl, inr, le-leb, eq-eqb, arith}
 use Rattle.std.specs.Prelude.{slice_range}
-use Rattle.std.proofs.lemmas.Bool.{cases_eq, cases_lt, ne_eqb, false≢true, and_from, and_parts, leb-true}
+use Rattle.std.proofs.lemmas.Bool.{cases_lt, false≢true, and_from, and_parts, leb-true}
+use Rattle.std.proofs.Math.Nat.{add-mul}
 use Rattle.std.proofs.lemmas.List.FromFn.{get_or-map-range_with_len}
 use Rattle.std.proofs.lemmas.List.Sums.{prefix_len_passes}
 use Rattle.flash_map.specs.Units.{IsUnit}
 use Rattle.item_laws.specs.Slots.{Slot}
 use Rattle.item_laws.proofs.LiveLemmas.{some_none}
 use Rattle.item_laws.proofs.SlotCounts.{used_count_fits, slot_inside}
-use Rattle.item_laws.proofs.SlotLemmas.{length-used_slots, start-slot_at, HasFence-from_low}
+use Rattle.item_laws.proofs.SlotLemmas.{length-used_slots, bytes-slot_at, start-slot_at, HasFence-from_low}
 use Rattle.nvs_store.specs.declared.entry.Entry.{Entry}
 use Rattle.nvs_store.specs.declared.scan.SlotEntry.{SlotEntry}
 use Rattle.nvs_store.specs.Entries.{entry_of}
 use Rattle.nvs_store.specs.Geometry.{slot_size}
 use Rattle.nvs_store.specs.Sector.{slot_at, slots, is_used, used_slots, counting_entry}
-use Rattle.nvs_store.specs.Holding.{Holds, NoneHolds, HoldsAt, IsFirstHolder, NoneNames, SomeNames, HasNamed, named_at}
+use Rattle.nvs_store.specs.Holding.{Holds, NoneHolds, HoldsAt, IsFirstHolder, NoneNames, named_at}
 use Rattle.nvs_store.proofs.Marks.{counting_entry_under}
 use Rattle.nvs_store.proofs.NvsEntries.{are_nvs, bytes_len}
 use Rattle.nvs_store.proofs.SlotReads.{slot_size_bounds}
@@ -38,19 +39,15 @@ used_before unit b k from unused =
           absurd (false≢true (sym unused ∙ passes))
     ]
 
--- a slot above the sector's start stands in it
-pub inside_at : (unit : ℕ) (b : List ℕ) (k size : ℕ) → size ≡ slot_size unit → k < length b / size → (k + 1) * slot_size unit ≤ length b
-inside_at unit b k size is lt = slot_inside (slot_size unit) b k (subst (λ (n : ℕ). k < length b / n) is lt)
-
 -- a used slot behind the used ones is one more of them
-pub used_after : (unit : ℕ) (b : List ℕ) (k size : ℕ) → IsUnit unit → size ≡ slot_size unit → k ≤ 1 + length (used_slots unit b) → k < length b / size → is_used (slot_at unit b k) ≡ true → k + 1 ≤ 1 + length (used_slots unit b)
-used_after unit b k size is-unit is near lt used =
+pub used_after : (unit : ℕ) (b : List ℕ) (k : ℕ) → IsUnit unit → k ≤ 1 + length (used_slots unit b) → (k + 1) * slot_size unit ≤ length b → is_used (slot_at unit b k) ≡ true → k + 1 ≤ 1 + length (used_slots unit b)
+used_after unit b k is-unit near stands used =
     elim (cases_lt k (1 + length (used_slots unit b))) [
       | inl less ↦ omega (arith, less)
       | inr ge ↦
           let same : k ≡ length (used_slots unit b) + 1 = omega (arith, near, ge) in
           let inside : (length (used_slots unit b) + 1 + 1) * slot_size unit ≤ length b =
-          subst (λ (n : ℕ). (n + 1) * slot_size unit ≤ length b) same (inside_at unit b k size is lt) in
+          subst (λ (n : ℕ). (n + 1) * slot_size unit ≤ length b) same stands in
           let positive : 0 < slot_size unit = omega (arith, slot_size_bounds unit is-unit) in
           let stop = (HasFence-from_low is_used 1 (slot_size unit) b positive (omega (arith, inside))).fence in
           absurd (false≢true (sym stop ∙ subst (λ (n : ℕ). is_used (slot_at unit b n) ≡ true) same used))
@@ -63,6 +60,36 @@ used_within unit b k size is from end =
     let past : length b / slot_size unit ≤ k = subst (λ (n : ℕ). length b / n ≤ k) is end in
     omega (arith, fits, from, past)
 
+-- so too where a slot does not stand in it
+pub used_past : (unit : ℕ) (b : List ℕ) (k : ℕ) → 1 ≤ k → length b < (k + 1) * slot_size unit → 1 + length (used_slots unit b) ≤ k
+used_past unit b k from past =
+    elim (cases_lt k (length b / slot_size unit)) [
+      | inl lt ↦ let inside = slot_inside (slot_size unit) b k lt in absurd (omega (arith, inside, past))
+      | inr ge ↦ used_within unit b k (slot_size unit) refl from ge
+    ]
+
+-- ---- slots by where they end
+
+module _ (unit : ℕ) (b : List ℕ) (index end size : ℕ) (is-unit : IsUnit unit) (is : size ≡ slot_size unit) (at : end ≡ length b - index * slot_size unit) where
+  one_lower : (index + 1) * slot_size unit ≡ index * slot_size unit + 1 * slot_size unit
+  one_lower = add-mul index 1 (slot_size unit)
+
+  -- it stands in the sector
+  pub stands_here : size ≤ end → (index + 1) * slot_size unit ≤ length b
+  stands_here room = let wide = slot_size_bounds unit is-unit in let more = one_lower in omega (arith, wide, more, is, at, room)
+
+  pub next_end : size ≤ end → end - size ≡ length b - (index + 1) * slot_size unit
+  next_end room = let more = one_lower in omega (arith, more, is, at, room)
+
+  pub bytes_here : size ≤ end → slice_range b (end - size) end ≡ (slot_at unit b index).bytes
+  bytes_here room =
+      let up : end - size + slot_size unit ≡ end = omega (arith, is, room) in
+      ap (slice_range b (end - size)) (sym up) ∙ bytes-slot_at (slot_size unit) b index (end - size) (next_end room)
+
+  -- it does not
+  pub all_used : end < size → 1 ≤ index → 1 + length (used_slots unit b) ≤ index
+  all_used past from = let more = one_lower in used_past unit b index from (omega (arith, more, is, at, past))
+
 -- one slot more is used
 pub used_to : (unit : ℕ) (b : List ℕ) (first n : ℕ) → ((k : ℕ) → first ≤ k → k < n → is_used (slot_at unit b k) ≡ true) → is_used (slot_at unit b n) ≡ true → (k : ℕ) → first ≤ k → k ≤ n → is_used (slot_at unit b k) ≡ true
 used_to unit b first n before here k from to =
@@ -72,6 +99,10 @@ used_to unit b first n before here k from to =
     ]
 
 -- ---- one slot
+
+on_candidate : {P : Type 0} (is : Bool) → (is ≡ false → P) → (is ≡ true → P) → P
+on_candidate false other same = other refl
+on_candidate true other same = same refl
 
 some_same : (x y : SlotEntry) → Some x ≡ Some y → x ≡ y
 some_same x y e = cc
@@ -123,6 +154,11 @@ module _ (unit : ℕ) (b : List ℕ) (k : ℕ) (bytes : List ℕ) (is : bytes �
           },
         )
 
+    -- what the fields and the bytes rule out
+    pub not_given : ((leb least (entry_of bytes).id && leb (entry_of bytes).id most && eqb (entry_of bytes).len (length wanted)) ≡ true → (entry_of bytes).offset + (entry_of bytes).len ≤ length b → slice_range b (entry_of bytes).offset ((entry_of bytes).offset + (entry_of bytes).len) ≡ wanted → ⊥) → HoldsAt unit b least most wanted k None
+    not_given differ =
+        on_candidate (leb least (entry_of bytes).id && leb (entry_of bytes).id most && eqb (entry_of bytes).len (length wanted)) no_candidate (λ candidate. other_bytes (differ candidate))
+
 -- ---- from slot to slot
 
 -- one slot more has no such entry
@@ -152,22 +188,3 @@ others_more unit b id first k before here slot from to =
       | inl lt ↦ before slot from lt
       | inr ge ↦ let same : k ≡ slot = omega (arith, ge, to) in subst (λ (n : ℕ). named_at unit b n ≡ id → ⊥) same here
     ]
-
--- whether a used slot from one number up to another names the id
-abbrev pub Names : ℕ → List ℕ → ℕ → ℕ → ℕ → Bool → Type 0
-Names unit b id first end false = NoneNames unit b id first end
-Names unit b id first end true = SomeNames unit b id first
-
--- one slot more is looked at
-pub names_more : (unit : ℕ) (b : List ℕ) (id first k own : ℕ) (named : Bool) → first ≤ k → (k + 1) * slot_size unit ≤ length b → ((i : ℕ) → first ≤ i → i ≤ k → is_used (slot_at unit b i) ≡ true) → own ≡ named_at unit b k → Names unit b id first k named → Names unit b id first (k + 1) (named || eqb own id)
-names_more unit b id first k own true from inside used is some = some
-names_more unit b id first k own false from inside used is none =
-    elim (cases_eq own id) [
-      | inl same ↦ subst (Names unit b id first (k + 1)) (sym (eq-eqb own id same)) (record { slot = k; from = from; inside = inside; used = used; names = sym is ∙ same })
-      | inr apart ↦ subst (Names unit b id first (k + 1)) (sym (ne_eqb own id apart)) (others_more unit b id first k none (λ e. apart (is ∙ e)))
-    ]
-
--- all used slots were looked at
-pub names_all : (unit : ℕ) (b : List ℕ) (id skipped end : ℕ) (named : Bool) → 1 + length (used_slots unit b) ≤ end → Names unit b id (1 + skipped) end named → HasNamed unit b id skipped named
-names_all unit b id skipped end true ends some = some
-names_all unit b id skipped end false ends none = λ slot from to. none slot from (omega (arith, to, ends))

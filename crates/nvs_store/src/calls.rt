@@ -1,6 +1,7 @@
 // The calls that program the open sector of an area.
 ghost use Rattle.std.specs.Prelude.{◌≡◌, ◌⊎◌, ◌+◌, ◌/◌, ◌*◌, ◌^◌, ◌<◌, ◌≤◌, ◌∷◌, [], ◌++◌, length, replicate, is_err, true, false, OnOk, OnErr};
 ghost use Rattle.flash_map.specs.Area.{IsLawfulArea, unit_of, sectors_of, sector_bytes, Writes, WritesPart};
+ghost use Rattle.flash_map.specs.Copies.{pieces_of, TakesViews};
 ghost use Rattle.flash_map.specs.Pieces.{CanProgramAll, LosesWithin};
 ghost use Rattle.flash_map.specs.Spending.{Spends, SpendsAtMost};
 ghost use Rattle.flash_map.specs.Touches.{Touches};
@@ -111,7 +112,7 @@ pub fn append<F: Flash>(
 
 /// Copies an entry of another sector to the open one, whose part of the list gains that pair. It
 /// copies the data, padded with FF to the unit, in calls of at most `COPY_PIECE` bytes, and then
-/// programs its entry in the next slot.
+/// programs its entry in the next slot. It views each piece of the data once, and nothing else.
 ///
 /// # Errors
 /// `PowerLost`: the open sector's part of the list is as before or has the pair too. No other
@@ -134,6 +135,7 @@ pub fn copy_entry<F: Flash, L: Ledger>(
     ensures ends { let d = F.device flash.old in let e = F.device flash.new in
         PairEnds copy_piece d e area.now scan.old scan.new from.now.entry.id from.now.entry.len
         (bytes_on d area.now from.now) result }
+    ensures views { TakesViews (pieces_of from.now.entry.len) steps.old steps.new result }
 {
     let unit = geometry(flash, area).unit;
     let entry = Entry {

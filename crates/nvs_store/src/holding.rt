@@ -1,14 +1,14 @@
 // Look-ups in one sector that compare ids and bytes before CRCs.
-ghost use Rattle.std.specs.Prelude.{◌≡◌, ◌+◌, ◌*◌, ◌^◌, ◌≤◌, ◌&&◌, true, false, length, slice_range, nat_le, ◌==◌};
+ghost use Rattle.std.specs.Prelude.{◌≡◌, ◌+◌, ◌*◌, ◌^◌, ◌<◌, ◌≤◌, ◌&&◌, true, false, length, slice_range, nat_le, ◌==◌};
 ghost use Rattle.flash_map.specs.Units.{IsUnit};
 ghost use Rattle.nvs_store.specs.Entries.{entry_of};
 ghost use Rattle.nvs_store.specs.Geometry.{slot_size};
 ghost use Rattle.nvs_store.specs.Sector.{used_slots};
-ghost use Rattle.nvs_store.specs.Holding.{HoldsAt, FindsHolder, HasNamed};
+ghost use Rattle.nvs_store.specs.Holding.{FindsHolder, HasNamed};
 
 use crate::geometry::slot_size;
 use crate::scan::SlotEntry;
-use crate::slots::{counting_entry, is_used, slot_of};
+use crate::slots::{counting_entry, is_used};
 
 // The id field of a slot.
 fn named_id(slot: &[u8]) -> u32
@@ -58,33 +58,27 @@ fn names_bytes(bytes: &[u8], slot: &[u8], wanted: &[u8]) -> bool
     end <= bytes.len() && are_same(&bytes[start..end], wanted)
 }
 
-// The entry in a slot, if it counts and gives an id from `least` to `most` these bytes. Most slots
-// have other ids or other bytes, so the CRC is checked last.
-fn holder_in(
-    bytes: &[u8],
-    unit: u32,
-    index: u32,
-    least: u32,
-    most: u32,
-    wanted: &[u8],
-) -> Option<SlotEntry>
-    requires unit { IsUnit unit }
+// Whether a slot names an id from `least` to `most` and these bytes. The CRC is not checked.
+fn gives(bytes: &[u8], slot: &[u8], least: u32, most: u32, wanted: &[u8]) -> bool
+    requires slot { 8 ≤ length slot.now }
     requires short { length bytes.now ≤ 2 ^ 15 }
-    requires inside { (index + 1) * slot_size unit ≤ length bytes.now }
-    ensures { HoldsAt unit bytes.now least most wanted.now index result }
+    ensures candidate { let e = entry_of slot.now in
+        result ≡ true
+        → (nat_le least e.id && nat_le e.id most && (e.len == length wanted.now)) ≡ true }
+    ensures same { let e = entry_of slot.now in
+        result ≡ true → slice_range bytes.now e.offset (e.offset + e.len) ≡ wanted.now }
+    ensures differ { let e = entry_of slot.now in
+        result ≡ false
+        → (nat_le least e.id && nat_le e.id most && (e.len == length wanted.now)) ≡ true
+        → e.offset + e.len ≤ length bytes.now
+        → ¬ (slice_range bytes.now e.offset (e.offset + e.len) ≡ wanted.now) }
 {
-    let slot = slot_of(bytes, unit, index);
-    if !is_candidate(slot, least, most, wanted.len()) {
-        return None;
-    }
-    if !names_bytes(bytes, slot, wanted) {
-        return None;
-    }
-    counting_entry(bytes, unit, index)
+    is_candidate(slot, least, most, wanted.len()) && names_bytes(bytes, slot, wanted)
 }
 
 /// The first entry that counts behind the first so many slots and gives an id from `least` to
-/// `most` these bytes; `None` if there is none. `bytes` are those of the sector.
+/// `most` these bytes; `None` if there is none. `bytes` are those of the sector. Most slots have
+/// other ids or other bytes, so the CRC is checked last.
 pub fn find_holder(
     bytes: &[u8],
     unit: u32,
@@ -98,16 +92,49 @@ pub fn find_holder(
     requires listed { skipped ≤ length (used_slots unit bytes.now) }
     ensures { FindsHolder unit bytes.now least most wanted.now skipped result }
 {
-    let count = bytes.len() as u32 / slot_size(unit);
-    for index in skipped + 1..count {
-        if !is_used(slot_of(bytes, unit, index)) {
+    let size = slot_size(unit) as usize;
+    let mut index = skipped + 1;
+    let mut end = bytes.len().saturating_sub(index as usize * size);
+    while end >= size {
+        let start = end - size;
+        let slot = &bytes[start..end];
+        if !is_used(slot) {
             return None;
         }
-        if let Some(found) = holder_in(bytes, unit, index, least, most, wanted) {
-            return Some(found);
+        if gives(bytes, slot, least, most, wanted) {
+            if let Some(found) = counting_entry(bytes, unit, index) {
+                return Some(found);
+            }
         }
+        index += 1;
+        end = start;
     }
     None
+}
+
+// Whether a used slot behind the first so many names the id. It reads down to the fence.
+fn is_named(bytes: &[u8], unit: u32, skipped: u32, id: u32) -> bool
+    requires unit { IsUnit unit }
+    requires short { length bytes.now ≤ 2 ^ 15 }
+    requires few { skipped < length bytes.now }
+    ensures { HasNamed unit bytes.now id skipped result }
+{
+    let size = slot_size(unit) as usize;
+    let mut index = skipped + 1;
+    let mut end = bytes.len().saturating_sub(index as usize * size);
+    while end >= size {
+        let start = end - size;
+        let slot = &bytes[start..end];
+        if !is_used(slot) {
+            return false;
+        }
+        if named_id(slot) == id {
+            return true;
+        }
+        index += 1;
+        end = start;
+    }
+    false
 }
 
 /// Whether a used slot behind the first so many has one id, and whether one has the other. It reads
@@ -118,18 +145,12 @@ pub fn are_named(bytes: &[u8], unit: u32, skipped: u32, lower: u32, upper: u32) 
     ensures lower { HasNamed unit bytes.now lower skipped result.0 }
     ensures upper { HasNamed unit bytes.now upper skipped result.1 }
 {
-    let count = bytes.len() as u32 / slot_size(unit);
-    let mut named = (false, false);
-    if skipped >= count {
-        return named;
+    if skipped as usize >= bytes.len() {
+        return (false, false);
     }
-    for index in skipped + 1..count {
-        let slot = slot_of(bytes, unit, index);
-        if !is_used(slot) {
-            return named;
-        }
-        let id = named_id(slot);
-        named = (named.0 || id == lower, named.1 || id == upper);
+    let one = is_named(bytes, unit, skipped, lower);
+    if lower == upper {
+        return (one, one);
     }
-    named
+    (one, is_named(bytes, unit, skipped, upper))
 }

@@ -49,13 +49,16 @@ pub fn used_count(bytes: &[u8], unit: u32) -> u32
     ensures count { result ≡ length (used_slots unit bytes.now) }
     ensures few { result < 2 ^ 15 }
 {
-    let count = bytes.len() as u32 / slot_size(unit);
+    let size = slot_size(unit) as usize;
     let mut used = 0;
-    for index in 1..count {
-        if !is_used(slot_of(bytes, unit, index)) {
+    let mut end = bytes.len().saturating_sub(size);
+    while end >= size {
+        let start = end - size;
+        if !is_used(&bytes[start..end]) {
             return used;
         }
         used += 1;
+        end = start;
     }
     used
 }

@@ -5,6 +5,7 @@ use Rattle.flash_map.specs.declared.area.Area.{Area}
 use Rattle.flash_sim.specs.declared.flash.Kind.{Kind}
 use Rattle.flash_sim.specs.declared.flash.Kind.TheVariants.{Erasing, Rewritable}
 use Rattle.flash_map.specs.Area.{sector_size, sectors_of, sector_bytes}
+use Rattle.flash_map.specs.Copies.{pieces_of}
 use Rattle.flash_map.specs.Pieces.{LosesWithin}
 use Rattle.flash_map.specs.Spending.{SpendsBetween}
 use Rattle.zms_cycle.specs.declared.reading.TheConstants.{SLOT}
@@ -124,6 +125,16 @@ pub record ReadsGuard (kind : Kind) (before after : ℕ) : Type 0 where
 pub record ReadsNoList (kind : Kind) (before after : ℕ) : Type 0 where
   pub step : after ≤ before + 1
   pub no_step : kind ≡ Erasing → after ≡ before
+
+-- the slots that a guard looks at
+abbrev pub guard_views : Kind → ℕ
+guard_views Rewritable = 1
+guard_views Erasing = 0
+
+-- What the copy of an entry with a value of this length views: the entry, each piece of its value,
+-- and the slot of its guard. No list is read.
+abbrev pub copy_views : Kind → ℕ → ℕ
+copy_views kind len = 1 + pieces_of (data_len len) + guard_views kind
 
 -- Bytes that are programmed piece by piece. A power loss leaves a part of them.
 pub record BytesEnd {X E : Type 0} (piece : ℕ) (old new : Device) (on : Area) (sector at len : ℕ)

@@ -2,13 +2,13 @@
 ghost use Rattle.std.specs.Prelude.{◌≡◌, ◌≢◌, ◌+◌, ◌/◌, ◌<◌, ◌≤◌, ◌∷◌, [], length, is_err, Some, OnOk};
 ghost use Rattle.flash_sim.specs.Device.{overwritten};
 ghost use Rattle.flash_map.specs.Area.{sector_size, sector_bytes, OthersStay};
-ghost use Rattle.flash_map.specs.Copies.{source};
+ghost use Rattle.flash_map.specs.Copies.{source, pieces_of, TakesViews};
 ghost use Rattle.flash_map.specs.Touches.{Touches};
 ghost use Rattle.flash_map.specs.declared.copies.TheConstants.{COPY_PIECE};
 ghost use Rattle.flash_map.specs.Units.{padded, padded_bytes};
-ghost use Rattle.zms_cycle.specs.Areas.{IsZmsSector, HasSlot};
+ghost use Rattle.zms_cycle.specs.Areas.{IsZmsSector, HasSlot, kind_on};
 ghost use Rattle.zms_cycle.specs.Changes.{with_value};
-ghost use Rattle.zms_cycle.specs.OnArea.{IsUsedOn, IsSoundOn, IsSource, HasPlace, BytesEnd, EntryEnds, entry_len_on, free_on, Copies};
+ghost use Rattle.zms_cycle.specs.OnArea.{IsUsedOn, IsSoundOn, IsSource, HasPlace, BytesEnd, EntryEnds, entry_len_on, free_on, copy_views, Copies};
 ghost use Rattle.zms_cycle.specs.States.{IsOpenedOn};
 ghost use Rattle.zms_cycle.specs.Entries.{moved_entry};
 ghost use Rattle.zms_cycle.specs.Sector.{slot_of, entry_in, entry_len, value_of, data_len, cost, free};
@@ -32,8 +32,9 @@ fn ordinary_entry<F: Flash, L: Ledger>(
     requires zms { IsZmsSector (F.device flash.now) area.now sector }
     requires slot { HasSlot (F.device flash.now) area.now slot }
     requires some { 0 < entry_len (sector_bytes (F.device flash.now) area.now sector) slot }
-    ensures { entry_in (slot_of (sector_bytes (F.device flash.now) area.now sector) slot)
+    ensures entry { entry_in (slot_of (sector_bytes (F.device flash.now) area.now sector) slot)
         ≡ Some (record { slot = slot; entry = result }) }
+    ensures step { steps.new ≡ steps.old + 1 }
 {
     let start = slot_start(flash, area, slot);
     match decode_zentry(area_view(flash, area, sector, start, SLOT, steps)) {
@@ -83,6 +84,7 @@ fn copy_bytes<F: Flash, L: Ledger>(
         (padded_bytes 16 (source (F.device flash.old) area.now from))) }
     ensures ends { let d = F.device flash.old in let e = F.device flash.new in
         BytesEnd COPY_PIECE d e area.now sector to (padded 16 from.len) result }
+    ensures views { TakesViews (pieces_of from.len) steps.old steps.new result }
 {
     copy_padded(flash, area, from, sector, to, steps)
 }
@@ -114,6 +116,7 @@ fn copy_value<F: Flash, L: Ledger>(
         (value_of (sector_bytes (F.device flash.old) area.now from_sector) from.now)) }
     ensures ends { let d = F.device flash.old in let e = F.device flash.new in
         BytesEnd COPY_PIECE d e area.now sector to (data_len from.now.len) result }
+    ensures views { TakesViews (pieces_of (data_len from.now.len)) steps.old steps.new result }
 {
     if from.len <= TAIL {
         return Ok(());
@@ -128,7 +131,8 @@ fn copy_value<F: Flash, L: Ledger>(
 
 /// Copies an entry of another sector's list: its value, in calls of at most `COPY_PIECE` bytes, and
 /// then the entry. On a rewritable bank the guard under the entry is set before it. `opened` is
-/// what it has to know of the sector that it copies to, so the list of that sector is not read.
+/// what it has to know of the sector that it copies to, so the list of that sector is not read: it
+/// views the entry, each piece of its value once, and on a rewritable bank the slot of the guard.
 ///
 /// # Errors
 /// `PowerLost`: the list and marks of the sector that it copies to are as before. On an erasing
@@ -157,6 +161,9 @@ pub fn copy_entry_at<F: Flash, L: Ledger>(
     ensures ends { let d = F.device flash.old in let e = F.device flash.new in
         EntryEnds COPY_PIECE (entry_len_on d area.now from_sector from_slot) d e area.now sector
         result }
+    ensures views { let d = F.device flash.old in
+        let len = entry_len_on d area.now from_sector from_slot in
+        TakesViews (copy_views (kind_on d area.now) len) steps.old steps.new result }
 {
     let from = ordinary_entry(flash, area, from_sector, from_slot, steps);
     let entry = moved_entry(opened.cycle, &from, opened.data_end);
@@ -174,7 +181,8 @@ pub fn copy_entry_at<F: Flash, L: Ledger>(
 
 /// Copies an entry of another sector's list: its value, in calls of at most `COPY_PIECE` bytes, and
 /// then the entry. On a rewritable bank the guard under the entry is set before it. It is
-/// `copy_entry_at` for a caller that knows nothing of the sector that it copies to.
+/// `copy_entry_at` for a caller that knows nothing of the sector that it copies to, which is viewed
+/// once.
 ///
 /// # Errors
 /// `PowerLost`: the list and marks of the sector that it copies to are as before. On an erasing
@@ -202,6 +210,9 @@ pub fn copy_entry<F: Flash, L: Ledger>(
     ensures ends { let d = F.device flash.old in let e = F.device flash.new in
         EntryEnds COPY_PIECE (entry_len_on d area.now from_sector from_slot) d e area.now sector
         result }
+    ensures views { let d = F.device flash.old in
+        let len = entry_len_on d area.now from_sector from_slot in
+        TakesViews (copy_views (kind_on d area.now) len) (steps.old + 1) steps.new result }
 {
     let opened = opened_sector(flash, area, sector, steps);
     copy_entry_at(flash, area, sector, &opened, from_sector, from_slot, steps)

@@ -25,6 +25,7 @@ pub use laws::steps_are_bounded;
 pub use marking::{close, close_at, empty_sector};
 pub use reading::{
     FIRST, Opened, SLOT, SectorState, SlotEntry, TAIL, TAIL_AT, can_close, capacity, cost,
-    data_len, entry_in, is_fresh, listed_entry, offset_of, read_sector, state,
+    cycle_of, data_len, entry_in, is_fresh, listed_entry, offset_of, read_sector, slot_of, state,
+    valid_within,
 };
 pub use searching::{has_close, listed_slots, reach_in, reach_within};

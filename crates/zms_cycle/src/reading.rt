@@ -97,8 +97,8 @@ fn is_done(entry: &ZEntry) -> bool
     entry.id == SPECIAL_ID && entry.len == 0 && mark_of(entry) == 2
 }
 
-// The bytes of a slot.
-pub(crate) fn slot_of(sector: &[u8], slot: u32) -> &[u8]
+/// The bytes of a slot.
+pub fn slot_of(sector: &[u8], slot: u32) -> &[u8]
     requires { (slot + 1) * 16 ≤ length sector.now }
     ensures bytes { result.now ≡ (slot_of sector.now slot).bytes }
     ensures len { length result.now ≡ 16 }
@@ -125,8 +125,8 @@ pub(crate) fn is_of_cycle(entry: &Option<ZEntry>, cycle: u8) -> bool
     }
 }
 
-// The cycle of the empty entry in slot 0.
-pub(crate) fn cycle_of(sector: &[u8]) -> Option<u8>
+/// The cycle of the empty entry in slot 0; `None` if there is none.
+pub fn cycle_of(sector: &[u8]) -> Option<u8>
     requires { 16 ≤ length sector.now }
     ensures { result ≡ cycle_of sector.now }
 {
@@ -160,9 +160,9 @@ pub(crate) fn is_closed(sector: &[u8], cycle: u8) -> bool
     }
 }
 
-// How many of the first so many slots from slot 2 on are valid under the cycle, before the first
-// that is not. The first `known` are valid and not checked again.
-pub(crate) fn valid_within(sector: &[u8], cycle: u8, known: u32, limit: u32) -> u32
+/// How many of the first so many slots from slot 2 on are valid under the cycle, before the first
+/// that is not. The first `known` are valid and not checked again.
+pub fn valid_within(sector: &[u8], cycle: u8, known: u32, limit: u32) -> u32
     requires short { length sector.now ≤ 2 ^ 15 }
     requires inside { (limit + 2) * 16 ≤ length sector.now }
     requires known { known ≤ length (used_slots (is_valid (Some cycle)) 2 16 sector.now) }

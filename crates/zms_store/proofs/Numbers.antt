@@ -1,5 +1,5 @@
 -- What the calls of a ZMS store spend, in numbers.
-use Rattle.std.proofs.Common.{◌≡◌, ℕ, ◌+◌, ◌*◌, ◌/◌, ◌≤◌, max, Bool, true, false, cond, List, length, Option, Some, None, Result, Ok, Err, refl, sym, subst, ◌∙◌, inl, inr, arith}
+use Rattle.std.proofs.Common.{◌≡◌, ℕ, ◌+◌, ◌*◌, ◌/◌, ◌≤◌, max, Bool, true, false, cond, eqb, List, length, Option, Some, None, Result, Ok, Err, refl, sym, subst, ◌∙◌, inl, inr, arith}
 use Rattle.std.specs.FinMap.{get}
 use Rattle.flash_sim.specs.Device.{Device}
 use Rattle.flash_sim.specs.declared.flash.PowerLost.{PowerLost as Lost}
@@ -22,7 +22,7 @@ use Rattle.item_store.specs.declared.entry.Redo.{Redo}
 use Rattle.item_store.specs.declared.entry.Redo.TheVariants.{Nothing, ClearNext, CollectAgain}
 use Rattle.item_store.specs.declared.store.Store.{Store}
 use Rattle.item_store.specs.SectorFormat.{Range, SectorFormat}
-use Rattle.item_store.specs.Spending.{none, both, copies, again_units, ready_units, round_units, has_victim}
+use Rattle.item_store.specs.Spending.{none, both, copies, victim_units, again_with, again_units, ready_units, round_clear, round_units, has_victim}
 use Rattle.item_store.specs.Standing.{SpendsIn, SpendsUpTo, items_at}
 use Rattle.item_store.specs.Stands as stands
 use Rattle.item_store.specs.Closing as closing
@@ -98,13 +98,28 @@ module _ (u : Geometry) (sectors : List (List ℕ)) where
       (let covers = (zms_is_format u).units.begins (sector_at sectors place) in let three = begin_lost u.kind (sector_at sectors place) in record { most = omega arith; lost = omega arith })
       (let three = emptied_within u.kind (sector_at sectors place) in record { most = omega arith; lost = omega arith })
 
-  again_within : (place : ℕ) → Within (again_units k sectors place) (3 + (copy_units place + (2 + 3)))
-  again_within place =
+  cleared_within : (place : ℕ) → Within (k.units.clear (sector_at sectors place)) 3
+  cleared_within place = let three = emptied_within u.kind (sector_at sectors place) in record { most = omega arith; lost = omega arith }
+
+  -- a collection that ends with an emptying
+  with_within : (place : ℕ) (emptying : Range) → Within emptying 3 → Within (again_with k sectors place emptying) (3 + (copy_units place + (2 + 3)))
+  with_within place emptying three =
       let one = guard_one u.kind in
-      let three = emptying_three u.kind in
       both_within (ready_units k sectors place) _ 3 (copy_units place + (2 + 3)) (ready_within place)
-      (both_within (copies k (to_copy k.reading sectors place)) (both k.units.any_done k.units.any_clear) (copy_units place) (2 + 3) (record { most = omega arith; lost = omega arith })
-      (both_within k.units.any_done k.units.any_clear 2 3 (record { most = omega arith; lost = omega arith }) (record { most = omega arith; lost = omega arith })))
+      (both_within (copies k (to_copy k.reading sectors place)) (both k.units.any_done emptying) (copy_units place) (2 + 3) (record { most = omega arith; lost = omega arith })
+      (both_within k.units.any_done emptying 2 3 (record { most = omega arith; lost = omega arith }) three))
+
+  again_within : (place : ℕ) → Within (again_units k sectors place) (3 + (copy_units place + (2 + 3)))
+  again_within place = with_within place (victim_units k sectors place) (cleared_within (next sectors place))
+
+  any_within : Within k.units.any_clear 3
+  any_within = let three = emptying_three u.kind in record { most = omega arith; lost = omega arith }
+
+  -- the victim of a round
+  last_within : (place : ℕ) → Within (round_clear k sectors place) 3
+  last_within place =
+      let last : ℕ = next sectors (next sectors place) in
+      either_within (eqb last place) k.units.any_clear (k.units.clear (sector_at sectors last)) 3 any_within (cleared_within last)
 
   round_within : (place : ℕ) → Within (round_units k sectors place) ((free u.kind (sector_at sectors place) + 2 * copied (next sectors place)) / 16 + 9)
   round_within place =
@@ -114,7 +129,7 @@ module _ (u : Geometry) (sectors : List (List ℕ)) where
       let fewer = copies_most u.kind (to_copy k.reading sectors (next sectors place)) in
       more_within (round_units k sectors place) (free u.kind (sector_at sectors place) / 16 + 1 + (3 + (copy_units (next sectors place) + (2 + 3)))) ((free u.kind (sector_at sectors place) + 2 * copied (next sectors place)) / 16 + 9)
       (both_within (k.units.close (sector_at sectors place)) _ (free u.kind (sector_at sectors place) / 16 + 1) (3 + (copy_units (next sectors place) + (2 + 3))) (record { most = close; lost = close })
-      (either_within (has_victim k sectors place) (again_units k sectors (next sectors place)) _ (3 + (copy_units (next sectors place) + (2 + 3))) (again_within (next sectors place))
+      (either_within (has_victim k sectors place) (again_with k sectors (next sectors place) (round_clear k sectors place)) _ (3 + (copy_units (next sectors place) + (2 + 3))) (with_within (next sectors place) (round_clear k sectors place) (last_within place))
       (either_within k.opens_ready (ready_units k sectors (next sectors place)) none (3 + (copy_units (next sectors place) + (2 + 3))) ready (none_within (3 + (copy_units (next sectors place) + (2 + 3)))))))
       (omega arith)
 

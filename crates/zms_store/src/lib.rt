@@ -2,6 +2,7 @@
 //! over ZMS sectors. A call cut by a power loss leaves the items from before it or those after it.
 #![tactic(auto)]
 
+mod entries;
 mod reading;
 #[tactic(auto, using(flash_map::proofs::Touches::then))]
 mod sectors;

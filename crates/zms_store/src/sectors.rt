@@ -1,23 +1,19 @@
 // What is kept of the open sector, and the calls on sectors.
-ghost use Rattle.std.specs.Prelude.{◌≡◌, ◌+◌, ◌*◌, ◌^◌, ◌<◌, ◌≤◌, ℕ, IfSome, IsSome, List, ◌++◌, length, map, Some, ◌-◌, min};
-ghost use Rattle.std.specs.Option.{option_map, option_to_list};
-ghost use Rattle.flash_map.specs.declared.area.Geometry.{Geometry as geometry_type};
+ghost use Rattle.std.specs.Prelude.{◌≡◌, IsSome, length, Some, ◌-◌, ◌^◌, min};
 ghost use Rattle.flash_map.specs.declared.area.Role.TheVariants.{Zms as zms_role};
-ghost use Rattle.zms_cycle.specs.Entries.{entry_of as fields_of, offset_of};
-ghost use Rattle.zms_cycle.specs.Sector.{slot_of, cycle_of, data_end, entry_in, has_gc_done, valid_slots, value_of};
-ghost use Rattle.zms_format.specs.Formats.{entry_of, format_of};
+ghost use Rattle.zms_cycle.specs.Sector.{cycle_of, data_end, has_gc_done, valid_slots};
+ghost use Rattle.zms_format.specs.Formats.{format_of};
 ghost use Rattle.zms_format.proofs.FormatLemmas.{zms_is_format};
-ghost use Rattle.item_store.specs.SectorFormat.{placed_at, slots};
-ghost use Rattle.item_store.specs.declared.entry.Placed.{Placed as PlacedEntry};
 
+use crate::entries::{named_id, note_entries, placed, value_in};
 use flash_map::{Area, Damaged, Geometry, geometry, sector_view};
 use flash_sim::{Flash, Kind, PowerLost, Steps};
 use item_store::{IdPair, IdRange, MayHave, Notes, Placed, SlotSectors};
 use std::sync::ledger::Ledger;
 use zms_cycle::{
-    FIRST, Opened, SLOT, SectorState, SlotEntry, TAIL, TAIL_AT, capacity, close_at, copy_entry_at,
-    cost, empty_sector, find_bytes, has_close, listed_entry, listed_slots, may_have, offset_of,
-    put_done_at, put_entry_at, reach_in, reach_within, state,
+    FIRST, Opened, SLOT, SectorState, capacity, close_at, copy_entry_at, cost, empty_sector,
+    find_bytes, has_close, listed_entry, listed_slots, may_have, put_done_at, put_entry_at,
+    reach_in, reach_within, state,
 };
 use zms_format::{find_in, is_clean, scan};
 
@@ -50,86 +46,6 @@ impl ZmsOpen {
             },
             None => unreachable!(),
         }
-    }
-}
-
-// The entry in this sector, as `item_store` sees it.
-fn placed(found: SlotEntry, sector: u32) -> Placed
-    ensures placed { result ≡ placed_at sector (entry_of found) }
-    ensures wide { result.id < 2 ^ 32 }
-{
-    Placed {
-        sector,
-        slot: found.slot,
-        id: found.entry.id,
-        len: u32::from(found.entry.len),
-    }
-}
-
-// The bytes that an entry of a sector gives its id: they stand in its tail, or where it says.
-fn value_in<'a>(bytes: &'a [u8], found: &SlotEntry) -> &'a [u8]
-    requires short { length bytes.now ≤ 2 ^ 15 }
-    requires inside { (found.now.slot + 1) * 16 ≤ length bytes.now }
-    requires there { entry_in (slot_of bytes.now found.now.slot) ≡ Some found.now }
-    requires ends { 8 < found.now.entry.len
-        → offset_of found.now.entry + found.now.entry.len ≤ length bytes.now }
-    ensures { result.now ≡ value_of bytes.now found.now.entry }
-{
-    let len = usize::from(found.entry.len);
-    if found.entry.len > TAIL {
-        let offset = offset_of(&found.entry) as usize;
-        return &bytes[offset..offset + len];
-    }
-    let start = bytes.len() - (found.slot + 1) as usize * SLOT as usize + TAIL_AT as usize;
-    &bytes[start..start + len]
-}
-
-// The id field of a slot. The CRC is not checked.
-fn id_of(slot: &[u8]) -> u32
-    requires { length slot.now ≡ 16 }
-    ensures { result ≡ (fields_of slot.now).id }
-{
-    u32::from_le_bytes([slot[4], slot[5], slot[6], slot[7]])
-}
-
-// The same of a slot of a sector with these bytes.
-fn named_id(bytes: &[u8], slot: u32) -> u32
-    requires short { length bytes.now ≤ 2 ^ 15 }
-    requires inside { (slot + 1) * 16 ≤ length bytes.now }
-    ensures { IfSome (option_map entry_of (entry_in (slot_of bytes.now slot)))
-        (λ e. e.id ≡ result) }
-{
-    let start = bytes.len() - (slot + 1) as usize * SLOT as usize;
-    id_of(&bytes[start..start + SLOT as usize])
-}
-
-// Notes the entry in a slot of a sector's list, if there is one.
-fn note_slot<N: Notes>(bytes: &[u8], place: u32, slot: u32, notes: &mut N)
-    requires from { 2 ≤ slot }
-    requires listed { slot < length (valid_slots bytes.now) + 2 }
-    ensures { (geometry : geometry_type) (start : N) (before : List PlacedEntry)
-        → let k = format_of geometry in N.noted start k.ids notes.old before
-        → N.noted start k.ids notes.new
-        (before
-        ++ option_to_list (option_map (placed_at place) (k.in_slot bytes.now slot))) }
-{
-    match listed_entry(bytes, slot) {
-        Some(found) => notes.note(&placed(found, place)),
-        None => {}
-    }
-}
-
-// Notes the entries of a sector with these bytes, in the order of its list.
-fn note_entries<N: Notes>(bytes: &[u8], place: u32, notes: &mut N)
-    requires long { 48 ≤ length bytes.now }
-    requires short { length bytes.now ≤ 2 ^ 15 }
-    ensures { (geometry : geometry_type) (start : N) (before : List PlacedEntry)
-        → let k = format_of geometry in N.noted start k.ids notes.old before
-        → N.noted start k.ids notes.new
-        (before ++ map (placed_at place) ((slots k).entries bytes.now)) }
-{
-    for slot in FIRST..FIRST + listed_slots(bytes) {
-        note_slot(bytes, place, slot, notes);
     }
 }
 

@@ -23,9 +23,9 @@ pub struct Zms {
 
 impl Zms {
     /// Reads the area and completes what a power loss left undone: the emptying of a collected
-    /// sector, which takes one to three units (two on an erasing bank), or a whole garbage
-    /// collection. The items stay, and so do the newest versions of each, even if power is lost
-    /// again. It spends at most twice the units of a sector, and at most twice those of what it
+    /// sector, which takes one to three units by its bytes (two on an erasing bank), or a whole
+    /// garbage collection. The items stay, and so do the newest versions of each, even if power is
+    /// lost again. It spends at most twice the units of a sector, and at most twice those of what it
     /// copies and 8 more. An area at rest stays as it is. If anything changed, a sector is in use
     /// afterwards, even if power was lost. No byte of the collected sector changes before gc-done
     /// stands.

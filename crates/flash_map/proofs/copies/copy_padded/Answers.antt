@@ -8,10 +8,10 @@ use Rattle.flash_map.specs.declared.area.Area.{Area}
 use Rattle.flash_map.specs.declared.area.Geometry.{Geometry}
 use Rattle.flash_map.specs.declared.copies.Source.{Source}
 use Rattle.flash_map.specs.Area.{unit_of, sector_size, place_of, CanProgramIn, Writes, WritesPart}
-use Rattle.flash_map.specs.Copies.{source}
+use Rattle.flash_map.specs.Copies.{source, pieces_of}
 use Rattle.flash_map.specs.Spending.{Spends, SpendsAtMost}
 use Rattle.flash_map.specs.Units.{IsUnit, padded, padded_bytes}
-use Rattle.flash_map.proofs.CopyLemmas.{piece_at, piece_there, piece_is, source_part, length-source, writes_nothing, spends_nothing}
+use Rattle.flash_map.proofs.CopyLemmas.{piece_at, piece_there, piece_is, source_part, length-source, writes_nothing, spends_nothing, next_piece, pieces_padded, viewed_lost, spent_lost}
 use Rattle.flash_map.proofs.PaddedLemmas.{length-padded_bytes}
 use Rattle.flash_map.proofs.PieceLemmas.{loses_within, piece_len-is, on_err, can_piece, written_more, part_more}
 use Rattle.flash_map.proofs.Places.{length-sector, place_fits}
@@ -42,6 +42,8 @@ loop-done-init g c =
       touches = untouched (area ∷ []) a;
       written = writes_nothing a area c.args.sector c.args.offset image;
       spent = spends_nothing a unit;
+      whole_pieces = λ below. zero-mod 32;
+      viewed = omega arith;
     }
 
 pub overflow_add-part : goal.overflow_add-part
@@ -152,7 +154,7 @@ area_program-requires-clause-can g c =
     let sector : ℕ = c.args.sector in
     let offset : ℕ = c.args.offset in
     let tail : take (c.min-end.result - done) c.piece_of-piece.result ≡ take (c.min-end.result - done) (drop done image) =
-    ap (take (c.min-end.result - done)) (c.piece_of-piece.ensures ∙ ap (λ (xs : List ℕ). xs ++ replicate (32 - c.min.result) 255) (source_part a b area sector offset (take done image) from done c.min.result c.requires.other kept.written (omega (arith, piece.within, long))))
+    ap (take (c.min-end.result - done)) (c.piece_of-piece.ensures.bytes ∙ ap (λ (xs : List ℕ). xs ++ replicate (32 - c.min.result) 255) (source_part a b area sector offset (take done image) from done c.min.result c.requires.other kept.written (omega (arith, piece.within, long))))
     ∙ piece_is unit p done c.min-end.result c.min.result piece in
     let inside : c.min-end.result ≤ length image = omega (arith, piece.inside) in
     subst (λ (xs : List ℕ). CanProgramIn b area sector (offset + done) xs) (sym tail)
@@ -180,14 +182,14 @@ returns-in_err-area_program-clause-lost g c =
     let sector : ℕ = c.args.sector in
     let offset : ℕ = c.args.offset in
     let tail : take (c.min-end.result - done) c.piece_of-piece.result ≡ take (c.min-end.result - done) (drop done image) =
-    ap (take (c.min-end.result - done)) (c.piece_of-piece.ensures ∙ ap (λ (xs : List ℕ). xs ++ replicate (32 - c.min.result) 255) (source_part a b area sector offset (take done image) from done c.min.result c.requires.other kept.written (omega (arith, piece.within, long))))
+    ap (take (c.min-end.result - done)) (c.piece_of-piece.ensures.bytes ∙ ap (λ (xs : List ℕ). xs ++ replicate (32 - c.min.result) 255) (source_part a b area sector offset (take done image) from done c.min.result c.requires.other kept.written (omega (arith, piece.within, long))))
     ∙ piece_is unit p done c.min-end.result c.min.result piece in
     let inside : c.min-end.result ≤ length image = omega (arith, piece.inside) in
     let last : Device = g.F.Flash.device c.area_program.new.flash in
     on_err c.from_residual.result (part_more a b area lawful is_area sector offset image c.requires.can done c.min-end.result piece.more inside kept.whole_units piece.aligned kept.touches kept.written last (subst (λ (xs : List ℕ). WritesPart b last area sector (offset + done) xs) tail c.in_err-area_program.ensures.part))
 
-pub returns-in_err-area_program-clause-spent_at_most : goal.returns-in_err-area_program-clause-spent_at_most
-returns-in_err-area_program-clause-spent_at_most g c =
+pub returns-in_err-area_program-clause-spent : goal.returns-in_err-area_program-clause-spent
+returns-in_err-area_program-clause-spent g c =
     let a : Device = g.F.Flash.device c.args.flash.now in
     let area : Area = c.args.area.now in
     let lawful = g.met.F.Flash.is_lawful c.args.flash.now in
@@ -208,11 +210,11 @@ returns-in_err-area_program-clause-spent_at_most g c =
     let sector : ℕ = c.args.sector in
     let offset : ℕ = c.args.offset in
     let tail : take (c.min-end.result - done) c.piece_of-piece.result ≡ take (c.min-end.result - done) (drop done image) =
-    ap (take (c.min-end.result - done)) (c.piece_of-piece.ensures ∙ ap (λ (xs : List ℕ). xs ++ replicate (32 - c.min.result) 255) (source_part a b area sector offset (take done image) from done c.min.result c.requires.other kept.written (omega (arith, piece.within, long))))
+    ap (take (c.min-end.result - done)) (c.piece_of-piece.ensures.bytes ∙ ap (λ (xs : List ℕ). xs ++ replicate (32 - c.min.result) 255) (source_part a b area sector offset (take done image) from done c.min.result c.requires.other kept.written (omega (arith, piece.within, long))))
     ∙ piece_is unit p done c.min-end.result c.min.result piece in
     let inside : c.min-end.result ≤ length image = omega (arith, piece.inside) in
     let last : Device = g.F.Flash.device c.area_program.new.flash in
-    on_err c.from_residual.result
+    spent_lost a last (padded unit from.len / unit) c.from_residual.result c.from_residual.ensures.0
     (subst (λ (n : ℕ). SpendsAtMost a last (padded unit n / unit)) long
     (piece_at_most a b last area is-unit done c.min-end.result (take (c.min-end.result - done) c.piece_of-piece.result) (ap length tail ∙ piece_len-is image done c.min-end.result inside) kept.whole_units (omega (arith, piece.more)) kept.touches.banks kept.spent (padded unit (length p)) piece.inside
     (most-fails b last (place_of b area sector (offset + done)) (take (c.min-end.result - done) c.piece_of-piece.result) c.in_err-area_program.ensures.lost)))
@@ -239,16 +241,19 @@ loop-done-preserved g c =
     let sector : ℕ = c.args.sector in
     let offset : ℕ = c.args.offset in
     let tail : take (c.min-end.result - done) c.piece_of-piece.result ≡ take (c.min-end.result - done) (drop done image) =
-    ap (take (c.min-end.result - done)) (c.piece_of-piece.ensures ∙ ap (λ (xs : List ℕ). xs ++ replicate (32 - c.min.result) 255) (source_part a b area sector offset (take done image) from done c.min.result c.requires.other kept.written (omega (arith, piece.within, long))))
+    ap (take (c.min-end.result - done)) (c.piece_of-piece.ensures.bytes ∙ ap (λ (xs : List ℕ). xs ++ replicate (32 - c.min.result) 255) (source_part a b area sector offset (take done image) from done c.min.result c.requires.other kept.written (omega (arith, piece.within, long))))
     ∙ piece_is unit p done c.min-end.result c.min.result piece in
     let inside : c.min-end.result ≤ length image = omega (arith, piece.inside) in
     let last : Device = g.F.Flash.device c.area_program.new.flash in
+    let next = next_piece done c.min-end.result c.padded-all.result (omega arith) (kept.whole_pieces (omega arith)) c.min-end.ensures in
     record {
       in_range = omega (arith, piece.inside, all);
       whole_units = piece.aligned;
       touches = then kept.touches c.in_ok-area_program.ensures.touches;
       written = written_more a b area lawful is_area sector offset image c.requires.can done c.min-end.result piece.more inside kept.whole_units piece.aligned kept.touches kept.written last (subst (λ (xs : List ℕ). Writes b last area sector (offset + done) xs) tail c.in_ok-area_program.ensures.written);
       spent = piece_spends a b last area is-unit done c.min-end.result (take (c.min-end.result - done) c.piece_of-piece.result) (ap length tail ∙ piece_len-is image done c.min-end.result inside) kept.whole_units (omega (arith, piece.more)) kept.touches.banks kept.spent (spends-programs b last (place_of b area sector (offset + done)) (take (c.min-end.result - done) c.piece_of-piece.result) c.in_ok-area_program.ensures.ok);
+      whole_pieces = next.whole;
+      viewed = omega (arith, c.piece_of-piece.ensures.step, kept.viewed, next.one_more);
     }
 
 pub returns-clause-ok : goal.returns-clause-ok
@@ -291,7 +296,7 @@ returns-clause-spent g c =
     let kept = c.loop-done.invariant in
     let done : ℕ = c.loop-done.done in
     let same : done ≡ padded unit from.len = omega (arith, kept.in_range, all) ∙ ap (padded unit) long in
-    subst (λ (n : ℕ). Spends a b (n / unit)) same kept.spent
+    record { whole = subst (λ (n : ℕ). Spends a b (n / unit)) same kept.spent; cut = tt }
 
 pub returns-in_err-area_program-clause-in_pieces : goal.returns-in_err-area_program-clause-in_pieces
 returns-in_err-area_program-clause-in_pieces g c =
@@ -302,3 +307,33 @@ returns-in_err-area_program-clause-in_pieces g c =
     let long = length-take (c.min-end.result - c.loop-done.done) c.piece_of-piece.result in
     on_err c.from_residual.result
     (loses_within COPY_PIECE a b last (c.args.area.now ∷ []) (place_of b c.args.area.now c.args.sector (c.args.offset + c.loop-done.done)) piece c.loop-done.invariant.touches c.in_err-area_program.ensures.lost (omega (arith, long, c.min-end.ensures)))
+
+pub returns-in_err-area_program-clause-views : goal.returns-in_err-area_program-clause-views
+returns-in_err-area_program-clause-views g c =
+    let a : Device = g.F.Flash.device c.args.flash.now in
+    let area : Area = c.args.area.now in
+    let lawful = g.met.F.Flash.is_lawful c.args.flash.now in
+    let unit : ℕ = unit_of a area in
+    let from : Source = c.args.from in
+    let is-unit : IsUnit unit = is_unit unit (lawful.each_bank area.bank c.requires.lawful.has_bank).unit in
+    let all : c.padded-all.result ≡ padded unit from.len = c.padded-all.ensures.value ∙ ap (λ (x : Geometry). padded x.unit from.len) c.geometry.ensures in
+    let kept = c.loop-done.invariant in
+    let next = next_piece c.loop-done.done c.min-end.result c.padded-all.result (omega arith) (kept.whole_pieces (omega arith)) c.min-end.ensures in
+    let same : pieces_of c.padded-all.result ≡ pieces_of from.len = ap pieces_of all ∙ pieces_padded unit is-unit from.len in
+    viewed_lost (pieces_of from.len) c.args.steps.now c.piece_of-piece.new.steps c.from_residual.result c.from_residual.ensures.0
+    (omega (arith, c.piece_of-piece.ensures.step, kept.viewed, next.one_more, next.few, same))
+
+pub returns-clause-views : goal.returns-clause-views
+returns-clause-views g c =
+    let a : Device = g.F.Flash.device c.args.flash.now in
+    let area : Area = c.args.area.now in
+    let lawful = g.met.F.Flash.is_lawful c.args.flash.now in
+    let unit : ℕ = unit_of a area in
+    let from : Source = c.args.from in
+    let is-unit : IsUnit unit = is_unit unit (lawful.each_bank area.bank c.requires.lawful.has_bank).unit in
+    let all : c.padded-all.result ≡ padded unit from.len = c.padded-all.ensures.value ∙ ap (λ (x : Geometry). padded x.unit from.len) c.geometry.ensures in
+    let kept = c.loop-done.invariant in
+    let whole : c.loop-done.done ≡ c.padded-all.result = omega (arith, kept.in_range) in
+    let same : pieces_of c.loop-done.done ≡ pieces_of from.len = ap pieces_of (whole ∙ all) ∙ pieces_padded unit is-unit from.len in
+    let taken : c.loop-done.steps ≡ c.args.steps.now + pieces_of from.len = omega (arith, kept.viewed, same) in
+    record { whole = taken; cut = tt }

@@ -12,7 +12,7 @@ use Rattle.item_laws.proofs.AreaReads.{next_there}
 use Rattle.item_laws.specs.Forms.{to_copy}
 use Rattle.item_store.specs.SectorFormat.{SectorFormat, IsSectorFormat}
 use Rattle.item_store.specs.Standing.{IsStoreArea}
-use Rattle.item_store.specs.Spending.{both, copies, collect_units}
+use Rattle.item_store.specs.Spending.{both, copies, victim_units, collect_units}
 use Rattle.item_store.proofs.Areas.{unit_is, only_then, stopped-keeps}
 use Rattle.item_store.proofs.CopyLoop.{either}
 use Rattle.item_store.proofs.ListSteps.{stopped-list}
@@ -102,7 +102,7 @@ returns-in_err-copy_live-clause-spends g c =
     let a : Device = g.F.Flash.device c.args.flash.now in
     let k : SectorFormat = g.T.SlotSectors.format_of (geometry_of a c.args.area.now) in
     by-cut a (g.F.Flash.device c.copy_live.new.flash) (collect_units (g.T.SlotSectors.format_of (geometry_of a c.args.area.now)) (sectors_of a c.args.area.now) c.args.current) c.from_residual.result c.from_residual.ensures.0
-    (first-lost a (g.F.Flash.device c.copy_live.new.flash) (copies k (to_copy k.reading (sectors_of a c.args.area.now) c.args.current)) (both k.units.any_done k.units.any_clear) c.in_err-copy_live.ensures.spends_lost)
+    (first-lost a (g.F.Flash.device c.copy_live.new.flash) (copies k (to_copy k.reading (sectors_of a c.args.area.now) c.args.current)) (both k.units.any_done (victim_units k (sectors_of a c.args.area.now) c.args.current)) c.in_err-copy_live.ensures.spends_lost)
 
 pub returns-in_err-mark_done-clause-spends : goal.returns-in_err-mark_done-clause-spends
 returns-in_err-mark_done-clause-spends g c =

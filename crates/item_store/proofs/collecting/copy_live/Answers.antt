@@ -14,7 +14,7 @@ use Rattle.item_store.proofs.CopyLoop.{IsCopying, copying_start, copying_end}
 use Rattle.item_laws.proofs.RingSteps.{reads}
 use Rattle.item_store.specs.Seen.{holds_live}
 use Rattle.item_store.proofs.LiveSteps.{victim_counts}
-use Rattle.item_store.proofs.SlotFacts.{live_flag, current_within, next_within, opens, within, room, inside, apart, listed_there, ready, closed, not_done, source, kept_there, one_more, one_lost, one_most, kept_after}
+use Rattle.item_store.proofs.SlotFacts.{none_yet, back_at, slot_in, below_few, live_flag, current_within, next_within, opens, within, room, inside, apart, listed_there, ready, closed, not_done, source, kept_there, one_more, one_lost, one_most, kept_after}
 use Rattle.item_store.proofs.collecting.copy_live.Goals as goal
 
 pub slots-slots-requires-clause-inside : goal.slots-slots-requires-clause-inside
@@ -22,8 +22,7 @@ slots-slots-requires-clause-inside g c =
     let a : Device = g.F.Flash.device c.args.flash.now in
     let area : Area = c.args.area.now in
     let place : ℕ = c.args.current in
-    let law : IsSectorFormat (g.T.SlotSectors.format_of (geometry_of a area)) = g.met.T.SlotSectors.lawful (geometry_of a area) (unit_is a area (g.met.F.Flash.is_lawful c.args.flash.now) c.requires.area.lawful) in
-    let within = next_within a area place c.requires.collecting.ring.within in omega (arith, c.requires.victim)
+    subst (λ (v : ℕ). v < area.sectors) (sym c.requires.victim) (next_within a area place c.requires.collecting.ring.within)
 
 pub loop-slot-init : goal.loop-slot-init
 loop-slot-init g c =
@@ -31,7 +30,7 @@ loop-slot-init g c =
     let area : Area = c.args.area.now in
     let place : ℕ = c.args.current in
     let law : IsSectorFormat (g.T.SlotSectors.format_of (geometry_of a area)) = g.met.T.SlotSectors.lawful (geometry_of a area) (unit_is a area (g.met.F.Flash.is_lawful c.args.flash.now) c.requires.area.lawful) in
-    let none : c.first_slot-first.result - c.first_slot-first.result ≡ 0 = omega arith in
+    let none : c.first_slot-first.result - c.first_slot-first.result ≡ 0 = none_yet c.first_slot-first.result in
     record {
       copying = subst (λ (n : ℕ). IsCopying (g.T.SlotSectors.format_of (geometry_of a area)) a a area place n) (sym none) (copying_start (g.T.SlotSectors.format_of (geometry_of a area)) law a area place c.requires.begun);
       kept = c.requires.kept;
@@ -44,7 +43,6 @@ copy_slot-requires-clause-here g c = record {
       let a : Device = g.F.Flash.device c.args.flash.now in
       let area : Area = c.args.area.now in
       let place : ℕ = c.args.current in
-      let law : IsSectorFormat (g.T.SlotSectors.format_of (geometry_of a area)) = g.met.T.SlotSectors.lawful (geometry_of a area) (unit_is a area (g.met.F.Flash.is_lawful c.args.flash.now) c.requires.area.lawful) in
       current_within a area place c.requires.collecting.ring.within;
   kept =
       let a : Device = g.F.Flash.device c.args.flash.now in
@@ -54,9 +52,7 @@ copy_slot-requires-clause-here g c = record {
       let d : Device = g.F.Flash.device c.loop-slot.flash in
       let first_is = c.first_slot-first.ensures.value (geometry_of a area) in
       let kept = c.loop-slot.invariant in
-      let more : c.loop-slot.slot < c.first_slot-first.result + (g.T.SlotSectors.format_of (geometry_of a area)).count (sector_at (sectors_of a area) (next (sectors_of a area) place)) =
-      (let count : c.slots-slots.result ≡ (g.T.SlotSectors.format_of (geometry_of a area)).count (sector_at (sectors_of a area) (next (sectors_of a area) place)) = c.slots-slots.ensures.value ∙ ap (λ (v : ℕ). (g.T.SlotSectors.format_of (geometry_of a area)).count (sector_at (sectors_of a area) v)) c.requires.victim in omega arith) in
-      kept_there g.T.SlotSectors.format_of g.T.SlotSectors.role a d area place c.args.victim c.first_slot-first.result c.loop-slot.slot law (g.met.F.Flash.is_lawful c.args.flash.now) c.requires.area c.requires.collecting c.requires.victim first_is (omega arith) kept.copying g.T.SlotSectors.kept c.loop-slot.opened kept.kept;
+      kept_there g.T.SlotSectors.format_of g.T.SlotSectors.role a d area place c.args.victim c.first_slot-first.result c.loop-slot.slot law (g.met.F.Flash.is_lawful c.args.flash.now) c.requires.area c.requires.collecting c.requires.victim first_is c.loop-slot.auto.slot kept.copying g.T.SlotSectors.kept c.loop-slot.opened kept.kept;
   ready =
       let a : Device = g.F.Flash.device c.args.flash.now in
       let area : Area = c.args.area.now in
@@ -65,9 +61,7 @@ copy_slot-requires-clause-here g c = record {
       let d : Device = g.F.Flash.device c.loop-slot.flash in
       let first_is = c.first_slot-first.ensures.value (geometry_of a area) in
       let kept = c.loop-slot.invariant in
-      let more : c.loop-slot.slot < c.first_slot-first.result + (g.T.SlotSectors.format_of (geometry_of a area)).count (sector_at (sectors_of a area) (next (sectors_of a area) place)) =
-      (let count : c.slots-slots.result ≡ (g.T.SlotSectors.format_of (geometry_of a area)).count (sector_at (sectors_of a area) (next (sectors_of a area) place)) = c.slots-slots.ensures.value ∙ ap (λ (v : ℕ). (g.T.SlotSectors.format_of (geometry_of a area)).count (sector_at (sectors_of a area) v)) c.requires.victim in omega arith) in
-      ready g.T.SlotSectors.format_of g.T.SlotSectors.role a d area place c.args.victim c.first_slot-first.result c.loop-slot.slot law (g.met.F.Flash.is_lawful c.args.flash.now) c.requires.area c.requires.collecting c.requires.victim first_is (omega arith) kept.copying;
+      ready g.T.SlotSectors.format_of g.T.SlotSectors.role a d area place c.args.victim c.first_slot-first.result c.loop-slot.slot law (g.met.F.Flash.is_lawful c.args.flash.now) c.requires.area c.requires.collecting c.requires.victim first_is c.loop-slot.auto.slot kept.copying;
   opened =
       let a : Device = g.F.Flash.device c.args.flash.now in
       let area : Area = c.args.area.now in
@@ -76,9 +70,7 @@ copy_slot-requires-clause-here g c = record {
       let d : Device = g.F.Flash.device c.loop-slot.flash in
       let first_is = c.first_slot-first.ensures.value (geometry_of a area) in
       let kept = c.loop-slot.invariant in
-      let more : c.loop-slot.slot < c.first_slot-first.result + (g.T.SlotSectors.format_of (geometry_of a area)).count (sector_at (sectors_of a area) (next (sectors_of a area) place)) =
-      (let count : c.slots-slots.result ≡ (g.T.SlotSectors.format_of (geometry_of a area)).count (sector_at (sectors_of a area) (next (sectors_of a area) place)) = c.slots-slots.ensures.value ∙ ap (λ (v : ℕ). (g.T.SlotSectors.format_of (geometry_of a area)).count (sector_at (sectors_of a area) v)) c.requires.victim in omega arith) in
-      opens g.T.SlotSectors.format_of g.T.SlotSectors.role a d area place c.args.victim c.first_slot-first.result c.loop-slot.slot law (g.met.F.Flash.is_lawful c.args.flash.now) c.requires.area c.requires.collecting c.requires.victim first_is (omega arith) kept.copying;
+      opens g.T.SlotSectors.format_of g.T.SlotSectors.role a d area place c.args.victim c.first_slot-first.result c.loop-slot.slot law (g.met.F.Flash.is_lawful c.args.flash.now) c.requires.area c.requires.collecting c.requires.victim first_is c.loop-slot.auto.slot kept.copying;
 }
 
 pub copy_slot-requires-clause-victim : goal.copy_slot-requires-clause-victim
@@ -91,9 +83,7 @@ copy_slot-requires-clause-victim g c = record {
       let d : Device = g.F.Flash.device c.loop-slot.flash in
       let first_is = c.first_slot-first.ensures.value (geometry_of a area) in
       let kept = c.loop-slot.invariant in
-      let more : c.loop-slot.slot < c.first_slot-first.result + (g.T.SlotSectors.format_of (geometry_of a area)).count (sector_at (sectors_of a area) (next (sectors_of a area) place)) =
-      (let count : c.slots-slots.result ≡ (g.T.SlotSectors.format_of (geometry_of a area)).count (sector_at (sectors_of a area) (next (sectors_of a area) place)) = c.slots-slots.ensures.value ∙ ap (λ (v : ℕ). (g.T.SlotSectors.format_of (geometry_of a area)).count (sector_at (sectors_of a area) v)) c.requires.victim in omega arith) in
-      inside g.T.SlotSectors.format_of g.T.SlotSectors.role a d area place c.args.victim c.first_slot-first.result c.loop-slot.slot law (g.met.F.Flash.is_lawful c.args.flash.now) c.requires.area c.requires.collecting c.requires.victim first_is (omega arith) kept.copying;
+      inside g.T.SlotSectors.format_of g.T.SlotSectors.role a d area place c.args.victim c.first_slot-first.result c.loop-slot.slot law (g.met.F.Flash.is_lawful c.args.flash.now) c.requires.area c.requires.collecting c.requires.victim first_is c.loop-slot.auto.slot kept.copying;
   other =
       let a : Device = g.F.Flash.device c.args.flash.now in
       let area : Area = c.args.area.now in
@@ -102,9 +92,7 @@ copy_slot-requires-clause-victim g c = record {
       let d : Device = g.F.Flash.device c.loop-slot.flash in
       let first_is = c.first_slot-first.ensures.value (geometry_of a area) in
       let kept = c.loop-slot.invariant in
-      let more : c.loop-slot.slot < c.first_slot-first.result + (g.T.SlotSectors.format_of (geometry_of a area)).count (sector_at (sectors_of a area) (next (sectors_of a area) place)) =
-      (let count : c.slots-slots.result ≡ (g.T.SlotSectors.format_of (geometry_of a area)).count (sector_at (sectors_of a area) (next (sectors_of a area) place)) = c.slots-slots.ensures.value ∙ ap (λ (v : ℕ). (g.T.SlotSectors.format_of (geometry_of a area)).count (sector_at (sectors_of a area) v)) c.requires.victim in omega arith) in
-      apart g.T.SlotSectors.format_of g.T.SlotSectors.role a d area place c.args.victim c.first_slot-first.result c.loop-slot.slot law (g.met.F.Flash.is_lawful c.args.flash.now) c.requires.area c.requires.collecting c.requires.victim first_is (omega arith) kept.copying;
+      apart g.T.SlotSectors.format_of g.T.SlotSectors.role a d area place c.args.victim c.first_slot-first.result c.loop-slot.slot law (g.met.F.Flash.is_lawful c.args.flash.now) c.requires.area c.requires.collecting c.requires.victim first_is c.loop-slot.auto.slot kept.copying;
   listed =
       let a : Device = g.F.Flash.device c.args.flash.now in
       let area : Area = c.args.area.now in
@@ -113,9 +101,8 @@ copy_slot-requires-clause-victim g c = record {
       let d : Device = g.F.Flash.device c.loop-slot.flash in
       let first_is = c.first_slot-first.ensures.value (geometry_of a area) in
       let kept = c.loop-slot.invariant in
-      let more : c.loop-slot.slot < c.first_slot-first.result + (g.T.SlotSectors.format_of (geometry_of a area)).count (sector_at (sectors_of a area) (next (sectors_of a area) place)) =
-      (let count : c.slots-slots.result ≡ (g.T.SlotSectors.format_of (geometry_of a area)).count (sector_at (sectors_of a area) (next (sectors_of a area) place)) = c.slots-slots.ensures.value ∙ ap (λ (v : ℕ). (g.T.SlotSectors.format_of (geometry_of a area)).count (sector_at (sectors_of a area) v)) c.requires.victim in omega arith) in
-      listed_there g.T.SlotSectors.format_of g.T.SlotSectors.role a d area place c.args.victim c.first_slot-first.result c.loop-slot.slot law (g.met.F.Flash.is_lawful c.args.flash.now) c.requires.area c.requires.collecting c.requires.victim first_is (omega arith) kept.copying more;
+      let more : c.loop-slot.slot < c.first_slot-first.result + (g.T.SlotSectors.format_of (geometry_of a area)).count (sector_at (sectors_of a area) (next (sectors_of a area) place)) = subst (λ (n : ℕ). c.loop-slot.slot < c.first_slot-first.result + n) (c.slots-slots.ensures.value ∙ ap (λ (v : ℕ). (g.T.SlotSectors.format_of (geometry_of a area)).count (sector_at (sectors_of a area) v)) c.requires.victim) c.loop-slot-test.true in
+      listed_there g.T.SlotSectors.format_of g.T.SlotSectors.role a d area place c.args.victim c.first_slot-first.result c.loop-slot.slot law (g.met.F.Flash.is_lawful c.args.flash.now) c.requires.area c.requires.collecting c.requires.victim first_is c.loop-slot.auto.slot kept.copying more;
   source =
       let a : Device = g.F.Flash.device c.args.flash.now in
       let area : Area = c.args.area.now in
@@ -124,9 +111,7 @@ copy_slot-requires-clause-victim g c = record {
       let d : Device = g.F.Flash.device c.loop-slot.flash in
       let first_is = c.first_slot-first.ensures.value (geometry_of a area) in
       let kept = c.loop-slot.invariant in
-      let more : c.loop-slot.slot < c.first_slot-first.result + (g.T.SlotSectors.format_of (geometry_of a area)).count (sector_at (sectors_of a area) (next (sectors_of a area) place)) =
-      (let count : c.slots-slots.result ≡ (g.T.SlotSectors.format_of (geometry_of a area)).count (sector_at (sectors_of a area) (next (sectors_of a area) place)) = c.slots-slots.ensures.value ∙ ap (λ (v : ℕ). (g.T.SlotSectors.format_of (geometry_of a area)).count (sector_at (sectors_of a area) v)) c.requires.victim in omega arith) in
-      source g.T.SlotSectors.format_of g.T.SlotSectors.role a d area place c.args.victim c.first_slot-first.result c.loop-slot.slot law (g.met.F.Flash.is_lawful c.args.flash.now) c.requires.area c.requires.collecting c.requires.victim first_is (omega arith) kept.copying;
+      source g.T.SlotSectors.format_of g.T.SlotSectors.role a d area place c.args.victim c.first_slot-first.result c.loop-slot.slot law (g.met.F.Flash.is_lawful c.args.flash.now) c.requires.area c.requires.collecting c.requires.victim first_is c.loop-slot.auto.slot kept.copying;
   within =
       let a : Device = g.F.Flash.device c.args.flash.now in
       let area : Area = c.args.area.now in
@@ -135,9 +120,7 @@ copy_slot-requires-clause-victim g c = record {
       let d : Device = g.F.Flash.device c.loop-slot.flash in
       let first_is = c.first_slot-first.ensures.value (geometry_of a area) in
       let kept = c.loop-slot.invariant in
-      let more : c.loop-slot.slot < c.first_slot-first.result + (g.T.SlotSectors.format_of (geometry_of a area)).count (sector_at (sectors_of a area) (next (sectors_of a area) place)) =
-      (let count : c.slots-slots.result ≡ (g.T.SlotSectors.format_of (geometry_of a area)).count (sector_at (sectors_of a area) (next (sectors_of a area) place)) = c.slots-slots.ensures.value ∙ ap (λ (v : ℕ). (g.T.SlotSectors.format_of (geometry_of a area)).count (sector_at (sectors_of a area) v)) c.requires.victim in omega arith) in
-      within g.T.SlotSectors.format_of g.T.SlotSectors.role a d area place c.args.victim c.first_slot-first.result c.loop-slot.slot law (g.met.F.Flash.is_lawful c.args.flash.now) c.requires.area c.requires.collecting c.requires.victim first_is (omega arith) kept.copying;
+      within g.T.SlotSectors.format_of g.T.SlotSectors.role a d area place c.args.victim c.first_slot-first.result c.loop-slot.slot law (g.met.F.Flash.is_lawful c.args.flash.now) c.requires.area c.requires.collecting c.requires.victim first_is c.loop-slot.auto.slot kept.copying;
 }
 
 pub copy_slot-requires-clause-room : goal.copy_slot-requires-clause-room
@@ -149,9 +132,8 @@ copy_slot-requires-clause-room g c =
     let d : Device = g.F.Flash.device c.loop-slot.flash in
     let first_is = c.first_slot-first.ensures.value (geometry_of a area) in
     let kept = c.loop-slot.invariant in
-    let more : c.loop-slot.slot < c.first_slot-first.result + (g.T.SlotSectors.format_of (geometry_of a area)).count (sector_at (sectors_of a area) (next (sectors_of a area) place)) =
-    (let count : c.slots-slots.result ≡ (g.T.SlotSectors.format_of (geometry_of a area)).count (sector_at (sectors_of a area) (next (sectors_of a area) place)) = c.slots-slots.ensures.value ∙ ap (λ (v : ℕ). (g.T.SlotSectors.format_of (geometry_of a area)).count (sector_at (sectors_of a area) v)) c.requires.victim in omega arith) in
-    room g.T.SlotSectors.format_of g.T.SlotSectors.role a d area place c.args.victim c.first_slot-first.result c.loop-slot.slot law (g.met.F.Flash.is_lawful c.args.flash.now) c.requires.area c.requires.collecting c.requires.victim first_is (omega arith) kept.copying more
+    let more : c.loop-slot.slot < c.first_slot-first.result + (g.T.SlotSectors.format_of (geometry_of a area)).count (sector_at (sectors_of a area) (next (sectors_of a area) place)) = subst (λ (n : ℕ). c.loop-slot.slot < c.first_slot-first.result + n) (c.slots-slots.ensures.value ∙ ap (λ (v : ℕ). (g.T.SlotSectors.format_of (geometry_of a area)).count (sector_at (sectors_of a area) v)) c.requires.victim) c.loop-slot-test.true in
+    room g.T.SlotSectors.format_of g.T.SlotSectors.role a d area place c.args.victim c.first_slot-first.result c.loop-slot.slot law (g.met.F.Flash.is_lawful c.args.flash.now) c.requires.area c.requires.collecting c.requires.victim first_is c.loop-slot.auto.slot kept.copying more
 
 pub returns-in_err-copy_slot-clause-lost : goal.returns-in_err-copy_slot-clause-lost
 returns-in_err-copy_slot-clause-lost g c =
@@ -162,10 +144,8 @@ returns-in_err-copy_slot-clause-lost g c =
     let d : Device = g.F.Flash.device c.loop-slot.flash in
     let first_is = c.first_slot-first.ensures.value (geometry_of a area) in
     let kept = c.loop-slot.invariant in
-    let more : c.loop-slot.slot < c.first_slot-first.result + (g.T.SlotSectors.format_of (geometry_of a area)).count (sector_at (sectors_of a area) (next (sectors_of a area) place)) =
-    (let count : c.slots-slots.result ≡ (g.T.SlotSectors.format_of (geometry_of a area)).count (sector_at (sectors_of a area) (next (sectors_of a area) place)) = c.slots-slots.ensures.value ∙ ap (λ (v : ℕ). (g.T.SlotSectors.format_of (geometry_of a area)).count (sector_at (sectors_of a area) v)) c.requires.victim in omega arith) in
     let e : Device = g.F.Flash.device c.copy_slot.new.flash in
-    on_err c.from_residual.result (one_lost g.T.SlotSectors.format_of g.T.SlotSectors.role a d area place c.args.victim c.first_slot-first.result c.loop-slot.slot law (g.met.F.Flash.is_lawful c.args.flash.now) c.requires.area c.requires.collecting c.requires.victim first_is (omega arith) kept.copying e c.in_err-copy_slot.ensures.ends.only c.in_err-copy_slot.ensures.ends.lost)
+    on_err c.from_residual.result (one_lost g.T.SlotSectors.format_of g.T.SlotSectors.role a d area place c.args.victim c.first_slot-first.result c.loop-slot.slot law (g.met.F.Flash.is_lawful c.args.flash.now) c.requires.area c.requires.collecting c.requires.victim first_is c.loop-slot.auto.slot kept.copying e c.in_err-copy_slot.ensures.ends.only c.in_err-copy_slot.ensures.ends.lost)
 
 pub returns-in_err-copy_slot-clause-spends_lost : goal.returns-in_err-copy_slot-clause-spends_lost
 returns-in_err-copy_slot-clause-spends_lost g c =
@@ -176,10 +156,9 @@ returns-in_err-copy_slot-clause-spends_lost g c =
     let d : Device = g.F.Flash.device c.loop-slot.flash in
     let first_is = c.first_slot-first.ensures.value (geometry_of a area) in
     let kept = c.loop-slot.invariant in
-    let more : c.loop-slot.slot < c.first_slot-first.result + (g.T.SlotSectors.format_of (geometry_of a area)).count (sector_at (sectors_of a area) (next (sectors_of a area) place)) =
-    (let count : c.slots-slots.result ≡ (g.T.SlotSectors.format_of (geometry_of a area)).count (sector_at (sectors_of a area) (next (sectors_of a area) place)) = c.slots-slots.ensures.value ∙ ap (λ (v : ℕ). (g.T.SlotSectors.format_of (geometry_of a area)).count (sector_at (sectors_of a area) v)) c.requires.victim in omega arith) in
+    let more : c.loop-slot.slot < c.first_slot-first.result + (g.T.SlotSectors.format_of (geometry_of a area)).count (sector_at (sectors_of a area) (next (sectors_of a area) place)) = subst (λ (n : ℕ). c.loop-slot.slot < c.first_slot-first.result + n) (c.slots-slots.ensures.value ∙ ap (λ (v : ℕ). (g.T.SlotSectors.format_of (geometry_of a area)).count (sector_at (sectors_of a area) v)) c.requires.victim) c.loop-slot-test.true in
     let e : Device = g.F.Flash.device c.copy_slot.new.flash in
-    on_err c.from_residual.result (one_most g.T.SlotSectors.format_of g.T.SlotSectors.role a d area place c.args.victim c.first_slot-first.result c.loop-slot.slot law (g.met.F.Flash.is_lawful c.args.flash.now) c.requires.area c.requires.collecting c.requires.victim first_is (omega arith) kept.copying e more c.in_err-copy_slot.ensures.ends.spends_lost)
+    on_err c.from_residual.result (one_most g.T.SlotSectors.format_of g.T.SlotSectors.role a d area place c.args.victim c.first_slot-first.result c.loop-slot.slot law (g.met.F.Flash.is_lawful c.args.flash.now) c.requires.area c.requires.collecting c.requires.victim first_is c.loop-slot.auto.slot kept.copying e more c.in_err-copy_slot.ensures.ends.spends_lost)
 
 pub loop-slot-preserved : goal.loop-slot-preserved
 loop-slot-preserved g c =
@@ -190,12 +169,11 @@ loop-slot-preserved g c =
     let d : Device = g.F.Flash.device c.loop-slot.flash in
     let first_is = c.first_slot-first.ensures.value (geometry_of a area) in
     let kept = c.loop-slot.invariant in
-    let more : c.loop-slot.slot < c.first_slot-first.result + (g.T.SlotSectors.format_of (geometry_of a area)).count (sector_at (sectors_of a area) (next (sectors_of a area) place)) =
-    (let count : c.slots-slots.result ≡ (g.T.SlotSectors.format_of (geometry_of a area)).count (sector_at (sectors_of a area) (next (sectors_of a area) place)) = c.slots-slots.ensures.value ∙ ap (λ (v : ℕ). (g.T.SlotSectors.format_of (geometry_of a area)).count (sector_at (sectors_of a area) v)) c.requires.victim in omega arith) in
+    let more : c.loop-slot.slot < c.first_slot-first.result + (g.T.SlotSectors.format_of (geometry_of a area)).count (sector_at (sectors_of a area) (next (sectors_of a area) place)) = subst (λ (n : ℕ). c.loop-slot.slot < c.first_slot-first.result + n) (c.slots-slots.ensures.value ∙ ap (λ (v : ℕ). (g.T.SlotSectors.format_of (geometry_of a area)).count (sector_at (sectors_of a area) v)) c.requires.victim) c.loop-slot-test.true in
     let e : Device = g.F.Flash.device c.copy_slot.new.flash in
     record {
-      copying = one_more g.T.SlotSectors.format_of g.T.SlotSectors.role a d area place c.args.victim c.first_slot-first.result c.loop-slot.slot law (g.met.F.Flash.is_lawful c.args.flash.now) c.requires.area c.requires.collecting c.requires.victim first_is (omega arith) kept.copying e more c.in_ok-copy_slot.ensures.touches c.in_ok-copy_slot.ensures.ends.copies c.in_ok-copy_slot.ensures.ends.spends;
-      kept = kept_after g.T.SlotSectors.format_of g.T.SlotSectors.role a d area place c.args.victim c.first_slot-first.result c.loop-slot.slot law (g.met.F.Flash.is_lawful c.args.flash.now) c.requires.area c.requires.collecting c.requires.victim first_is (omega arith) kept.copying g.T.SlotSectors.kept c.copy_slot.new.opened e c.in_ok-copy_slot.ensures.ends.kept;
+      copying = one_more g.T.SlotSectors.format_of g.T.SlotSectors.role a d area place c.args.victim c.first_slot-first.result c.loop-slot.slot law (g.met.F.Flash.is_lawful c.args.flash.now) c.requires.area c.requires.collecting c.requires.victim first_is c.loop-slot.auto.slot kept.copying e more c.in_ok-copy_slot.ensures.touches c.in_ok-copy_slot.ensures.ends.copies c.in_ok-copy_slot.ensures.ends.spends;
+      kept = kept_after g.T.SlotSectors.format_of g.T.SlotSectors.role a d area place c.args.victim c.first_slot-first.result c.loop-slot.slot law (g.met.F.Flash.is_lawful c.args.flash.now) c.requires.area c.requires.collecting c.requires.victim first_is c.loop-slot.auto.slot kept.copying g.T.SlotSectors.kept c.copy_slot.new.opened e c.in_ok-copy_slot.ensures.ends.kept;
     }
 
 pub returns-clause-copies : goal.returns-clause-copies
@@ -231,7 +209,6 @@ live_entries-requires-clause-on g c =
     let a : Device = g.F.Flash.device c.args.flash.now in
     let area : Area = c.args.area.now in
     let place : ℕ = c.args.current in
-    let law : IsSectorFormat (g.T.SlotSectors.format_of (geometry_of a area)) = g.met.T.SlotSectors.lawful (geometry_of a area) (unit_is a area (g.met.F.Flash.is_lawful c.args.flash.now) c.requires.area.lawful) in
     record { area = c.requires.area; kept = c.requires.kept; current = sym (reads (g.T.SlotSectors.format_of (geometry_of a area)).reading (sectors_of a area) place (inr (inl c.requires.collecting))).0 }
 
 pub live_entries-requires-clause-inside : goal.live_entries-requires-clause-inside
@@ -239,20 +216,18 @@ live_entries-requires-clause-inside g c =
     let a : Device = g.F.Flash.device c.args.flash.now in
     let area : Area = c.args.area.now in
     let place : ℕ = c.args.current in
-    let law : IsSectorFormat (g.T.SlotSectors.format_of (geometry_of a area)) = g.met.T.SlotSectors.lawful (geometry_of a area) (unit_is a area (g.met.F.Flash.is_lawful c.args.flash.now) c.requires.area.lawful) in
-    let within = next_within a area place c.requires.collecting.ring.within in omega (arith, c.requires.victim)
+    subst (λ (v : ℕ). v < area.sectors) (sym c.requires.victim) (next_within a area place c.requires.collecting.ring.within)
 
 pub live_entries-requires-clause-counts : goal.live_entries-requires-clause-counts
 live_entries-requires-clause-counts g c =
     let a : Device = g.F.Flash.device c.args.flash.now in
     let area : Area = c.args.area.now in
     let place : ℕ = c.args.current in
-    let law : IsSectorFormat (g.T.SlotSectors.format_of (geometry_of a area)) = g.met.T.SlotSectors.lawful (geometry_of a area) (unit_is a area (g.met.F.Flash.is_lawful c.args.flash.now) c.requires.area.lawful) in
     victim_counts (g.T.SlotSectors.format_of (geometry_of a area)) (sectors_of a area) place c.args.victim c.requires.collecting c.requires.victim
 
 pub has-is-requires : goal.has-is-requires
 has-is-requires g c =
-    omega (arith, c.slots-slots.ensures.few)
+    below_few c.first_slot-first.result c.loop-slot.slot c.slots-slots.result c.loop-slot.auto.slot c.loop-slot-test.true c.slots-slots.ensures.few
 
 pub copy_slot-requires-clause-live : goal.copy_slot-requires-clause-live
 copy_slot-requires-clause-live g c =
@@ -263,12 +238,11 @@ copy_slot-requires-clause-live g c =
     let d : Device = g.F.Flash.device c.loop-slot.flash in
     let first_is = c.first_slot-first.ensures.value (geometry_of a area) in
     let kept = c.loop-slot.invariant in
-    let more : c.loop-slot.slot < c.first_slot-first.result + (g.T.SlotSectors.format_of (geometry_of a area)).count (sector_at (sectors_of a area) (next (sectors_of a area) place)) =
-    (let count : c.slots-slots.result ≡ (g.T.SlotSectors.format_of (geometry_of a area)).count (sector_at (sectors_of a area) (next (sectors_of a area) place)) = c.slots-slots.ensures.value ∙ ap (λ (v : ℕ). (g.T.SlotSectors.format_of (geometry_of a area)).count (sector_at (sectors_of a area) v)) c.requires.victim in omega arith) in
     let count : c.slots-slots.result ≡ (g.T.SlotSectors.format_of (geometry_of a area)).count (sector_at (sectors_of a area) c.args.victim) = c.slots-slots.ensures.value in
-    let back : (g.T.SlotSectors.format_of (geometry_of a area)).first + (c.loop-slot.slot - c.first_slot-first.result) ≡ c.loop-slot.slot = omega arith in
-    live_flag g.T.SlotSectors.format_of g.T.SlotSectors.role a d area place c.args.victim c.first_slot-first.result c.loop-slot.slot law (g.met.F.Flash.is_lawful c.args.flash.now) c.requires.area c.requires.collecting c.requires.victim first_is (omega arith) kept.copying c.has-is.result
-    (c.has-is.ensures ∙ c.live_entries.ensures (c.loop-slot.slot - c.first_slot-first.result) (omega arith) ∙ ap (holds_live (g.T.SlotSectors.format_of (geometry_of a area)) (sectors_of a area) c.args.victim) back)
+    let here : c.loop-slot.slot - c.first_slot-first.result < (g.T.SlotSectors.format_of (geometry_of a area)).count (sector_at (sectors_of a area) c.args.victim) = slot_in c.first_slot-first.result c.loop-slot.slot ((g.T.SlotSectors.format_of (geometry_of a area)).count (sector_at (sectors_of a area) c.args.victim)) c.loop-slot.auto.slot (subst (λ (n : ℕ). c.loop-slot.slot < c.first_slot-first.result + n) count c.loop-slot-test.true) in
+    let back : (g.T.SlotSectors.format_of (geometry_of a area)).first + (c.loop-slot.slot - c.first_slot-first.result) ≡ c.loop-slot.slot = back_at (g.T.SlotSectors.format_of (geometry_of a area)).first c.first_slot-first.result c.loop-slot.slot first_is c.loop-slot.auto.slot in
+    live_flag g.T.SlotSectors.format_of g.T.SlotSectors.role a d area place c.args.victim c.first_slot-first.result c.loop-slot.slot law (g.met.F.Flash.is_lawful c.args.flash.now) c.requires.area c.requires.collecting c.requires.victim first_is c.loop-slot.auto.slot kept.copying c.has-is.result
+    (c.has-is.ensures ∙ c.live_entries.ensures (c.loop-slot.slot - c.first_slot-first.result) here ∙ ap (holds_live (g.T.SlotSectors.format_of (geometry_of a area)) (sectors_of a area) c.args.victim) back)
 
 pub live_entries-requires-clause-none : goal.live_entries-requires-clause-none
 live_entries-requires-clause-none g c =
@@ -284,9 +258,7 @@ copy_slot-requires-clause-collects g c = record {
       let d : Device = g.F.Flash.device c.loop-slot.flash in
       let first_is = c.first_slot-first.ensures.value (geometry_of a area) in
       let kept = c.loop-slot.invariant in
-      let more : c.loop-slot.slot < c.first_slot-first.result + (g.T.SlotSectors.format_of (geometry_of a area)).count (sector_at (sectors_of a area) (next (sectors_of a area) place)) =
-      (let count : c.slots-slots.result ≡ (g.T.SlotSectors.format_of (geometry_of a area)).count (sector_at (sectors_of a area) (next (sectors_of a area) place)) = c.slots-slots.ensures.value ∙ ap (λ (v : ℕ). (g.T.SlotSectors.format_of (geometry_of a area)).count (sector_at (sectors_of a area) v)) c.requires.victim in omega arith) in
-      closed g.T.SlotSectors.format_of g.T.SlotSectors.role a d area place c.args.victim c.first_slot-first.result c.loop-slot.slot law (g.met.F.Flash.is_lawful c.args.flash.now) c.requires.area c.requires.collecting c.requires.victim first_is (omega arith) kept.copying;
+      closed g.T.SlotSectors.format_of g.T.SlotSectors.role a d area place c.args.victim c.first_slot-first.result c.loop-slot.slot law (g.met.F.Flash.is_lawful c.args.flash.now) c.requires.area c.requires.collecting c.requires.victim first_is c.loop-slot.auto.slot kept.copying;
   not_done =
       let a : Device = g.F.Flash.device c.args.flash.now in
       let area : Area = c.args.area.now in
@@ -295,9 +267,7 @@ copy_slot-requires-clause-collects g c = record {
       let d : Device = g.F.Flash.device c.loop-slot.flash in
       let first_is = c.first_slot-first.ensures.value (geometry_of a area) in
       let kept = c.loop-slot.invariant in
-      let more : c.loop-slot.slot < c.first_slot-first.result + (g.T.SlotSectors.format_of (geometry_of a area)).count (sector_at (sectors_of a area) (next (sectors_of a area) place)) =
-      (let count : c.slots-slots.result ≡ (g.T.SlotSectors.format_of (geometry_of a area)).count (sector_at (sectors_of a area) (next (sectors_of a area) place)) = c.slots-slots.ensures.value ∙ ap (λ (v : ℕ). (g.T.SlotSectors.format_of (geometry_of a area)).count (sector_at (sectors_of a area) v)) c.requires.victim in omega arith) in
-      not_done g.T.SlotSectors.format_of g.T.SlotSectors.role a d area place c.args.victim c.first_slot-first.result c.loop-slot.slot law (g.met.F.Flash.is_lawful c.args.flash.now) c.requires.area c.requires.collecting c.requires.victim first_is (omega arith) kept.copying;
+      not_done g.T.SlotSectors.format_of g.T.SlotSectors.role a d area place c.args.victim c.first_slot-first.result c.loop-slot.slot law (g.met.F.Flash.is_lawful c.args.flash.now) c.requires.area c.requires.collecting c.requires.victim first_is c.loop-slot.auto.slot kept.copying;
 }
 
 pub returns-clause-touches : goal.returns-clause-touches

@@ -1,4 +1,4 @@
-use Rattle.std.proofs.Common.{rules, ◌≡◌, ℕ, true, false, inl, refl, sym, ap, subst, ◌∙◌}
+use Rattle.std.proofs.Common.{◌≡◌, ℕ, true, false, inl, refl, sym, ap, subst, ◌∙◌}
 use Rattle.std.specs.Prelude.{OnOk, OnErr}
 use Rattle.std.proofs.lemmas.Result.{on_ok_weaker, on_err_weaker}
 use Rattle.flash_sim.specs.Device.{Device}
@@ -61,7 +61,7 @@ returns-then-is_closed-clause-ends g c = record {
       let at : c.next.result ≡ next (sectors_of a area) place = c.next.ensures.value ∙ next_there a area place in
       let shut : is_closed_at (g.T.SlotSectors.format_of (geometry_of a area)).reading (sectors_of a area) (next (sectors_of a area) place) ≡ true = ap (is_closed_at (g.T.SlotSectors.format_of (geometry_of a area)).reading (sectors_of a area)) (sym at) ∙ sym c.is_closed.ensures ∙ c.if-is_closed.true in
       on_ok_weaker c.collect_again.result (λ at rested. no_rest g.T.SlotSectors.format_of a area place law c.requires.form c.requires.blank shut rested) c.collect_again.ensures.collects;
-  collects = search rules;
+  collects = on_ok_weaker c.collect_again.result (λ at collecting. at) c.collect_again.ensures.collects;
   list_lost =
       let a : Device = g.F.Flash.device c.args.flash.now in
       let area : Area = c.args.area.now in
@@ -71,7 +71,7 @@ returns-then-is_closed-clause-ends g c = record {
       let shut : is_closed_at (g.T.SlotSectors.format_of (geometry_of a area)).reading (sectors_of a area) (next (sectors_of a area) place) ≡ true = ap (is_closed_at (g.T.SlotSectors.format_of (geometry_of a area)).reading (sectors_of a area)) (sym at) ∙ sym c.is_closed.ensures ∙ c.if-is_closed.true in
       let e : Device = g.F.Flash.device c.collect_again.new.flash in
       on_err_weaker c.collect_again.result (again_lost g.T.SlotSectors.format_of a area place law c.requires.form c.requires.blank shut e) c.collect_again.ensures.list_lost;
-  kept = search rules;
+  kept = c.collect_again.ensures.kept;
   spends =
       let a : Device = g.F.Flash.device c.args.flash.now in
       let area : Area = c.args.area.now in
@@ -121,7 +121,7 @@ returns-then-opens_ready-clause-ends g c = record {
       let ready : (g.T.SlotSectors.format_of (geometry_of a area)).opens_ready ≡ true = ap (λ (u : Geometry). (g.T.SlotSectors.format_of u).opens_ready) (sym c.geometry.ensures) ∙ sym c.opens_ready.ensures ∙ c.if-opens_ready.true in
       let e : Device = g.F.Flash.device c.prepare.new.flash in
       on_err_weaker c.prepare.result (ready_lost_list g.T.SlotSectors.format_of a area place law c.requires.form c.requires.blank free ready e c.prepare.ensures.only) c.prepare.ensures.lost;
-  kept = search rules;
+  kept = c.prepare.ensures.kept;
   spends =
       let a : Device = g.F.Flash.device c.args.flash.now in
       let area : Area = c.args.area.now in
@@ -186,8 +186,8 @@ returns-clause-ends g c = record {
       let at : c.next.result ≡ next (sectors_of a area) place = c.next.ensures.value ∙ next_there a area place in
       let free : is_closed_at (g.T.SlotSectors.format_of (geometry_of a area)).reading (sectors_of a area) (next (sectors_of a area) place) ≡ false = ap (is_closed_at (g.T.SlotSectors.format_of (geometry_of a area)).reading (sectors_of a area)) (sym at) ∙ sym c.is_closed.ensures ∙ c.if-is_closed.false in
       λ collecting. no_collection g.T.SlotSectors.format_of a area place law c.requires.form c.requires.blank free collecting;
-  list_lost = search rules;
-  kept = search rules;
+  list_lost = tt;
+  kept = c.requires.kept;
   spends =
       let a : Device = g.F.Flash.device c.args.flash.now in
       let area : Area = c.args.area.now in
@@ -197,7 +197,7 @@ returns-clause-ends g c = record {
       let free : is_closed_at (g.T.SlotSectors.format_of (geometry_of a area)).reading (sectors_of a area) (next (sectors_of a area) place) ≡ false = ap (is_closed_at (g.T.SlotSectors.format_of (geometry_of a area)).reading (sectors_of a area)) (sym at) ∙ sym c.is_closed.ensures ∙ c.if-is_closed.false in
       let ready : (g.T.SlotSectors.format_of (geometry_of a area)).opens_ready ≡ false = ap (λ (u : Geometry). (g.T.SlotSectors.format_of u).opens_ready) (sym c.geometry.ensures) ∙ sym c.opens_ready.ensures ∙ c.if-opens_ready.false in
       subst (λ (r : Range). SpendsIn a a r) (sym (open_units-are g.T.SlotSectors.format_of a area place law c.requires.form c.requires.blank free false ready)) (between_none a);
-  spends_lost = search rules;
+  spends_lost = tt;
 }
 
 pub returns-clause-items : goal.returns-clause-items

@@ -1,4 +1,4 @@
-use Rattle.std.proofs.Common.{rules, ◌≡◌, ◌⊎◌, ℕ, List, inl, inr, refl, sym, ap, subst, ◌∙◌, arith}
+use Rattle.std.proofs.Common.{◌≡◌, ◌⊎◌, ℕ, List, inl, inr, refl, sym, ap, subst, ◌∙◌, arith}
 use Rattle.std.proofs.lemmas.Result.{on_ok_weaker, on_err_weaker}
 use Rattle.flash_sim.specs.Device.{Device}
 use Rattle.flash_map.specs.declared.area.Area.{Area}
@@ -77,8 +77,8 @@ returns-in-Nothing-clause-ends g c = record {
       let place : ℕ = c.args.current in
       let what = sym c.what_to_redo.ensures ∙ c.in-Nothing.is in
       ap (redo_list (g.T.SlotSectors.format_of (geometry_of a area)) (sectors_of a area) place) (sym what);
-  list_lost = search rules;
-  busy = search rules;
+  list_lost = tt;
+  busy = tt;
   collects =
       let a : Device = g.F.Flash.device c.args.flash.now in
       let area : Area = c.args.area.now in
@@ -88,7 +88,7 @@ returns-in-Nothing-clause-ends g c = record {
       let form : IsForm (g.T.SlotSectors.format_of (geometry_of a area)).reading (sectors_of a area) place = form_here (g.T.SlotSectors.format_of (geometry_of a area)) law (sectors_of a area) place (omega (arith, c.requires.area.lawful.several)) c.requires.undamaged c.requires.current in
       let what = sym c.what_to_redo.ensures ∙ c.in-Nothing.is in
       λ collecting. absurd (not_again (sym what ∙ redo-collecting (g.T.SlotSectors.format_of (geometry_of a area)) law (sectors_of a area) place collecting));
-  kept = search rules;
+  kept = c.requires.kept;
   spends =
       let a : Device = g.F.Flash.device c.args.flash.now in
       let area : Area = c.args.area.now in
@@ -98,7 +98,7 @@ returns-in-Nothing-clause-ends g c = record {
       let form : IsForm (g.T.SlotSectors.format_of (geometry_of a area)).reading (sectors_of a area) place = form_here (g.T.SlotSectors.format_of (geometry_of a area)) law (sectors_of a area) place (omega (arith, c.requires.area.lawful.several)) c.requires.undamaged c.requires.current in
       let what = sym c.what_to_redo.ensures ∙ c.in-Nothing.is in
       subst (λ (what : Redo). SpendsIn a a (redo_units (g.T.SlotSectors.format_of (geometry_of a area)) (sectors_of a area) place what)) (sym what) (between_none a);
-  spends_lost = search rules;
+  spends_lost = tt;
 }
 
 pub returns-in-ClearNext-clause-ends : goal.returns-in-ClearNext-clause-ends
@@ -283,8 +283,8 @@ returns-in-CollectAgain-clause-ends g c = record {
       let form : IsForm (g.T.SlotSectors.format_of (geometry_of a area)).reading (sectors_of a area) place = form_here (g.T.SlotSectors.format_of (geometry_of a area)) law (sectors_of a area) place (omega (arith, c.requires.area.lawful.several)) c.requires.undamaged c.requires.current in
       let what = sym c.what_to_redo.ensures ∙ c.in-CollectAgain.is in
       on_err c.collect_again.result (λ rest. not_again (sym (redo-at_rest (g.T.SlotSectors.format_of (geometry_of a area)) law (sectors_of a area) place rest) ∙ what));
-  collects = search rules;
-  kept = search rules;
+  collects = on_ok_weaker c.collect_again.result (λ at collecting. at) c.collect_again.ensures.collects;
+  kept = c.collect_again.ensures.kept;
   spends =
       let a : Device = g.F.Flash.device c.args.flash.now in
       let area : Area = c.args.area.now in

@@ -1,4 +1,4 @@
-use Rattle.std.proofs.Common.{rules, ◌≡◌, ℕ, cond, inl, inr, subst, ◌∙◌, arith}
+use Rattle.std.proofs.Common.{◌≡◌, ℕ, cond, inl, inr, subst, ◌∙◌, arith}
 use Rattle.flash_sim.specs.Device.{Device}
 use Rattle.flash_map.specs.declared.area.Area.{Area}
 use Rattle.flash_map.specs.Area.{geometry_of, sectors_of, sector_at}
@@ -6,11 +6,11 @@ use Rattle.flash_map.proofs.PieceLemmas.{on_err}
 use Rattle.item_laws.specs.Area.{next}
 use Rattle.item_laws.proofs.AreaReads.{next_there}
 use Rattle.item_store.specs.SectorFormat.{SectorFormat, IsSectorFormat}
-use Rattle.item_store.specs.Spending.{none, ready_units, again_units, has_victim}
+use Rattle.item_store.specs.Spending.{none, ready_units, again_with, has_victim, round_clear}
 use Rattle.item_store.proofs.Areas.{unit_is}
 use Rattle.item_store.proofs.Ranges.{first-lost}
 use Rattle.item_store.proofs.RoundFacts.{open_within, open_sound, open_not_closed, close_lost, close_lost_list, next_form, next_unused, next_keeps, next_lost_list, next_turns, round_spends, round_spends_lost}
-use Rattle.item_store.proofs.CallFacts.{to_geometry}
+use Rattle.item_store.proofs.CallFacts.{no_ok, to_geometry}
 use Rattle.item_laws.proofs.AreaReads.{length-sectors}
 use Rattle.item_store.proofs.WrittenSteps.{close-written, close-changed}
 use Rattle.item_store.proofs.WrittenFacts.{opened-written}
@@ -52,7 +52,7 @@ returns-in_err-close-clause-items g c =
 
 pub returns-in_err-close-clause-ends : goal.returns-in_err-close-clause-ends
 returns-in_err-close-clause-ends g c = record {
-  rested = search rules;
+  rested = no_ok c.from_residual.result _ c.from_residual.ensures.0;
   list_lost =
       let a : Device = g.F.Flash.device c.args.flash.now in
       let area : Area = c.args.area.now in
@@ -60,16 +60,16 @@ returns-in_err-close-clause-ends g c = record {
       let law : IsSectorFormat (g.T.SlotSectors.format_of (geometry_of a area)) = g.met.T.SlotSectors.lawful (geometry_of a area) (unit_is a area (g.met.F.Flash.is_lawful c.args.flash.now) c.requires.stands.area.lawful) in
       let b : Device = g.F.Flash.device c.close.new.flash in
       on_err c.from_residual.result (close_lost_list g.T.SlotSectors.format_of g.T.SlotSectors.role a area place law (g.met.F.Flash.is_lawful c.args.flash.now) c.requires.stands.area c.requires.stands.undamaged c.requires.stands.current c.requires.stands.rested b c.in_err-close.ensures.touches.banks c.in_err-close.ensures.ends.only c.in_err-close.ensures.ends.lost);
-  kept = search rules;
-  does_pass = search rules;
-  spends = search rules;
+  kept = no_ok c.from_residual.result _ c.from_residual.ensures.0;
+  does_pass = no_ok c.from_residual.result _ c.from_residual.ensures.0;
+  spends = no_ok c.from_residual.result _ c.from_residual.ensures.0;
   spends_lost =
       let a : Device = g.F.Flash.device c.args.flash.now in
       let k : SectorFormat = g.T.SlotSectors.format_of (geometry_of a c.args.area.now) in
       let old = sectors_of a c.args.area.now in
       let opened = next old c.args.current in
       on_err c.from_residual.result
-      (first-lost a (g.F.Flash.device c.close.new.flash) (k.units.close (sector_at old c.args.current)) (cond (has_victim k old c.args.current) (again_units k old opened) (cond k.opens_ready (ready_units k old opened) none)) c.in_err-close.ensures.ends.spends_lost);
+      (first-lost a (g.F.Flash.device c.close.new.flash) (k.units.close (sector_at old c.args.current)) (cond (has_victim k old c.args.current) (again_with k old opened (round_clear k old c.args.current)) (cond k.opens_ready (ready_units k old opened) none)) c.in_err-close.ensures.ends.spends_lost);
 }
 
 pub next-place-requires : goal.next-place-requires
@@ -116,7 +116,7 @@ returns-in_err-open_next-clause-items g c =
 
 pub returns-in_err-open_next-clause-ends : goal.returns-in_err-open_next-clause-ends
 returns-in_err-open_next-clause-ends g c = record {
-  rested = search rules;
+  rested = no_ok c.from_residual-in_err-open_next.result _ c.from_residual-in_err-open_next.ensures.0;
   list_lost =
       let a : Device = g.F.Flash.device c.args.flash.now in
       let area : Area = c.args.area.now in
@@ -127,9 +127,9 @@ returns-in_err-open_next-clause-ends g c = record {
       let at : c.next-place.result ≡ next (sectors_of a area) place = c.next-place.ensures.value ∙ next_there a area place in
       let e : Device = g.F.Flash.device c.open_next.new.flash in
       on_err c.from_residual-in_err-open_next.result (next_lost_list g.T.SlotSectors.format_of g.T.SlotSectors.role a area place law (g.met.F.Flash.is_lawful c.args.flash.now) c.requires.stands.area c.requires.stands.undamaged c.requires.stands.current c.requires.stands.rested b did.touches.banks did.ends.only did.ends.closes c.next-place.result at e c.in_err-open_next.ensures.ends.list_lost);
-  kept = search rules;
-  does_pass = search rules;
-  spends = search rules;
+  kept = no_ok c.from_residual-in_err-open_next.result _ c.from_residual-in_err-open_next.ensures.0;
+  does_pass = no_ok c.from_residual-in_err-open_next.result _ c.from_residual-in_err-open_next.ensures.0;
+  spends = no_ok c.from_residual-in_err-open_next.result _ c.from_residual-in_err-open_next.ensures.0;
   spends_lost =
       let a : Device = g.F.Flash.device c.args.flash.now in
       let area : Area = c.args.area.now in
@@ -165,7 +165,7 @@ returns-clause-ends g c = record {
       let at : c.next-place.result ≡ next (sectors_of a area) place = c.next-place.ensures.value ∙ next_there a area place in
       let e : Device = g.F.Flash.device c.open_next.new.flash in
       (next_turns g.T.SlotSectors.format_of g.T.SlotSectors.role a area place law (g.met.F.Flash.is_lawful c.args.flash.now) c.requires.stands.area c.requires.stands.undamaged c.requires.stands.current c.requires.stands.rested b did.touches.banks did.ends.only did.ends.closes c.next-place.result at e (g.met.F.Flash.is_lawful c.close.new.flash) c.in_ok-open_next.ensures.ends.opens c.in_ok-open_next.ensures.ends.collects).round.form;
-  list_lost = search rules;
+  list_lost = tt;
   kept =
       let a : Device = g.F.Flash.device c.args.flash.now in
       let area : Area = c.args.area.now in
@@ -197,7 +197,7 @@ returns-clause-ends g c = record {
       let at : c.next-place.result ≡ next (sectors_of a area) place = c.next-place.ensures.value ∙ next_there a area place in
       let e : Device = g.F.Flash.device c.open_next.new.flash in
       round_spends g.T.SlotSectors.format_of g.T.SlotSectors.role a area place law (g.met.F.Flash.is_lawful c.args.flash.now) c.requires.stands.area c.requires.stands.undamaged c.requires.stands.current c.requires.stands.rested b did.touches.banks did.ends.only did.ends.closes c.next-place.result at e did.ends.spends c.in_ok-open_next.ensures.ends.spends;
-  spends_lost = search rules;
+  spends_lost = tt;
 }
 
 pub returns-clause-items : goal.returns-clause-items

@@ -10,6 +10,9 @@ use Rattle.nvs_store.proofs.InArea.{slot-in}
 use Rattle.nvs_format.specs.Formats.{entry_of, placed_of, format_in}
 use Rattle.nvs_gc.proofs.entries.note_slot.Goals as goal
 
+pub returns-then-is_moot : goal.returns-then-is_moot
+returns-then-is_moot g c = λ start before noted. c.is_moot.ensures c.args.place start before c.if-is_moot.true noted
+
 pub returns-in-Some : goal.returns-in-Some
 returns-in-Some g c =
     let unit : ℕ = c.args.unit in

@@ -5,11 +5,12 @@ use Rattle.flash_sim.specs.declared.flash.Bank.{Bank}
 use Rattle.flash_map.specs.declared.area.Area.{Area}
 use Rattle.flash_map.specs.declared.area.Geometry.{Geometry}
 use Rattle.flash_map.specs.Area.{IsLawfulArea, unit_of, sector_size, sectors_of, sector_bytes, Writes, WritesPart}
+use Rattle.flash_map.specs.Copies.{pieces_of}
 use Rattle.flash_map.specs.Pieces.{CanProgramAll}
 use Rattle.flash_map.specs.Spending.{Spends, SpendsAtMost}
 use Rattle.flash_map.specs.Touches.{Touches}
 use Rattle.flash_map.specs.Units.{IsUnit, padded, padded_bytes}
-use Rattle.flash_map.proofs.CopyLemmas.{length-source}
+use Rattle.flash_map.proofs.CopyLemmas.{length-source, viewed, viewed_lost}
 use Rattle.flash_map.proofs.PieceLemmas.{on_err, within_then, within_most}
 use Rattle.flash_map.proofs.Places.{length-sector}
 use Rattle.flash_map.proofs.Touches.{then}
@@ -147,7 +148,7 @@ returns-in_err-copy_padded-clause-ends g c = record {
       let m : Device = g.F.Flash.device c.copy_padded.new.flash in
       let costs : cost unit (length bytes) / unit ≡ cost unit c.args.from.now.entry.len / unit = ap (λ (n : ℕ). cost unit n / unit) len in
       on_err c.from_residual.result
-      (subst (λ (n : ℕ). SpendsAtMost a m n) costs (data_most a area lawful is_area place has_sector m bytes (subst (λ (n : ℕ). SpendsAtMost a m (n / unit)) (sym rounded) c.in_err-copy_padded.ensures.spent_at_most)));
+      (subst (λ (n : ℕ). SpendsAtMost a m n) costs (data_most a area lawful is_area place has_sector m bytes (subst (λ (n : ℕ). SpendsAtMost a m (n / unit)) (sym rounded) c.in_err-copy_padded.ensures.spent.cut)));
 }
 
 pub put_slot-requires-clause-can : goal.put_slot-requires-clause-can
@@ -182,7 +183,7 @@ put_slot-requires-clause-can g c =
     let m : Device = g.F.Flash.device c.copy_padded.new.flash in
     let one = c.in_ok-copy_padded.ensures in
     let first_part : Writes a m area place (data_end unit b) (padded_bytes unit bytes) = subst (λ (offset : ℕ). Writes a m area place offset (padded_bytes unit bytes)) end one.ok in
-    let first_spent : Spends a m (padded unit (length bytes) / unit) = subst (λ (n : ℕ). Spends a m (n / unit)) (sym rounded) one.spent in
+    let first_spent : Spends a m (padded unit (length bytes) / unit) = subst (λ (n : ℕ). Spends a m (n / unit)) (sym rounded) one.spent.whole in
     subst (λ (offset : ℕ). CanProgramAll m area place offset (padded_bytes (unit_of m area) c.encode_entry-bytes.result)) (sym at)
     (subst (λ (xs : List ℕ). CanProgramAll m area place (low unit b - slot_size unit) (padded_bytes (unit_of m area) xs)) (sym c.encode_entry-bytes.ensures) (can_entry_after a area lawful is_area place has_sector m bytes room one.touches.banks first_part e))
 
@@ -223,7 +224,7 @@ returns-in_err-put_slot-clause-ends g c = record {
       let m : Device = g.F.Flash.device c.copy_padded.new.flash in
       let one = c.in_ok-copy_padded.ensures in
       let first_part : Writes a m area place (data_end unit b) (padded_bytes unit bytes) = subst (λ (offset : ℕ). Writes a m area place offset (padded_bytes unit bytes)) end one.ok in
-      let first_spent : Spends a m (padded unit (length bytes) / unit) = subst (λ (n : ℕ). Spends a m (n / unit)) (sym rounded) one.spent in
+      let first_spent : Spends a m (padded unit (length bytes) / unit) = subst (λ (n : ℕ). Spends a m (n / unit)) (sym rounded) one.spent.whole in
       let last : Device = g.F.Flash.device c.put_slot.new.flash in
       let part : WritesPart m last area place (low unit b - slot_size unit) (padded_bytes (unit_of m area) (encoded e)) =
       subst (λ (offset : ℕ). WritesPart m last area place offset (padded_bytes (unit_of m area) (encoded e))) at (subst (λ (xs : List ℕ). WritesPart m last area place (c.args.scan.now.low - c.slot_size.result) (padded_bytes (unit_of m area) xs)) c.encode_entry-bytes.ensures c.in_err-put_slot.ensures.lost) in
@@ -258,7 +259,7 @@ returns-in_err-put_slot-clause-ends g c = record {
       let m : Device = g.F.Flash.device c.copy_padded.new.flash in
       let one = c.in_ok-copy_padded.ensures in
       let first_part : Writes a m area place (data_end unit b) (padded_bytes unit bytes) = subst (λ (offset : ℕ). Writes a m area place offset (padded_bytes unit bytes)) end one.ok in
-      let first_spent : Spends a m (padded unit (length bytes) / unit) = subst (λ (n : ℕ). Spends a m (n / unit)) (sym rounded) one.spent in
+      let first_spent : Spends a m (padded unit (length bytes) / unit) = subst (λ (n : ℕ). Spends a m (n / unit)) (sym rounded) one.spent.whole in
       let last : Device = g.F.Flash.device c.put_slot.new.flash in
       let costs : cost unit (length bytes) / unit ≡ cost unit c.args.from.now.entry.len / unit = ap (λ (n : ℕ). cost unit n / unit) len in
       on_err c.from_residual-in_err-put_slot.result
@@ -299,7 +300,7 @@ returns-clause-ends g c = record {
       let m : Device = g.F.Flash.device c.copy_padded.new.flash in
       let one = c.in_ok-copy_padded.ensures in
       let first_part : Writes a m area place (data_end unit b) (padded_bytes unit bytes) = subst (λ (offset : ℕ). Writes a m area place offset (padded_bytes unit bytes)) end one.ok in
-      let first_spent : Spends a m (padded unit (length bytes) / unit) = subst (λ (n : ℕ). Spends a m (n / unit)) (sym rounded) one.spent in
+      let first_spent : Spends a m (padded unit (length bytes) / unit) = subst (λ (n : ℕ). Spends a m (n / unit)) (sym rounded) one.spent.whole in
       let last : Device = g.F.Flash.device c.put_slot.new.flash in
       let written : Writes m last area place (low unit b - slot_size unit) (padded_bytes (unit_of m area) (encoded e)) =
       subst (λ (offset : ℕ). Writes m last area place offset (padded_bytes (unit_of m area) (encoded e))) at (subst (λ (xs : List ℕ). Writes m last area place (c.args.scan.now.low - c.slot_size.result) (padded_bytes (unit_of m area) xs)) c.encode_entry-bytes.ensures c.in_ok-put_slot.ensures.ok) in
@@ -337,7 +338,7 @@ returns-clause-ends g c = record {
       let m : Device = g.F.Flash.device c.copy_padded.new.flash in
       let one = c.in_ok-copy_padded.ensures in
       let first_part : Writes a m area place (data_end unit b) (padded_bytes unit bytes) = subst (λ (offset : ℕ). Writes a m area place offset (padded_bytes unit bytes)) end one.ok in
-      let first_spent : Spends a m (padded unit (length bytes) / unit) = subst (λ (n : ℕ). Spends a m (n / unit)) (sym rounded) one.spent in
+      let first_spent : Spends a m (padded unit (length bytes) / unit) = subst (λ (n : ℕ). Spends a m (n / unit)) (sym rounded) one.spent.whole in
       let last : Device = g.F.Flash.device c.put_slot.new.flash in
       let written : Writes m last area place (low unit b - slot_size unit) (padded_bytes (unit_of m area) (encoded e)) =
       subst (λ (offset : ℕ). Writes m last area place offset (padded_bytes (unit_of m area) (encoded e))) at (subst (λ (xs : List ℕ). Writes m last area place (c.args.scan.now.low - c.slot_size.result) (padded_bytes (unit_of m area) xs)) c.encode_entry-bytes.ensures c.in_ok-put_slot.ensures.ok) in
@@ -373,7 +374,7 @@ returns-clause-ends g c = record {
       let m : Device = g.F.Flash.device c.copy_padded.new.flash in
       let one = c.in_ok-copy_padded.ensures in
       let first_part : Writes a m area place (data_end unit b) (padded_bytes unit bytes) = subst (λ (offset : ℕ). Writes a m area place offset (padded_bytes unit bytes)) end one.ok in
-      let first_spent : Spends a m (padded unit (length bytes) / unit) = subst (λ (n : ℕ). Spends a m (n / unit)) (sym rounded) one.spent in
+      let first_spent : Spends a m (padded unit (length bytes) / unit) = subst (λ (n : ℕ). Spends a m (n / unit)) (sym rounded) one.spent.whole in
       let last : Device = g.F.Flash.device c.put_slot.new.flash in
       let written : Writes m last area place (low unit b - slot_size unit) (padded_bytes (unit_of m area) (encoded e)) =
       subst (λ (offset : ℕ). Writes m last area place offset (padded_bytes (unit_of m area) (encoded e))) at (subst (λ (xs : List ℕ). Writes m last area place (c.args.scan.now.low - c.slot_size.result) (padded_bytes (unit_of m area) xs)) c.encode_entry-bytes.ensures c.in_ok-put_slot.ensures.ok) in
@@ -414,7 +415,7 @@ returns-clause-ends g c = record {
       let m : Device = g.F.Flash.device c.copy_padded.new.flash in
       let one = c.in_ok-copy_padded.ensures in
       let first_part : Writes a m area place (data_end unit b) (padded_bytes unit bytes) = subst (λ (offset : ℕ). Writes a m area place offset (padded_bytes unit bytes)) end one.ok in
-      let first_spent : Spends a m (padded unit (length bytes) / unit) = subst (λ (n : ℕ). Spends a m (n / unit)) (sym rounded) one.spent in
+      let first_spent : Spends a m (padded unit (length bytes) / unit) = subst (λ (n : ℕ). Spends a m (n / unit)) (sym rounded) one.spent.whole in
       let last : Device = g.F.Flash.device c.put_slot.new.flash in
       let costs : cost unit (length bytes) / unit ≡ cost unit c.args.from.now.entry.len / unit = ap (λ (n : ℕ). cost unit n / unit) len in
       subst (λ (n : ℕ). Spends a last n) costs
@@ -469,3 +470,14 @@ overflow_add-scan g c =
 
 pub returns-clause-touches : goal.returns-clause-touches
 returns-clause-touches g c = then c.in_ok-copy_padded.ensures.touches c.in_ok-put_slot.ensures.touches
+
+pub returns-in_err-copy_padded-clause-views : goal.returns-in_err-copy_padded-clause-views
+returns-in_err-copy_padded-clause-views g c =
+    viewed_lost (pieces_of c.args.from.now.entry.len) c.args.steps.now c.copy_padded.new.steps c.from_residual.result c.from_residual.ensures.0 c.in_err-copy_padded.ensures.views.cut
+
+pub returns-in_err-put_slot-clause-views : goal.returns-in_err-put_slot-clause-views
+returns-in_err-put_slot-clause-views g c =
+    viewed (pieces_of c.args.from.now.entry.len) c.args.steps.now c.copy_padded.new.steps c.from_residual-in_err-put_slot.result c.in_ok-copy_padded.ensures.views.whole
+
+pub returns-clause-views : goal.returns-clause-views
+returns-clause-views g c = record { whole = c.in_ok-copy_padded.ensures.views.whole; cut = tt }

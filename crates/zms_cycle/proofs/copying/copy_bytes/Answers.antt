@@ -58,12 +58,12 @@ returns-clause-ends g c = record {
       let m : Device = g.F.Flash.device c.copy_padded.new.flash in
       let unit = unit_of d c.args.area.now in
       let is = unit_is d c.args.area.now c.args.sector c.requires.zms in
-      on_ok_weaker c.copy_padded.result (λ spent. subst (λ (u : ℕ). SpendsBetween d m (padded u c.args.from.len / u) (padded u c.args.from.len / u)) is (between_exact d m (padded unit c.args.from.len / unit) spent)) c.copy_padded.ensures.spent;
+      on_ok_weaker c.copy_padded.result (λ spent. subst (λ (u : ℕ). SpendsBetween d m (padded u c.args.from.len / u) (padded u c.args.from.len / u)) is (between_exact d m (padded unit c.args.from.len / unit) spent)) c.copy_padded.ensures.spent.whole;
   in_pieces = c.copy_padded.ensures.in_pieces;
   spends_lost =
       let d : Device = g.F.Flash.device c.args.flash.now in
       let m : Device = g.F.Flash.device c.copy_padded.new.flash in
       let unit = unit_of d c.args.area.now in
       let is = unit_is d c.args.area.now c.args.sector c.requires.zms in
-      on_err_weaker c.copy_padded.result (λ spent. subst (λ (u : ℕ). SpendsBetween d m 0 (padded u c.args.from.len / u)) is (between_most d m (padded unit c.args.from.len / unit) spent)) c.copy_padded.ensures.spent_at_most;
+      on_err_weaker c.copy_padded.result (λ spent. subst (λ (u : ℕ). SpendsBetween d m 0 (padded u c.args.from.len / u)) is (between_most d m (padded unit c.args.from.len / unit) spent)) c.copy_padded.ensures.spent.cut;
 }

@@ -4,13 +4,15 @@ use Rattle.std.specs.Prelude.{◌+◌, slice_range}
 use Rattle.flash_sim.specs.Device.{overwritten}
 use Rattle.flash_map.specs.Units.{padded_bytes, is_erased}
 use Rattle.flash_map.specs.Area.{sector_bytes}
+use Rattle.flash_map.specs.Copies.{pieces_of, TakesViews}
 use Rattle.flash_map.specs.Spending.{SpendsBetween}
 use Rattle.zms_cycle.specs.Changes.{HasPart}
 use Rattle.zms_cycle.specs.Entries.{offset_of}
-use Rattle.zms_cycle.specs.Sector.{value_of}
+use Rattle.zms_cycle.specs.Sector.{value_of, data_len}
 use Rattle.zms_cycle.proofs.AreaFacts.{size_is}
 use Rattle.zms_cycle.proofs.EntryCalls.{long_len, short_spends, short_value}
 use Rattle.zms_cycle.proofs.CopyCalls.{long_value_is, range_fits, with_copy}
+use Rattle.zms_cycle.proofs.StepBounds.{short_pieces, long_pieces}
 use Rattle.zms_cycle.proofs.copying.copy_value.Goals as goal
 
 pub returns-then-from-le-TAIL-clause-ok : goal.returns-then-from-le-TAIL-clause-ok
@@ -51,3 +53,13 @@ returns-clause-ends g c = record {
   in_pieces = c.copy_bytes.ensures.ends.in_pieces;
   spends_lost = on_err_weaker c.copy_bytes.result (λ spends. subst (λ (n : ℕ). SpendsBetween (g.F.Flash.device c.args.flash.now) (g.F.Flash.device c.copy_bytes.new.flash) 0 (n / 16)) (sym (long_len c.args.from.now.len (omega arith))) spends) c.copy_bytes.ensures.ends.spends_lost;
 }
+
+pub returns-then-from-le-TAIL-clause-views : goal.returns-then-from-le-TAIL-clause-views
+returns-then-from-le-TAIL-clause-views g c =
+    let none = short_pieces c.args.from.now.len (omega arith) in
+    let idle : c.args.steps.now ≡ c.args.steps.now + pieces_of (data_len c.args.from.now.len) = omega (arith, none) in
+    record { whole = idle; cut = tt }
+
+pub returns-clause-views : goal.returns-clause-views
+returns-clause-views g c =
+    subst (λ (n : ℕ). TakesViews n c.args.steps.now c.copy_bytes.new.steps c.copy_bytes.result) (sym (long_pieces c.args.from.now.len (omega arith))) c.copy_bytes.ensures.views

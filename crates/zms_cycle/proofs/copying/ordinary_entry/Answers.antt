@@ -6,8 +6,8 @@ use Rattle.zms_cycle.proofs.AreaFacts.{size_is}
 use Rattle.zms_cycle.proofs.CopyCalls.{ordinary_is, ordinary_none}
 use Rattle.zms_cycle.proofs.copying.ordinary_entry.Goals as goal
 
-pub returns : goal.returns
-returns g c =
+pub returns-clause-entry : goal.returns-clause-entry
+returns-clause-entry g c =
     let size = size_is (g.F.Flash.device c.args.flash.now) c.args.area.now c.args.sector c.requires.zms (g.met.F.Flash.is_lawful c.args.flash.now) in
     let bytes = c.area_view.ensures.bytes ∙ bytes-slot_at 16 (sector_bytes (g.F.Flash.device c.args.flash.now) c.args.area.now c.args.sector) c.args.slot c.slot_start-start.result (omega (arith, size, c.slot_start-start.ensures)) in
     ordinary_is (sector_bytes (g.F.Flash.device c.args.flash.now) c.args.area.now c.args.sector) c.args.slot c.in-Some.entry (sym (c.in-Some.ensures ∙ ap decoded bytes)) c.requires.some

@@ -98,6 +98,9 @@ returns-clause-few g c =
     let law : IsSectorFormat (g.T.SlotSectors.format_of (geometry_of d area)) = g.met.T.SlotSectors.lawful (geometry_of d area) (unit_is d area (g.met.F.Flash.is_lawful c.args.flash.now) c.requires.area.lawful) in
     subst (λ (o : Option Placed). IfSome o (λ p. p.id ≡ c.args.id → c.search.new.steps ≤ c.args.steps.now + 2)) c.in_ok-latest.ensures.entry (λ same. absurd (c.if-latest-id.false same))
 
+pub search-requires-clause-other : goal.search-requires-clause-other
+search-requires-clause-other g c = c.if-latest-id.false
+
 pub search-requires-clause-latest : goal.search-requires-clause-latest
 search-requires-clause-latest g c =
     c.in_ok-latest.ensures.entry

@@ -1,17 +1,9 @@
-use Rattle.std.proofs.Common.{refl, arith}
+use Rattle.std.proofs.Common.{refl}
 use Rattle.item_store.proofs.store.Store.holder_at.Goals as goal
 
 pub gives_item-requires-clause-none : goal.gives_item-requires-clause-none
 gives_item-requires-clause-none g c =
     c.may_have_later-may.ensures.lower
-
-pub item_near-above-requires-clause-other : goal.item_near-above-requires-clause-other
-item_near-above-requires-clause-other g c =
-    λ same. omega (arith, c.requires.step, same)
-
-pub item_near-above-requires-clause-none : goal.item_near-above-requires-clause-none
-item_near-above-requires-clause-none g c =
-    c.may_have_later-may.ensures.upper
 
 pub returns-then-not-gives_item : goal.returns-then-not-gives_item
 returns-then-not-gives_item g c =
@@ -19,4 +11,4 @@ returns-then-not-gives_item g c =
 
 pub returns : goal.returns
 returns g c =
-    (refl, c.gives_item.ensures.yes_it c.if-not-gives_item.false, c.item_near-above.ensures)
+    (refl, c.gives_item.ensures.yes_it c.if-not-gives_item.false, c.get-above.ensures.value)

@@ -7,7 +7,7 @@ use Rattle.zms_cycle.specs.Sector.{slot_of}
 use Rattle.zms_cycle.proofs.CopyCalls.{ordinary_id}
 use Rattle.zms_format.specs.Formats.{entry_of, format_of}
 use Rattle.item_store.proofs.SeenSteps.{seen_some, seen_same}
-use Rattle.zms_store.proofs.sectors.note_slot.Goals as goal
+use Rattle.zms_store.proofs.entries.note_listed.Goals as goal
 
 pub returns-in-Some : goal.returns-in-Some
 returns-in-Some g c = λ geometry start before noted.

@@ -1,7 +1,7 @@
 use Rattle.std.proofs.Common.{◌≡◌, ◌+◌, ◌-◌, ◌*◌, ℕ, List, length, sym, ap, ◌∙◌, arith}
 use Rattle.std.specs.Prelude.{slice_range}
 use Rattle.zms_cycle.proofs.EntryReads.{short_there}
-use Rattle.zms_store.proofs.sectors.value_in.Goals as goal
+use Rattle.zms_store.proofs.entries.value_in.Goals as goal
 
 pub returns : goal.returns
 returns c =

@@ -8,7 +8,7 @@ use Rattle.zms_cycle.specs.Entries.{entry_of as fields_of}
 use Rattle.zms_cycle.specs.Sector.{slot_of, entry_in}
 use Rattle.zms_cycle.proofs.SlotSearch.{entry_in-cases}
 use Rattle.zms_format.specs.Formats.{entry_of}
-use Rattle.zms_store.proofs.sectors.named_id.Goals as goal
+use Rattle.zms_store.proofs.entries.named_id.Goals as goal
 
 -- an entry has the id of its slot's bytes
 named : (b : List ℕ) (slot id : ℕ) → id ≡ (fields_of (slot_of b slot).bytes).id → IfSome (option_map entry_of (entry_in (slot_of b slot))) (λ e. e.id ≡ id)

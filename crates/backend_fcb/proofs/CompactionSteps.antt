@@ -24,7 +24,7 @@ use Rattle.backend_fcb.specs.declared.compaction.Kept.{Kept}
 use Rattle.backend_fcb.specs.declared.compaction.TheConstants.{TABLE}
 use Rattle.backend_fcb.proofs.BodyAt.{body-there}
 use Rattle.backend_fcb.proofs.SectorLists.{bodies-append}
-use Rattle.backend_fcb.proofs.TableLaws.{without-nil, without-here, without-there, without-all, without-long, struck_bodies, live-struck, live-few}
+use Rattle.backend_fcb.proofs.TableLaws.{without-nil, without-here, without-there, without-all, struck_bodies, live-struck, live-few}
 use Rattle.backend_fcb.proofs.WalkLemmas.{Entry, first-of, none-of, some-same, next-behind, left_at, from_last, left-none, left-some, last-behind, last-most, last-there, place-of, split-long}
 
 -- ---- the marks of names
@@ -63,10 +63,6 @@ bodies-struck d area (Some (name, value)) table = bodies-without d area name tab
 pub struck-all : (P : Kept → Type 0) (d : Device) (area : Area) (s : Option (List ℕ × List ℕ)) (table : List Kept) → All P table → All P (struck_by d area s table)
 struck-all P d area None table all = all
 struck-all P d area (Some (name, value)) table all = without-all (is_kept_of d area name) P table all
-
-pub struck-long : (d : Device) (area : Area) (s : Option (List ℕ × List ℕ)) (table : List Kept) → length (struck_by d area s table) ≤ length table
-struck-long d area None table = omega arith
-struck-long d area (Some (name, value)) table = without-long (is_kept_of d area name) table
 
 -- there is room where a table is not full
 pub not-full : (n most : ℕ) → n ≤ most → eqb n most ≡ false → n < most

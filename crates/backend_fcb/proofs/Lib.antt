@@ -7,7 +7,6 @@ mod CopySteps
 mod CostSteps
 mod Ends
 mod PrefixNames
-mod PrefixWalk
 mod CompactionSteps
 mod Limits
 mod LookupSteps

@@ -2,6 +2,7 @@ pub mod Changing
 pub mod Exact
 pub mod Compaction
 pub mod Laws
+pub mod Leaving
 pub mod Members
 pub mod Parts
 pub mod Reading

@@ -1,5 +1,5 @@
 // The backend over a ring.
-ghost use Rattle.std.specs.Prelude.{◌≡◌, ◌-◌, ◌<◌, ◌≤◌, ◌∷◌, [], length, true, false, is_err, None, IfOk};
+ghost use Rattle.std.specs.Prelude.{◌≡◌, ◌+◌, ◌-◌, ◌<◌, ◌≤◌, ◌∷◌, [], length, true, false, is_err, None, IfOk};
 ghost use Rattle.std.proofs.Common.{ap};
 ghost use Rattle.flash_map.specs.Area.{value_limit, geometry_of};
 ghost use Rattle.flash_map.specs.Faults.{mount_lost};
@@ -15,10 +15,11 @@ ghost use Rattle.fcb_ring.proofs.RestLemmas.{ready-rests};
 ghost use Rattle.backend_api.specs.Commands.{StopsOn};
 ghost use Rattle.backend_api.specs.Commands.Command.{Put, Del};
 ghost use Rattle.backend_api.specs.Ends.{set_lost, MountEnds, SetEndsOn, DeleteEndsOn};
-ghost use Rattle.backend_api.specs.Map.{IsStored};
+ghost use Rattle.backend_api.specs.Map.{IsStored, IsValue};
 ghost use Rattle.backend_api.specs.Room.{mount_units};
 ghost use Rattle.backend_api.specs.Written.{StaysWritten};
 ghost use Rattle.backend_fcb.specs.Exact.{SpendsFor, SpendsErases};
+ghost use Rattle.backend_fcb.specs.Leaving.{Leaves};
 ghost use Rattle.backend_fcb.specs.Members.{damage_by, settings_by, room_by, TearsBy, area_of, StandsBy, is_running};
 ghost use Rattle.backend_fcb.specs.Standing.{settings_on};
 ghost use Rattle.backend_fcb.specs.Laws.{reads_settings};
@@ -27,7 +28,7 @@ use crate::all::all_settings;
 use crate::lookup::{last_value, live_cost};
 use crate::mounting::first_overfull;
 use crate::names::next_name;
-use crate::record::{BODY, reserve, start_of, write_body};
+use crate::record::{BODY, SHORT_BODY, body_len, reserve, start_of, write_body};
 use crate::writing::put;
 use backend_api::{Backend, SetFault};
 use fcb_ring::{AppendFault, Ring, record_cost};
@@ -64,6 +65,53 @@ impl FcbBackend {
         match last_value(&self.ring, flash, name, steps) {
             Some(stored) => stored == value,
             None => false,
+        }
+    }
+
+    // Puts a record of the setting, with room for its body. The name does not have this value.
+    fn put_setting<F: Flash, L: Ledger>(
+        &mut self,
+        flash: &mut F,
+        buffer: &mut [u8],
+        name: &Name,
+        value: &[u8],
+        steps: &mut Steps<L>,
+    ) -> Result<(), SetFault>
+        requires lawful { IsLawfulFor (F.device flash.old).banks (area_of self.old) }
+        requires stands { StandsOn area_of StandsBy (F.device flash.old) self.old }
+        requires value { IsValue (value_limit (area_of self.old)) value.now }
+        requires room { length name.now + 1 + length value.now ≤ length buffer.old }
+        requires other { IsStored (settings_on (F.device flash.old) (area_of self.old)) name.now
+            value.now → ⊥ }
+
+        ensures touches { Touches (area_of self.old ∷ []) (F.device flash.old) (F.device flash.new)
+            (set_lost result) }
+        ensures area { area_of self.new ≡ area_of self.old }
+        ensures ends { let d = F.device flash.old in let e = F.device flash.new in
+            SetEndsOn room_by settings_by d e (area_of self.old) name.now value.now result }
+        ensures leaves { let d = F.device flash.old in let e = F.device flash.new in
+            Leaves d e self.old self.new (Put name.now value.now) (set_lost result) }
+        ensures spends { let d = F.device flash.old in let e = F.device flash.new in
+            SpendsFor d e self.old (Put name.now value.now) ((area_of self.old).sectors - 1) result
+            (set_lost result) }
+    {
+        let geometry = geometry(flash, self.ring.area());
+        let len = write_body(buffer, name, value);
+        match put(
+            &mut self.ring,
+            flash,
+            &buffer[..len],
+            false,
+            geometry.sectors - 1,
+            steps,
+        ) {
+            Ok(()) => Ok(()),
+            Err(AppendFault::PowerLost) => Err(SetFault::PowerLost),
+            Err(AppendFault::TooLong) => unreachable!(),
+            Err(AppendFault::Full) => Err(SetFault::NoSpace {
+                need: u64::from(record_cost(geometry.unit, len as u32)),
+                live: live_cost(&self.ring, flash, steps),
+            }),
         }
     }
 }
@@ -188,25 +236,12 @@ impl Backend for FcbBackend {
         if self.holds(flash, name, value, steps) {
             return Ok(());
         }
-        let geometry = geometry(flash, self.ring.area());
-        let mut buffer = [0; BODY];
-        let len = write_body(&mut buffer, name, value);
-        match put(
-            &mut self.ring,
-            flash,
-            &buffer[..len],
-            false,
-            geometry.sectors - 1,
-            steps,
-        ) {
-            Ok(()) => Ok(()),
-            Err(AppendFault::PowerLost) => Err(SetFault::PowerLost),
-            Err(AppendFault::TooLong) => unreachable!(),
-            Err(AppendFault::Full) => Err(SetFault::NoSpace {
-                need: u64::from(record_cost(geometry.unit, len as u32)),
-                live: live_cost(&self.ring, flash, steps),
-            }),
+        if body_len(name, value) <= SHORT_BODY {
+            let mut buffer = [0; SHORT_BODY];
+            return self.put_setting(flash, &mut buffer, name, value, steps);
         }
+        let mut buffer = [0; BODY];
+        self.put_setting(flash, &mut buffer, name, value, steps)
     }
 
     // As the trait says. If the record fits, exactly its units are spent, and no more up to a power

@@ -8,7 +8,7 @@ ghost use Rattle.fcb_ring.specs.Standing.{StandsOn as RingStandsOn, IsListed};
 ghost use Rattle.record_settings.specs.Live.{has_name};
 ghost use Rattle.record_settings.specs.Settings.{setting_of, body_of};
 ghost use Rattle.fcb_ring.specs.declared.record.RecordAt.{RecordAt as Place};
-ghost use Rattle.backend_fcb.specs.Compaction.{mark, is_within, if_within, is_kept_of, without_first, without_place, AreKeptWithin, IsKept, struck, noted, PassesFrom, StrikesFrom, FindsLiveFrom};
+ghost use Rattle.backend_fcb.specs.Compaction.{mark, is_within, if_within, is_kept_of, without_first, without_place, AreKeptWithin, IsKept, struck, noted, noted_by, PassesFrom, StrikesFrom, FindsLiveFrom};
 ghost use Rattle.backend_fcb.specs.declared.compaction.Kept.{Kept as KeptOf};
 
 use crate::record::setting_in;
@@ -134,6 +134,27 @@ fn place_of<F: Flash, L: Ledger>(
     None
 }
 
+// Takes the record of the name out of the table, if it has one.
+fn strike_name<F: Flash, L: Ledger>(
+    ring: &Ring,
+    flash: &F,
+    table: &mut Table,
+    name: &[u8],
+    prefix: &[u8],
+    steps: &mut Steps<L>,
+)
+    requires stands { RingStandsOn (F.device flash.now) ring.now }
+    requires kept { All (IsKept (F.device flash.now) ring.now.area) table.old.items }
+    requires prefix { prefix.now ≡ body_of name.now [] }
+    ensures { table.new.items
+        ≡ without_first (is_kept_of (F.device flash.now) ring.now.area name.now) table.old.items }
+{
+    let place = place_of(ring, flash, table.as_slice(), name, prefix, steps);
+    if let Some(place) = place {
+        table.remove(place);
+    }
+}
+
 // Takes the record out of the table that has the name of a later one.
 fn strike<F: Flash, L: Ledger>(
     ring: &Ring,
@@ -149,17 +170,28 @@ fn strike<F: Flash, L: Ledger>(
         table.new.items ≡ struck d ring.now.area (body_at d ring.now.area later) table.old.items }
 {
     let body = ring.body(flash, &later, steps);
-    if let Some(setting) = setting_in(ring, body) {
-        let prefix = prefix_of(body, setting.name);
-        let place = place_of(ring, flash, table.as_slice(), setting.name, prefix, steps);
-        if let Some(place) = place {
-            table.remove(place);
+    match setting_in(ring, body) {
+        Some(setting) => {
+            let prefix = prefix_of(body, setting.name);
+            strike_name(ring, flash, table, setting.name, prefix, steps);
         }
+        None => {}
     }
 }
 
 // Puts a record into the table, if it has a value.
-fn push<F: Flash, L: Ledger>(
+fn note(table: &mut Table, at: RecordAt, name: &[u8], value: &[u8])
+    requires { length table.old.items < TABLE }
+    ensures { table.new.items ≡ table.old.items ++ noted_by at (Some (name.now, value.now)) }
+{
+    if !value.is_empty() {
+        let mark = mark_of(name);
+        table.push(Kept { at, mark });
+    }
+}
+
+// Puts a record into the table in place of the one that has its name, if it has a value.
+fn replace<F: Flash, L: Ledger>(
     ring: &Ring,
     flash: &F,
     table: &mut Table,
@@ -167,15 +199,22 @@ fn push<F: Flash, L: Ledger>(
     steps: &mut Steps<L>,
 )
     requires stands { RingStandsOn (F.device flash.now) ring.now }
+    requires kept { All (IsKept (F.device flash.now) ring.now.area) table.old.items }
     requires listed { IsListed (F.device flash.now) ring.now.area at }
     requires room { length table.old.items < TABLE }
-    ensures { table.new.items ≡ table.old.items ++ noted (F.device flash.now) ring.now.area at }
+    ensures { let d = F.device flash.now in
+        table.new.items
+        ≡ struck d ring.now.area (body_at d ring.now.area at) table.old.items
+        ++ noted d ring.now.area at }
 {
-    if let Some(setting) = setting_in(ring, ring.body(flash, &at, steps)) {
-        if !setting.value.is_empty() {
-            let mark = mark_of(setting.name);
-            table.push(Kept { at, mark });
+    let body = ring.body(flash, &at, steps);
+    match setting_in(ring, body) {
+        Some(setting) => {
+            let prefix = prefix_of(body, setting.name);
+            strike_name(ring, flash, table, setting.name, prefix, steps);
+            note(table, at, setting.name, setting.value);
         }
+        None => {}
     }
 }
 
@@ -205,8 +244,7 @@ fn find_live_in<F: Flash, L: Ledger>(
         if table.is_full() || !is_within(part, &entry) {
             return at;
         }
-        strike(ring, flash, table, entry, steps);
-        push(ring, flash, table, entry, steps);
+        replace(ring, flash, table, entry, steps);
         at = ring.next(flash, Some(entry), steps);
     }
     None

@@ -4,34 +4,21 @@ ghost use Rattle.flash_sim.specs.declared.flash.TheConstants.{PROGRAM_LIMIT};
 ghost use Rattle.flash_map.specs.Area.{value_limit, unit_of, sector_size};
 ghost use Rattle.fcb_ring.specs.Standing.{StandsOn as RingStandsOn};
 ghost use Rattle.record_settings.specs.Last.{last_value as last_value_of};
-ghost use Rattle.record_settings.specs.Live.{value_for};
 ghost use Rattle.record_settings.specs.Numbers.{put_cost, room};
-ghost use Rattle.record_settings.specs.Settings.{setting_of};
 ghost use Rattle.backend_fcb.specs.Standing.{bodies_on, settings_on};
 ghost use Rattle.backend_fcb.specs.Compaction.{IsKept, bodies_at};
 ghost use Rattle.backend_fcb.specs.declared.compaction.TheConstants.{TABLE};
 
 use crate::compaction::{Kept, Table, find_live};
-use crate::record::{put_cost, setting_in, start_of};
+use crate::record::{put_cost, start_of, value_limit};
 use fcb_ring::Ring;
 use flash_map::geometry;
 use flash_sim::{Flash, Steps};
 use setting_name::Name;
 use std::sync::ledger::Ledger;
 
-// The value that a body gives this name, if it is of the name; no bytes are a delete.
-fn value_for<'a>(ring: &Ring, body: &'a [u8], name: &[u8]) -> Option<&'a [u8]>
-    ensures { option_map (λ value. value.now) result
-        ≡ value_for name.now (setting_of (value_limit ring.now.area) body.now) }
-{
-    match setting_in(ring, body) {
-        Some(setting) if setting.name == name => Some(setting.value),
-        _ => None,
-    }
-}
-
-// The value that the last record of a name gives it; no bytes are a delete. It skips the records
-// that do not begin with the name and `=`.
+// The value that the last record of a name gives it; no bytes are a delete. That record is the last
+// one that begins with the name and `=` and is not too long.
 pub(crate) fn last_value<'a, F: Flash, L: Ledger>(
     ring: &Ring,
     flash: &'a F,
@@ -45,14 +32,16 @@ pub(crate) fn last_value<'a, F: Flash, L: Ledger>(
 {
     let start = start_of(name);
     let prefix = start.as_slice();
-    let mut found = None;
-    let mut at = ring.next_with(flash, None, prefix, steps);
-    while let Some(entry) = at {
-        let value = value_for(ring, ring.body(flash, &entry, steps), name.bytes());
-        found = value.or(found);
-        at = ring.next_with(flash, Some(entry), prefix, steps);
+    let limit = value_limit(ring);
+    let most = prefix.len() + limit;
+    match ring.last_with(flash, prefix, most, steps) {
+        Some(entry) => {
+            let body = ring.body(flash, &entry, steps);
+            let value = &body[prefix.len()..];
+            Some(value)
+        }
+        None => None,
     }
-    found
 }
 
 // What the records of a table cost, in bytes.

@@ -21,6 +21,9 @@ const START: usize = 65;
 /// The most bytes of a body: 64 of a name, 1 of `=`, and 2,048 of a value.
 pub(crate) const BODY: usize = 2113;
 
+/// The room for most bodies: a larger array takes an instruction a byte to clear.
+pub(crate) const SHORT_BODY: usize = 256;
+
 // What a record says: the name has the value. No bytes are a delete.
 #[derive(Clone, Copy, Debug)]
 pub(crate) struct Setting<'a> {
@@ -37,7 +40,7 @@ fn first_equals(body: &[u8]) -> Option<usize>
 }
 
 // The most bytes of a value in the ring's area.
-fn value_limit(ring: &Ring) -> usize
+pub(crate) fn value_limit(ring: &Ring) -> usize
     ensures { result ≡ value_limit ring.now.area }
 {
     ring.area().value_limit() as usize
@@ -82,12 +85,23 @@ pub(crate) fn start_of(name: &Name) -> ArrayVec<u8, START>
     start
 }
 
-// Writes the name, `=` and the value to the start of a buffer. Returns how many bytes these are.
-pub(crate) fn write_body(buffer: &mut [u8; BODY], name: &Name, value: &[u8]) -> usize
+// How many bytes the body of this setting has.
+pub(crate) fn body_len(name: &Name, value: &[u8]) -> usize
     requires { length value.now ≤ LONG_VALUE_LIMIT }
+    ensures len { result ≡ length name.now + 1 + length value.now }
+    ensures most { result ≤ BODY }
+{
+    name.bytes().len() + 1 + value.len()
+}
+
+// Writes the name, `=` and the value to the start of a buffer. Returns how many bytes these are.
+pub(crate) fn write_body(buffer: &mut [u8], name: &Name, value: &[u8]) -> usize
+    requires short { length value.now ≤ LONG_VALUE_LIMIT }
+    requires room { length name.now + 1 + length value.now ≤ length buffer.old }
     ensures body { take result buffer.new ≡ body_of name.now value.now }
     ensures len { result ≡ length name.now + 1 + length value.now }
-    ensures within { result ≤ BODY }
+    ensures most { result ≤ BODY }
+    ensures within { result ≤ length buffer.new }
     ensures name { IsName name.now }
 {
     let end = name.bytes().len();

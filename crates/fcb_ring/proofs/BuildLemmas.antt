@@ -48,15 +48,19 @@ module _ (unit : ℕ) (is_unit : IsUnit unit) (body : List ℕ) (short : record_
   field-unit : padded unit (length field) ≡ unit
   field-unit = let n : length field ≡ length (length_field (length body)) = ap length is in small_padded unit is_unit (length field) (omega (arith, f.short.0)) (omega (arith, f.short.1))
 
-  pub room-first : 0 + padded unit (length field) ≤ PROGRAM_LIMIT
-  room-first = omega (arith, field-unit)
+  module _ (room : ℕ) (fits : record_cost unit (length body) ≤ room) where
+    pub room-first : 0 + padded unit (length field) ≤ room
+    room-first = omega (arith, field-unit, fits)
 
-  module _ (first : ℕ) (one : first ≡ 0 + padded unit (length field)) where
-    pub room-second : first + padded unit (length body) ≤ PROGRAM_LIMIT
-    room-second = omega (arith, field-unit)
+    module _ (first : ℕ) (one : first ≡ 0 + padded unit (length field)) where
+      pub room-second : first + padded unit (length body) ≤ room
+      room-second = omega (arith, field-unit, fits, one)
 
-    pub room-third : (second : ℕ) → second ≡ first + padded unit (length body) → second + padded unit 1 ≤ PROGRAM_LIMIT
-    room-third second two = omega (arith, two, field-unit, small_padded unit is_unit 1 (omega arith) (omega arith))
+      pub room-third : (second : ℕ) → second ≡ first + padded unit (length body) → second + padded unit 1 ≤ room
+      room-third second two = omega (arith, two, field-unit, fits, one, small_padded unit is_unit 1 (omega arith) (omega arith))
+
+  pub field-short : length field ≤ PROGRAM_LIMIT
+  field-short = let n : length field ≡ length (length_field (length body)) = ap length is in omega (arith, f.short.0, f.short.1)
 
   pub built : (first second third : List ℕ) (a b : ℕ) → first ≡ filled unit field → second ≡ first ++ filled unit body → third ≡ second ++ filled unit (b ∷ [])
       → a ≡ crc 255 field → b ≡ crc a body → ((k : ℕ) → get_or body k 0 < 256) → third ≡ record_image unit body

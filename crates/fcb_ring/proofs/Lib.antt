@@ -28,3 +28,4 @@ pub mod CostLemmas
 pub mod FewLemmas
 pub mod ChanceLemmas
 pub mod RestLemmas
+pub mod LastLemmas

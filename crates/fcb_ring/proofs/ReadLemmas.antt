@@ -1,18 +1,19 @@
 -- How the calls that read a ring meet the area's list.
 use Rattle.std.proofs.Common.{◌≡◌, ℕ, ◌+◌, ◌-◌, ◌%◌, ◌<◌, ◌≤◌, min, Bool, true, false, eqb, drop, List, ◌++◌, length, Option, Some, None, refl, sym, ap, ◌∙◌, arith}
 use Rattle.std.specs.Prelude.{slice_range, Contains, is_some, find}
-use Rattle.std.specs.List.{slice_get, starts_with}
+use Rattle.std.specs.List.{flat_map, range_with_len, slice_get, starts_with}
 use Rattle.flash_map.specs.Units.{padded}
 use Rattle.fcb_ring.specs.declared.record.RecordAt.{RecordAt}
 use Rattle.fcb_ring.specs.declared.ring.Ring.{Ring}
 use Rattle.fcb_ring.specs.declared.ring.Stage.{Stage}
 use Rattle.fcb_ring.specs.declared.ring.Stage.TheVariants.{Inspected, Ready, Collecting, Down}
 use Rattle.fcb_ring.specs.Rings.{turned, distance}
-use Rattle.fcb_ring.specs.Entries.{states, entries, following, records_from, HasEntries}
+use Rattle.fcb_ring.specs.Entries.{states, entries, sector_entries, following, records_from, HasEntries}
 use Rattle.flash_map.specs.Area.{sector_at}
 use Rattle.fcb_ring.specs.Standing.{Stands, FitsStage, uncounted, record_places, IsNextWith, first_with}
 use Rattle.fcb_ring.proofs.RingLemmas.{turned-within, distance-turned, undamaged}
 use Rattle.fcb_ring.proofs.AreaLemmas.{HasSize, length-states}
+use Rattle.fcb_ring.proofs.StandLemmas.{part, entries-are}
 use Rattle.fcb_ring.proofs.NextLemmas.{IsAcross, after_of, following-all, following-is, following-end, following-rest, behind, behind-is, contained_at, entry_at, body_is, find-prefix, find-behind, found-at, with-bodies, listed_from}
 use Rattle.flash_map.proofs.Rounding.{padding}
 
@@ -29,6 +30,13 @@ module _ (unit size : ℕ) (sectors : List (List ℕ)) (has : HasSize unit size 
 
   counted-is : min (ring.used + uncounted ring.stage) (length sectors - 1) ≡ min ring.used (n - 1)
   counted-is = let c = counted-by ring.stage stands.stage in omega arith
+
+  -- the list is that of the sectors that count, one after the other
+  pub entries-counted : entries unit sectors ≡ flat_map (λ k. sector_entries unit (turned n ring.oldest k) (sector_at sectors (turned n ring.oldest k))) (range_with_len 0 (min ring.used (n - 1)))
+  entries-counted =
+      entries-are unit sectors ring.oldest all stands.form
+      ∙ ap (λ (m : ℕ). flat_map (part unit sectors ring.oldest) (range_with_len 0 m)) counted-is
+      ∙ ap (λ (m : ℕ). flat_map (λ k. sector_entries unit (turned m ring.oldest k) (sector_at sectors (turned m ring.oldest k))) (range_with_len 0 (min ring.used (n - 1)))) (sym count-is)
 
   -- the area of a ring that stands is not damaged
   pub stands-has : HasEntries unit sectors (entries unit sectors)

@@ -138,6 +138,14 @@ header_fits = by_unit (λ unit. (padded unit 8 % unit ≡ 0) × (8 ≤ padded un
 pub unit_least : (unit : ℕ) → IsUnit unit → 4 ≤ unit
 unit_least = by_unit (λ unit. 4 ≤ unit) (omega arith) (omega arith) (omega arith)
 
+-- a record begins with a whole unit
+pub begins-within : (unit : ℕ) (sector : List ℕ) (at : ℕ) → record_at unit sector at ≡ Some (record_of unit sector at) → at + unit ≤ length sector
+begins-within unit sector at some =
+    let fits = (read unit sector at (record_of unit sector at) some).fits in
+    let end = end-fields unit sector at in
+    let body = body-of unit sector at in
+    omega (arith, fits, end, body)
+
 -- how far a record goes that reads
 pub record IsExtent (unit : ℕ) (sector : List ℕ) (at : ℕ) (extent : Extent) : Type 0 where
   pub some : record_at unit sector at ≡ Some (record_of unit sector at)

@@ -1,6 +1,6 @@
 -- The records of a sector, one behind the other. A record is a length field, a body and a CRC, each
 -- padded to the unit.
-use Rattle.std.specs.Prelude.{ℕ, zero, suc, ◌+◌, ◌*◌, ◌%◌, Bool, not, ◌&&◌, List, [], ◌∷◌, ◌++◌, length, slice_index, slice_range, Option, Some, None, ◌==◌, find, nat_eq, nat_lt, nat_le, if◌then◌else◌}
+use Rattle.std.specs.Prelude.{ℕ, zero, suc, ◌+◌, ◌*◌, ◌%◌, Bool, not, ◌&&◌, ◌||◌, List, [], ◌∷◌, ◌++◌, length, slice_index, slice_range, Option, Some, None, ◌==◌, filter, find, nat_eq, nat_lt, nat_le, if◌then◌else◌}
 use Rattle.std.specs.List.{last_or, starts_with}
 use Rattle.std.specs.Option.{option_map, option_map_or}
 use Rattle.crc8_entry.specs.Crc.{crc}
@@ -58,6 +58,15 @@ extent_of r = record { len = r.len; end = r.end }
 abbrev pub passes : List ℕ → List ℕ → Record → Bool
 passes sector prefix r = starts_with nat_eq (slice_range sector r.body (r.body + r.len)) prefix && r.checks
 
+-- the body begins with the prefix, and has at most so many bytes
+abbrev pub is_alike : List ℕ → ℕ → List ℕ → Bool
+is_alike prefix most body = starts_with nat_eq body prefix && nat_le (length body) most
+
+-- the record's body is alike, and it checks if that is asked for
+abbrev pub is_wanted : List ℕ → List ℕ → ℕ → Bool → Record → Bool
+is_wanted sector prefix most checked r =
+    (not checked || r.checks) && is_alike prefix most (slice_range sector r.body (r.body + r.len))
+
 -- the record, taken as one that does not check unless its body begins with the prefix
 abbrev pub with_prefix : List ℕ → List ℕ → Record → Record
 with_prefix sector prefix r = record r { checks = passes sector prefix r }
@@ -77,6 +86,11 @@ first_passing unit sector prefix from =
 -- the records of a sector, those that do not check too; they begin behind the header's eight bytes
 unfoldable pub records : ℕ → List ℕ → List Record
 records unit sector = walk (record_at unit sector) (length sector) (padded unit 8)
+
+-- the last of them that is wanted
+abbrev pub last_wanted : ℕ → List ℕ → List ℕ → ℕ → Bool → Option Record
+last_wanted unit sector prefix most checked =
+    last_or None (filter (is_wanted sector prefix most checked) (records unit sector))
 
 -- the end of the last of these records; if there is none, this place
 abbrev pub last_end : ℕ → List Record → ℕ

@@ -1,6 +1,6 @@
 -- When a ring stands on the bytes of its area.
-use Rattle.std.specs.Prelude.{◌≡◌, ◌⊎◌, ℕ, ◌+◌, ◌-◌, ◌<◌, ◌≤◌, Bool, true, false, List, length, map, count_by, slice_set, min, Contains, drop, find, option_map, nat_eq, Option, Some, None, if◌then◌else◌, Result, Ok, Err}
-use Rattle.std.specs.List.{slice_get, starts_with}
+use Rattle.std.specs.Prelude.{◌≡◌, ◌⊎◌, ℕ, ◌+◌, ◌-◌, ◌<◌, ◌≤◌, Bool, true, false, List, length, map, count_by, slice_set, min, Contains, drop, filter, find, option_map, nat_eq, Option, Some, None, if◌then◌else◌, Result, Ok, Err}
+use Rattle.std.specs.List.{last_or, slice_get, starts_with}
 use Rattle.flash_sim.specs.Device.{Device}
 use Rattle.flash_sim.specs.declared.flash.Bank.{Bank}
 use Rattle.flash_map.specs.declared.area.Area.{Area}
@@ -19,6 +19,7 @@ use Rattle.fcb_ring.specs.declared.ring.Stage.TheVariants.{Inspected, Ready, Col
 use Rattle.fcb_ring.specs.declared.sector.SectorState.{SectorState}
 use Rattle.fcb_ring.specs.Entries.{states, entries, HasEntries, records_from, following}
 use Rattle.fcb_ring.specs.SectorStates.{mended, state_of}
+use Rattle.fcb_ring.specs.Records.{is_alike}
 use Rattle.fcb_ring.specs.Rings.{state_at, before, turned, oldest_place, is_full, first_damage, IsRing, AreClean}
 
 -- an area on which a ring may stand
@@ -136,6 +137,11 @@ IsNext list (Some r) next =
 abbrev pub first_with : List ℕ → List (RecordAt × List ℕ) → Option RecordAt
 first_with prefix list =
     option_map (λ entry. entry.0) (find (λ entry. starts_with nat_eq entry.1 prefix) list)
+
+-- the last whose body begins with these bytes, and has at most so many
+abbrev pub last_with : List ℕ → ℕ → List (RecordAt × List ℕ) → Option RecordAt
+last_with prefix most list =
+    option_map (λ entry. entry.0) (last_or None (filter (λ entry. is_alike prefix most entry.1) list))
 
 -- the first such record after this one, or of all
 abbrev pub IsNextWith : List (RecordAt × List ℕ) → List ℕ → Option RecordAt → Option RecordAt → Type 0

@@ -13,6 +13,9 @@ use flash_sim::PROGRAM_LIMIT;
 // The bytes of the greatest unit.
 const UNIT: usize = 16;
 
+/// The room for most records: a larger array takes an instruction a byte to clear.
+pub(crate) const SHORT: usize = 256;
+
 // A header with this id, for the greatest unit. For a smaller unit a header is a prefix of it.
 #[tactic(auto, unfolding(crate::specs::Writing::header_image, crate::specs::Writing::filled, flash_map::specs::Units::padded))]
 pub(crate) fn header_image(id: u16) -> [u8; UNIT]
@@ -58,10 +61,11 @@ pub(crate) fn push_all<const N: usize>(image: &mut ArrayVec<u8, N>, bytes: &[u8]
 }
 
 // Writes bytes at a place of a buffer. Returns where they end.
-fn write_at(buffer: &mut [u8; PROGRAM_LIMIT], at: usize, bytes: &[u8]) -> usize
-    requires { at + length bytes.now ≤ PROGRAM_LIMIT }
+fn write_at(buffer: &mut [u8], at: usize, bytes: &[u8]) -> usize
+    requires { at + length bytes.now ≤ length buffer.old }
     ensures bytes { take result buffer.new ≡ take at buffer.old ++ bytes.now }
     ensures end { result ≡ at + length bytes.now }
+    ensures long { length buffer.new ≡ length buffer.old }
 {
     let end = at + bytes.len();
     buffer[at..end].copy_from_slice(bytes);
@@ -69,11 +73,13 @@ fn write_at(buffer: &mut [u8; PROGRAM_LIMIT], at: usize, bytes: &[u8]) -> usize
 }
 
 // Writes a part at a place of a buffer, with FF up to whole units. Returns where these end.
-fn write_filled(buffer: &mut [u8; PROGRAM_LIMIT], at: usize, unit: u32, part: &[u8]) -> usize
+fn write_filled(buffer: &mut [u8], at: usize, unit: u32, part: &[u8]) -> usize
     requires unit { IsUnit unit }
-    requires room { at + padded unit (length part.now) ≤ PROGRAM_LIMIT }
+    requires small { length part.now ≤ PROGRAM_LIMIT }
+    requires room { at + padded unit (length part.now) ≤ length buffer.old }
     ensures bytes { take result buffer.new ≡ take at buffer.old ++ filled unit part.now }
     ensures end { result ≡ at + padded unit (length part.now) }
+    ensures long { length buffer.new ≡ length buffer.old }
 {
     let fill = padded(unit, part.len() as u32) as usize - part.len();
     let end = write_at(buffer, at, part);
@@ -81,11 +87,12 @@ fn write_filled(buffer: &mut [u8; PROGRAM_LIMIT], at: usize, unit: u32, part: &[
 }
 
 // Writes a record with this body to the start of a buffer. Returns how many bytes it has.
-pub(crate) fn write_record(buffer: &mut [u8; PROGRAM_LIMIT], unit: u32, body: &[u8]) -> usize
+pub(crate) fn write_record(buffer: &mut [u8], unit: u32, body: &[u8]) -> usize
     requires unit { IsUnit unit }
     requires short { record_cost unit (length body.now) ≤ PROGRAM_LIMIT }
+    requires room { record_cost unit (length body.now) ≤ length buffer.old }
     ensures bytes { take result buffer.new ≡ record_image unit body.now }
-    ensures within { result ≤ PROGRAM_LIMIT }
+    ensures within { result ≤ length buffer.new }
 {
     let field = length_field(body.len() as u32);
     let crc = crc8(crc8(START, field.as_slice()), body);

@@ -2,10 +2,10 @@
 ghost use Rattle.std.specs.Prelude.{◌≡◌, ◌+◌, ◌-◌, ◌%◌, ◌<◌, ◌≤◌, ◌==◌, Some, None, find, min, if◌then◌else◌};
 ghost use Rattle.std.specs.Option.{ForSome};
 ghost use Rattle.flash_map.specs.Area.{unit_of, sector_size};
-ghost use Rattle.fcb_ring.specs.Changing.{body_at, begins_with};
-ghost use Rattle.fcb_ring.specs.Standing.{StandsOn, entries_on, IsListed, IsBodyOf, records_on, following_on, IsNext, IsNextWith};
+ghost use Rattle.fcb_ring.specs.Changing.{body_at, begins_with, sector_list};
+ghost use Rattle.fcb_ring.specs.Standing.{StandsOn, entries_on, IsListed, IsBodyOf, records_on, following_on, IsNext, IsNextWith, last_with};
 
-use crate::record::{RecordAt, next_checked};
+use crate::record::{RecordAt, last_checked, next_checked};
 use crate::ring::Ring;
 use crate::sequence::distance;
 use flash_map::{geometry, padded, sector_view};
@@ -133,6 +133,59 @@ impl Ring {
             }
             at += 1;
             offset = header;
+        }
+        None
+    }
+
+    // The last record in one sector whose body begins with the prefix, and has at most so many bytes.
+    fn last_in<F: Flash, L: Ledger>(
+        &self,
+        flash: &F,
+        place: u32,
+        prefix: &[u8],
+        most: usize,
+        steps: &mut Steps<L>,
+    ) -> Option<RecordAt>
+        requires stands { StandsOn (F.device flash.now) self.now }
+        requires place { place < self.now.area.sectors }
+        ensures { result
+            ≡ last_with prefix.now most (sector_list (F.device flash.now) self.now.area place) }
+    {
+        let unit = geometry(flash, &self.area).unit;
+        let sector = sector_view(flash, &self.area, place, steps);
+        match last_checked(sector, unit, prefix, most) {
+            Some(record) => Some(RecordAt {
+                sector: place,
+                offset: record.offset,
+                body: record.body,
+                len: record.len,
+            }),
+            None => None,
+        }
+    }
+
+    /// The last of the records that check whose body begins with the given bytes, and has at most so
+    /// many, if there is one. It looks at the newest sector first, and reads no sector before the
+    /// one that has it.
+    pub fn last_with<F: Flash, L: Ledger>(
+        &self,
+        flash: &F,
+        prefix: &[u8],
+        most: usize,
+        steps: &mut Steps<L>,
+    ) -> Option<RecordAt>
+        requires stands { StandsOn (F.device flash.now) self.now }
+        ensures last { result
+            ≡ last_with prefix.now most (entries_on (F.device flash.now) self.now.area) }
+        ensures listed { ForSome result (IsListed (F.device flash.now) self.now.area) }
+    {
+        let mut left = self.counted();
+        while left > 0 {
+            left -= 1;
+            let found = self.last_in(flash, self.place(left), prefix, most, steps);
+            if found.is_some() {
+                return found;
+            }
         }
         None
     }

@@ -1,9 +1,10 @@
 // Reading records.
-ghost use Rattle.std.specs.Prelude.{◌≡◌, ◌+◌, ◌-◌, ◌*◌, ◌%◌, ◌<◌, ◌≤◌, ◌^◌, length, option_map, IsTrue, IfSome, Some, None, slice_index, nat_eq, if◌then◌else◌};
+ghost use Rattle.std.specs.Prelude.{◌≡◌, ◌+◌, ◌-◌, ◌*◌, ◌%◌, ◌<◌, ◌≤◌, ◌^◌, ◌||◌, not, true, length, option_map, IsTrue, IfSome, Some, None, slice_index, nat_eq, if◌then◌else◌};
 ghost use Rattle.std.specs.List.{starts_with};
+ghost use Rattle.std.specs.Option.{ForSome};
 ghost use Rattle.flash_map.specs.Units.{IsUnit, padded};
 ghost use Rattle.fcb_ring.specs.SectorStates.{IsSector};
-ghost use Rattle.fcb_ring.specs.Records.{body_len, field_width, has_record, checks_at, record_of, record_at, records_end, first_passing, passes, extent_of};
+ghost use Rattle.fcb_ring.specs.Records.{body_len, field_width, has_record, checks_at, record_of, record_at, records_end, first_passing, passes, extent_of, is_alike, is_wanted, last_wanted};
 
 use crc8_entry::{START, crc8};
 use flash_map::padded;
@@ -98,6 +99,13 @@ pub(crate) struct Extent {
     end: u32,
 }
 
+// Where a record starts, and how far it goes.
+#[derive(Clone, Copy)]
+struct Reach {
+    at: u32,
+    extent: Extent,
+}
+
 // A length rounded up to the unit. A division by a constant is fast.
 fn padded_len(unit: u32, len: u32) -> u32
     requires unit { IsUnit unit }
@@ -180,6 +188,84 @@ fn checks(sector: &[u8], unit: u32, at: u32, extent: Extent) -> bool
         extent.len as usize,
         crc_at as usize,
     )
+}
+
+// Whether a body begins with the prefix, and has at most so many bytes.
+fn is_alike(body: &[u8], prefix: &[u8], most: usize) -> bool
+    ensures { result ≡ is_alike prefix.now most body.now }
+{
+    begins_with(body, prefix) && body.len() <= most
+}
+
+// Whether the CRC of a record matches, if that is asked for.
+fn counts(sector: &[u8], unit: u32, reach: Reach, checked: bool) -> bool
+    requires unit { IsUnit unit }
+    requires short { length sector.now ≤ 32768 }
+    requires extent { option_map extent_of (record_at unit sector.now reach.at)
+        ≡ Some reach.extent }
+    ensures { result ≡ (not checked || (record_of unit sector.now reach.at).checks) }
+{
+    !checked || checks(sector, unit, reach.at, reach.extent)
+}
+
+// Whether the body of a record is alike, and its CRC matches if that is asked for. Most records have
+// another prefix, so one costs its length and two bytes of its body.
+fn is_wanted(
+    sector: &[u8],
+    unit: u32,
+    reach: Reach,
+    prefix: &[u8],
+    most: usize,
+    checked: bool,
+) -> bool
+    requires unit { IsUnit unit }
+    requires short { length sector.now ≤ 32768 }
+    requires extent { option_map extent_of (record_at unit sector.now reach.at)
+        ≡ Some reach.extent }
+    ensures { result
+        ≡ is_wanted sector.now prefix.now most checked (record_of unit sector.now reach.at) }
+{
+    let body = (reach.at + unit) as usize;
+    is_alike(
+        &sector[body..body + reach.extent.len as usize],
+        prefix,
+        most,
+    ) && counts(sector, unit, reach, checked)
+}
+
+// Where the last record of a sector stands whose body is alike, and whose CRC matches if that is
+// asked for.
+fn last_wanted(sector: &[u8], unit: u32, prefix: &[u8], most: usize, checked: bool) -> Option<u32>
+    requires { IsSector unit sector.now }
+    ensures last { option_map (record_of unit sector.now) result
+        ≡ last_wanted unit sector.now prefix.now most checked }
+    ensures reads { ForSome result
+        (λ at. record_at unit sector.now at ≡ Some (record_of unit sector.now at)) }
+{
+    let mut found = None;
+    let mut at = padded(unit, 8);
+    while let Some(extent) = extent_at(sector, unit, at) {
+        if is_wanted(sector, unit, Reach { at, extent }, prefix, most, checked) {
+            found = Some(at);
+        }
+        at = extent.end;
+    }
+    found
+}
+
+/// The last record of a sector that checks, whose body begins with the prefix and has at most so
+/// many bytes. It computes one CRC, and more only if that one does not match.
+pub(crate) fn last_checked(sector: &[u8], unit: u32, prefix: &[u8], most: usize) -> Option<Record>
+    requires { IsSector unit sector.now }
+    ensures { result ≡ last_wanted unit sector.now prefix.now most true }
+{
+    let at = last_wanted(sector, unit, prefix, most, false)?;
+    let last = record_at(sector, unit, at)?;
+    if last.checks {
+        return Some(last);
+    }
+    let earlier = last_wanted(sector, unit, prefix, most, true)?;
+    record_at(sector, unit, earlier)
 }
 
 // Whether the record at a place checks, and its body begins with the prefix.

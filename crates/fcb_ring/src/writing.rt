@@ -10,7 +10,7 @@ ghost use Rattle.fcb_ring.specs.Gains.{GainsRecord, CutRing};
 ghost use Rattle.fcb_ring.specs.Standing.{StandsOn, KeepsEntries, is_finished};
 ghost use Rattle.fcb_ring.specs.Writing.{record_image, record_cost};
 
-use crate::image::{header_image, record_cost, write_record};
+use crate::image::{SHORT, header_image, record_cost, write_record};
 use crate::ring::{Ring, Stage};
 use flash_map::{Geometry, area_program, geometry, padded};
 use flash_sim::{Flash, PROGRAM_LIMIT, PowerLost};
@@ -135,12 +135,47 @@ impl Ring {
             OnErr result (StopsInNewest d (F.device flash.new) self.old self.new body.now) }
     {
         let unit = geometry(flash, &self.area).unit;
-        let mut record = [0; PROGRAM_LIMIT];
-        let len = write_record(&mut record, unit, body);
+        if record_cost(unit, body.len() as u32) as usize <= SHORT {
+            let mut buffer = [0; SHORT];
+            return self.put_image(flash, body, &mut buffer);
+        }
+        let mut buffer = [0; PROGRAM_LIMIT];
+        self.put_image(flash, body, &mut buffer)
+    }
+
+    // The same, with room for the record.
+    fn put_image<F: Flash>(
+        &mut self,
+        flash: &mut F,
+        body: &[u8],
+        buffer: &mut [u8],
+    ) -> Result<(), PowerLost>
+        requires stands { StandsOn (F.device flash.old) self.old }
+        requires writes { is_finished self.old.stage ≡ true }
+        requires some { 0 < self.old.used }
+        requires short { cost_on (F.device flash.old) self.old.area (length body.now)
+            ≤ PROGRAM_LIMIT }
+        requires room { cost_on (F.device flash.old) self.old.area (length body.now)
+            ≤ length buffer.old }
+        requires fits { let d = F.device flash.old in
+            self.old.end + cost_on d self.old.area (length body.now) ≤ sector_size d self.old.area }
+
+        ensures touches { Touches (self.old.area ∷ []) (F.device flash.old) (F.device flash.new)
+            (is_err result) }
+        ensures others { OthersStay (F.device flash.old) (F.device flash.new) self.old.area
+            (newest_place self.old) }
+
+        ensures put { let d = F.device flash.old in
+            OnOk result (PutsInNewest d (F.device flash.new) self.old self.new body.now) }
+        ensures stopped { let d = F.device flash.old in
+            OnErr result (StopsInNewest d (F.device flash.new) self.old self.new body.now) }
+    {
+        let unit = geometry(flash, &self.area).unit;
+        let len = write_record(buffer, unit, body);
         let place = self.place(self.used - 1);
         let stage = self.stage;
         self.stage = Stage::Down;
-        area_program(flash, &self.area, place, self.end, &record[..len])?;
+        area_program(flash, &self.area, place, self.end, &buffer[..len])?;
         self.end += len as u32;
         self.stage = stage;
         Ok(())

@@ -1,4 +1,4 @@
-use Rattle.std.proofs.Common.{◌≡◌, ◌++◌, ◌<◌, List, length, Option, Some, true, sym, ap, subst, ◌∙◌, arith}
+use Rattle.std.proofs.Common.{◌≡◌, List, length, Option, Some, true, sym, subst, ◌∙◌}
 use Rattle.std.specs.List.{All}
 use Rattle.std.proofs.lemmas.List.Elements.{All-nil, All-append}
 use Rattle.flash_sim.specs.Device.{Device}
@@ -11,7 +11,7 @@ use Rattle.record_settings.specs.Settings.{setting_of}
 use Rattle.backend_fcb.specs.Compaction.{is_within, IsKept, AreKeptWithin, struck, noted, PassesFrom}
 use Rattle.backend_fcb.specs.declared.compaction.Kept.{Kept}
 use Rattle.backend_fcb.specs.declared.compaction.TheConstants.{TABLE}
-use Rattle.backend_fcb.proofs.CompactionSteps.{passes-start, passes-step, struck-all, struck-long, noted-kept, noted-within, not-full}
+use Rattle.backend_fcb.proofs.CompactionSteps.{passes-start, passes-step, struck-all, noted-kept, noted-within, not-full}
 use Rattle.backend_fcb.proofs.WalkLemmas.{at-smaller}
 use Rattle.backend_fcb.proofs.compaction.find_live_in.Goals as goal
 
@@ -23,14 +23,8 @@ loop-at-init g c = record {
   listed = c.requires.from;
 }
 
-pub push-requires-clause-room : goal.push-requires-clause-room
-push-requires-clause-room g c =
-    let d : Device = g.F.Flash.device c.args.flash.now in
-    let area : Area = c.args.ring.now.area in
-    let room : length c.loop-at.table.items < TABLE = not-full (length c.loop-at.table.items) TABLE c.is_full.ensures.fits (sym c.is_full.ensures.value ∙ c.if-is_full.false) in
-    let few = struck-long d area (setting_of (value_limit area) (body_at d area c.in-Some.entry)) c.loop-at.table.items in
-    let same : length c.strike.new.table.items ≡ length (struck d area (body_at d area c.in-Some.entry) c.loop-at.table.items) = ap length c.strike.ensures in
-    omega arith
+pub replace-requires-clause-room : goal.replace-requires-clause-room
+replace-requires-clause-room g c = not-full (length c.loop-at.table.items) TABLE c.is_full.ensures.fits (sym c.is_full.ensures.value ∙ c.if-is_full.false)
 
 pub loop-at-smaller : goal.loop-at-smaller
 loop-at-smaller g c =
@@ -42,19 +36,17 @@ loop-at-preserved g c =
     let area : Area = c.args.ring.now.area in
     let listed = c.loop-at.invariant.listed c.in-Some.entry c.in-Some.is in
     let inside : is_within c.args.part c.in-Some.entry ≡ true = sym c.is_within.ensures ∙ c.if-not-is_within.false in
-    let is : c.push.new.table.items ≡ struck (g.F.Flash.device c.args.flash.now) c.args.ring.now.area (body_at (g.F.Flash.device c.args.flash.now) c.args.ring.now.area c.in-Some.entry) c.loop-at.table.items ++ noted (g.F.Flash.device c.args.flash.now) c.args.ring.now.area c.in-Some.entry =
-    c.push.ensures ∙ ap (λ (l : List Kept). l ++ noted (g.F.Flash.device c.args.flash.now) c.args.ring.now.area c.in-Some.entry) c.strike.ensures in
     let setting = setting_of (value_limit c.args.ring.now.area) (body_at (g.F.Flash.device c.args.flash.now) c.args.ring.now.area c.in-Some.entry) in
     let so_far : PassesFrom (g.F.Flash.device c.args.flash.now) c.args.ring.now.area c.args.part c.args.from c.loop-at.table.items (Some c.in-Some.entry) =
     subst (λ (o : Option RecordAt). PassesFrom (g.F.Flash.device c.args.flash.now) c.args.ring.now.area c.args.part c.args.from c.loop-at.table.items o) c.in-Some.is c.loop-at.invariant.passes in
     record {
       kept =
-          subst (All (IsKept (g.F.Flash.device c.args.flash.now) c.args.ring.now.area)) (sym is)
+          subst (All (IsKept (g.F.Flash.device c.args.flash.now) c.args.ring.now.area)) (sym c.replace.ensures)
           (All-append (IsKept d area) (struck d area (body_at d area c.in-Some.entry) c.loop-at.table.items) (noted d area c.in-Some.entry) (struck-all (IsKept d area) d area setting c.loop-at.table.items c.loop-at.invariant.kept) (noted-kept d area c.in-Some.entry listed));
       within =
-          subst (λ (l : List Kept). AreKeptWithin c.args.part l) (sym is)
+          subst (λ (l : List Kept). AreKeptWithin c.args.part l) (sym c.replace.ensures)
           (All-append (λ (kept : Kept). is_within c.args.part kept.at ≡ true) (struck d area (body_at d area c.in-Some.entry) c.loop-at.table.items) (noted d area c.in-Some.entry)
           (struck-all (λ (kept : Kept). is_within c.args.part kept.at ≡ true) d area setting c.loop-at.table.items c.loop-at.invariant.within) (noted-within d area c.args.part c.in-Some.entry inside));
-      passes = passes-step d c.args.ring.now (g.met.F.Flash.is_lawful c.args.flash.now) c.requires.stands c.args.part c.args.from c.loop-at.table.items c.push.new.table.items c.in-Some.entry c.next-at.result so_far inside is c.next-at.ensures.next;
+      passes = passes-step d c.args.ring.now (g.met.F.Flash.is_lawful c.args.flash.now) c.requires.stands c.args.part c.args.from c.loop-at.table.items c.replace.new.table.items c.in-Some.entry c.next-at.result so_far inside c.replace.ensures c.next-at.ensures.next;
       listed = c.next-at.ensures.listed;
     }

@@ -1,14 +1,27 @@
-use Rattle.std.proofs.Common.{List, sym, subst}
-use Rattle.std.specs.List.{All}
+use Rattle.std.proofs.Common.{◌≡◌, ℕ, List, Option, Some, None, sym, ap, ◌∙◌}
+use Rattle.flash_sim.specs.Device.{Device}
 use Rattle.flash_map.specs.Area.{value_limit}
+use Rattle.flash_map.specs.declared.area.Area.{Area}
+use Rattle.fcb_ring.specs.Changing.{body_at}
+use Rattle.record_settings.specs.Settings.{setting_of}
 use Rattle.record_settings.proofs.BodyLemmas.{setting-says}
-use Rattle.backend_fcb.specs.Compaction.{IsKept}
-use Rattle.backend_fcb.specs.declared.compaction.Kept.{Kept}
+use Rattle.backend_fcb.specs.Compaction.{struck_by}
 use Rattle.backend_fcb.proofs.compaction.strike.Goals as goal
 
 pub prefix_of-prefix-requires : goal.prefix_of-prefix-requires
 prefix_of-prefix-requires g c =
     (c.in-Some.setting.value.now, (setting-says (value_limit c.args.ring.now.area) c.body-body.result.now c.in-Some.setting.name.now c.in-Some.setting.value.now (sym c.in-Some.ensures)).is)
 
-pub place_of-place-requires-clause-kept : goal.place_of-place-requires-clause-kept
-place_of-place-requires-clause-kept g c = subst (λ (l : List Kept). All (IsKept (g.F.Flash.device c.args.flash.now) c.args.ring.now.area) l) (sym c.as_slice.ensures.value) c.requires.kept
+pub returns-in-Some : goal.returns-in-Some
+returns-in-Some g c =
+    let d : Device = g.F.Flash.device c.args.flash.now in
+    let area : Area = c.args.ring.now.area in
+    let says : setting_of (value_limit area) (body_at d area c.args.later) ≡ Some (c.in-Some.setting.name.now, c.in-Some.setting.value.now) = ap (setting_of (value_limit area)) (sym c.body-body.ensures.bytes) ∙ sym c.in-Some.ensures in
+    c.strike_name.ensures ∙ ap (λ (s : Option (List ℕ × List ℕ)). struck_by d area s c.args.table.now.items) (sym says)
+
+pub returns-in-None : goal.returns-in-None
+returns-in-None g c =
+    let d : Device = g.F.Flash.device c.args.flash.now in
+    let area : Area = c.args.ring.now.area in
+    let says : setting_of (value_limit area) (body_at d area c.args.later) ≡ None = ap (setting_of (value_limit area)) (sym c.body-body.ensures.bytes) ∙ sym c.in-None.ensures in
+    ap (λ (s : Option (List ℕ × List ℕ)). struck_by d area s c.args.table.now.items) (sym says)

@@ -29,7 +29,6 @@ returns-clause-body c =
     let n : ℕ = length c.bytes-end.result.now in
     let value : List ℕ = c.args.value.now in
     let len : n ≡ length c.args.name.now = ap length c.bytes-end.ensures.value in
-    let short = c.bytes-end.ensures.name.short in
-    let fits : n + 1 + length value ≤ length c.args.buffer.now = omega (arith, len, short, c.requires, c.fits-buffer) in
+    let fits : n + 1 + length value ≤ length c.args.buffer.now = omega (arith, len, c.requires.room) in
     ap (λ (ys : List ℕ). take (n + 1 + length value) (put_mid (n + 1) (n + 1 + length value - (n + 1)) (set (c.copy_from_slice.new.self ++ post_of 0 n c.args.buffer.now) n 61) ys)) c.copy_from_slice-2.ensures.after
     ∙ written c.args.name.now value c.args.buffer.now c.copy_from_slice.new.self n (n + 1 + length value - (n + 1)) (c.copy_from_slice.ensures.after ∙ c.bytes.ensures.value) len fits

@@ -1,14 +1,7 @@
 use Rattle.std.proofs.Common.{◌≡◌, ℕ, ◌-◌, ◌++◌, length, replicate, List, take, ap, ◌∙◌, arith}
 use Rattle.std.proofs.lemmas.List.{take-replicate}
-use Rattle.flash_map.proofs.Rounding.{padding}
 use Rattle.fcb_ring.proofs.BuildLemmas.{filled-is}
 use Rattle.fcb_ring.proofs.image.write_filled.Goals as goal
-
-pub overflow_cast-part : goal.overflow_cast-part
-overflow_cast-part c = let pad = padding c.args.unit c.requires.unit in omega (arith, pad.no_less (length c.args.part.now))
-
-pub padded-requires-clause-len : goal.padded-requires-clause-len
-padded-requires-clause-len c = let pad = padding c.args.unit c.requires.unit in omega (arith, pad.no_less (length c.args.part.now))
 
 pub returns-clause-bytes : goal.returns-clause-bytes
 returns-clause-bytes c =

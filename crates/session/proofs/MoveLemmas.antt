@@ -22,13 +22,14 @@ use Rattle.handlers.specs.Registry.{Registered}
 use Rattle.backend_api.specs.Commands.{Command}
 use Rattle.backend_api.specs.Map.{Map}
 use Rattle.backend_api.specs.Room.{Room}
+use Rattle.fcb_ring.specs.declared.ring.Ring.{Ring}
 use Rattle.migrator.specs.declared.migrating.MigrateFault.{MigrateFault}
 use Rattle.migrator.specs.declared.migrating.MigrateFault.TheVariants.{NoTarget as HasNoTarget, NoSpace as HasNoSpace, TooManyNames, PowerLost, NoMemory}
 use Rattle.migrator.specs.declared.selecting.Selector.{Selector}
 use Rattle.migrator.specs.Active.{active_on, active_in}
 use Rattle.migrator.specs.Areas.{selector_of, target}
 use Rattle.migrator.specs.Choosing.{IsOpen}
-use Rattle.migrator.specs.Migrating.{MigrateEnds, ReadsAs, IsMoved, IsTarget, StaysActive, IsServed, migrate_lost, is_refused, room_on, worked_on, migrate_units}
+use Rattle.migrator.specs.Migrating.{FillsAndChooses, MigrateEnds, ReadsAs, IsMoved, IsTarget, StaysActive, IsServed, migrate_lost, is_refused, room_on, worked_on, migrate_units}
 use Rattle.migrator.proofs.Migration.{active-on, worked-is}
 use Rattle.settings_core.specs.declared.settings.Settings.{Settings}
 use Rattle.settings_core.specs.Carrying.{AreFree, MeetsNoRoom}
@@ -39,7 +40,7 @@ use Rattle.session_table.specs.Bench.{Keeps, area_at, is_selector, places_of, st
 use Rattle.session_table.specs.Commands.{StopsForNames, all_puts}
 use Rattle.session_table.specs.State.{State}
 use Rattle.session.specs.Moving.{answer_to}
-use Rattle.session.specs.OnMap.{BeginsMove, DoneBeside, DoneWithin, IsServedMap, SameSelector, StandsOnMap, active_area, damage_in, may_choose, meanings, moment, move_bound}
+use Rattle.session.specs.OnMap.{BeginsMove, ChoosesOnce, DoneBeside, DoneWithin, IsServedMap, PutsOne, SameSelector, StandsOnMap, active_area, damage_in, may_choose, meanings, moment, move_bound}
 use Rattle.session.proofs.AccountLemmas.{kept, lost}
 use Rattle.session.proofs.BoundLemmas.{spent_most}
 use Rattle.session.proofs.ActiveAreas.{area_there, image, selector_listed}
@@ -256,15 +257,42 @@ module _ {K : Type 0} (mounted_on : K → Area) (damage : Area → Geometry → 
   same_for : (r : Result (K × ℕ) MigrateFault) → Migrated r → is_refused r ≡ true → SameSelector areas d e
   same_for r m refused x is = subst (λ (a : Area). sectors_of e a ≡ sectors_of d a) (some_same s x (sym m.selected ∙ is)) (m.stays refused)
 
-  same_at : (fault : MigrateFault) (units : ℕ) (answer : Answer) → answer_to fault units ≡ Some answer → Migrated (Err fault) → may_choose Migrate answer ≡ false → SameSelector areas d e
-  same_at HasNoTarget units answer is m none = same_for (Err HasNoTarget) m refl
-  same_at (HasNoSpace need live) units answer is m none = same_for (Err (HasNoSpace need live)) m refl
-  same_at TooManyNames units answer is m none = same_for (Err TooManyNames) m refl
-  same_at PowerLost units answer is m none = absurd (false≢true (sym none ∙ ap (λ (x : Answer). may_choose Migrate x) (sym (some_same (Lost units false) answer is))))
-  same_at NoMemory units answer is m none = same_for (Err NoMemory) m refl
+  same_at : (fault : MigrateFault) (spent : ℕ) (answer : Answer) → answer_to fault spent ≡ Some answer → Migrated (Err fault) → may_choose Migrate answer ≡ false → SameSelector areas d e
+  same_at HasNoTarget spent answer is m none = same_for (Err HasNoTarget) m refl
+  same_at (HasNoSpace need live) spent answer is m none = same_for (Err (HasNoSpace need live)) m refl
+  same_at TooManyNames spent answer is m none = same_for (Err TooManyNames) m refl
+  same_at PowerLost spent answer is m none = absurd (false≢true (sym none ∙ ap (λ (x : Answer). may_choose Migrate x) (sym (some_same (Lost spent false) answer is))))
+  same_at NoMemory spent answer is m none = same_for (Err NoMemory) m refl
 
   pub same_by : (fault : MigrateFault) (units : ℕ) (answer : Answer) (o : Option Answer) → o ≡ answer_to fault units → o ≡ Some answer → Migrated (Err fault) → may_choose Migrate answer ≡ false → SameSelector areas d e
   same_by fault units answer o is some m none = same_at fault units answer (sym is ∙ some) m none
+
+  -- the settings were moved, by one record
+  pub puts_one : (ring : Ring) (source : Area) (x : K × ℕ) → s ≡ ring.area → source ≡ active_area areas d → IsOpen d ring → Migrated (Ok x) → FillsAndChooses areas d e ring (mounted_on x.0) x.1 (len (on contents d source))
+      → PutsOne (meanings contents room chance tears) areas d e
+  puts_one ring source x same is_source opened m moved = record {
+    ring = ring;
+    selected = m.selected ∙ ap (λ (a : Area). Some a) same;
+    opened = opened;
+    index = m.ends.0;
+    is = m.ends.2.target;
+    moved = subst (λ (a : Area). FillsAndChooses areas d e ring (area_at areas m.ends.0) m.ends.0 (len (on contents d a))) is_source
+        (subst (λ (n : ℕ). FillsAndChooses areas d e ring (area_at areas m.ends.0) n (len (on contents d source))) m.ends.3.0
+        (subst (λ (a : Area). FillsAndChooses areas d e ring a x.1 (len (on contents d source))) (m.ends.3.1 ∙ sym (area_there areas m.ends.0 m.ends.1 m.ends.2.there)) moved));
+  }
+
+  none_put : (x answer : Answer) → Some x ≡ Some answer → ChoosesOnce (meanings contents room chance tears) areas Migrate x d e → ChoosesOnce (meanings contents room chance tears) areas Migrate answer d e
+  none_put x answer is done = subst (λ (y : Answer). ChoosesOnce (meanings contents room chance tears) areas Migrate y d e) (some_same x answer is) done
+
+  none_at : (fault : MigrateFault) (spent : ℕ) (answer : Answer) → answer_to fault spent ≡ Some answer → ChoosesOnce (meanings contents room chance tears) areas Migrate answer d e
+  none_at HasNoTarget spent answer is = none_put NoTarget answer is tt
+  none_at (HasNoSpace need live) spent answer is = none_put (NoSpace spent need live) answer is tt
+  none_at TooManyNames spent answer is = none_put (TooMany spent) answer is tt
+  none_at PowerLost spent answer is = none_put (Lost spent false) answer is tt
+  none_at NoMemory spent answer is = absurd (none-some answer is)
+
+  pub none_by : (fault : MigrateFault) (spent : ℕ) (answer : Answer) (o : Option Answer) → o ≡ answer_to fault spent → o ≡ Some answer → ChoosesOnce (meanings contents room chance tears) areas Migrate answer d e
+  none_by fault spent answer o is some = none_at fault spent answer (sym is ∙ some)
 
   -- memory was wanting
   begins : (fault : MigrateFault) → answer_to fault 0 ≡ None → Migrated (Err fault) → BeginsMove (meanings contents room chance tears) areas d e

@@ -185,6 +185,7 @@ module _ {K : Type 0} (mounted_on : K → Area) (stands : K → Geometry → Lis
           few = λ is. few_by areas old e before after from to m.most;
           undamaged = sound_on (Ok session) m;
           records = λ none. m.records m.ends.3;
+          chosen = tt;
         }
     done_by (Err PowerLost) m = λ registry pool.
         let within : DoneWithin (meanings contents room chance tears) areas Mount (Lost (after - before) false) (moment old registry pool) (moment e registry pool) =
@@ -198,6 +199,7 @@ module _ {K : Type 0} (mounted_on : K → Area) (stands : K → Geometry → Lis
           few = λ is. few_by areas old e before after from to m.most;
           undamaged = sound_on (Err PowerLost) m;
           records = λ none. m.records m.ends.0;
+          chosen = tt;
         }
     done_by (Err (MapDamaged place damaged)) m = tt
     done_by (Err NoMemory) m = tt

@@ -33,7 +33,7 @@ use Rattle.session_table.proofs.PlaceLemmas.{IsWithin}
 use Rattle.session_table.proofs.RunLemmas.{keeps_within}
 use Rattle.session.specs.declared.fault.SessionFault.{SessionFault}
 use Rattle.session.specs.declared.fault.SessionFault.TheVariants.{NoMemory}
-use Rattle.session.specs.OnMap.{BeginsLine, CarriedBeside, DoneBeside, DoneWithin, HasSelector, IsAtRest, IsReady, IsServedMap, LeavesSelector, LineCarried, LineStops, SameButPlan, SameSelector, StandsOnActive, StandsOnMap, StaysOnArea, StopsUnchanged, active_area, damage_in, is_local, may_choose, moment, takes_memory}
+use Rattle.session.specs.OnMap.{BeginsLine, CarriedBeside, ChoosesOnce, DoneBeside, DoneWithin, HasSelector, IsAtRest, IsReady, IsServedMap, LeavesSelector, LineCarried, LineStops, SameButPlan, SameSelector, StandsOnActive, StandsOnMap, StaysOnArea, StopsUnchanged, active_area, damage_in, is_local, may_choose, moment, takes_memory}
 use Rattle.session.proofs.ActiveAreas.{active_still, selector_still, has_still, selector_beside, active_beside, area_there}
 use Rattle.session.proofs.DamageLemmas.{damage_none, none_damage, none_beside}
 
@@ -180,17 +180,26 @@ leaves : (line : Line) (areas : List Area) (d e : Device) → (line ≡ Mount �
 leaves Mount areas d e other same = absurd (other refl)
 leaves line areas d e other same = same
 
+-- no line but a migration chooses an area, and none with power off
+local_none : (m : Meanings) (areas : List Area) (line : Line) (answer : Answer) (d e : Device) → is_local line ≡ true → ChoosesOnce m areas line answer d e
+local_none m areas Migrate answer d e local = absurd (false≢true local)
+local_none m areas line answer d e local = tt
+
+pub off_none : (m : Meanings) (areas : List Area) (line : Line) (d e : Device) → ChoosesOnce m areas line Off d e
+off_none m areas Migrate d e = tt
+off_none m areas line d e = tt
+
 module _ (m : Meanings) (damage : Area → Geometry → List (List ℕ) → Option Damaged) (areas : List Area) (line : Line) (d e : Device) where
-  pub carried : (answer : Answer) → (line ≡ Mount → ⊥) → ((replan line ≡ keeps_plan → ⊥) → SameButPlan d e) → (damage_in damage areas d ≡ None → damage_in damage areas e ≡ None) → (may_choose line answer ≡ false → SameSelector areas d e) → DoneBeside m areas line answer d e
+  pub carried : (answer : Answer) → (line ≡ Mount → ⊥) → ((replan line ≡ keeps_plan → ⊥) → SameButPlan d e) → (damage_in damage areas d ≡ None → damage_in damage areas e ≡ None) → (may_choose line answer ≡ false → SameSelector areas d e) → ChoosesOnce m areas line answer d e → DoneBeside m areas line answer d e
       → CarriedBeside m damage areas line answer d e
-  carried answer other plan sound same done registry pool =
+  carried answer other plan sound same one done registry pool =
       let within = done registry pool in
-      record { done = within.done; touches = within.touches; plans = plan; most = within.most; finds = λ is. absurd (other is); few = λ is. absurd (other is); undamaged = sound; records = λ none. leaves line areas d e other (same none) }
+      record { done = within.done; touches = within.touches; plans = plan; most = within.most; finds = λ is. absurd (other is); few = λ is. absurd (other is); undamaged = sound; records = λ none. leaves line areas d e other (same none); chosen = one }
 
   -- by the line that it is
-  pub carried_as : (other : Line) (answer : Answer) → line ≡ other → (other ≡ Mount → ⊥) → SameButPlan d e → (damage_in damage areas d ≡ None → damage_in damage areas e ≡ None) → DoneBeside m areas other answer d e → CarriedBeside m damage areas line answer d e
-  carried_as other answer is not_it plan sound done =
-      carried answer (λ mounts. not_it (sym is ∙ mounts)) (λ replans. plan) sound (λ none s at. ap (λ (x : Device). sectors_of x s) plan) (subst (λ (l : Line). DoneBeside m areas l answer d e) (sym is) done)
+  pub carried_as : (other : Line) (answer : Answer) → line ≡ other → (other ≡ Mount → ⊥) → SameButPlan d e → (damage_in damage areas d ≡ None → damage_in damage areas e ≡ None) → ChoosesOnce m areas other answer d e → DoneBeside m areas other answer d e → CarriedBeside m damage areas line answer d e
+  carried_as other answer is not_it plan sound one done =
+      carried answer (λ mounts. not_it (sym is ∙ mounts)) (λ replans. plan) sound (λ none s at. ap (λ (x : Device). sectors_of x s) plan) (subst (λ (l : Line). ChoosesOnce m areas l answer d e) (sym is) one) (subst (λ (l : Line). DoneBeside m areas l answer d e) (sym is) done)
 
   pub carried_if : (serves : Area → Geometry → Type 0) (result : Result Answer SessionFault) (r others : List Registered) (p left : List HandlerKind) → IsServedMap serves areas d → IsLawful d.banks d.bytes → IsLawful e.banks e.bytes
       → is_local line ≡ true → (line ≡ Mount → ⊥) → replan line ≡ keeps_plan → (damage_in damage areas d ≡ None → damage_in damage areas e ≡ None)
@@ -205,6 +214,7 @@ module _ (m : Meanings) (damage : Area → Geometry → List (List ℕ) → Opti
     undamaged = sound;
     records = λ none.
         leaves line areas d e other (selector_beside serves areas d e map lawful lawful_new done.done.keeps.banks (outside_local m areas line answer d e r others p left local done));
+    chosen = local_none m areas line answer d e local;
   }
   carried_if serves (Err fault) r others p left map lawful lawful_new local other plain sound done = tt
 

@@ -13,6 +13,7 @@ use Rattle.flash_map.specs.On.{on, HoldsOn, StandsOn}
 use Rattle.flash_map.specs.Spending.{Spends, SpendsAtMost}
 use Rattle.flash_map.specs.Touches.{Touches}
 use Rattle.fcb_ring.specs.Standing.{entries_on, erases_on}
+use Rattle.fcb_ring.specs.declared.ring.Ring.{Ring}
 use Rattle.handlers.specs.declared.handler.HandlerKind.{HandlerKind}
 use Rattle.handlers.specs.Held.{HandlerState, fresh}
 use Rattle.handlers.specs.Registry.{Registered}
@@ -23,7 +24,7 @@ use Rattle.migrator.specs.declared.selecting.Selector.{Selector}
 use Rattle.migrator.specs.Active.{active_on, selector_damage_on}
 use Rattle.migrator.specs.Areas.{IsLawfulMap, is_store, is_store_at, first_store, selector_of, target}
 use Rattle.migrator.specs.Choosing.{IsOpen}
-use Rattle.migrator.specs.Migrating.{worked_on, migrate_units}
+use Rattle.migrator.specs.Migrating.{FillsAndChooses, worked_on, migrate_units}
 use Rattle.settings_core.specs.declared.settings.Settings.{Settings}
 use Rattle.settings_core.specs.Carrying.{due_units}
 use Rattle.settings_core.specs.Saving.{AreLawful, exported}
@@ -172,18 +173,33 @@ SameSelector areas old new = (s : Area) → selector_of areas ≡ Some s → sec
 
 -- ---- one line
 
--- a migration that moved the settings, or in which power was lost, may have put a record into
--- the selector
+-- The line may have put a record into the selector: a migration that moved the settings, or in which
+-- power was lost.
 abbrev pub may_choose : Line → Answer → Bool
 may_choose Migrate (Done units) = true
 may_choose Migrate (Lost units chance) = true
 may_choose line answer = false
 
--- a line that puts no record leaves the selector as it is; a mount, which finishes what a choice
--- that was cut left to do, leaves its records
+-- A line that puts no record leaves the selector's sectors. A mount, which finishes what a choice that
+-- was cut left to do, leaves its records.
 abbrev pub LeavesSelector : Line → List Area → Device → Device → Type 0
 LeavesSelector Mount areas old new = SameRecords areas old new
 LeavesSelector line areas old new = SameSelector areas old new
+
+-- the target was filled, and then the selector chose it, by one record more
+pub record PutsOne (m : Meanings) (areas : List Area) (old new : Device) : Type 0 where
+  pub ring : Ring
+  pub selected : selector_of areas ≡ Some ring.area
+  pub opened : IsOpen old ring
+  pub index : ℕ
+  pub is : target areas (active_on areas old) ≡ Some index
+  pub moved : FillsAndChooses areas old new ring (area_at areas index) index
+      (len (on m.contents old (active_area areas old)))
+
+-- a migration that moved the settings put one record
+abbrev pub ChoosesOnce : Meanings → List Area → Line → Answer → Device → Device → Type 0
+ChoosesOnce m areas Migrate (Done units) old new = PutsOne m areas old new
+ChoosesOnce m areas line answer old new = ⊤
 
 -- a mount turns power on first
 abbrev pub powered_for : Line → Device → Device
@@ -224,8 +240,8 @@ pub record DoneWithin (m : Meanings) (areas : List Area) (line : Line) (answer :
 
 -- A line was carried out by the table, and touched the bench only where it works. A line on the plan
 -- changed nothing else. A mount, even one that was cut, found no damage and kept within its bound, as
--- did a save and a migration. A map without damage shows none afterwards. Only a migration that moved
--- the settings, or was cut, may have put a record into the selector.
+-- did a save and a migration. A map without damage shows none afterwards. A migration that moved the
+-- settings put one record into the selector. No other line put any, but one that was cut may have.
 pub record LineCarried (m : Meanings) (damage : Area → Geometry → List (List ℕ) → Option Damaged)
     (areas : List Area) (line : Line) (answer : Answer) (old new : Moment) : Type 0 where
   pub done : LineDone m areas line answer old new
@@ -236,6 +252,7 @@ pub record LineCarried (m : Meanings) (damage : Area → Geometry → List (List
   pub few : line ≡ Mount → units_of answer ≤ mount_bound areas old.device
   pub undamaged : damage_in damage areas old.device ≡ None → damage_in damage areas new.device ≡ None
   pub records : may_choose line answer ≡ false → LeavesSelector line areas old.device new.device
+  pub chosen : ChoosesOnce m areas line answer old.device new.device
 
 -- a mount spent nothing, and did no more than to turn power on
 abbrev pub DoesNothing : Answer → Device → Device → Type 0

@@ -2,7 +2,7 @@
 ghost use Rattle.std.specs.Prelude.{◌≡◌, true, false, None, Some, IfOk, OnErr, OnOk};
 ghost use Rattle.script_lines.specs.declared.line.Line.TheVariants.{Migrate};
 ghost use Rattle.session.specs.Moving.{answer_to};
-ghost use Rattle.session.specs.OnMap.{BeginsMove, DoneBeside, IsReady, IsServedMap, SameSelector, StandsOnMap, damage_in, may_choose, meanings};
+ghost use Rattle.session.specs.OnMap.{BeginsMove, ChoosesOnce, DoneBeside, IsReady, IsServedMap, SameSelector, StandsOnMap, damage_in, may_choose, meanings};
 
 use backend_api::Backend;
 use flash_map::FlashMap;
@@ -37,6 +37,10 @@ pub fn move_settings<K: Backend, B: Bench, L: Ledger>(
     ensures selector { let d = B.device bench.old in let e = B.device bench.new in
         IfOk result
         (λ answer. may_choose Migrate answer ≡ false → SameSelector map.now d e) }
+    ensures chosen { let m = meanings K.contents K.room K.chance K.tears in
+        IfOk result
+        (λ answer. ChoosesOnce m map.now Migrate answer (B.device bench.old)
+        (B.device bench.new)) }
     ensures stops { let m = meanings K.contents K.room K.chance K.tears in
         OnErr result (BeginsMove m map.now (B.device bench.old) (B.device bench.new)) }
     ensures ready { let e = B.device bench.new in

@@ -90,11 +90,12 @@ impl<K: Backend> Session<K> {
 
     /// Carries out a line. With power off, every line but `mount`, `cut` and `uncut` answers `off`.
     /// A mount of a map at rest spends nothing. No mount, save or migration spends more than its
-    /// bound (`mount_bound`, `save_bound`, `move_bound`). Only a migration that moved the settings,
-    /// or was cut, may put a record into the selector. A map without damage has none afterwards,
-    /// whatever the result. A `register` that answers `Done` moves the first handler of the kind
-    /// out of the pool, behind the registered ones. No other line that is answered changes the
-    /// pool, and none but `load`, `commit` and `rset` changes the registry.
+    /// bound (`mount_bound`, `save_bound`, `move_bound`). A migration that moved the settings puts
+    /// one record into the selector. No other line puts any, but a migration that was cut may. A map
+    /// without damage has none afterwards, whatever the result. A `register` that answers `Done`
+    /// moves the first handler of the kind out of the pool, behind the registered ones. No other
+    /// line that is answered changes the pool, and none but `load`, `commit` and `rset` changes the
+    /// registry.
     ///
     /// # Errors
     /// `Damaged`, only for a mount, with the damage that the map shows; the pool and the registry

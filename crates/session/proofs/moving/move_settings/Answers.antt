@@ -1,9 +1,9 @@
 -- the settings were moved, or not
-use Rattle.std.proofs.Common.{Ok, Err, ap, sym, ◌∙◌, ◌-◌}
+use Rattle.std.proofs.Common.{Ok, Err, ap, refl, sym, ◌∙◌, ◌-◌}
 use Rattle.std.proofs.lemmas.Bool.{false≢true}
 use Rattle.flash_map.specs.Area.{geometry_of, sectors_of}
 use Rattle.session.proofs.MountLemmas.{at_active}
-use Rattle.session.proofs.MoveLemmas.{migrated, sound_by, moved_by, refused_by, same_by, begins_by, at_backend, refused_ready}
+use Rattle.session.proofs.MoveLemmas.{migrated, sound_by, moved_by, refused_by, same_by, puts_one, none_by, begins_by, at_backend, refused_ready}
 use Rattle.session.proofs.moving.move_settings.Goals as goal
 
 pub of-requires : goal.of-requires
@@ -31,6 +31,17 @@ returns-in-Ok-clause-ready g c = λ powered. at_backend g.K.Backend.serves g.K.B
 
 pub returns-in-Ok-clause-selector : goal.returns-in-Ok-clause-selector
 returns-in-Ok-clause-selector g c = λ none. absurd (false≢true (sym none))
+
+pub returns-in-Ok-clause-chosen : goal.returns-in-Ok-clause-chosen
+returns-in-Ok-clause-chosen g c =
+    let m = migrated g.K.Backend.mounted_on g.K.Backend.damage g.K.Backend.contents g.K.Backend.room g.K.Backend.chance g.K.Backend.tears c.args.map.now c.args.selector.now.ring.area (g.B.Flash.device c.args.bench.now) (g.B.Flash.device c.migrate-end.new.flash) (g.K.Backend.mounted_on c.backend.result.now) c.args.active.now c.migrate-end.result (Ok (c.in-Ok.backend, c.in-Ok.place)) c.requires.ready.is_active
+    (ap g.K.Backend.mounted_on c.backend.ensures ∙ at_active c.args.map.now (g.B.Flash.device c.args.bench.now) c.args.active.now (g.K.Backend.mounted_on c.args.settings.now.backend) c.requires.ready.is_active c.requires.ready.there)
+    c.in-Ok.is c.requires.ready.selects.selected c.migrate-end.ensures.touches c.migrate-end.ensures.map c.migrate-end.ensures.ends c.migrate-end.ensures.at_most c.migrate-end.ensures.once.0 in
+    puts_one g.K.Backend.mounted_on g.K.Backend.damage g.K.Backend.contents g.K.Backend.room g.K.Backend.chance g.K.Backend.tears c.args.map.now c.args.selector.now.ring.area (g.B.Flash.device c.args.bench.now) (g.B.Flash.device c.migrate-end.new.flash) c.args.selector.now.ring (g.K.Backend.mounted_on c.backend.result.now) (c.in-Ok.backend, c.in-Ok.place) refl (ap g.K.Backend.mounted_on c.backend.ensures ∙ at_active c.args.map.now (g.B.Flash.device c.args.bench.now) c.args.active.now (g.K.Backend.mounted_on c.args.settings.now.backend) c.requires.ready.is_active c.requires.ready.there) (c.requires.ready.selects.opened c.args.selector.now refl) m c.in-Ok.ensures.once.1
+
+pub returns-in-Some-clause-chosen : goal.returns-in-Some-clause-chosen
+returns-in-Some-clause-chosen g c =
+    none_by g.K.Backend.mounted_on g.K.Backend.damage g.K.Backend.contents g.K.Backend.room g.K.Backend.chance g.K.Backend.tears c.args.map.now c.args.selector.now.ring.area (g.B.Flash.device c.args.bench.now) (g.B.Flash.device c.migrate-end.new.flash) c.in-Err.fault (c.spent.result - c.spent-before.result) c.in-Some.answer c.answer_to.result c.answer_to.ensures c.in-Some.is
 
 pub returns-in-Some-clause-selector : goal.returns-in-Some-clause-selector
 returns-in-Some-clause-selector g c =

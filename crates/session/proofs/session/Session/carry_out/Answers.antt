@@ -5,7 +5,7 @@ use Rattle.session_table.specs.Step.{needs_power}
 use Rattle.session.specs.OnMap.{is_local, meanings}
 use Rattle.session.proofs.MovesLemmas.{local_left, moves_as, moves_off, moves_unpowered, none_left}
 use Rattle.session.proofs.QuietLemmas.{off}
-use Rattle.session.proofs.ReadyLemmas.{carried, carried_if, carried_if_beside, mount_needs_none, mount_not_local, not_local, plain_powered}
+use Rattle.session.proofs.ReadyLemmas.{carried, carried_if, carried_if_beside, mount_needs_none, mount_not_local, not_local, off_none, plain_powered}
 use Rattle.session.proofs.session.Session.carry_out.Goals as goal
 
 pub returns-then-not-needs_power-clause-done : goal.returns-then-not-needs_power-clause-done
@@ -17,7 +17,7 @@ returns-then-not-is_on-clause-done g c =
     let d = g.B.Flash.device c.args.bench.now in
     let needs : needs_power c.args.line.now ≡ true = search rules in
     let dark : d.is_on ≡ false = search rules in
-    carried (meanings g.K.Backend.contents g.K.Backend.room g.K.Backend.chance g.K.Backend.tears) g.K.Backend.damage c.args.map.now c.args.line.now d d Off (mount_needs_none c.args.line.now needs) (λ replans. absurd (replans (plain_powered c.args.line.now needs))) (λ was. was) (λ none s is. refl)
+    carried (meanings g.K.Backend.contents g.K.Backend.room g.K.Backend.chance g.K.Backend.tears) g.K.Backend.damage c.args.map.now c.args.line.now d d Off (mount_needs_none c.args.line.now needs) (λ replans. absurd (replans (plain_powered c.args.line.now needs))) (λ was. was) (λ none s is. refl) (off_none (meanings g.K.Backend.contents g.K.Backend.room g.K.Backend.chance g.K.Backend.tears) c.args.map.now c.args.line.now d d)
     (off g.K.Backend.contents g.K.Backend.room g.K.Backend.chance g.K.Backend.tears c.args.map.now d c.args.line.now dark needs) _ _
 
 pub returns-then-is_local-clause-done : goal.returns-then-is_local-clause-done

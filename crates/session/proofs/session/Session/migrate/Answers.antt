@@ -6,4 +6,4 @@ use Rattle.session.proofs.session.Session.migrate.Goals as goal
 
 pub returns-in-Ok-clause-done : goal.returns-in-Ok-clause-done
 returns-in-Ok-clause-done g c =
-    carried (meanings g.K.Backend.contents g.K.Backend.room g.K.Backend.chance g.K.Backend.tears) g.K.Backend.damage c.args.map.now Migrate (g.B.Flash.device c.args.bench.now) (g.B.Flash.device c.move_settings.new.bench) c.in-Ok.answer migrate_is_none (λ replans. absurd (replans refl)) (λ was. c.in-Ok.ensures.sound) c.in-Ok.ensures.selector c.in-Ok.ensures.done
+    carried (meanings g.K.Backend.contents g.K.Backend.room g.K.Backend.chance g.K.Backend.tears) g.K.Backend.damage c.args.map.now Migrate (g.B.Flash.device c.args.bench.now) (g.B.Flash.device c.move_settings.new.bench) c.in-Ok.answer migrate_is_none (λ replans. absurd (replans refl)) (λ was. c.in-Ok.ensures.sound) c.in-Ok.ensures.selector c.in-Ok.ensures.chosen c.in-Ok.ensures.done

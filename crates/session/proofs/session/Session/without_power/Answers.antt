@@ -13,7 +13,7 @@ returns-in-Mount-clause-done g c =
 pub returns-in-Cut-clause-done : goal.returns-in-Cut-clause-done
 returns-in-Cut-clause-done g c =
     carried_as (meanings g.K.Backend.contents g.K.Backend.room g.K.Backend.chance g.K.Backend.tears) g.K.Backend.damage c.args.map.now c.args.line.now (g.B.Flash.device c.args.bench.now) (g.B.Flash.device c.plan_loss.new.bench) (Cut c.in-Cut.units) c.plan_loss.result c.in-Cut.is (cut_is_none c.in-Cut.units) c.plan_loss.ensures.same
-    (undamaged_planned g.K.Backend.mounted_on g.K.Backend.stands g.K.Backend.runs g.K.Backend.damage c.args.map.now (g.B.Flash.device c.args.bench.now) (g.B.Flash.device c.plan_loss.new.bench).plan (g.B.Flash.device c.plan_loss.new.bench) c.plan_loss.ensures.same) c.plan_loss.ensures.done
+    (undamaged_planned g.K.Backend.mounted_on g.K.Backend.stands g.K.Backend.runs g.K.Backend.damage c.args.map.now (g.B.Flash.device c.args.bench.now) (g.B.Flash.device c.plan_loss.new.bench).plan (g.B.Flash.device c.plan_loss.new.bench) c.plan_loss.ensures.same) tt c.plan_loss.ensures.done
 
 pub returns-in-Cut-clause-undamaged : goal.returns-in-Cut-clause-undamaged
 returns-in-Cut-clause-undamaged g c =
@@ -26,7 +26,7 @@ returns-in-Cut-clause-ready g c =
 pub returns-in-Uncut-clause-done : goal.returns-in-Uncut-clause-done
 returns-in-Uncut-clause-done g c =
     carried_as (meanings g.K.Backend.contents g.K.Backend.room g.K.Backend.chance g.K.Backend.tears) g.K.Backend.damage c.args.map.now c.args.line.now (g.B.Flash.device c.args.bench.now) (g.B.Flash.device c.drop_plan.new.bench) Uncut c.drop_plan.result c.in-Uncut.is uncut_is_none c.drop_plan.ensures.same
-    (undamaged_planned g.K.Backend.mounted_on g.K.Backend.stands g.K.Backend.runs g.K.Backend.damage c.args.map.now (g.B.Flash.device c.args.bench.now) (g.B.Flash.device c.drop_plan.new.bench).plan (g.B.Flash.device c.drop_plan.new.bench) c.drop_plan.ensures.same) c.drop_plan.ensures.done
+    (undamaged_planned g.K.Backend.mounted_on g.K.Backend.stands g.K.Backend.runs g.K.Backend.damage c.args.map.now (g.B.Flash.device c.args.bench.now) (g.B.Flash.device c.drop_plan.new.bench).plan (g.B.Flash.device c.drop_plan.new.bench) c.drop_plan.ensures.same) tt c.drop_plan.ensures.done
 
 pub returns-in-Uncut-clause-undamaged : goal.returns-in-Uncut-clause-undamaged
 returns-in-Uncut-clause-undamaged g c =

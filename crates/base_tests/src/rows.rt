@@ -2,7 +2,7 @@
 use std::process::Abort;
 
 /// The word of this number, from 0; no text if the row has fewer.
-pub fn word(row: &str, n: usize) -> &str {
+pub(crate) fn word(row: &str, n: usize) -> &str {
     for (i, word) in row.split(' ').enumerate() {
         if i == n {
             return word;
@@ -12,7 +12,7 @@ pub fn word(row: &str, n: usize) -> &str {
 }
 
 /// The decimal number that this word is.
-pub fn number<R: Abort>(rt: &R, row: &str, n: usize) -> u32 {
+pub(crate) fn number<R: Abort>(rt: &R, row: &str, n: usize) -> u32 {
     match word(row, n).parse::<u32>() {
         Ok(number) => number,
         Err(_) => panic!(rt; "no number in '{row}'"),
@@ -20,7 +20,7 @@ pub fn number<R: Abort>(rt: &R, row: &str, n: usize) -> u32 {
 }
 
 /// The byte that this word is in hexadecimal.
-pub fn byte<R: Abort>(rt: &R, row: &str, n: usize) -> u8 {
+pub(crate) fn byte<R: Abort>(rt: &R, row: &str, n: usize) -> u8 {
     match u8::from_str_radix(word(row, n), 16) {
         Ok(byte) => byte,
         Err(_) => panic!(rt; "no byte in '{row}'"),
@@ -28,12 +28,12 @@ pub fn byte<R: Abort>(rt: &R, row: &str, n: usize) -> u8 {
 }
 
 /// Checks that this word is this text.
-pub fn says<R: Abort>(rt: &R, row: &str, n: usize, text: &str) {
+pub(crate) fn says<R: Abort>(rt: &R, row: &str, n: usize, text: &str) {
     assert!(rt; word(row, n) == text, "'{row}': {text}");
 }
 
 /// Checks that the words from this one to the last are these numbers.
-pub fn counts<R: Abort>(rt: &R, row: &str, n: usize, numbers: &[u64]) {
+pub(crate) fn counts<R: Abort>(rt: &R, row: &str, n: usize, numbers: &[u64]) {
     let mut at = n;
     for found in numbers.iter() {
         let expected = number(rt, row, at);

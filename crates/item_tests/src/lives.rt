@@ -232,7 +232,7 @@ fn write_is_cut<T: SlotSectors, B: Views, L: Ledger, R: Abort>(
 
 /// A life after the first calls. If the second text is not empty, the store then loses power as it
 /// says, and has the life of the third.
-pub fn lives<T: SlotSectors, B: Views, L: Ledger, R: Abort>(
+pub(crate) fn lives<T: SlotSectors, B: Views, L: Ledger, R: Abort>(
     rt: &R,
     alloc: Global,
     bench: &mut B,

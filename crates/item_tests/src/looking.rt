@@ -122,7 +122,7 @@ fn older<T: SlotSectors, B: Views, L: Ledger, R: Abort>(
 }
 
 /// Checks one row of reading.
-pub fn looks<T: SlotSectors, B: Views, L: Ledger, R: Abort>(
+pub(crate) fn looks<T: SlotSectors, B: Views, L: Ledger, R: Abort>(
     rt: &R,
     bench: &B,
     store: &Store<T>,

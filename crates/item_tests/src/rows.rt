@@ -5,7 +5,7 @@ use arrayvec::ArrayVec;
 use std::process::Abort;
 
 /// The word of this number, from 0; no text if the row has fewer.
-pub fn word(row: &str, n: usize) -> &str {
+pub(crate) fn word(row: &str, n: usize) -> &str {
     for (i, word) in row.split(' ').enumerate() {
         if i == n {
             return word;
@@ -15,12 +15,12 @@ pub fn word(row: &str, n: usize) -> &str {
 }
 
 /// Checks a condition of a row.
-pub fn holds<R: Abort>(rt: &R, row: &str, is: bool) {
+pub(crate) fn holds<R: Abort>(rt: &R, row: &str, is: bool) {
     assert!(rt; is, "'{row}'");
 }
 
 /// The decimal number that this word is.
-pub fn number<R: Abort>(rt: &R, row: &str, n: usize) -> u32 {
+pub(crate) fn number<R: Abort>(rt: &R, row: &str, n: usize) -> u32 {
     match word(row, n).parse::<u32>() {
         Ok(number) => number,
         Err(_) => panic!(rt; "no number"),
@@ -28,7 +28,7 @@ pub fn number<R: Abort>(rt: &R, row: &str, n: usize) -> u32 {
 }
 
 /// The id of an item that this word is.
-pub fn id<R: Abort>(rt: &R, row: &str, n: usize) -> u32
+pub(crate) fn id<R: Abort>(rt: &R, row: &str, n: usize) -> u32
     ensures { result < 0xFFFF }
 {
     let id = number(rt, row, n);
@@ -37,7 +37,7 @@ pub fn id<R: Abort>(rt: &R, row: &str, n: usize) -> u32
 }
 
 /// The byte that this word is in hexadecimal.
-pub fn byte<R: Abort>(rt: &R, row: &str, n: usize) -> u8 {
+pub(crate) fn byte<R: Abort>(rt: &R, row: &str, n: usize) -> u8 {
     match u8::from_str_radix(word(row, n), 16) {
         Ok(byte) => byte,
         Err(_) => panic!(rt; "no byte"),
@@ -45,7 +45,7 @@ pub fn byte<R: Abort>(rt: &R, row: &str, n: usize) -> u8 {
 }
 
 /// As many of the byte that this word is as the next word says.
-pub fn bytes<R: Abort>(rt: &R, row: &str, n: usize) -> ArrayVec<u8, 600> {
+pub(crate) fn bytes<R: Abort>(rt: &R, row: &str, n: usize) -> ArrayVec<u8, 600> {
     let byte = byte(rt, row, n);
     let mut bytes = ArrayVec::new();
     for _ in 0..number(rt, row, n.wrapping_add(1)) {
@@ -57,12 +57,12 @@ pub fn bytes<R: Abort>(rt: &R, row: &str, n: usize) -> ArrayVec<u8, 600> {
 }
 
 /// Checks that this word is this text.
-pub fn says<R: Abort>(rt: &R, row: &str, n: usize, text: &str) {
+pub(crate) fn says<R: Abort>(rt: &R, row: &str, n: usize, text: &str) {
     holds(rt, row, word(row, n) == text);
 }
 
 /// Checks that the words from this one on are these numbers. Returns the place behind them.
-pub fn has<R: Abort>(rt: &R, row: &str, n: usize, numbers: &[u64]) -> usize {
+pub(crate) fn has<R: Abort>(rt: &R, row: &str, n: usize, numbers: &[u64]) -> usize {
     let mut at = n;
     for found in numbers.iter() {
         holds(rt, row, *found == u64::from(number(rt, row, at)));
@@ -72,18 +72,18 @@ pub fn has<R: Abort>(rt: &R, row: &str, n: usize, numbers: &[u64]) -> usize {
 }
 
 /// Checks that these are the numbers of the last words.
-pub fn counts<R: Abort>(rt: &R, row: &str, n: usize, numbers: &[u64]) {
+pub(crate) fn counts<R: Abort>(rt: &R, row: &str, n: usize, numbers: &[u64]) {
     let end = has(rt, row, n, numbers);
     says(rt, row, end, "");
 }
 
 /// Checks that so many units were spent as this word says.
-pub fn spends<R: Abort>(rt: &R, row: &str, n: usize, start: u64, end: u64) {
+pub(crate) fn spends<R: Abort>(rt: &R, row: &str, n: usize, start: u64, end: u64) {
     has(rt, row, n, &[end.saturating_sub(start)]);
 }
 
 /// Checks that there were at most so many views, if the row says how many.
-pub fn views<R: Abort>(rt: &R, row: &str, n: usize, start: u64, end: u64) {
+pub(crate) fn views<R: Abort>(rt: &R, row: &str, n: usize, start: u64, end: u64) {
     if !word(row, n).is_empty() {
         let most = u64::from(number(rt, row, n));
         holds(rt, row, end.saturating_sub(start) <= most);
@@ -91,7 +91,7 @@ pub fn views<R: Abort>(rt: &R, row: &str, n: usize, start: u64, end: u64) {
 }
 
 /// Checks that these are the bytes that the row says, no bytes if there is no value.
-pub fn gives<R: Abort>(rt: &R, row: &str, n: usize, value: Option<&[u8]>) {
+pub(crate) fn gives<R: Abort>(rt: &R, row: &str, n: usize, value: Option<&[u8]>) {
     holds(
         rt,
         row,
@@ -100,7 +100,7 @@ pub fn gives<R: Abort>(rt: &R, row: &str, n: usize, value: Option<&[u8]>) {
 }
 
 /// Checks how a row `put ID BYTE LEN UNITS [NEED LIVE]` ended, and the value of the item then.
-pub fn ended<R: Abort>(
+pub(crate) fn ended<R: Abort>(
     rt: &R,
     row: &str,
     refused: Option<(u64, u64)>,
@@ -122,7 +122,7 @@ pub fn ended<R: Abort>(
 
 /// Checks an id that two calls gave by this word, which the row lacks if there is none. Says whether
 /// there is one.
-pub fn lists<R: Abort>(
+pub(crate) fn lists<R: Abort>(
     rt: &R,
     row: &str,
     n: usize,

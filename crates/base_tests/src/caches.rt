@@ -23,3 +23,18 @@ fn notes_and_forgets(rt: HostRuntime) {
     cache.forget_sector(1);
     starts(&rt, &cache, &[(7, None), (5, None), (6, Some((2, 4)))]);
 }
+
+#[test]
+fn keeps_the_greatest_slots(rt: HostRuntime) {
+    let mut cache = Cache::with_slots(rt.alloc(), 4).expect(&rt, "memory");
+    cache.note(7, 2, 9);
+    cache.note(5, 63, 3);
+    cache.note(6, 2, 4);
+    // the last sector that has one is 63
+    cache.note(8, 64, 5);
+    let tops = cache.tops();
+    assert!(rt; tops.len() == 64 && tops[2] == 9 && tops[63] == 3 && tops[0] == 0);
+    cache.forget_sector(2);
+    let tops = cache.tops();
+    assert!(rt; tops[2] == 0 && tops[63] == 3);
+}

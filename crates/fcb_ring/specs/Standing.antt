@@ -20,7 +20,7 @@ use Rattle.fcb_ring.specs.declared.sector.SectorState.{SectorState}
 use Rattle.fcb_ring.specs.Entries.{states, entries, HasEntries, records_from, following}
 use Rattle.fcb_ring.specs.SectorStates.{mended, state_of}
 use Rattle.fcb_ring.specs.Records.{is_alike}
-use Rattle.fcb_ring.specs.Rings.{state_at, before, turned, oldest_place, is_full, first_damage, IsRing, AreClean}
+use Rattle.fcb_ring.specs.Rings.{state_at, before, turned, distance, oldest_place, is_full, first_damage, IsRing, AreClean}
 
 -- an area on which a ring may stand
 abbrev pub IsRingArea : List Bank → Area → Type 0
@@ -142,6 +142,12 @@ first_with prefix list =
 abbrev pub last_with : List ℕ → ℕ → List (RecordAt × List ℕ) → Option RecordAt
 last_with prefix most list =
     option_map (λ entry. entry.0) (last_or None (filter (λ entry. is_alike prefix most entry.1) list))
+
+-- how many sectors count, from the newest back to that of the record; without one, how many there are
+abbrev pub newest_to : Ring → Option RecordAt → ℕ
+newest_to ring None = min ring.used (ring.area.sectors - 1)
+newest_to ring (Some r) =
+    min ring.used (ring.area.sectors - 1) - distance ring.area.sectors ring.oldest r.sector
 
 -- the first such record after this one, or of all
 abbrev pub IsNextWith : List (RecordAt × List ℕ) → List ℕ → Option RecordAt → Option RecordAt → Type 0

@@ -3,7 +3,7 @@ ghost use Rattle.std.specs.Prelude.{◌≡◌, ◌+◌, ◌-◌, ◌%◌, ◌<�
 ghost use Rattle.std.specs.Option.{ForSome};
 ghost use Rattle.flash_map.specs.Area.{unit_of, sector_size};
 ghost use Rattle.fcb_ring.specs.Changing.{body_at, begins_with, sector_list};
-ghost use Rattle.fcb_ring.specs.Standing.{StandsOn, entries_on, IsListed, IsBodyOf, records_on, following_on, IsNext, IsNextWith, last_with};
+ghost use Rattle.fcb_ring.specs.Standing.{StandsOn, entries_on, IsListed, IsBodyOf, records_on, following_on, IsNext, IsNextWith, last_with, newest_to};
 
 use crate::record::{RecordAt, last_checked, next_checked};
 use crate::ring::Ring;
@@ -148,8 +148,10 @@ impl Ring {
     ) -> Option<RecordAt>
         requires stands { StandsOn (F.device flash.now) self.now }
         requires place { place < self.now.area.sectors }
-        ensures { result
+        ensures last { result
             ≡ last_with prefix.now most (sector_list (F.device flash.now) self.now.area place) }
+        ensures sector { ForSome result (λ r. r.sector ≡ place) }
+        ensures step { steps.new ≡ steps.old + 1 }
     {
         let unit = geometry(flash, &self.area).unit;
         let sector = sector_view(flash, &self.area, place, steps);
@@ -165,8 +167,8 @@ impl Ring {
     }
 
     /// The last of the records that check whose body begins with the given bytes, and has at most so
-    /// many, if there is one. It looks at the newest sector first, and reads no sector before the
-    /// one that has it.
+    /// many, if there is one. It reads the newest sector first, and none before the one that has it:
+    /// one step for each sector.
     pub fn last_with<F: Flash, L: Ledger>(
         &self,
         flash: &F,
@@ -178,6 +180,7 @@ impl Ring {
         ensures last { result
             ≡ last_with prefix.now most (entries_on (F.device flash.now) self.now.area) }
         ensures listed { ForSome result (IsListed (F.device flash.now) self.now.area) }
+        ensures steps { steps.new ≡ steps.old + newest_to self.now result }
     {
         let mut left = self.counted();
         while left > 0 {

@@ -1,5 +1,5 @@
 -- What a cache says of the entries that were noted in it, one after the other, and what is read at its places.
-use Rattle.std.proofs.Common.{◌≡◌, ℕ, ◌+◌, ◌-◌, ◌%◌, ◌<◌, Bool, true, false, cond, eqb, List, [], ◌∷◌, ◌++◌, length, replicate, Option, Some, None, refl, sym, ap, subst, ◌∙◌, inl, inr, arith}
+use Rattle.std.proofs.Common.{◌≡◌, ℕ, ◌+◌, ◌-◌, ◌%◌, ◌<◌, Bool, true, false, cond, eqb, List, [], ◌∷◌, ◌++◌, length, Option, Some, None, refl, sym, ap, subst, ◌∙◌, inl, inr, arith}
 use Rattle.std.specs.Prelude.{IfSome}
 use Rattle.std.specs.Option.{is_some, option_map}
 use Rattle.std.proofs.lemmas.List.{length-set}
@@ -8,7 +8,7 @@ use Rattle.flash_sim.specs.Device.{Device}
 use Rattle.flash_map.specs.declared.area.Area.{Area}
 use Rattle.flash_map.specs.declared.area.Geometry.{Geometry}
 use Rattle.flash_map.specs.Area.{geometry_of, sector_at, sectors_of}
-use Rattle.lookup_cache.specs.Places.{place_of, with_note}
+use Rattle.lookup_cache.specs.Places.{CacheState, place_of, empty_cache, note_entry}
 use Rattle.lookup_cache.proofs.HistoryLemmas.{note_at, empty_at}
 use Rattle.item_laws.specs.Area.{open_sector}
 use Rattle.item_laws.specs.Live.{all_placed}
@@ -22,22 +22,24 @@ use Rattle.item_store.specs.Steps.{new_entry}
 use Rattle.item_store.proofs.CallFacts.{to_geometry, from_geometry}
 use Rattle.item_store.proofs.LastIds.{Decides, decides_from}
 use Rattle.item_store.proofs.Placings.{last-placed_by}
+use Rattle.item_store.proofs.Tops.{no_top, top-noted}
 
 -- ---- one entry more
 
-pub cache-empty : IsCacheOf (replicate 64 None) []
-cache-empty = record { slots = refl; latest = λ id. empty_at 64 id }
+pub cache-empty : IsCacheOf (empty_cache 64) []
+cache-empty = record { slots = refl; latest = λ id. empty_at 64 id; tops = λ sector. inl (no_top 64 sector) }
 
-pub cache-noted : (cache : List (Option (ℕ × ℕ))) (before : List Placed) (p : Placed) → IsCacheOf cache before → IsCacheOf (with_note cache p.id p.sector p.slot) (before ++ p ∷ [])
+pub cache-noted : (cache : CacheState) (before : List Placed) (p : Placed) → IsCacheOf cache before → IsCacheOf (note_entry cache p.id p.sector p.slot) (before ++ p ∷ [])
 cache-noted cache before p is = record {
-  slots = length-set cache (p.id % length cache) (Some (p.sector, p.slot)) ∙ is.slots;
+  slots = length-set cache.places (p.id % length cache.places) (Some (p.sector, p.slot)) ∙ is.slots;
   latest = λ id.
-      note_at cache 64 p.id p.sector p.slot id is.slots (omega arith)
+      note_at cache.places 64 p.id p.sector p.slot id is.slots (omega arith)
       ∙ here id (eqb (p.id % 64) (id % 64))
       ∙ sym (ap (option_map stands_at) (fold_push (λ latest p. cond (eqb (p.id % 64) (id % 64)) (Some p) latest) None before p));
+  tops = top-noted cache.tops before p is.tops;
 }
   where
-    here : (id : ℕ) (same : Bool) → cond same (Some (p.sector, p.slot)) (place_of cache id) ≡ option_map stands_at (cond same (Some p) (latest_of (id % 64) before))
+    here : (id : ℕ) (same : Bool) → cond same (Some (p.sector, p.slot)) (place_of cache.places id) ≡ option_map stands_at (cond same (Some p) (latest_of (id % 64) before))
     here id true = refl
     here id false = is.latest id
 
@@ -49,19 +51,19 @@ entry-behind format_of a d area place id len banks adds behind at =
 
 -- an entry that was put, and noted where it stands
 pub cache-put : (format_of : Geometry → SectorFormat) (a d : Device) (area : Area) (place id len : ℕ) → d.banks ≡ a.banks → AddsEntry (format_of (geometry_of a area)) (sectors_of a area) (sectors_of d area) place id len
-    → (cache : List (Option (ℕ × ℕ))) → IsCacheOn format_of a area cache → (noted : List (Option (ℕ × ℕ))) (behind : ℕ) → behind ≡ (format_of (geometry_of d area)).first + (format_of (geometry_of d area)).count (sector_at (sectors_of d area) place)
-    → noted ≡ with_note cache id place (behind - 1) → IsCacheOn format_of d area noted
+    → (cache : CacheState) → IsCacheOn format_of a area cache → (noted : CacheState) (behind : ℕ) → behind ≡ (format_of (geometry_of d area)).first + (format_of (geometry_of d area)).count (sector_at (sectors_of d area) place)
+    → noted ≡ note_entry cache id place (behind - 1) → IsCacheOn format_of d area noted
 cache-put format_of a d area place id len banks adds cache is noted behind at noted_is =
     let k : SectorFormat = format_of (geometry_of a area) in
     let p : Placed = placed_at place (new_entry adds.slot id len) in
     let there = entry-behind format_of a d area place id len banks adds behind at in
     let same : adds.slot ≡ behind - 1 = omega arith in
     from_geometry (λ u. IsCacheOf noted (all_placed (slots (format_of u)) (sectors_of d area))) a d area banks
-    (subst (λ (c : List (Option (ℕ × ℕ))). IsCacheOf c (all_placed (slots k) (sectors_of d area))) (ap (λ (n : ℕ). with_note cache id place n) same ∙ sym noted_is)
-    (subst (λ (placed : List Placed). IsCacheOf (with_note cache id place adds.slot) placed) (sym adds.list) (cache-noted cache (all_placed (slots k) (sectors_of a area)) p is)))
+    (subst (λ (c : CacheState). IsCacheOf c (all_placed (slots k) (sectors_of d area))) (ap (λ (n : ℕ). note_entry cache id place n) same ∙ sym noted_is)
+    (subst (λ (placed : List Placed). IsCacheOf (note_entry cache id place adds.slot) placed) (sym adds.list) (cache-noted cache (all_placed (slots k) (sectors_of a area)) p is)))
 
 -- a place is noted for a cache slot exactly where one of the entries is its own
-pub noted-some : (cache : List (Option (ℕ × ℕ))) (placed : List Placed) → IsCacheOf cache placed → (id : ℕ) → is_some (place_of cache id) ≡ is_some (latest_of (id % 64) placed)
+pub noted-some : (cache : CacheState) (placed : List Placed) → IsCacheOf cache placed → (id : ℕ) → is_some (place_of cache.places id) ≡ is_some (latest_of (id % 64) placed)
 noted-some cache placed is id = ap is_some (is.latest id) ∙ mapped (latest_of (id % 64) placed)
   where
     mapped : (o : Option Placed) → is_some (option_map stands_at o) ≡ is_some o
@@ -93,15 +95,15 @@ pub record IsLatestAt (k : SectorFormat) (sectors : List (List ℕ)) (n sector s
 pub latest-placed : (k : SectorFormat) (law : IsSectorFormat k) (sectors : List (List ℕ)) (n : ℕ) → 0 < length sectors → IfSome (latest_of n (all_placed (slots k) sectors)) (IsPlaced k sectors (open_sector k.reading sectors))
 latest-placed k law sectors n some = last-placed_by k law sectors (λ p. eqb (p.id % 64) n) some
 
-module _ (k : SectorFormat) (law : IsSectorFormat k) (sectors : List (List ℕ)) (cache : List (Option (ℕ × ℕ))) (is : IsCacheOf cache (all_placed (slots k) sectors)) (some_sector : 0 < length sectors) (id : ℕ) where
-  pub no-latest : place_of cache id ≡ None → latest_of (id % 64) (all_placed (slots k) sectors) ≡ None
+module _ (k : SectorFormat) (law : IsSectorFormat k) (sectors : List (List ℕ)) (cache : CacheState) (is : IsCacheOf cache (all_placed (slots k) sectors)) (some_sector : 0 < length sectors) (id : ℕ) where
+  pub no-latest : place_of cache.places id ≡ None → latest_of (id % 64) (all_placed (slots k) sectors) ≡ None
   no-latest none =
       elim (option_cases (latest_of (id % 64) (all_placed (slots k) sectors))) [
         | inl no_entry ↦ no_entry
         | inr (p, found) ↦ absurd (some_none (stands_at p) (sym (ap (option_map stands_at) found) ∙ sym (is.latest id) ∙ none))
       ]
 
-  pub latest-at : (sector slot : ℕ) → place_of cache id ≡ Some (sector, slot) → IsLatestAt k sectors (id % 64) sector slot
+  pub latest-at : (sector slot : ℕ) → place_of cache.places id ≡ Some (sector, slot) → IsLatestAt k sectors (id % 64) sector slot
   latest-at sector slot at =
       elim (option_cases (latest_of (id % 64) (all_placed (slots k) sectors))) [
         | inl no_entry ↦

@@ -10,6 +10,8 @@ pub mod CopyLoop
 pub mod CostSteps
 mod EntrySteps
 mod FreeSteps
+mod KnownSlots
+mod Tops
 mod HoldingSteps
 mod LastIds
 mod LastTables

@@ -11,7 +11,7 @@ use Rattle.flash_sim.specs.Device.{Device}
 use Rattle.flash_map.specs.declared.area.Area.{Area}
 use Rattle.flash_map.specs.declared.area.Geometry.{Geometry}
 use Rattle.flash_map.specs.Area.{geometry_of, sector_at, sector_size, sectors_of}
-use Rattle.lookup_cache.specs.Places.{without, without_sector}
+use Rattle.lookup_cache.specs.Places.{CacheState, forget_entries, without_sector}
 use Rattle.lookup_cache.proofs.HistoryLemmas.{forget_at}
 use Rattle.item_laws.specs.Area.{next}
 use Rattle.item_laws.specs.Forms.{AtRest, others, rest}
@@ -27,6 +27,7 @@ use Rattle.item_store.specs.Collecting.{DoesPassAt}
 use Rattle.item_store.specs.SectorFormat.{SectorFormat, IsSectorFormat, placed_at, slots, entries}
 use Rattle.item_store.proofs.CallFacts.{to_geometry, from_geometry}
 use Rattle.item_store.proofs.EntrySteps.{all-at_rest, blank-entries}
+use Rattle.item_store.proofs.Tops.{top-forgot}
 
 -- ---- a sector is forgotten
 
@@ -39,15 +40,16 @@ forgot_one sector (Some p) None there off = ap (λ (t : Bool). cond t None (Some
 
 -- Of entries the first of which stand in one sector, and the others elsewhere, a cache that forgets that sector is left as one
 -- of the others.
-pub cache-forgot : (cache : List (Option (ℕ × ℕ))) (sector : ℕ) (gone left : List Placed) → All (λ p. p.sector ≡ sector) gone → All (λ p. p.sector ≡ sector → ⊥) left → IsCacheOf cache (gone ++ left) → IsCacheOf (without cache sector) left
+pub cache-forgot : (cache : CacheState) (sector : ℕ) (gone left : List Placed) → All (λ p. p.sector ≡ sector) gone → All (λ p. p.sector ≡ sector → ⊥) left → IsCacheOf cache (gone ++ left) → IsCacheOf (forget_entries cache sector) left
 cache-forgot cache sector gone left there off is = record {
-  slots = length-map cache (without_sector sector) ∙ is.slots;
+  slots = length-map cache.places (without_sector sector) ∙ is.slots;
   latest = λ id.
       let test : Placed → Bool = λ p. eqb (p.id % 64) (id % 64) in
-      forget_at cache sector id
+      forget_at cache.places sector id
       ∙ ap (without_sector sector) (is.latest id ∙ ap (option_map stands_at) (last-append test gone left))
       ∙ forgot_one sector (latest_of (id % 64) gone) (latest_of (id % 64) left)
       (last-all test (λ p. p.sector ≡ sector) gone None tt there) (last-all test (λ p. p.sector ≡ sector → ⊥) left None tt off);
+  tops = top-forgot cache.tops sector gone left there is.tops;
 }
 
 -- ---- the entries of sectors
@@ -127,22 +129,22 @@ module _ (k : SectorFormat) (law : IsSectorFormat k) (size : ℕ) (old new : Lis
       (All-weaker (IsFar (length old) opened) (λ j. behind j ≡ before j) (λ j far. ap (map (placed_at j)) (pass_done.does_pass.others j far.apart far.not_after)) (rest (length old) opened) gc_pass.inside))
 
   -- A cache that forgets the victim, and in which the entries of the new open sector are noted, is that of the list.
-  pub cache-pass_done : (cache noted : List (Option (ℕ × ℕ))) (gone : ℕ) → gone ≡ next old (next old place) → IsCacheOf cache (all_placed (slots k) old)
-      → ((so_far : List Placed) → IsCacheOf (without cache gone) so_far → IsCacheOf noted (so_far ++ map (placed_at (next old place)) (entries k (sector_at new (next old place)))))
+  pub cache-pass_done : (cache noted : CacheState) (gone : ℕ) → gone ≡ next old (next old place) → IsCacheOf cache (all_placed (slots k) old)
+      → ((so_far : List Placed) → IsCacheOf (forget_entries cache gone) so_far → IsCacheOf noted (so_far ++ map (placed_at (next old place)) (entries k (sector_at new (next old place)))))
       → IsCacheOf noted (all_placed (slots k) new)
   cache-pass_done cache noted gone at is notes =
       let off : All (λ p. p.sector ≡ victim → ⊥) kept =
       rows_off k old victim (rest (length old) opened) (All-weaker (IsFar (length old) opened) (λ j. j ≡ victim → ⊥) (λ j far. far.not_after) (rest (length old) opened) gc_pass.inside) in
-      let forgot : IsCacheOf (without cache victim) kept =
+      let forgot : IsCacheOf (forget_entries cache victim) kept =
       cache-forgot cache victim (before victim) kept (row_there k old victim) off (subst (λ (ps : List Placed). IsCacheOf cache ps) list-before is) in
-      subst (λ (ps : List Placed). IsCacheOf noted ps) (sym list-behind) (notes kept (subst (λ (j : ℕ). IsCacheOf (without cache j) kept) (sym at) forgot))
+      subst (λ (ps : List Placed). IsCacheOf noted ps) (sym list-behind) (notes kept (subst (λ (j : ℕ). IsCacheOf (forget_entries cache j) kept) (sym at) forgot))
 
 -- ---- in the words of the code
 
 -- the same of an area on a device
 pub cache-follows : (format_of : Geometry → SectorFormat) (a d : Device) (area : Area) (place opened : ℕ) → d.banks ≡ a.banks → AtRest (format_of (geometry_of a area)).reading (sectors_of a area) place
     → DoesPassAt (format_of (geometry_of a area)) (sector_size a area) (sectors_of a area) (sectors_of d area) place → opened ≡ next (sectors_of a area) place
-    → (cache noted : List (Option (ℕ × ℕ))) → IsCacheOn format_of a area cache → FollowsRound (format_of (geometry_of d area)) (sectors_of d area) opened cache noted → IsCacheOn format_of d area noted
+    → (cache noted : CacheState) → IsCacheOn format_of a area cache → FollowsRound (format_of (geometry_of d area)) (sectors_of d area) opened cache noted → IsCacheOn format_of d area noted
 cache-follows format_of a d area place opened banks rested does_pass at cache noted is follows =
     let long : length (sectors_of d area) ≡ length (sectors_of a area) = length-sectors d area ∙ sym (length-sectors a area) in
     let here : FollowsRound (format_of (geometry_of a area)) (sectors_of d area) opened cache noted = to_geometry (λ u. FollowsRound (format_of u) (sectors_of d area) opened cache noted) a d area banks follows in

@@ -65,30 +65,6 @@ within-in a b one wide lies spends = between_within spends wide.least wide.most 
 pub within-lost : (a b : Device) (one wide : Range) → LiesIn one wide → SpendsUpTo a b one → SpendsUpTo a b wide
 within-lost a b one wide lies spends = between_within spends 0 wide.lost (omega arith) lies.lost
 
-pub lies_same : (range : Range) → LiesIn range range
-lies_same range = record { least = omega arith; most = omega arith; lost = omega arith }
-
-max-more : (a b c d : ℕ) → a ≤ c → b ≤ d → max a b ≤ max c d
-max-more a b c d first second = omega arith
-
-pub both-lies : (one other wide wider : Range) → LiesIn one wide → LiesIn other wider → LiesIn (both one other) (both wide wider)
-both-lies one other wide wider first second =
-    let one_least = first.least in
-    let one_most = first.most in
-    let one_lost = first.lost in
-    let least = second.least in
-    let most = second.most in
-    let lost = second.lost in
-    record {
-      least = omega arith;
-      most = omega arith;
-      lost = max-more one.lost (one.most + other.lost) wide.lost (wide.most + wider.lost) one_lost (omega arith);
-    }
-
-pub cond-lies : (t : Bool) (one other wide wider : Range) → LiesIn one wide → LiesIn other wider → LiesIn (cond t one other) (cond t wide wider)
-cond-lies true one other wide wider first second = first
-cond-lies false one other wide wider first second = second
-
 -- both are covered
 pub both-covers : (one other : Range) → CoversWhole one → CoversWhole other → CoversWhole (both one other)
 both-covers one other first second = let le = max-second one.lost (one.most + other.lost) in omega arith
@@ -185,12 +161,12 @@ module _ (k : SectorFormat) (law : IsSectorFormat k) where
     clear-covers : CoversWhole (round_clear k sectors place)
     clear-covers =
         let last = next sectors (next sectors place) in
-        one-covers (eqb last place) k.units.any_clear (k.units.clear (sector_at sectors last)) law.units.any_clears (law.units.clears (sector_at sectors last))
+        one-covers (eqb last place) k.units.clear_closed (k.units.clear (sector_at sectors last)) law.units.closed_clears (law.units.clears (sector_at sectors last))
 
     clear-most : (round_clear k sectors place).lost ≤ k.units.any_clear.lost
     clear-most =
         let last = next sectors (next sectors place) in
-        one-most (eqb last place) k.units.any_clear (k.units.clear (sector_at sectors last)) k.units.any_clear.lost (omega arith) (law.units.clear_lost (sector_at sectors last))
+        one-most (eqb last place) k.units.clear_closed (k.units.clear (sector_at sectors last)) k.units.any_clear.lost law.units.closed_lost (law.units.clear_lost (sector_at sectors last))
 
     abbrev passing : Range
     passing = again_with k sectors opened (round_clear k sectors place)

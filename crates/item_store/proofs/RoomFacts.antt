@@ -1,5 +1,5 @@
 -- Rounds until a value has room, in the words of the code.
-use Rattle.std.proofs.Common.{◌≡◌, ◌⊎◌, ℕ, suc, ◌+◌, ◌-◌, ◌*◌, ◌<◌, ◌≤◌, Bool, true, false, List, [], ◌∷◌, length, Option, refl, sym, ap, subst, ◌∙◌, inl, inr, arith}
+use Rattle.std.proofs.Common.{◌≡◌, ◌⊎◌, ℕ, suc, ◌+◌, ◌-◌, ◌*◌, ◌<◌, ◌≤◌, Bool, true, false, List, [], ◌∷◌, length, refl, sym, ap, subst, ◌∙◌, inl, inr, arith}
 use Rattle.std.proofs.lemmas.Bool.{false≢true, cases_eq}
 use Rattle.flash_sim.specs.Bank.{IsLawful}
 use Rattle.flash_sim.specs.Device.{Device}
@@ -20,6 +20,7 @@ use Rattle.item_laws.proofs.Parts.{parts-list, parts-count}
 use Rattle.item_laws.proofs.Rounding.{no_room, crammed}
 use Rattle.item_store.specs.declared.store.Store.{Store}
 use Rattle.item_store.specs.SectorFormat.{Range, SectorFormat, IsSectorFormat, fits}
+use Rattle.lookup_cache.specs.Places.{CacheState}
 use Rattle.item_store.specs.Cached.{IsCacheOn}
 use Rattle.item_store.specs.Collecting.{KeepsOrDoesPass, DoesPassAt, RoundMarksFirst}
 use Rattle.item_store.specs.Room.{has_room, IsShort, parts_of, collected, Rounds, rounds_units, MakesRoom, IsFull, StopsMakingRoom}
@@ -298,7 +299,7 @@ pub at_of : {T : Type 0} (role : Role) (format_of : Geometry → SectorFormat) (
 at_of role format_of kept d store on = record { area = on.area; current = on.current; opened = on.opened; rested = on.rested; undamaged = on.undamaged }
 
 -- The other way, with its cache.
-pub stands_with : {T : Type 0} (role : Role) (format_of : Geometry → SectorFormat) (kept : Geometry → List ℕ → T) (d : Device) (area : Area) (current : ℕ) (opened : T) (cache : List (Option (ℕ × ℕ))) → StandsAt role format_of kept d area current opened → IsCacheOn format_of d area cache
+pub stands_with : {T : Type 0} (role : Role) (format_of : Geometry → SectorFormat) (kept : Geometry → List ℕ → T) (d : Device) (area : Area) (current : ℕ) (opened : T) (cache : CacheState) → StandsAt role format_of kept d area current opened → IsCacheOn format_of d area cache
     → StandsOn role format_of kept d (record { area = area; current = current; opened = opened; cache = cache; up = true })
 stands_with role format_of kept d area current opened cache at cached =
     record { area = at.area; up = refl; current = at.current; opened = at.opened; rested = at.rested; undamaged = at.undamaged; cached = cached }

@@ -11,7 +11,7 @@ use Rattle.item_laws.specs.Forms.{AtRest, Collecting}
 use Rattle.item_laws.specs.Reading.{is_sound}
 use Rattle.item_laws.proofs.AreaReads.{length-sectors}
 use Rattle.item_laws.proofs.Rings.{open-not_closed}
-use Rattle.item_store.specs.SectorFormat.{Range, LiesIn, SectorFormat, IsSectorFormat}
+use Rattle.item_store.specs.SectorFormat.{Range, SectorFormat, IsSectorFormat, is_clean_at}
 use Rattle.item_store.specs.Steps.{Keeps, Closes}
 use Rattle.item_store.specs.Spending.{none, ready_units, again_with, open_units, has_victim, round_clear, round_units}
 use Rattle.item_store.specs.Standing.{IsStoreArea, KeepsItems, SpendsIn, SpendsUpTo}
@@ -20,7 +20,7 @@ use Rattle.item_store.proofs.Areas.{same_geometry, same_size, still_area, size_t
 use Rattle.item_store.proofs.CallFacts.{to_geometry, from_geometry}
 use Rattle.item_store.proofs.CollectSteps.{redo_is, rest_from}
 use Rattle.item_store.proofs.ListSteps.{shut-list, round-list}
-use Rattle.item_store.proofs.Ranges.{both-in, then-lost, within-in, within-lost}
+use Rattle.item_store.proofs.Ranges.{both-in, then-lost}
 use Rattle.item_store.proofs.RoundSteps.{rest-keeps, not_put-keeps, closed-form, closed-keeps, opened-unused, does_pass-opened, does_pass-collected, units-opened}
 use Rattle.item_store.proofs.SlotFacts.{current_within, next_within}
 
@@ -116,15 +116,14 @@ module _ (format_of : Geometry → SectorFormat) (role : Role) (a : Device) (are
           ap (λ (u : Geometry). open_units (format_of u) (sectors_of b area) opened) (same_geometry a b area banks)
           ∙ ap (λ (p : ℕ). open_units k (sectors_of b area) p) follows
 
-      units_within : LiesIn (open_units k (sectors_of b area) (next old place)) left
-      units_within = units-opened k law old (sectors_of b area) place rests only closes
+      module _ (used : is_clean_at k old place ≡ false) where
+        units_left : open_units (format_of (geometry_of b area)) (sectors_of b area) opened ≡ left
+        units_left = units_same ∙ units-opened k law old (sectors_of b area) place rests only closes used
 
-      pub round_spends : (e : Device) → SpendsIn a b ((format_of (geometry_of a area)).units.close (sector_at (sectors_of a area) place)) → SpendsIn b e (open_units (format_of (geometry_of b area)) (sectors_of b area) opened) → SpendsIn a e (round_units (format_of (geometry_of a area)) (sectors_of a area) place)
-      round_spends e first later =
-          both-in a b e (k.units.close (sector_at old place)) left first
-          (within-in b e (open_units k (sectors_of b area) (next old place)) left units_within (subst (λ (r : Range). SpendsIn b e r) units_same later))
+        pub round_spends : (e : Device) → SpendsIn a b ((format_of (geometry_of a area)).units.close (sector_at (sectors_of a area) place)) → SpendsIn b e (open_units (format_of (geometry_of b area)) (sectors_of b area) opened) → SpendsIn a e (round_units (format_of (geometry_of a area)) (sectors_of a area) place)
+        round_spends e first later =
+            both-in a b e (k.units.close (sector_at old place)) left first (subst (λ (r : Range). SpendsIn b e r) units_left later)
 
-      pub round_spends_lost : (e : Device) → SpendsIn a b ((format_of (geometry_of a area)).units.close (sector_at (sectors_of a area) place)) → SpendsUpTo b e (open_units (format_of (geometry_of b area)) (sectors_of b area) opened) → SpendsUpTo a e (round_units (format_of (geometry_of a area)) (sectors_of a area) place)
-      round_spends_lost e first later =
-          then-lost a b e (k.units.close (sector_at old place)) left first
-          (within-lost b e (open_units k (sectors_of b area) (next old place)) left units_within (subst (λ (r : Range). SpendsUpTo b e r) units_same later))
+        pub round_spends_lost : (e : Device) → SpendsIn a b ((format_of (geometry_of a area)).units.close (sector_at (sectors_of a area) place)) → SpendsUpTo b e (open_units (format_of (geometry_of b area)) (sectors_of b area) opened) → SpendsUpTo a e (round_units (format_of (geometry_of a area)) (sectors_of a area) place)
+        round_spends_lost e first later =
+            then-lost a b e (k.units.close (sector_at old place)) left first (subst (λ (r : Range). SpendsUpTo b e r) units_left later)

@@ -15,16 +15,16 @@ use Rattle.item_laws.proofs.Collects.{close, next_blank, blank-sound}
 use Rattle.item_laws.proofs.Parts.{map_agree}
 use Rattle.item_laws.proofs.RingSteps.{reads}
 use Rattle.item_laws.proofs.Places.{after, after-within, after-apart, flat_map-agree}
+use Rattle.item_laws.proofs.Rings.{open-not_closed}
 use Rattle.item_laws.proofs.Rounding.{round_blank, round_collected}
-use Rattle.item_store.specs.SectorFormat.{Range, LiesIn, SectorFormat, IsSectorFormat, making_ready, entries, fits}
+use Rattle.item_store.specs.SectorFormat.{Range, SectorFormat, IsSectorFormat, making_ready, entries, fits}
 use Rattle.item_store.specs.Steps.{Keeps, Closes, StopsClearing}
-use Rattle.item_store.specs.Spending.{none, both, copies, collect_with, victim_units, collect_units, ready_units, again_with, again_units, open_units, has_victim, round_clear}
+use Rattle.item_store.specs.Spending.{none, both, copies, victim_units, collect_units, ready_units, again_with, again_units, open_units, has_victim, round_clear}
 use Rattle.item_store.specs.Standing.{KeepsItems}
 use Rattle.item_store.specs.Collecting.{HasOpened, CollectsAt, DoesPassAt}
 use Rattle.item_store.proofs.VersionLemmas.{keeps_all}
 use Rattle.item_store.proofs.Areas.{keeps-by, keeps_list, only_length, only_else, copied-le}
 use Rattle.item_store.proofs.PutSteps.{HasNotPut, has_not_put}
-use Rattle.item_store.proofs.Ranges.{lies_same, both-lies, cond-lies}
 use Rattle.item_store.proofs.WrittenSteps.{closed-used}
 
 -- two comparisons that come to the same
@@ -283,42 +283,33 @@ module _ (k : SectorFormat) (law : IsSectorFormat k) where
         ∙ ap (λ ps. live_pairs ps (flat_map (pairs_at R mid) (rest (length old) q))) (pairs_same (next old q))
         ∙ ap (live_pairs (pairs_at R old (next old q))) (flat_map-agree (pairs_at R mid) (pairs_at R old) (rest (length old) q) (everywhere (rest (length old) q)))
 
-    -- the emptying of the victim, whose bytes are those before the round if the area has another sector
-    clear-lies : LiesIn (victim_units k mid (next old place)) (round_clear k old place)
-    clear-lies =
-        let last : ℕ = next old (next old place) in
-        let there : victim_units k mid (next old place) ≡ k.units.clear (sector_at mid (next old (next old place))) = ap (λ (v : ℕ). k.units.clear (sector_at mid v)) same_next in
-        elim (cases_eq (next old (next old place)) place) [
-          | inl e ↦
-              let any : round_clear k old place ≡ k.units.any_clear = cond-true (eqb last place) k.units.any_clear (k.units.clear (sector_at old last)) (eq-eqb last place e) in
-              let shut : R.is_closed (sector_at mid (next old (next old place))) ≡ true = ap (is_closed_at R mid) e ∙ closes.list.closed in
-              subst (λ (r : Range). LiesIn (victim_units k mid (next old place)) r) (sym any)
-              (subst (λ (r : Range). LiesIn r k.units.any_clear) (sym there) (law.clear_in (sector_at mid (next old (next old place))) shut))
-          | inr apart ↦
-              let own : round_clear k old place ≡ k.units.clear (sector_at old last) = cond-false (eqb last place) k.units.any_clear (k.units.clear (sector_at old last)) (ne_eqb last place apart) in
-              let same : victim_units k mid (next old place) ≡ round_clear k old place = there ∙ ap k.units.clear (only_else old mid place (next old (next old place)) only apart) ∙ sym own in
-              subst (λ (r : Range). LiesIn (victim_units k mid (next old place)) r) same (lies_same (victim_units k mid (next old place)))
-        ]
+    module _ (used : k.is_clean (sector_at old place) ≡ false) where
+      -- the emptying of the victim, whose bytes are those before the round if the area has another sector
+      clear-is : victim_units k mid (next old place) ≡ round_clear k old place
+      clear-is =
+          let last : ℕ = next old (next old place) in
+          let there : victim_units k mid (next old place) ≡ k.units.clear (sector_at mid (next old (next old place))) = ap (λ (v : ℕ). k.units.clear (sector_at mid v)) same_next in
+          elim (cases_eq (next old (next old place)) place) [
+            | inl e ↦
+                let open_here : R.is_closed (sector_at old place) ≡ false = open-not_closed R old place form.blanks form.ring in
+                there ∙ ap (λ (v : ℕ). k.units.clear (sector_at mid v)) e ∙ closes.emptying used open_here
+                ∙ sym (cond-true (eqb last place) k.units.clear_closed (k.units.clear (sector_at old last)) (eq-eqb last place e))
+            | inr apart ↦
+                there ∙ ap k.units.clear (only_else old mid place (next old (next old place)) only apart)
+                ∙ sym (cond-false (eqb last place) k.units.clear_closed (k.units.clear (sector_at old last)) (ne_eqb last place apart))
+          ]
 
-    -- what is left of them behind the close
-    units-are : open_units k mid (next old place)
-        ≡ cond (has_victim k old place) (again_with k old (next old place) (victim_units k mid (next old place))) (cond k.opens_ready (ready_units k old (next old place)) none)
-    units-are =
-        let q = next old place in
-        ap (λ (t : Bool). cond t (again_units k mid q) (cond k.opens_ready (ready_units k mid q) none)) (sym victim-is)
-        ∙ ap (λ (b : List ℕ). cond (has_victim k old place) (both (making_ready k b) (collect_units k mid q)) (cond k.opens_ready (making_ready k b) none)) opened-same
-        ∙ ap (λ ps. cond (has_victim k old place) (both (ready_units k old q) (both (copies k ps) (both k.units.any_done (victim_units k mid q)))) (cond k.opens_ready (ready_units k old q) none)) copies-same
+      -- what is left of them behind the close
+      units-are : open_units k mid (next old place)
+          ≡ cond (has_victim k old place) (again_with k old (next old place) (victim_units k mid (next old place))) (cond k.opens_ready (ready_units k old (next old place)) none)
+      units-are =
+          let q = next old place in
+          ap (λ (t : Bool). cond t (again_units k mid q) (cond k.opens_ready (ready_units k mid q) none)) (sym victim-is)
+          ∙ ap (λ (b : List ℕ). cond (has_victim k old place) (both (making_ready k b) (collect_units k mid q)) (cond k.opens_ready (making_ready k b) none)) opened-same
+          ∙ ap (λ ps. cond (has_victim k old place) (both (ready_units k old q) (both (copies k ps) (both k.units.any_done (victim_units k mid q)))) (cond k.opens_ready (ready_units k old q) none)) copies-same
 
-    pub units-opened : LiesIn (open_units k mid (next old place))
-        (cond (has_victim k old place) (again_with k old (next old place) (round_clear k old place)) (cond k.opens_ready (ready_units k old (next old place)) none))
-    units-opened =
-        let q : ℕ = next old place in
-        let now : Range = victim_units k mid (next old place) in
-        let before : Range = round_clear k old place in
-        let copied : Range = copies k (to_copy k.reading old (next old place)) in
-        let opening : Range = cond k.opens_ready (ready_units k old (next old place)) none in
-        let marked : LiesIn (both k.units.any_done now) (both k.units.any_done before) = both-lies k.units.any_done now k.units.any_done before (lies_same k.units.any_done) clear-lies in
-        let collected : LiesIn (collect_with k old q now) (collect_with k old q before) = both-lies copied (both k.units.any_done now) copied (both k.units.any_done before) (lies_same copied) marked in
-        let again : LiesIn (again_with k old q now) (again_with k old q before) = both-lies (ready_units k old q) (collect_with k old q now) (ready_units k old q) (collect_with k old q before) (lies_same (ready_units k old q)) collected in
-        subst (λ (r : Range). LiesIn r (cond (has_victim k old place) (again_with k old (next old place) (round_clear k old place)) (cond k.opens_ready (ready_units k old (next old place)) none))) (sym units-are)
-        (cond-lies (has_victim k old place) (again_with k old q now) opening (again_with k old q before) opening again (lies_same opening))
+      pub units-opened : open_units k mid (next old place)
+          ≡ cond (has_victim k old place) (again_with k old (next old place) (round_clear k old place)) (cond k.opens_ready (ready_units k old (next old place)) none)
+      units-opened =
+          units-are
+          ∙ ap (λ (r : Range). cond (has_victim k old place) (again_with k old (next old place) r) (cond k.opens_ready (ready_units k old (next old place)) none)) clear-is

@@ -1,10 +1,11 @@
 -- Entries of the list of an area, each in its slot.
-use Rattle.std.specs.Prelude.{◌≡◌, ℕ, ◌+◌, ◌<◌, ◌≤◌, true, List, length, Some}
+use Rattle.std.specs.Prelude.{◌≡◌, ℕ, ◌+◌, ◌-◌, ◌<◌, ◌≤◌, true, List, length, Some, ◌==◌, if◌then◌else◌}
 use Rattle.std.specs.Option.{option_map}
 use Rattle.flash_sim.specs.Device.{Device}
 use Rattle.flash_map.specs.declared.area.Area.{Area}
 use Rattle.flash_map.specs.declared.area.Geometry.{Geometry}
 use Rattle.flash_map.specs.Area.{geometry_of, sector_at, sectors_of}
+use Rattle.lookup_cache.specs.Places.{top_of}
 use Rattle.item_laws.specs.Items.{Items}
 use Rattle.item_laws.specs.Area.{counts_at}
 use Rattle.item_laws.specs.Live as live
@@ -55,3 +56,18 @@ HasSlotOn format_of d area place slot =
 abbrev pub IsWithinOn : (Geometry → SectorFormat) → Device → Area → ℕ → Type 0
 IsWithinOn format_of d area place = (format_on format_of d area).within (sector_at (sectors_of d area) place)
     ≡ true
+
+-- the list of a sector has so many slots at least
+abbrev pub HasSlotsOn : (Geometry → SectorFormat) → Device → Area → ℕ → ℕ → Type 0
+HasSlotsOn format_of d area place slots =
+    slots ≤ (format_on format_of d area).count (sector_at (sectors_of d area) place)
+
+-- how many slots of a list stand up to this one of it; if it is 0, none is known
+abbrev pub known_to : ℕ → ℕ → ℕ
+known_to first top = if top == 0 then 0 else top + 1 - first
+
+-- the top of each sector, if it has one, is a slot of its list
+abbrev pub KnowsSlots : (Geometry → SectorFormat) → Device → Area → List ℕ → Type 0
+KnowsSlots format_of d area tops =
+    let first = (format_on format_of d area).first in
+    (place : ℕ) → HasSlotsOn format_of d area place (known_to first (top_of tops place))

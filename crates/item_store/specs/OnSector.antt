@@ -11,7 +11,7 @@ use Rattle.item_laws.specs.Live as live
 use Rattle.item_store.specs.declared.entry.Placed.{Placed}
 use Rattle.item_store.specs.declared.open_area.OpenArea.{OpenArea}
 use Rattle.item_store.specs.SectorFormat.{SectorFormat, fits, placed_at, slots}
-use Rattle.item_store.specs.Listed.{format_on, HasSlotOn}
+use Rattle.item_store.specs.Listed.{format_on, HasSlotOn, KnowsSlots}
 use Rattle.flash_map.specs.declared.area.Role.{Role}
 use Rattle.item_store.specs.Standing.{IsStoreArea, SpendsIn, SpendsUpTo}
 use Rattle.item_store.specs.Steps.{Keeps, KeepsMarks, LeavesRoom, Begins, Adds, Marks, Closes, Clears, StopsClearing}
@@ -140,12 +140,14 @@ pub record IsOpenSector {T : Type 0} (role : Role) (format_of : Geometry → Sec
   pub ready : IsReadyOn format_of d on place
   pub opened : IsOpenOn format_of d on place
 
--- A store's area with one of its sectors, and with what is kept of that.
-pub record IsKeptAt {T : Type 0} (role : Role) (keep : Geometry → List ℕ → T) (d : Device) (on : OpenArea T) :
-    Type 0 where
+-- A store's area with one of its sectors, with what is kept of that, and with known slots.
+pub record IsKeptAt {T : Type 0} (role : Role) (format_of : Geometry → SectorFormat)
+    (keep : Geometry → List ℕ → T)
+    (d : Device) (on : OpenArea T) : Type 0 where
   pub area : IsStoreArea role d.banks on.area.now
   pub kept : IsKeptOn keep d on.area.now on.current on.opened
   pub current : on.current < on.area.now.sectors
+  pub known : KnowsSlots format_of d on.area.now on.tops.now
 
 -- The sector is the open one.
 pub record IsOpenAt {T : Type 0} (role : Role) (format_of : Geometry → SectorFormat)
@@ -154,6 +156,7 @@ pub record IsOpenAt {T : Type 0} (role : Role) (format_of : Geometry → SectorF
   pub area : IsStoreArea role d.banks on.area.now
   pub kept : IsKeptOn keep d on.area.now on.current on.opened
   pub current : IsOpenOn format_of d on.area.now on.current
+  pub known : KnowsSlots format_of d on.area.now on.tops.now
 
 -- The sector behind it is the victim of a collection, which is not done.
 pub record IsCollecting (format_of : Geometry → SectorFormat) (d : Device) (on : Area) (place : ℕ)

@@ -43,6 +43,8 @@ pub record Units : Type 0 where
   pub any_copy : ℕ → Range
   pub any_done : Range
   pub any_clear : Range
+  -- the emptying of a sector that was not clean, once a close has closed it
+  pub clear_closed : Range
   -- a round of close and collect in sectors of this size, at most
   pub round : ℕ → ℕ
   -- a mount in an area with sectors of this size, at most
@@ -59,9 +61,11 @@ pub record AreUnits (u : Units) : Type 0 where
   pub any_copies : (len : ℕ) → CoversWhole (u.any_copy len)
   pub any_dones : CoversWhole u.any_done
   pub any_clears : CoversWhole u.any_clear
+  pub closed_clears : CoversWhole u.clear_closed
   pub copy_in : (b : List ℕ) (len : ℕ) → LiesIn (u.copy b len) (u.any_copy len)
   pub done_in : (b : List ℕ) → LiesIn (u.done b) u.any_done
   pub clear_lost : (b : List ℕ) → (u.clear b).lost ≤ u.any_clear.lost
+  pub closed_lost : u.clear_closed.lost ≤ u.any_clear.lost
 
 -- how the sectors of an area of one geometry hold entries
 pub record SectorFormat : Type 0 where

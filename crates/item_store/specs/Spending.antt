@@ -64,11 +64,11 @@ has_victim k sectors place =
     (victim == place) || is_closed_at k.reading sectors victim
 
 -- The emptying of a round's victim, by its bytes before the round. With two sectors the victim is
--- the sector that the round closes: then it is that of any closed sector.
+-- the sector that the round closes, which was not clean.
 abbrev pub round_clear : SectorFormat → List (List ℕ) → ℕ → Range
 round_clear k sectors place =
     let victim = next sectors (next sectors place) in
-    if victim == place then k.units.any_clear else k.units.clear (sector_at sectors victim)
+    if victim == place then k.units.clear_closed else k.units.clear (sector_at sectors victim)
 
 -- A round of close and collect from this open sector. Without a victim there is nothing to collect.
 abbrev pub round_units : SectorFormat → List (List ℕ) → ℕ → Range

@@ -10,8 +10,10 @@ use Rattle.flash_map.specs.Area.{geometry_of, sectors_of, sector_at}
 use Rattle.item_laws.specs.Area.{next, is_closed_at, open_sector}
 use Rattle.item_laws.specs.Forms.{AtRest}
 use Rattle.item_store.specs.declared.store.Store.{Store}
+use Rattle.item_store.specs.declared.entry.Redo.TheVariants.{CollectAgain}
 use Rattle.item_store.specs.Cached.{IsCacheOn}
 use Rattle.item_store.specs.SectorFormat.{SectorFormat}
+use Rattle.item_store.specs.Room.{has_room}
 use Rattle.item_store.specs.Collecting.{redo_of, redo_list, redo_units, KeepsOrRedoes, MarksFirst}
 use Rattle.item_store.specs.Standing.{IsStoreArea, list_at, KeepsItems, SpendsIn, SpendsUpTo}
 
@@ -45,7 +47,8 @@ pub record StandsAt {T : Type 0} (role : Role) (format_of : Geometry → SectorF
 
 -- If the area is damaged, or memory runs out, nothing changed. Otherwise the items stay, whether
 -- power is lost or not. A mount spends what there is to redo: at rest nothing. The list is the one
--- that the redo leaves; after a power loss, that one or the one before.
+-- that the redo leaves; after a power loss, that one or the one before. A collection that was begun
+-- again leaves room for a delete.
 abbrev pub MountEnds : {T : Type 0} → Role → (Geometry → SectorFormat) → (Geometry → List ℕ → T) → Device
     → Device
     → Area → Result (Store T) MountFault → Type 0
@@ -59,6 +62,7 @@ MountEnds role format_of kept old new area (Ok store) =
     × SpendsIn old new (redo_units k (sectors_of old area) place (redo_of k (sectors_of old area) place))
     × (AtRest k.reading (sectors_of old area) place → new ≡ old)
     × (list_at k new area ≡ redo_list k (sectors_of old area) place (redo_of k (sectors_of old area) place))
+    × (redo_of k (sectors_of old area) place ≡ CollectAgain → has_room k (sectors_of new area) 0 ≡ true)
 MountEnds role format_of kept old new area (Err (HasDamage damaged)) =
     ((format_of (geometry_of old area)).damage (sectors_of old area) ≡ Some damaged) × (new ≡ old)
 MountEnds role format_of kept old new area (Err MountLost) =

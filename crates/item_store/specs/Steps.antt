@@ -61,6 +61,9 @@ pub record Closes (k : SectorFormat) (old new : List ℕ) : Type 0 where
   pub same_entries : entries k new ≡ entries k old
   pub long : length new ≡ length old
   pub sound : is_sound k.reading old ≡ true → is_sound k.reading new ≡ true
+  -- what the sector's emptying spends now
+  pub emptying : k.is_clean old ≡ false → k.reading.is_closed old ≡ false
+      → k.units.clear new ≡ k.units.clear_closed
 
 -- the sector has no entry and all its room, and is ready for an entry
 pub record Clears (k : SectorFormat) (old new : List ℕ) : Type 0 where

@@ -76,10 +76,12 @@ impl<T: SlotSectors> Store<T> {
         ensures { IsNextOf least most (items_on T.format_of (F.device flash.now) self.now.area)
             (option_map (λ other. other.now) after.entry) (option_map (λ bytes. bytes.now) result) }
     {
+        let tops = self.cache.tops();
         let on = OpenArea {
             area: &self.area,
             current: self.current,
             opened: self.opened,
+            tops,
         };
         let mut lasts = Lasts::start(flash, &on, least, most, steps);
         let mut found = None;

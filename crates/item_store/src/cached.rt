@@ -1,6 +1,7 @@
 // The cache of a store: the place of the latest entry of each cache slot's ids.
-ghost use Rattle.std.specs.Prelude.{◌≡◌, ◌<◌, None, replicate};
+ghost use Rattle.std.specs.Prelude.{◌≡◌, ◌<◌};
 ghost use Rattle.flash_map.specs.Area.{sectors_of};
+ghost use Rattle.lookup_cache.specs.Places.{empty_cache};
 ghost use Rattle.item_store.specs.OnSector.{IsOpenAt};
 ghost use Rattle.item_store.specs.Cached.{IsCacheOf, IsCacheOn, FollowsRound};
 ghost use Rattle.item_store.specs.Listed.{format_on};
@@ -39,7 +40,7 @@ pub fn fill<T: SlotSectors, F: Flash, L: Ledger>(
     steps: &mut Steps<L>,
 )
     requires on { IsOpenAt T.role T.format_of T.kept (F.device flash.now) on.now }
-    requires empty { cache.old ≡ replicate 64 None }
+    requires empty { cache.old ≡ empty_cache 64 }
     ensures { IsCacheOn T.format_of (F.device flash.now) on.now.area.now cache.new }
 {
     note_all(flash, on, cache, steps);
@@ -64,5 +65,5 @@ pub fn follow_round<T: SlotSectors, F: Flash, L: Ledger>(
 {
     let victim = area.next(newest);
     cache.forget_sector(victim);
-    T::note_sector(flash, area, newest, cache, steps);
+    T::note_sector(flash, area, newest, 0, cache, steps);
 }

@@ -103,6 +103,7 @@ fn copy_live<T: SlotSectors, F: Flash, L: Ledger>(
         area,
         current,
         opened: *opened,
+        tops: &[],
     };
     live_entries(flash, &on, victim, &mut live, steps);
     let slots = T::slots(flash, area, victim, steps);

@@ -105,10 +105,12 @@ impl<T: SlotSectors> Store<T> {
             ++ behind k (sectors_of d self.now.area) self.now.current place) }
     {
         let mut live = LiveEntries::new();
+        let tops = self.cache.tops();
         let on = OpenArea {
             area: &self.area,
             current: self.current,
             opened: self.opened,
+            tops,
         };
         live_by(flash, &on, place, seen, &mut live, steps);
         sector_cost::<T, F, L>(flash, &self.area, place, &live, steps)

@@ -33,6 +33,16 @@ pub struct IdRange {
     pub most: u32,
 }
 
+/// How many of the first slots of a sector's list a search passes over, and how many of them are
+/// known to be of the list, so that it need not check them.
+#[derive(Clone, Copy, Debug, PartialEq, Eq)]
+pub struct ListStart {
+    /// The slots that are passed over.
+    pub skipped: u32,
+    /// The slots that are known.
+    pub known: u32,
+}
+
 /// An id and one above it: that of a name and that of its value, say.
 #[derive(Clone, Copy)]
 pub struct IdPair {

@@ -162,10 +162,12 @@ impl<T: SlotSectors> Store<T> {
         if ids.most < ids.least {
             return None;
         }
+        let tops = self.cache.tops();
         let on = OpenArea {
             area: &self.area,
             current: self.current,
             opened: self.opened,
+            tops,
         };
         let mut taken = Taken::new(ids.least, step);
         note_all(flash, &on, &mut taken, steps);

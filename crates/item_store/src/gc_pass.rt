@@ -1,9 +1,10 @@
 // Mounting, and a round: a close with the garbage collection that follows.
-ghost use Rattle.std.specs.Prelude.{◌≡◌, ◌∷◌, [], None, replicate, false, is_err, OnOk, OnErr, ◌⊎◌};
+ghost use Rattle.std.specs.Prelude.{◌≡◌, ◌∷◌, [], false, is_err, OnOk, OnErr, ◌⊎◌};
 ghost use Rattle.flash_map.specs.Area.{sector_size, sectors_of};
 ghost use Rattle.flash_map.specs.Faults.{mount_lost};
 ghost use Rattle.flash_map.specs.Spending.{SpendsBetween};
 ghost use Rattle.flash_map.specs.Touches.{Touches};
+ghost use Rattle.lookup_cache.specs.Places.{empty_cache};
 ghost use Rattle.item_store.specs.Closing.{RoundEnds, PassEnds};
 ghost use Rattle.item_store.specs.SectorFormat.{is_clean_at};
 ghost use Rattle.item_store.specs.Listed.{format_on};
@@ -65,7 +66,7 @@ impl<T: SlotSectors> Store<T> {
         steps: &mut Steps<L>,
     ) -> Result<Store<T>, MountFault>
         requires area { IsStoreArea T.role (F.device flash.old).banks area }
-        requires empty { cache ≡ replicate 64 None }
+        requires empty { cache ≡ empty_cache 64 }
         ensures touches { let d = F.device flash.old in let e = F.device flash.new in
             Touches (area ∷ []) d e (mount_lost result) }
         ensures ends { let d = F.device flash.old in let e = F.device flash.new in
@@ -92,6 +93,7 @@ impl<T: SlotSectors> Store<T> {
                             area: &area,
                             current,
                             opened,
+                            tops: &[],
                         };
                         fill(flash, &on, &mut cache, steps);
                         Ok(Store {

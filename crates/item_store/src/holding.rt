@@ -11,8 +11,8 @@ ghost use Rattle.item_store.specs.OnSector.{sector_on, IsOpenAt};
 ghost use Rattle.item_store.specs.SectorFormat.{slots};
 ghost use Rattle.item_store.specs.Stands.{StandsOn};
 
-use crate::entry::{IdPair, IdRange, MayHave, Placed};
-use crate::open_area::OpenArea;
+use crate::entry::{IdPair, IdRange, ListStart, MayHave, Placed};
+use crate::open_area::{OpenArea, known_slots};
 use crate::sectors::SlotSectors;
 use crate::store::Store;
 use flash_sim::{Flash, Steps};
@@ -84,10 +84,12 @@ impl<T: SlotSectors> Store<T> {
             RulesOutLater (format_on T.format_of d self.now.area) (sectors_of d self.now.area)
             self.now.current holder.now ids.now result }
     {
+        let tops = self.cache.tops();
         let on = OpenArea {
             area: &self.area,
             current: self.current,
             opened: self.opened,
+            tops,
         };
         let up_to = holder.slot - T::first_slot() + 1;
         let here = T::may_have(flash, &self.area, holder.sector, up_to, ids, steps);
@@ -193,10 +195,18 @@ impl<T: SlotSectors> Store<T> {
             (items_on T.format_of d self.now.area) ids.now step bytes.now result }
     {
         let first = T::first_slot();
+        let tops = self.cache.tops();
+        let known = known_slots::<T>(tops, place);
         let mut skipped = 0;
         let mut dead = None;
         while let Some(holder) = T::find_bytes(
-            flash, &self.area, place, skipped, ids, bytes, steps,
+            flash,
+            &self.area,
+            place,
+            &ListStart { skipped, known },
+            ids,
+            bytes,
+            steps,
         ) {
             if dead != Some(holder.id) {
                 let found = self.holder_at(flash, &holder, step, bytes, steps);

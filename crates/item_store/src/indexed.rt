@@ -27,10 +27,12 @@ impl<T: SlotSectors> Store<T> {
         requires { StandsOn T.role T.format_of T.kept (F.device flash.now) self.now }
         ensures { KnowsOn T.format_of (F.device flash.now) self.now.area last.new }
     {
+        let tops = self.cache.tops();
         let on = OpenArea {
             area: &self.area,
             current: self.current,
             opened: self.opened,
+            tops,
         };
         fill_last_slots(flash, &on, last, steps)
     }

@@ -10,9 +10,9 @@ ghost use Rattle.item_store.specs.Seen.{has_bit};
 ghost use Rattle.item_store.specs.Standing.{IsStoreArea};
 
 use crate::bits::{has_bit, set_bit};
-use crate::entry::Placed;
+use crate::entry::{IdRange, Placed};
 use crate::lookup::counts;
-use crate::open_area::OpenArea;
+use crate::open_area::{OpenArea, known_slots};
 use crate::sectors::SlotSectors;
 use flash_map::Area;
 use flash_sim::{Flash, Steps};
@@ -45,7 +45,7 @@ fn reach_counting<T: SlotSectors, F: Flash, L: Ledger>(
     most: u32,
     steps: &mut Steps<L>,
 ) -> u32
-    requires on { IsKeptAt T.role T.kept (F.device flash.now) on.now }
+    requires on { IsKeptAt T.role T.format_of T.kept (F.device flash.now) on.now }
     requires inside { place < on.now.area.now.sectors }
     ensures few { let d = F.device flash.now in let area = on.now.area.now in
         result ≤ (format_on T.format_of d area).count (sector_on d area place) }
@@ -61,7 +61,9 @@ fn reach_counting<T: SlotSectors, F: Flash, L: Ledger>(
         → AreOthers k b result (k.count b) least most }
 {
     if counts(flash, on, place, steps) {
-        T::reach(flash, on.area, place, least, most, steps)
+        let known = known_slots::<T>(on.tops, place);
+        let ids = IdRange { least, most };
+        T::reach(flash, on.area, place, known, &ids, steps)
     } else {
         0
     }

@@ -9,7 +9,7 @@ ghost use Rattle.item_store.specs.Listed.{format_on};
 ghost use Rattle.item_store.specs.SectorFormat.{slots};
 
 use crate::entry::Placed;
-use crate::open_area::OpenArea;
+use crate::open_area::{OpenArea, known_slots};
 use crate::sectors::SlotSectors;
 use flash_sim::{Flash, Steps};
 use std::sync::ledger::Ledger;
@@ -21,7 +21,7 @@ pub fn counts<T: SlotSectors, F: Flash, L: Ledger>(
     place: u32,
     steps: &mut Steps<L>,
 ) -> bool
-    requires on { IsKeptAt T.role T.kept (F.device flash.now) on.now }
+    requires on { IsKeptAt T.role T.format_of T.kept (F.device flash.now) on.now }
     ensures { let d = F.device flash.now in let area = on.now.area.now in
         result
         ≡ counts_at (format_on T.format_of d area).reading (sectors_of d area) on.now.current
@@ -48,7 +48,7 @@ fn find_at<T: SlotSectors, F: Flash, L: Ledger>(
     id: u32,
     steps: &mut Steps<L>,
 ) -> Option<Placed>
-    requires on { IsKeptAt T.role T.kept (F.device flash.now) on.now }
+    requires on { IsKeptAt T.role T.format_of T.kept (F.device flash.now) on.now }
     requires inside { place < on.now.area.now.sectors }
     ensures { let d = F.device flash.now in let area = on.now.area.now in
         let k = format_on T.format_of d area in
@@ -56,7 +56,8 @@ fn find_at<T: SlotSectors, F: Flash, L: Ledger>(
         ≡ last_of (slots k) id (counted_in (slots k) (sectors_of d area) on.now.current place) }
 {
     if counts(flash, on, place, steps) {
-        T::find_in(flash, on.area, place, id, steps)
+        let known = known_slots::<T>(on.tops, place);
+        T::find_in(flash, on.area, place, known, id, steps)
     } else {
         None
     }
@@ -72,7 +73,7 @@ pub fn find_among<T: SlotSectors, F: Flash, L: Ledger>(
     id: u32,
     steps: &mut Steps<L>,
 ) -> Option<Placed>
-    requires on { IsKeptAt T.role T.kept (F.device flash.now) on.now }
+    requires on { IsKeptAt T.role T.format_of T.kept (F.device flash.now) on.now }
     requires order { first ≤ end }
     requires inside { end ≤ on.now.area.now.sectors }
     ensures { let d = F.device flash.now in let area = on.now.area.now in

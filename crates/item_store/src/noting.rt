@@ -10,7 +10,7 @@ ghost use Rattle.item_store.specs.Listed.{format_on, entries_on};
 
 use crate::lookup::counts;
 use crate::notes::Notes;
-use crate::open_area::OpenArea;
+use crate::open_area::{OpenArea, known_slots};
 use crate::sectors::SlotSectors;
 use flash_sim::{Flash, Steps};
 use std::sync::ledger::Ledger;
@@ -23,7 +23,7 @@ fn note_counting<T: SlotSectors, N: Notes, F: Flash, L: Ledger>(
     notes: &mut N,
     steps: &mut Steps<L>,
 )
-    requires on { IsKeptAt T.role T.kept (F.device flash.now) on.now }
+    requires on { IsKeptAt T.role T.format_of T.kept (F.device flash.now) on.now }
     requires inside { place < on.now.area.now.sectors }
     ensures { let d = F.device flash.now in let area = on.now.area.now in
         let k = format_on T.format_of d area in
@@ -32,7 +32,8 @@ fn note_counting<T: SlotSectors, N: Notes, F: Flash, L: Ledger>(
         (before ++ counted_in (slots k) (sectors_of d area) on.now.current place) }
 {
     if counts(flash, on, place, steps) {
-        T::note_sector(flash, on.area, place, notes, steps);
+        let known = known_slots::<T>(on.tops, place);
+        T::note_sector(flash, on.area, place, known, notes, steps);
     }
 }
 
@@ -45,7 +46,7 @@ pub fn note_among<T: SlotSectors, N: Notes, F: Flash, L: Ledger>(
     notes: &mut N,
     steps: &mut Steps<L>,
 )
-    requires on { IsKeptAt T.role T.kept (F.device flash.now) on.now }
+    requires on { IsKeptAt T.role T.format_of T.kept (F.device flash.now) on.now }
     requires order { first ≤ end }
     requires inside { end ≤ on.now.area.now.sectors }
     ensures { let d = F.device flash.now in let area = on.now.area.now in

@@ -158,10 +158,12 @@ impl<T: SlotSectors> Store<T> {
         ensures { let d = F.device flash.now in let area = self.now.area in
             result ≡ last_placed (slots (format_on T.format_of d area)) (sectors_of d area) id }
     {
+        let tops = self.cache.tops();
         let on = OpenArea {
             area: &self.area,
             current: self.current,
             opened: self.opened,
+            tops,
         };
         let reach = self.reach_before(flash, latest, id, steps);
         if reach == 0 {
@@ -362,10 +364,12 @@ impl<T: SlotSectors> Store<T> {
         ensures placed { IfSome result
             (IsPlacedOn T.format_of (F.device flash.now) self.now.area self.now.current) }
     {
+        let tops = self.cache.tops();
         let on = OpenArea {
             area: &self.area,
             current: self.current,
             opened: self.opened,
+            tops,
         };
         walk(flash, &on, after, steps)
     }

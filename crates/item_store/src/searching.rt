@@ -24,7 +24,7 @@ pub fn find_up_to<T: SlotSectors, F: Flash, L: Ledger>(
     id: u32,
     steps: &mut Steps<L>,
 ) -> Option<Placed>
-    requires on { IsKeptAt T.role T.kept (F.device flash.now) on.now }
+    requires on { IsKeptAt T.role T.format_of T.kept (F.device flash.now) on.now }
     requires inside { place < on.now.area.now.sectors }
     ensures { let d = F.device flash.now in let area = on.now.area.now in
         let k = format_on T.format_of d area in
@@ -51,7 +51,7 @@ pub fn find_before<T: SlotSectors, F: Flash, L: Ledger>(
     id: u32,
     steps: &mut Steps<L>,
 ) -> Option<Placed>
-    requires on { IsKeptAt T.role T.kept (F.device flash.now) on.now }
+    requires on { IsKeptAt T.role T.format_of T.kept (F.device flash.now) on.now }
     requires inside { place < on.now.area.now.sectors }
     ensures { let d = F.device flash.now in let area = on.now.area.now in
         let k = format_on T.format_of d area in

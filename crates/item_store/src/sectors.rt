@@ -12,11 +12,11 @@ ghost use Rattle.item_store.specs.SectorFormat.{SectorFormat, IsSectorFormat, pl
 ghost use Rattle.item_store.specs.declared.entry.Placed.{Placed as PlacedEntry};
 ghost use Rattle.item_store.specs.Holding.{FindsBytes, RulesOut};
 ghost use Rattle.item_store.specs.Lasts.{AreOthers};
-ghost use Rattle.item_store.specs.Listed.{IsListedOn, IsWithinOn, format_on};
+ghost use Rattle.item_store.specs.Listed.{HasSlotOn, HasSlotsOn, IsListedOn, IsWithinOn, format_on};
 ghost use Rattle.item_store.specs.OnSector.{BeginEnds, CloseEnds, IsMarked, StopsMarking, IsOpenSector, IsCollecting, IsSource, PutEnds, sector_on, free_on, bytes_on, IsKeptOn, IsKeptAfter, IsSoundOn, IsOpenOn, NextIsNotClosedOn, FitsOn, HasCopyRoomOn, ChangesOnlyOn, KeepsMarksOn, AddsOn, ClearsOn, StopsClearingOn};
 ghost use Rattle.item_store.specs.Standing.{IsStoreArea, SpendsIn, SpendsUpTo};
 
-use crate::entry::{IdPair, IdRange, MayHave, Placed};
+use crate::entry::{IdPair, IdRange, ListStart, MayHave, Placed};
 use crate::notes::Notes;
 use flash_map::{Area, Damaged, Geometry};
 use flash_sim::{Flash, PowerLost, Steps};
@@ -155,8 +155,7 @@ pub trait SlotSectors: Copy {
     ) -> Option<Placed>
         requires area { IsStoreArea role (F.device flash.now).banks area.now }
         requires inside { place < area.now.sectors }
-        requires listed { let d = F.device flash.now in let k = format_on format_of d area.now in
-            (k.first ≤ slot) × (slot < k.first + k.count (sector_on d area.now place)) }
+        requires listed { HasSlotOn format_of (F.device flash.now) area.now place slot }
         ensures entry { let d = F.device flash.now in let k = format_on format_of d area.now in
             result ≡ option_map (placed_at place) (k.in_slot (sector_on d area.now place) slot) }
         ensures small { let d = F.device flash.now in
@@ -174,8 +173,7 @@ pub trait SlotSectors: Copy {
     ) -> u32
         requires area { IsStoreArea role (F.device flash.now).banks area.now }
         requires inside { place < area.now.sectors }
-        requires listed { let d = F.device flash.now in let k = format_on format_of d area.now in
-            (k.first ≤ slot) × (slot < k.first + k.count (sector_on d area.now place)) }
+        requires listed { HasSlotOn format_of (F.device flash.now) area.now place slot }
         ensures id { let d = F.device flash.now in let k = format_on format_of d area.now in
             IfSome (k.in_slot (sector_on d area.now place) slot) (λ e. e.id ≡ result) }
         ensures small { let d = F.device flash.now in
@@ -197,39 +195,41 @@ pub trait SlotSectors: Copy {
             ≡ bytes_of (slots (format_on format_of d area.now)) (sectors_of d area.now) placed.now }
         ensures step { steps.new ≤ steps.old + 1 };
 
-    /// The last entry of an id in a sector.
+    /// The last entry of an id in a sector. The first `known` slots of its list need no check.
     fn find_in<F: Flash, L: Ledger>(
         flash: &F,
         area: &Area,
         place: u32,
+        known: u32,
         id: u32,
         steps: &mut Steps<L>,
     ) -> Option<Placed>
         requires area { IsStoreArea role (F.device flash.now).banks area.now }
         requires inside { place < area.now.sectors }
+        requires known { HasSlotsOn format_of (F.device flash.now) area.now place known }
         ensures { let d = F.device flash.now in let k = format_on format_of d area.now in
             result
             ≡ option_map (placed_at place)
             (last_in (slots k) place id ((slots k).entries (sector_on d area.now place))) };
 
-    /// How many slots of a sector's list have to be read for the ids from `least` to `most`: the
-    /// slots behind them have no entry of these ids.
+    /// How many slots of a sector's list have to be read for the ids of a range: the slots behind
+    /// them have no entry of these ids. The first `known` slots of the list need no check.
     fn reach<F: Flash, L: Ledger>(
         flash: &F,
         area: &Area,
         place: u32,
-        least: u32,
-        most: u32,
+        known: u32,
+        ids: &IdRange,
         steps: &mut Steps<L>,
     ) -> u32
         requires area { IsStoreArea role (F.device flash.now).banks area.now }
         requires inside { place < area.now.sectors }
-        ensures few { let d = F.device flash.now in
-            result ≤ (format_on format_of d area.now).count (sector_on d area.now place) }
+        requires known { HasSlotsOn format_of (F.device flash.now) area.now place known }
+        ensures few { HasSlotsOn format_of (F.device flash.now) area.now place result }
         ensures small { result ≤ 2 ^ 15 }
         ensures others { let d = F.device flash.now in let k = format_on format_of d area.now in
             let b = sector_at (sectors_of d area.now) place in
-            AreOthers k b result (k.count b) least most };
+            AreOthers k b result (k.count b) ids.now.least ids.now.most };
 
     /// The same for the first so many slots of the list.
     fn reach_of<F: Flash, L: Ledger>(
@@ -243,37 +243,36 @@ pub trait SlotSectors: Copy {
     ) -> u32
         requires area { IsStoreArea role (F.device flash.now).banks area.now }
         requires inside { place < area.now.sectors }
-        requires listed { let d = F.device flash.now in
-            slots ≤ (format_on format_of d area.now).count (sector_on d area.now place) }
+        requires listed { HasSlotsOn format_of (F.device flash.now) area.now place slots }
         ensures few { result ≤ slots }
         ensures others { let d = F.device flash.now in
             AreOthers (format_on format_of d area.now) (sector_on d area.now place) result
             slots least
             most };
 
-    /// The first entry behind the first so many slots of a sector's list that gives an id of the
-    /// range these bytes; `None` if there is none. It compares ids and bytes before CRCs.
+    /// The first entry behind the slots of a sector's list that are passed over that gives an id of
+    /// the range these bytes; `None` if there is none. It compares ids and bytes before CRCs.
     fn find_bytes<F: Flash, L: Ledger>(
         flash: &F,
         area: &Area,
         place: u32,
-        skipped: u32,
+        start: &ListStart,
         ids: &IdRange,
         bytes: &[u8],
         steps: &mut Steps<L>,
     ) -> Option<Placed>
         requires area { IsStoreArea role (F.device flash.now).banks area.now }
         requires inside { place < area.now.sectors }
-        requires listed { let d = F.device flash.now in
-            skipped ≤ (format_on format_of d area.now).count (sector_on d area.now place) }
+        requires listed { HasSlotsOn format_of (F.device flash.now) area.now place
+            start.now.skipped }
+        requires known { HasSlotsOn format_of (F.device flash.now) area.now place start.now.known }
         requires within { IsWithinOn format_of (F.device flash.now) area.now place }
         ensures found { let d = F.device flash.now in
             FindsBytes (format_on format_of d area.now) (sector_on d area.now place) place ids.now
-            bytes.now skipped result }
+            bytes.now start.now.skipped result }
         ensures small { IfSome result (λ p. p.slot < 2 ^ 16) };
 
-    /// Which of two ids the slots behind the first so many of a sector's list may have. It compares
-    /// the id fields, and checks no CRC of these slots.
+    /// Which of two ids the slots behind the first so many may have. It checks no CRC of theirs.
     fn may_have<F: Flash, L: Ledger>(
         flash: &F,
         area: &Area,
@@ -288,16 +287,18 @@ pub trait SlotSectors: Copy {
             let b = sector_on d area.now place in
             RulesOut k b skipped ids.now result };
 
-    /// Notes the entries of a sector, in the order of its list.
+    /// Notes the entries of a sector, in order. The first `known` slots of its list need no check.
     fn note_sector<N: Notes, F: Flash, L: Ledger>(
         flash: &F,
         area: &Area,
         place: u32,
+        known: u32,
         notes: &mut N,
         steps: &mut Steps<L>,
     )
         requires area { IsStoreArea role (F.device flash.now).banks area.now }
         requires inside { place < area.now.sectors }
+        requires known { HasSlotsOn format_of (F.device flash.now) area.now place known }
         ensures { let d = F.device flash.now in let k = format_on format_of d area.now in
             (start : N) (before : List PlacedEntry) → N.noted start k.ids notes.old before
             → N.noted start k.ids notes.new

@@ -114,7 +114,7 @@ pub fn note_behind<T: SlotSectors, F: Flash, L: Ledger>(
     seen: &mut Seen,
     steps: &mut Steps<L>,
 )
-    requires on { IsKeptAt T.role T.kept (F.device flash.now) on.now }
+    requires on { IsKeptAt T.role T.format_of T.kept (F.device flash.now) on.now }
     requires inside { place < on.now.area.now.sectors }
     ensures { let d = F.device flash.now in let area = on.now.area.now in
         let k = format_on T.format_of d area in

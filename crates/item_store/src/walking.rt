@@ -59,7 +59,7 @@ fn newest_at<T: SlotSectors, F: Flash, L: Ledger>(
     limit: u32,
     steps: &mut Steps<L>,
 ) -> Option<Placed>
-    requires on { IsKeptAt T.role T.kept (F.device flash.now) on.now }
+    requires on { IsKeptAt T.role T.format_of T.kept (F.device flash.now) on.now }
     requires inside { place < on.now.area.now.sectors }
     ensures last { let d = F.device flash.now in let area = on.now.area.now in
         result
@@ -84,7 +84,7 @@ fn newest_of<T: SlotSectors, F: Flash, L: Ledger>(
     place: u32,
     steps: &mut Steps<L>,
 ) -> Option<Placed>
-    requires on { IsKeptAt T.role T.kept (F.device flash.now) on.now }
+    requires on { IsKeptAt T.role T.format_of T.kept (F.device flash.now) on.now }
     requires inside { place < on.now.area.now.sectors }
     ensures last { let d = F.device flash.now in let area = on.now.area.now in
         result
@@ -106,7 +106,7 @@ fn newest_among<T: SlotSectors, F: Flash, L: Ledger>(
     end: u32,
     steps: &mut Steps<L>,
 ) -> Option<Placed>
-    requires on { IsKeptAt T.role T.kept (F.device flash.now) on.now }
+    requires on { IsKeptAt T.role T.format_of T.kept (F.device flash.now) on.now }
     requires order { first ≤ end }
     requires inside { end ≤ on.now.area.now.sectors }
     ensures last { let d = F.device flash.now in let area = on.now.area.now in
@@ -136,7 +136,7 @@ fn newest_before<T: SlotSectors, F: Flash, L: Ledger>(
     place: u32,
     steps: &mut Steps<L>,
 ) -> Option<Placed>
-    requires on { IsKeptAt T.role T.kept (F.device flash.now) on.now }
+    requires on { IsKeptAt T.role T.format_of T.kept (F.device flash.now) on.now }
     requires inside { place < on.now.area.now.sectors }
     ensures last { let d = F.device flash.now in let area = on.now.area.now in
         result
@@ -165,7 +165,7 @@ fn newest_up_to<T: SlotSectors, F: Flash, L: Ledger>(
     limit: u32,
     steps: &mut Steps<L>,
 ) -> Option<Placed>
-    requires on { IsKeptAt T.role T.kept (F.device flash.now) on.now }
+    requires on { IsKeptAt T.role T.format_of T.kept (F.device flash.now) on.now }
     requires inside { place < on.now.area.now.sectors }
     ensures last { let d = F.device flash.now in let area = on.now.area.now in
         result

@@ -91,9 +91,11 @@ units_are unit = record {
   any_copies = λ len. covered (cost unit len / unit);
   any_dones = covered (slot_size unit / unit);
   any_clears = covered 1;
+  closed_clears = covered 1;
   copy_in = λ b len. inside (cost unit len / unit);
   done_in = λ b. inside (slot_size unit / unit);
   clear_lost = λ b. omega arith;
+  closed_lost = omega arith;
 }
 
 pub nvs_is_format : (unit : ℕ) → IsUnit unit → IsSectorFormat (format_in unit)

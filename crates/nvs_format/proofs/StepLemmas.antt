@@ -71,6 +71,7 @@ module _ (unit : ℕ) (b e : List ℕ) where
     same_entries = entries_are unit e ∙ ap (λ (xs : List Slot). map entry_of (filter_map (counting_entry unit) xs)) h.same_slots ∙ sym (entries_are unit b);
     long = h.long;
     sound = λ sound. close-sound unit b e used sound h;
+    emptying = λ used open_here. refl;
   }
 
   pub keeps_same : e ≡ b → Keeps (format_in unit) b e

@@ -48,6 +48,7 @@ units_of unit = record {
   any_copy = λ len. just (cost unit len / unit);
   any_done = just (slot_size unit / unit);
   any_clear = just 1;
+  clear_closed = just 1;
   round = λ size. size / unit + 1;
   mount = λ size. size / unit;
   entry = λ len. cost unit len / unit;

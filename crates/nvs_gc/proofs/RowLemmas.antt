@@ -133,13 +133,13 @@ module _ (old : Device) (nvs : Nvs) (lawful : IsLawful old.banks old.bytes) (on 
   pub round-row : {T : Type 0} (new : Device) (result : Result T Lost) → RoundEnds old new nvs.store.area nvs.store.current result → RoundRow old new nvs.store.area nvs.store.current result
   round-row new (Ok x) (inl clean) =
       let none : round_units old nvs.store.area nvs.store.current ≡ 0 = ap (λ (t : Bool). cond t 0 (cond (is_blank_at (reading unit) sectors (next sectors (next sectors place))) (slot_size unit / unit) ((2 * slot_size unit + copied_cost old nvs.store.area (next sectors place)) / unit + 1))) clean.clean in
-      record { exactly = subst (λ (n : ℕ). Spends old new n) (sym none) (idle old new clean.same); at_most = tt }
+      record { whole = subst (λ (n : ℕ). Spends old new n) (sym none) (idle old new clean.same); cut = tt }
   round-row new (Ok x) (inr does_pass) =
       let spent : SpendsIn old new (just (round_units old nvs.store.area nvs.store.current)) = subst (λ (r : Range). SpendsIn old new r) (round_is does_pass.used) does_pass.units in
-      record { exactly = exactly_so old new (round_units old nvs.store.area place) (round_units old nvs.store.area place) (round_units old nvs.store.area place) spent refl refl; at_most = tt }
+      record { whole = exactly_so old new (round_units old nvs.store.area place) (round_units old nvs.store.area place) (round_units old nvs.store.area place) spent refl refl; cut = tt }
   round-row new (Err e) stops =
       let spent : SpendsUpTo old new (just (round_units old nvs.store.area nvs.store.current)) = subst (λ (r : Range). SpendsUpTo old new r) (round_is stops.used) stops.bound in
-      record { exactly = tt; at_most = at_most_so old new (round_units old nvs.store.area place) (round_units old nvs.store.area place) spent (omega arith) }
+      record { whole = tt; cut = at_most_so old new (round_units old nvs.store.area place) (round_units old nvs.store.area place) spent (omega arith) }
 
 -- ---- a mount
 
@@ -160,13 +160,13 @@ module _ (old : Device) (area : Area) (lawful : IsLawful old.banks old.bytes) (i
   mount-row new (Ok nvs) ends =
       let n : ℕ = mount_units old area (redo_on old area (open_on old area)) in
       let spent : SpendsIn old new (just (mount_units old area (redo_on old area (open_on old area)))) = subst (λ (r : Range). SpendsIn old new r) mount_is ends.4 in
-      record { exactly = exactly_so old new n n n spent refl refl; at_most = tt }
-  mount-row new (Err (HasDamage damaged)) ends = record { exactly = tt; at_most = idle_most old new (mount_units old area (redo_on old area (open_on old area))) ends.1 }
+      record { whole = exactly_so old new n n n spent refl refl; cut = tt }
+  mount-row new (Err (HasDamage damaged)) ends = record { whole = tt; cut = idle_most old new (mount_units old area (redo_on old area (open_on old area))) ends.1 }
   mount-row new (Err MountLost) ends =
       let n : ℕ = mount_units old area (redo_on old area (open_on old area)) in
       let spent : SpendsUpTo old new (just (mount_units old area (redo_on old area (open_on old area)))) = subst (λ (r : Range). SpendsUpTo old new r) mount_is ends.2 in
-      record { exactly = tt; at_most = at_most_so old new n n spent (omega arith) }
-  mount-row new (Err NoMemory) ends = record { exactly = tt; at_most = idle_most old new (mount_units old area (redo_on old area (open_on old area))) ends }
+      record { whole = tt; cut = at_most_so old new n n spent (omega arith) }
+  mount-row new (Err NoMemory) ends = record { whole = tt; cut = idle_most old new (mount_units old area (redo_on old area (open_on old area))) ends }
 
 -- ---- a write
 
@@ -175,8 +175,8 @@ write-row old new area id bytes (Ok x) ends =
     let n : ℕ = entry_units old area (length bytes) in
     let most : ℕ = (area.sectors - 1) * (sector_units old area + 1) + entry_units old area (length bytes) in
     record {
-      equal = λ holds. record { exactly = idle old new (ends.equal holds); at_most = tt };
-      fitting = λ other fit. record { exactly = exactly_so old new (0 + n) (0 + n) n (ends.fitting other fit) (omega arith) (omega arith); at_most = tt };
+      equal = λ holds. record { whole = idle old new (ends.equal holds); cut = tt };
+      fitting = λ other fit. record { whole = exactly_so old new (0 + n) (0 + n) n (ends.fitting other fit) (omega arith) (omega arith); cut = tt };
       at_most = at_most_so old new most most ends.at_most (omega arith);
     }
 write-row old new area id bytes (Err (NoSpace need live)) ends =
@@ -189,8 +189,8 @@ write-row old new area id bytes (Err (NoSpace need live)) ends =
 write-row old new area id bytes (Err TooLong) ends =
     let most : ℕ = (area.sectors - 1) * (sector_units old area + 1) + entry_units old area (length bytes) in
     record {
-      equal = λ holds. record { exactly = tt; at_most = idle_most old new 0 ends.1 };
-      fitting = λ other fit. record { exactly = tt; at_most = idle_most old new (entry_units old area (length bytes)) ends.1 };
+      equal = λ holds. record { whole = tt; cut = idle_most old new 0 ends.1 };
+      fitting = λ other fit. record { whole = tt; cut = idle_most old new (entry_units old area (length bytes)) ends.1 };
       at_most = idle_most old new most ends.1;
     }
 write-row old new area id bytes (Err PowerLost) ends =
@@ -198,7 +198,7 @@ write-row old new area id bytes (Err PowerLost) ends =
     let most : ℕ = (area.sectors - 1) * (sector_units old area + 1) + entry_units old area (length bytes) in
     record {
       equal = λ holds. absurd (ends.other holds);
-      fitting = λ other fit. record { exactly = tt; at_most = at_most_so old new n n (ends.fitting fit) (omega arith) };
+      fitting = λ other fit. record { whole = tt; cut = at_most_so old new n n (ends.fitting fit) (omega arith) };
       at_most = at_most_so old new most most ends.at_most (omega arith);
     }
 
@@ -217,8 +217,8 @@ delete-row old new area id (Ok x) lawful is ends =
     let same : entry_units old area 0 ≡ slot_units old area = entry_alone (unit_of old area) (unit_is old area lawful is.lawful.in_bank) in
     let most : ℕ = 1 * (sector_units old area + 1) + entry_units old area 0 in
     record {
-      absent = λ none. record { exactly = idle old new (ends.absent none); at_most = tt };
-      fitting = λ some fit. record { exactly = exactly_so old new (0 + n) (0 + n) (slot_units old area) (ends.fitting some fit) (omega (arith, same)) (omega (arith, same)); at_most = tt };
+      absent = λ none. record { whole = idle old new (ends.absent none); cut = tt };
+      fitting = λ some fit. record { whole = exactly_so old new (0 + n) (0 + n) (slot_units old area) (ends.fitting some fit) (omega (arith, same)) (omega (arith, same)); cut = tt };
       at_most = at_most_so old new most (sector_units old area + 1 + slot_units old area) ends.at_most (omega (arith, same));
     }
 delete-row old new area id (Err e) lawful is ends =
@@ -227,6 +227,6 @@ delete-row old new area id (Err e) lawful is ends =
     let most : ℕ = 1 * (sector_units old area + 1) + entry_units old area 0 in
     record {
       absent = λ none. absurd (ends.present none);
-      fitting = λ some fit. record { exactly = tt; at_most = at_most_so old new n (slot_units old area) (ends.fitting fit) (omega (arith, same)) };
+      fitting = λ some fit. record { whole = tt; cut = at_most_so old new n (slot_units old area) (ends.fitting fit) (omega (arith, same)) };
       at_most = at_most_so old new most (sector_units old area + 1 + slot_units old area) ends.at_most (omega (arith, same));
     }

@@ -1,6 +1,7 @@
--- What the calls of an NVS store spend, in units. Costs are in bytes, and are whole units. The rows
--- of single steps are clauses of `append`, `copy_entry`, `put_done` and `put_close` of `nvs_store`.
-use Rattle.std.specs.Prelude.{◌≡◌, ℕ, ◌+◌, ◌-◌, ◌*◌, ◌/◌, true, List, length, Some, None, Result, OnOk, OnErr, if◌then◌else◌}
+-- What the calls of an NVS store spend, in units: exactly so many at `Ok`, and at most so many at an
+-- error. Costs are in bytes, and are whole units. The rows of single steps are clauses of `append`,
+-- `copy_entry`, `put_done` and `put_close` of `nvs_store`.
+use Rattle.std.specs.Prelude.{◌≡◌, ℕ, ◌+◌, ◌-◌, ◌*◌, ◌/◌, true, List, length, Some, None, Result, if◌then◌else◌}
 use Rattle.std.specs.FinMap.{get}
 use Rattle.flash_sim.specs.Device.{Device}
 use Rattle.flash_sim.specs.declared.flash.PowerLost.{PowerLost}
@@ -8,7 +9,7 @@ use Rattle.flash_map.specs.declared.area.Area.{Area}
 use Rattle.flash_map.specs.declared.faults.MountFault.{MountFault}
 use Rattle.flash_map.specs.declared.faults.WriteFault.{WriteFault}
 use Rattle.flash_map.specs.Area.{unit_of, sectors_of}
-use Rattle.flash_map.specs.Spending.{Spends, SpendsAtMost}
+use Rattle.flash_map.specs.Spending.{SpendsAtMost, SpendsOrLoses}
 use Rattle.item_laws.specs.Area.{next}
 use Rattle.item_laws.specs.Forms.{to_copy}
 use Rattle.item_laws.specs.PairRounds.{copies_cost}
@@ -20,12 +21,6 @@ use Rattle.nvs_store.specs.On.{entry_units, is_blank_on, open_on, redo_on, scan_
 use Rattle.nvs_gc.specs.declared.nvs.Nvs.{Nvs}
 use Rattle.nvs_gc.specs.Ends.{sector_units}
 use Rattle.nvs_gc.specs.Standing.{items_on}
-
--- A call that returns Ok spends exactly so many units. One that returns an error spends at most so
--- many.
-pub record SpendsRow {T E : Type 0} (old new : Device) (units : ℕ) (result : Result T E) : Type 0 where
-  pub exactly : OnOk result (Spends old new units)
-  pub at_most : OnErr result (SpendsAtMost old new units)
 
 -- what the entries cost that a collection copies from its victim into this open sector
 abbrev pub copied_cost : Device → Area → ℕ → ℕ
@@ -46,7 +41,7 @@ round_units d area place =
     else (2 * slot_size unit + copied_cost d area opened) / unit + 1)
 
 abbrev pub RoundRow : {T : Type 0} → Device → Device → Area → ℕ → Result T PowerLost → Type 0
-RoundRow old new area place result = SpendsRow old new (round_units old area place) result
+RoundRow old new area place result = SpendsOrLoses old new (round_units old area place) result
 
 -- ---- mounting
 
@@ -62,7 +57,7 @@ mount_units d area CollectAgain =
 
 abbrev pub MountRow : Device → Device → Area → Result Nvs MountFault → Type 0
 MountRow old new area result =
-    SpendsRow old new (mount_units old area (redo_on old area (open_on old area))) result
+    SpendsOrLoses old new (mount_units old area (redo_on old area (open_on old area))) result
 
 -- ---- writing
 
@@ -73,10 +68,10 @@ Holds d area id bytes = get (items_on d area) id ≡ Some bytes
 -- most a round for each sector but one, and the entry.
 pub record WriteRow {T : Type 0} (old new : Device) (area : Area) (id : ℕ) (bytes : List ℕ)
     (result : Result T WriteFault) : Type 0 where
-  pub equal : Holds old area id bytes → SpendsRow old new 0 result
+  pub equal : Holds old area id bytes → SpendsOrLoses old new 0 result
   pub fitting : ¬ Holds old area id bytes
       → fits (unit_of old area) (scan_on old area) (length bytes) ≡ true
-      → SpendsRow old new (entry_units old area (length bytes)) result
+      → SpendsOrLoses old new (entry_units old area (length bytes)) result
   pub at_most :
       let rounds = (area.sectors - 1) * (sector_units old area + 1) in
       SpendsAtMost old new (rounds + entry_units old area (length bytes))
@@ -90,7 +85,7 @@ IsAbsent d area id = get (items_on d area) id ≡ None
 -- most a round and a slot.
 pub record DeleteRow {T : Type 0} (old new : Device) (area : Area) (id : ℕ) (result : Result T PowerLost) :
     Type 0 where
-  pub absent : IsAbsent old area id → SpendsRow old new 0 result
+  pub absent : IsAbsent old area id → SpendsOrLoses old new 0 result
   pub fitting : ¬ IsAbsent old area id → fits (unit_of old area) (scan_on old area) 0 ≡ true
-      → SpendsRow old new (slot_units old area) result
+      → SpendsOrLoses old new (slot_units old area) result
   pub at_most : SpendsAtMost old new (sector_units old area + 1 + slot_units old area)

@@ -13,7 +13,7 @@ ghost use Rattle.item_store.specs.Standing.{IsStoreArea};
 use crate::entries::{bytes_in, last_of, named_id, note_entries, placed, reach_in};
 use flash_map::{Area, Damaged, Geometry, area_erase, geometry, sector_view};
 use flash_sim::{Flash, PowerLost, Steps};
-use item_store::{IdPair, IdRange, MayHave, Notes, Placed, SlotSectors};
+use item_store::{IdPair, IdRange, ListStart, MayHave, Notes, Placed, SlotSectors};
 use nvs_store::{
     Found, Redo, Scan, append, are_named, capacity, copy_entry, cost, counting_entry, find_holder,
     is_blank, is_closed, mount_scan, put_close, put_done, scan_sector, slot_size, used_count,
@@ -194,6 +194,7 @@ impl SlotSectors for NvsOpen {
         flash: &F,
         area: &Area,
         place: u32,
+        _known: u32,
         id: u32,
         steps: &mut Steps<L>,
     ) -> Option<Placed> {
@@ -205,13 +206,13 @@ impl SlotSectors for NvsOpen {
         flash: &F,
         area: &Area,
         place: u32,
-        least: u32,
-        most: u32,
+        _known: u32,
+        ids: &IdRange,
         steps: &mut Steps<L>,
     ) -> u32 {
         let unit = geometry(flash, area).unit;
         let bytes = sector_view(flash, area, place, steps);
-        reach_in(bytes, unit, used_count(bytes, unit), least, most)
+        reach_in(bytes, unit, used_count(bytes, unit), ids.least, ids.most)
     }
 
     fn reach_of<F: Flash, L: Ledger>(
@@ -237,14 +238,14 @@ impl SlotSectors for NvsOpen {
         flash: &F,
         area: &Area,
         place: u32,
-        skipped: u32,
+        start: &ListStart,
         ids: &IdRange,
         bytes: &[u8],
         steps: &mut Steps<L>,
     ) -> Option<Placed> {
         let unit = geometry(flash, area).unit;
         let sector = sector_view(flash, area, place, steps);
-        match find_holder(sector, unit, skipped, ids.least, ids.most, bytes) {
+        match find_holder(sector, unit, start.skipped, ids.least, ids.most, bytes) {
             Some(found) => Some(placed(found.at(place))),
             None => None,
         }
@@ -268,6 +269,7 @@ impl SlotSectors for NvsOpen {
         flash: &F,
         area: &Area,
         place: u32,
+        _known: u32,
         notes: &mut N,
         steps: &mut Steps<L>,
     ) {

@@ -15,11 +15,16 @@ use Rattle.nvs_store.specs.declared.scan.SlotEntry.{SlotEntry}
 use Rattle.nvs_store.specs.Entries.{entry_of}
 use Rattle.nvs_store.specs.Geometry.{slot_size}
 use Rattle.nvs_store.specs.Sector.{slot_at, slots, is_used, used_slots, counting_entry}
-use Rattle.nvs_store.specs.Holding.{Holds, NoneHolds, HoldsAt, IsFirstHolder, NoneNames, named_at}
+use Rattle.nvs_store.specs.Holding.{Holds, NoneHolds, IsFirstHolder, NoneNames, named_at}
 use Rattle.nvs_store.proofs.Marks.{counting_entry_under}
 use Rattle.nvs_store.proofs.NvsEntries.{are_nvs, bytes_len}
 use Rattle.nvs_store.proofs.SlotReads.{slot_size_bounds}
 use Rattle.nvs_store.proofs.WantedSlots.{counting_cases}
+
+-- the entry in this slot counts, and gives an id of the range these bytes; none if not
+abbrev pub HoldsAt : ℕ → List ℕ → ℕ → ℕ → List ℕ → ℕ → Option SlotEntry → Type 0
+HoldsAt unit b least most wanted slot None = (f : SlotEntry) → counting_entry unit (slot_at unit b slot) ≡ Some f → Holds b least most wanted f → ⊥
+HoldsAt unit b least most wanted slot (Some f) = (counting_entry unit (slot_at unit b slot) ≡ Some f) × Holds b least most wanted f
 
 -- ---- the used slots
 

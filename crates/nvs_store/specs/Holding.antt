@@ -19,14 +19,6 @@ NoneHolds unit sector least most wanted first end =
     (slot : ℕ) (f : SlotEntry) → first ≤ slot → slot < end
     → counting_entry unit (slot_at unit sector slot) ≡ Some f → ¬ Holds sector least most wanted f
 
--- the entry of this slot counts and is such an entry; none if not
-abbrev pub HoldsAt : ℕ → List ℕ → ℕ → ℕ → List ℕ → ℕ → Option SlotEntry → Type 0
-HoldsAt unit sector least most wanted slot None =
-    (f : SlotEntry) → counting_entry unit (slot_at unit sector slot) ≡ Some f
-    → ¬ Holds sector least most wanted f
-HoldsAt unit sector least most wanted slot (Some f) =
-    (counting_entry unit (slot_at unit sector slot) ≡ Some f) × Holds sector least most wanted f
-
 -- the first such entry of a sector's used slots from one on
 pub record IsFirstHolder (unit : ℕ) (sector : List ℕ) (least most : ℕ) (wanted : List ℕ) (first : ℕ)
     (f : SlotEntry) : Type 0 where

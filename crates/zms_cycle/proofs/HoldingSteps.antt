@@ -173,7 +173,7 @@ inside_ending b end at room =
     let within : end ≤ length b = at.within in
     omega arith
 
--- ---- slots that name one of two ids
+-- ---- slots that name an id
 
 ne_above : (id wanted : ℕ) → wanted ≤ id → (id ≡ wanted → ⊥) → wanted < id
 ne_above id wanted ge other = elim (cases_lt wanted id) [

@@ -1,5 +1,5 @@
 -- What a slot says before its CRC is looked at: of which cycle and id its entry is, if it has one.
-use Rattle.std.proofs.Common.{◌≡◌, ℕ, ◌+◌, ◌-◌, ◌*◌, ◌/◌, ◌<◌, ◌≤◌, Bool, true, false, ◌⊎◌, cond, eqb, List, length, take, drop, Option, Some, None, refl, sym, ap, subst, ◌∙◌, inl, inr, arith}
+use Rattle.std.proofs.Common.{◌≡◌, ℕ, ◌+◌, ◌-◌, ◌*◌, ◌/◌, ◌<◌, ◌≤◌, Bool, true, false, ◌&&◌, ◌⊎◌, cond, eqb, List, length, take, drop, Option, Some, None, refl, sym, ap, subst, ◌∙◌, inl, inr, arith}
 use Rattle.std.specs.Prelude.{slice_index}
 use Rattle.std.proofs.lemmas.Bool.{cases_lt, false≢true, cond-true, cond-false, eq-eqb, ne_eqb}
 use Rattle.std.proofs.lemmas.List.FromFn.{get_or-map-range_with_len}
@@ -11,10 +11,10 @@ use Rattle.item_laws.proofs.SlotLemmas.{length-used_slots, HasFence-from_low}
 use Rattle.crc8_entry.specs.Crc.{crc}
 use Rattle.zms_cycle.specs.declared.entry.ZEntry.{ZEntry}
 use Rattle.zms_cycle.specs.declared.reading.SlotEntry.{SlotEntry}
-use Rattle.zms_cycle.specs.Entries.{entry_of, decoded, is_special}
-use Rattle.zms_cycle.specs.Sector.{slot_of, is_valid_under, is_valid, cycle_of, valid_slots, entry_in}
+use Rattle.zms_cycle.specs.Entries.{entry_of, decoded, is_special, is_empty, is_close}
+use Rattle.zms_cycle.specs.Sector.{slot_of, is_valid_under, is_valid, cycle_of, valid_slots, holds_close, entry_in}
 use Rattle.zms_cycle.specs.Searches.{names}
-use Rattle.zms_cycle.proofs.Slots16.{valid-is, entry_in-is, not_valid}
+use Rattle.zms_cycle.proofs.Slots16.{valid-is, close-is, cycle_of-is, entry_in-is, not_valid}
 
 -- ---- what decodes has the fields that its bytes name
 
@@ -130,6 +130,54 @@ valid_checked cycle slot true own checks back =
 valid_checked cycle slot false own checks back =
     let read : decoded slot.bytes ≡ None = cond-false (eqb (crc 255 (drop 1 slot.bytes)) (slice_index slot.bytes 0)) (Some (entry_of slot.bytes)) None (ne_eqb (crc 255 (drop 1 slot.bytes)) (slice_index slot.bytes 0) (λ e. false≢true (back e))) in
     sym (valid-is cycle slot None read)
+
+-- sixteen bytes are an entry if their CRC matches
+pub checked : (bytes : List ℕ) (t : Bool) → (t ≡ true → crc 255 (drop 1 bytes) ≡ slice_index bytes 0) → (crc 255 (drop 1 bytes) ≡ slice_index bytes 0 → t ≡ true) → decoded bytes ≡ cond t (Some (entry_of bytes)) None
+unfolding decoded
+checked bytes true checks back = cond-true (eqb (crc 255 (drop 1 bytes)) (slice_index bytes 0)) (Some (entry_of bytes)) None (eq-eqb (crc 255 (drop 1 bytes)) (slice_index bytes 0) (checks refl))
+checked bytes false checks back = cond-false (eqb (crc 255 (drop 1 bytes)) (slice_index bytes 0)) (Some (entry_of bytes)) None (ne_eqb (crc 255 (drop 1 bytes)) (slice_index bytes 0) (λ e. false≢true (back e)))
+
+-- a sector whose slot 0 has other fields than an empty entry is blank
+pub cycle_none : (b : List ℕ) → is_empty (entry_of (slot_of b 0).bytes) ≡ false → cycle_of b ≡ None
+cycle_none b other =
+    let e : ZEntry = entry_of (slot_of b 0).bytes in
+    elim (decoded_cases (slot_of b 0).bytes) [
+      | inl none ↦ cycle_of-is b None none
+      | inr some ↦ cycle_of-is b (Some e) some ∙ cond-false (is_empty e) (Some e.cycle) None other
+    ]
+
+-- one with those of an empty entry has its cycle if the CRC matches
+pub cycle_read : (b : List ℕ) (t : Bool) → is_empty (entry_of (slot_of b 0).bytes) ≡ true → decoded (slot_of b 0).bytes ≡ cond t (Some (entry_of (slot_of b 0).bytes)) None → cycle_of b ≡ cond t (Some (entry_of (slot_of b 0).bytes).cycle) None
+cycle_read b true empty is =
+    let e : ZEntry = entry_of (slot_of b 0).bytes in
+    cycle_of-is b (Some e) is ∙ cond-true (is_empty e) (Some e.cycle) None empty
+cycle_read b false empty is = cycle_of-is b None is
+
+and_last : (p q : Bool) → q ≡ false → false ≡ (p && q)
+and_last true q is = sym is
+and_last false q is = refl
+
+-- a slot with other fields than a close entry holds none
+pub close_none : (slot : Slot) (p : Bool) → is_close (entry_of slot.bytes) ≡ false → false ≡ (p && holds_close slot)
+close_none slot p other =
+    elim (decoded_cases slot.bytes) [
+      | inl none ↦ and_last p (holds_close slot) (close-is slot None none)
+      | inr some ↦ and_last p (holds_close slot) (close-is slot (Some (entry_of slot.bytes)) some ∙ other)
+    ]
+
+-- one with those of a close entry holds it if it is valid
+pub close_read : (cycle : ℕ) (slot : Slot) → is_close (entry_of slot.bytes) ≡ true → is_valid_under cycle slot ≡ (is_valid_under cycle slot && holds_close slot)
+close_read cycle slot close =
+    elim (decoded_cases slot.bytes) [
+      | inl none ↦
+          let not : is_valid_under cycle slot ≡ false = valid-is cycle slot None none in
+          not ∙ sym (ap (λ (p : Bool). p && holds_close slot) not)
+      | inr some ↦ and_true (is_valid_under cycle slot) (holds_close slot) (close-is slot (Some (entry_of slot.bytes)) some ∙ close)
+    ]
+  where
+    and_true : (p q : Bool) → q ≡ true → p ≡ (p && q)
+    and_true true q is = sym is
+    and_true false q is = refl
 
 -- all but the first, as a range
 pub take_drop_all : (xs : List ℕ) → take (length xs - 1) (drop 1 xs) ≡ drop 1 xs

@@ -1,5 +1,5 @@
 -- What the steps in a sector spend at most, and what they read.
-use Rattle.std.proofs.Common.{◌≡◌, ℕ, ◌+◌, ◌/◌, ◌<◌, ◌≤◌, Bool, true, false, cond, List, Some, Result, refl, ap, ◌∙◌, inl, inr, arith}
+use Rattle.std.proofs.Common.{◌≡◌, ℕ, ◌+◌, ◌/◌, ◌<◌, ◌≤◌, Bool, true, false, cond, List, Some, Result, refl, ap, ◌∙◌, inr, arith}
 use Rattle.std.specs.Prelude.{is_err}
 use Rattle.flash_sim.specs.declared.flash.Kind.{Kind}
 use Rattle.flash_sim.specs.declared.flash.Kind.TheVariants.{Erasing, Rewritable}

@@ -44,7 +44,7 @@ pub record EndsSlot (b : List ℕ) (end : ℕ) : Type 0 where
   pub within : end ≤ length b
   pub whole : (length b - end) % 16 ≡ 0
 
--- ---- slots that name one of two ids
+-- ---- slots that name an id
 
 -- no slot from one number up to another names this id
 abbrev pub NoneNamed : List ℕ → ℕ → ℕ → ℕ → Type 0
@@ -53,13 +53,6 @@ NoneNamed b from to id = (slot : ℕ) → from ≤ slot → slot < to → names 
 -- no slot of a sector's list behind the first so many names this id
 abbrev pub NoneNames : List ℕ → ℕ → ℕ → Type 0
 NoneNames b skipped id = NoneNamed b (2 + skipped) (length (valid_slots b) + 2) id
-
--- from one slot up to the found one none names either id; if none was found, no slot of the list does
-abbrev pub FindsNamed : List ℕ → ℕ → ℕ → ℕ → Option ℕ → Type 0
-FindsNamed b from lower upper None =
-    NoneNamed b from (length (valid_slots b) + 2) lower × NoneNamed b from (length (valid_slots b) + 2) upper
-FindsNamed b from lower upper (Some slot) =
-    (from ≤ slot) × ((slot + 1) * 16 ≤ length b) × NoneNamed b from slot lower × NoneNamed b from slot upper
 
 -- ---- what a slot says before its CRC is looked at
 

@@ -1,14 +1,14 @@
 // Searches that look at what slots say before their CRCs.
 ghost use Rattle.std.specs.Prelude.{◌≡◌, ℕ, ◌+◌, ◌*◌, ◌^◌, ◌<◌, ◌≤◌, ◌↔◌, IsTrue, true, false, length, nat_lt};
 ghost use Rattle.zms_cycle.specs.Entries.{entry_of, offset_of};
-ghost use Rattle.zms_cycle.specs.Holding.{EndsSlot, number_below, FindsAlike, FindsBytes, FindsNamed, NoneNames};
+ghost use Rattle.zms_cycle.specs.Holding.{FindsAlike, FindsBytes, NoneNamed, NoneNames};
 ghost use Rattle.zms_cycle.specs.Searches.{names};
 ghost use Rattle.zms_cycle.specs.Sector.{slot_of, cycle_of, valid_slots, value_of, is_sound};
 
 use crate::reading::{
     FIRST, SLOT, SPECIAL_ID, SlotEntry, TAIL, cycle_of, listed_entry, valid_within,
 };
-use crate::searching::names;
+use crate::searching::{names, number_of, slot_below};
 
 // Whether the bytes are the same. Names differ at their end more often than at their start, so the
 // last byte is compared first.
@@ -70,26 +70,6 @@ fn gives(sector: &[u8], fields: &[u8], bytes: &[u8]) -> bool
     is_same(&sector[offset..offset + count], bytes)
 }
 
-// The number of the slot that ends so many bytes above the start of a sector.
-fn number_of(sector: &[u8], end: usize) -> u32
-    requires inside { EndsSlot sector.now end }
-    requires short { length sector.now ≤ 2 ^ 15 }
-    ensures { result ≡ number_below sector.now end }
-{
-    (sector.len() - end) as u32 / SLOT
-}
-
-// The fields of that slot. A search goes from slot to slot by where they end, which takes fewer
-// instructions than by their numbers.
-fn slot_below(sector: &[u8], end: usize) -> &[u8]
-    requires inside { EndsSlot sector.now end }
-    requires room { 16 ≤ end }
-    ensures bytes { result.now ≡ (slot_of sector.now (number_below sector.now end)).bytes }
-    ensures len { length result.now ≡ 16 }
-{
-    &sector[end - SLOT as usize..end]
-}
-
 // The first slot from one on that gives an id of the range these bytes, above the first slot that
 // names another cycle. Of the CRCs only that of slot 0 is checked.
 fn first_alike(sector: &[u8], from: u32, least: u32, most: u32, bytes: &[u8]) -> Option<u32>
@@ -121,10 +101,14 @@ fn is_listed(sector: &[u8], known: u32, slot: u32) -> bool
     requires long { 48 ≤ length sector.now }
     requires short { length sector.now ≤ 2 ^ 15 }
     requires known { known ≤ length (valid_slots sector.now) }
-    requires behind { known + 2 ≤ slot }
+    requires from { 2 ≤ slot }
     requires inside { (slot + 1) * 16 ≤ length sector.now }
     ensures { result ≡ nat_lt slot (length (valid_slots sector.now) + 2) }
 {
+    let before = slot - FIRST;
+    if before < known {
+        return true;
+    }
     match cycle_of(sector) {
         Some(cycle) => valid_within(sector, cycle, known, slot - 1) == slot - 1,
         None => false,
@@ -133,10 +117,12 @@ fn is_listed(sector: &[u8], known: u32, slot: u32) -> bool
 
 /// The first entry behind the first so many slots of a sector's list that gives an id from `least`
 /// to `most` these bytes; `None` if there is none. It compares ids and bytes before CRCs, and
-/// checks only the CRCs of the slots up to the entry, without the first so many.
+/// checks only the CRCs of the slots up to the entry, without the first so many and the first
+/// `known`.
 pub fn find_bytes(
     sector: &[u8],
     skipped: u32,
+    known: u32,
     least: u32,
     most: u32,
     bytes: &[u8],
@@ -144,9 +130,11 @@ pub fn find_bytes(
     requires long { 48 ≤ length sector.now }
     requires short { length sector.now ≤ 2 ^ 15 }
     requires listed { skipped ≤ length (valid_slots sector.now) }
+    requires known { known ≤ length (valid_slots sector.now) }
     requires sound { is_sound sector.now ≡ true }
     ensures { FindsBytes sector.now least most bytes.now skipped result }
 {
+    let unchecked = skipped.max(known);
     match first_alike(
         sector,
         FIRST + skipped,
@@ -154,34 +142,33 @@ pub fn find_bytes(
         most.min(SPECIAL_ID - 1),
         bytes,
     ) {
-        Some(slot) if is_listed(sector, skipped, slot) => listed_entry(sector, slot),
+        Some(slot) if is_listed(sector, unchecked, slot) => listed_entry(sector, slot),
         _ => None,
     }
 }
 
-// The first slot from one on that names one of two ids; `None` if no slot of the list does. It
-// reads up to the first slot of another cycle, and checks no CRC.
-fn first_named(sector: &[u8], cycle: u8, from: u32, lower: u32, upper: u32) -> Option<u32>
+// Whether a slot from one on names the id. If not, no slot of the list does. It reads up to the
+// first slot of another cycle, and checks no CRC.
+fn is_named(sector: &[u8], cycle: u8, from: u32, id: u32) -> bool
     requires long { 48 ≤ length sector.now }
     requires short { length sector.now ≤ 2 ^ 15 }
     requires cycle { cycle_of sector.now ≡ Some cycle }
     requires from { 2 ≤ from }
     requires inside { from * 16 ≤ length sector.now }
-    ensures { FindsNamed sector.now from lower upper result }
+    ensures { result ≡ false → NoneNamed sector.now from (length (valid_slots sector.now) + 2) id }
 {
-    let mut end = sector.len() - from as usize * SLOT as usize;
+    let mut end = sector.len() - (from * SLOT) as usize;
     while end >= SLOT as usize {
         let fields = slot_below(sector, end);
         if fields[1] != cycle {
-            return None;
+            return false;
         }
-        let id = id_in(fields);
-        if id == lower || id == upper {
-            return Some(number_of(sector, end));
+        if id_in(fields) == id {
+            return true;
         }
         end -= SLOT as usize;
     }
-    None
+    false
 }
 
 /// Which of two ids the slots behind the first so many of a sector's list may have: one that is
@@ -198,11 +185,9 @@ pub fn may_have(sector: &[u8], skipped: u32, lower: u32, upper: u32) -> (bool, b
     let from = FIRST
         .saturating_add(skipped)
         .min(sector.len() as u32 / SLOT);
-    let Some(slot) = first_named(sector, cycle, from, lower, upper) else {
-        return (false, false);
-    };
-    (
-        first_named(sector, cycle, slot, lower, lower).is_some(),
-        first_named(sector, cycle, slot, upper, upper).is_some(),
-    )
+    let one = is_named(sector, cycle, from, lower);
+    if lower == upper {
+        return (one, one);
+    }
+    (one, is_named(sector, cycle, from, upper))
 }

@@ -5,7 +5,7 @@ ghost use Rattle.std.specs.Option.{option_and_then, option_map_or};
 ghost use Rattle.flash_map.specs.Area.{sector_bytes};
 ghost use Rattle.item_laws.specs.Slots.{used_slots};
 ghost use Rattle.zms_cycle.specs.Areas.{IsZmsSector, kind_on};
-ghost use Rattle.zms_cycle.specs.Entries.{decoded, offset_of, is_special, mark_of, is_empty, is_close, is_done};
+ghost use Rattle.zms_cycle.specs.Entries.{entry_of, decoded, offset_of, is_special, mark_of, is_empty, is_close, is_done};
 ghost use Rattle.zms_cycle.specs.Sector.{slot_of, is_valid_under, is_valid, cycle_of, valid_slots, holds_close, is_closed, entry_in, value_end, data_len, cost, capacity, written, data_end, is_fresh, can_close};
 ghost use Rattle.zms_cycle.specs.States.{state_of, IsOpenedOn};
 
@@ -76,18 +76,26 @@ fn is_zero(bytes: &[u8]) -> bool
     bytes.iter().all(|byte| *byte == 0)
 }
 
+// Whether the fields of a slot are those of an empty entry. The CRC is not checked.
 #[tactic(auto, unfolding(crate::specs::Entries::is_empty))]
-fn is_empty(entry: &ZEntry) -> bool
-    ensures { result ≡ is_empty entry.now }
+fn is_empty(fields: &[u8]) -> bool
+    requires { length fields.now ≡ 16 }
+    ensures { result ≡ is_empty (entry_of fields.now) }
 {
-    entry.id == SPECIAL_ID && entry.len == 0xFFFF && is_zero(&entry.tail)
+    u32::from_le_bytes([fields[4], fields[5], fields[6], fields[7]]) == SPECIAL_ID
+        && u16::from_le_bytes([fields[2], fields[3]]) == 0xFFFF
+        && is_zero(&fields[8..16])
 }
 
+// Whether they are those of a close entry.
 #[tactic(auto, unfolding(crate::specs::Entries::is_close))]
-fn is_close(entry: &ZEntry) -> bool
-    ensures { result ≡ is_close entry.now }
+fn is_close(fields: &[u8]) -> bool
+    requires { length fields.now ≡ 16 }
+    ensures { result ≡ is_close (entry_of fields.now) }
 {
-    entry.id == SPECIAL_ID && entry.len == 0 && mark_of(entry) == 1
+    u32::from_le_bytes([fields[4], fields[5], fields[6], fields[7]]) == SPECIAL_ID
+        && u16::from_le_bytes([fields[2], fields[3]]) == 0
+        && u32::from_le_bytes([fields[12], fields[13], fields[14], fields[15]]) == 1
 }
 
 #[tactic(auto, unfolding(crate::specs::Entries::is_done))]
@@ -130,10 +138,14 @@ pub fn cycle_of(sector: &[u8]) -> Option<u8>
     requires { 16 ≤ length sector.now }
     ensures { result ≡ cycle_of sector.now }
 {
-    match entry_at(sector, 0) {
-        Some(entry) if is_empty(&entry) => Some(entry.cycle),
-        _ => None,
+    let fields = slot_of(sector, 0);
+    if !is_empty(fields) {
+        return None;
     }
+    if !checks(&fields[1..], fields[0]) {
+        return None;
+    }
+    Some(fields[1])
 }
 
 // Whether a slot has an entry of this cycle. The cycle is compared before the CRC.
@@ -154,10 +166,10 @@ pub(crate) fn is_closed(sector: &[u8], cycle: u8) -> bool
     ensures { result
         ≡ (is_valid_under cycle (slot_of sector.now 1) && holds_close (slot_of sector.now 1)) }
 {
-    match entry_at(sector, 1) {
-        Some(entry) => entry.cycle == cycle && is_close(&entry),
-        None => false,
+    if !is_close(slot_of(sector, 1)) {
+        return false;
     }
+    is_valid(sector, 1, cycle)
 }
 
 /// How many of the first so many slots from slot 2 on are valid under the cycle, before the first

@@ -1,8 +1,9 @@
 // What a look-up reads of a sector: how long its list is, whether it is closed, and how far it has
 // to be read for the ids of a range.
-ghost use Rattle.std.specs.Prelude.{◌≡◌, ℕ, ◌+◌, ◌*◌, ◌^◌, ◌<◌, ◌≤◌, ◌&&◌, nat_le, false, length, Some, if◌then◌else◌};
+ghost use Rattle.std.specs.Prelude.{◌≡◌, ℕ, ◌+◌, ◌*◌, ◌^◌, ◌<◌, ◌≤◌, ◌&&◌, nat_le, false, length, Some};
 ghost use Rattle.item_laws.specs.Slots.{used_slots};
 ghost use Rattle.zms_cycle.specs.Entries.{entry_of};
+ghost use Rattle.zms_cycle.specs.Holding.{EndsSlot, number_below};
 ghost use Rattle.zms_cycle.specs.Searches.{names};
 ghost use Rattle.zms_cycle.specs.Sector.{slot_of, is_valid, valid_slots, is_closed};
 
@@ -40,11 +41,24 @@ pub(crate) fn names(slot: &[u8], least: u32, most: u32) -> bool
     least <= id && id <= most
 }
 
-// The newer number if `is_one`; else the older.
-fn newer(is_one: bool, newer: u32, older: u32) -> u32
-    ensures { result ≡ (if is_one then newer else older) }
+// The number of the slot that ends so many bytes above the start of a sector.
+pub(crate) fn number_of(sector: &[u8], end: usize) -> u32
+    requires inside { EndsSlot sector.now end }
+    requires short { length sector.now ≤ 2 ^ 15 }
+    ensures { result ≡ number_below sector.now end }
 {
-    if is_one { newer } else { older }
+    (sector.len() - end) as u32 / SLOT
+}
+
+// The fields of that slot. A search goes from slot to slot by where they end, which takes fewer
+// instructions than by their numbers.
+pub(crate) fn slot_below(sector: &[u8], end: usize) -> &[u8]
+    requires inside { EndsSlot sector.now end }
+    requires room { 16 ≤ end }
+    ensures bytes { result.now ≡ (slot_of sector.now (number_below sector.now end)).bytes }
+    ensures len { length result.now ≡ 16 }
+{
+    &sector[end - SLOT as usize..end]
 }
 
 // How many slots from slot 2 on have to be read for the ids from `least` to `most`: up to the last
@@ -57,29 +71,36 @@ fn reach_of(sector: &[u8], cycle: u8, least: u32, most: u32) -> u32
         → k < length (used_slots (is_valid (Some cycle)) 2 16 sector.now) + 2
         → names least most (slot_of sector.now k) ≡ false }
 {
-    let count = sector.len() as u32 / SLOT;
     let mut reach = 0;
-    for slot in FIRST..count {
-        let bytes = slot_of(sector, slot);
-        if bytes[1] != cycle {
+    let mut end = sector.len() - (FIRST * SLOT) as usize;
+    while end >= SLOT as usize {
+        let fields = slot_below(sector, end);
+        if fields[1] != cycle {
             return reach;
         }
-        reach = newer(names(bytes, least, most), slot - 1, reach);
+        if names(fields, least, most) {
+            reach = number_of(sector, end) - 1;
+        }
+        end -= SLOT as usize;
     }
     reach
 }
 
 /// How many slots of a sector's list have to be read for the ids from `least` to `most`: those
-/// behind them name other ids.
-pub fn reach_in(sector: &[u8], least: u32, most: u32) -> u32
+/// behind them name other ids. The first `known` slots of the list are not checked.
+pub fn reach_in(sector: &[u8], known: u32, least: u32, most: u32) -> u32
     requires long { 48 ≤ length sector.now }
     requires short { length sector.now ≤ 2 ^ 15 }
+    requires known { known ≤ length (valid_slots sector.now) }
     ensures within { result ≤ length (valid_slots sector.now) }
     ensures others { (k : ℕ) → result + 2 ≤ k → k < length (valid_slots sector.now) + 2
         → names least most (slot_of sector.now k) ≡ false }
 {
     match cycle_of(sector) {
-        Some(cycle) => valid_within(sector, cycle, 0, reach_of(sector, cycle, least, most)),
+        Some(cycle) => {
+            let reach = reach_of(sector, cycle, least, most);
+            valid_within(sector, cycle, known.min(reach), reach)
+        }
         None => 0,
     }
 }

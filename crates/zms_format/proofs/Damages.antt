@@ -3,7 +3,7 @@ use Rattle.std.proofs.Common.{◌≡◌, ℕ, zero, suc, ◌+◌, ◌-◌, ◌<�
 use Rattle.std.specs.List.{find, list_all, range_with_len, slice_get}
 use Rattle.std.specs.Option.{option_map, option_or}
 use Rattle.std.specs.Prelude.{unwrap_or}
-use Rattle.std.proofs.lemmas.Bool.{false≢true, cases_Bool, cases_eq, cond-true, cond-false, or_parts, ne_eqb, eq-eqb}
+use Rattle.std.proofs.lemmas.Bool.{false≢true, cases_Bool, cases_eq, cond-true, cond-false, and_parts, or_parts, ne_eqb, eq-eqb}
 use Rattle.flash_sim.specs.declared.flash.Kind.{Kind}
 use Rattle.flash_sim.specs.declared.flash.Kind.TheVariants.{Rewritable}
 use Rattle.flash_map.specs.declared.faults.Why.{Why}
@@ -21,8 +21,9 @@ use Rattle.item_laws.proofs.Undamaged.{HasNoDamage, rows, only-opening, opening-
 use Rattle.zms_cycle.specs.Sector.{has_guard, is_sound, holds_too_much, is_overfull, pairs}
 use Rattle.zms_cycle.proofs.Frames.{sound_of}
 use Rattle.zms_format.specs.Area.{is_begun, may_close, is_unused, reading, plain, open_place, is_second_open, is_dirty_at, is_overfull_at, damage_of}
+use Rattle.zms_format.specs.Opens.{EachHasOneOpen, DamageHasThreeKinds}
 use Rattle.zms_format.specs.Parts.{EachHasItsPart}
-use Rattle.zms_format.proofs.Sectors.{unused-is, unused-by, unused_may, unused_roomy}
+use Rattle.zms_format.proofs.Sectors.{may_close-never, closed_may, unused-is, unused-by, unused_may, unused_roomy}
 
 -- What an undamaged area is, row by row.
 
@@ -124,6 +125,17 @@ find_same p q a (suc n) same =
     ∙ ap (λ (o : Option ℕ). cond (q a) (Some a) o) (find_same p q (a + 1) n (λ k le lt. same k (omega arith) (omega arith)))
 
 module _ (kind : Kind) (sectors : List (List ℕ)) where
+  -- where each sector is closed or can be
+  open_may : ((k : ℕ) → k < length sectors → may_close kind (sector_at sectors k) ≡ true) → open_sector (reading kind) sectors ≡ open_place sectors
+  open_may may =
+      elim (option_cases (slice_get (openings plain sectors) 0)) [
+        | inr (p, some) ↦ opening-is (reading kind) sectors (Some p) some ∙ sym (opening-is plain sectors (Some p) some)
+        | inl empty ↦
+            let same = find_same (λ k. not (is_blank_at (reading kind) sectors k)) (λ k. not (is_blank_at plain sectors k)) 0 (length sectors)
+            (λ k le lt. ap not (unused-by kind (sector_at sectors k) (may k (omega arith)))) in
+            opening-is (reading kind) sectors None empty ∙ ap (λ (o : Option ℕ). unwrap_or o 0) same ∙ sym (opening-is plain sectors None empty)
+      ]
+
   -- two cases: some sector follows a closed one, or none is closed
   open_same : list_all (is_closed_at plain sectors) (places sectors) ≡ false → (((k : ℕ) → k < length sectors → is_closed_at plain sectors k ≡ false) → (k : ℕ) → k < length sectors → may_close kind (sector_at sectors k) ≡ true)
       → open_sector (reading kind) sectors ≡ open_place sectors
@@ -135,10 +147,7 @@ module _ (kind : Kind) (sectors : List (List ℕ)) where
             λ k lt follows. false≢true (sym (at_range (λ k. follows_closed plain sectors k ≡ false) (length sectors) k (find_none_all (follows_closed plain sectors) (places sectors) (sym (find-filter (follows_closed plain sectors) (places sectors)) ∙ empty)) lt) ∙ follows) in
             let start = not_all_at (is_closed_at plain sectors) 0 (length sectors) some_open in
             let start_lt = start.1 in
-            let all = none_closed sectors none start.0 (omega arith) start.2 in
-            let same = find_same (λ k. not (is_blank_at (reading kind) sectors k)) (λ k. not (is_blank_at plain sectors k)) 0 (length sectors)
-            (λ k le lt. ap not (unused-by kind (sector_at sectors k) (may all k (omega arith)))) in
-            opening-is (reading kind) sectors None empty ∙ ap (λ (o : Option ℕ). unwrap_or o 0) same ∙ sym (opening-is plain sectors None empty)
+            open_may (may (none_closed sectors none start.0 (omega arith) start.2))
       ]
 
 -- where no sector is closed, each counts
@@ -396,3 +405,54 @@ module _ (kind : Kind) (sectors : List (List ℕ)) where
 -- and it has its part of the area's list
 pub has_its_part : EachHasItsPart
 has_its_part kind sectors place long none lt counts = ap (λ (t : Bool). cond t None (Some (pairs (sector_at sectors place)))) (counts_roomy kind sectors place none lt long counts)
+
+-- The open sector of the list and that of the damage.
+
+all_at : (p : ℕ → Bool) (a n : ℕ) → list_all p (range_with_len a n) ≡ true → (k : ℕ) → a ≤ k → k < a + n → p k ≡ true
+all_at p a zero all k le lt = absurd (omega arith)
+all_at p a (suc n) all k le lt =
+    let parts = and_parts (p a) (list_all p (range_with_len (a + 1) n)) all in
+    elim (cases_eq k a) [
+      | inl here ↦ ap p here ∙ parts.0
+      | inr apart ↦ all_at p (a + 1) n parts.1 k (omega arith) (omega arith)
+    ]
+
+module _ (kind : Kind) (sectors : List (List ℕ)) where
+  open_closed : (place : ℕ) → place < length sectors → is_closed_at plain sectors place ≡ true → open_sector (reading kind) sectors ≡ open_place sectors
+  open_closed place lt closed =
+      elim (cases_Bool (list_all (is_closed_at plain sectors) (places sectors))) [
+        | inl all ↦ open_may kind sectors (λ k inside. closed_may kind (sector_at sectors k) (all_at (is_closed_at plain sectors) 0 (length sectors) all k (omega arith) (omega arith)))
+        | inr some_open ↦ open_same kind sectors some_open (λ none k inside. absurd (false≢true (sym (none place lt) ∙ closed)))
+      ]
+
+  open_plain : kind ≡ Rewritable → open_sector (reading kind) sectors ≡ open_place sectors
+  open_plain is = ap (λ (bank : Kind). open_sector (reading bank) sectors) is
+
+pub each_has_one_open : EachHasOneOpen
+each_has_one_open kind sectors = record {
+  rewritable = open_plain kind sectors;
+  undamaged = open_is kind sectors;
+  closed = open_closed kind sectors;
+  closable = open_may kind sectors;
+}
+
+-- Damage on a bank that is never erased.
+
+counts_row : (counts unused full : Bool) → (unused ≡ true → full ≡ false) → ((counts && not unused) && full) ≡ (counts && full)
+counts_row false unused full none = refl
+counts_row true false full none = refl
+counts_row true true full none = sym (none refl)
+
+pub damage_has_three_kinds : DamageHasThreeKinds
+unfolding damage_of
+damage_has_three_kinds sectors long =
+    let second : Option Damaged = first_of_kind TwoOpen (is_second_open sectors (open_place sectors)) sectors in
+    let last : Option Damaged = first_of_kind Overfull (is_overfull_at sectors (open_place sectors)) sectors in
+    let dirty : first_of_kind Dirty (is_dirty_at Rewritable sectors (open_place sectors)) sectors ≡ None =
+    none_of_kind Dirty (is_dirty_at Rewritable sectors (open_place sectors)) sectors
+    (λ k lt. not_dirty (counts_at plain sectors (open_place sectors) k) (may_close Rewritable (sector_at sectors k)) (λ counts. may_close-never (sector_at sectors k))) in
+    let full : find (is_overfull_at sectors (open_place sectors)) (places sectors) ≡ find (λ k. counts_at plain sectors (open_place sectors) k && is_overfull (sector_at sectors k)) (places sectors) =
+    find_same (is_overfull_at sectors (open_place sectors)) (λ k. counts_at plain sectors (open_place sectors) k && is_overfull (sector_at sectors k)) 0 (length sectors)
+    (λ k le lt. counts_row (counts_at plain sectors (open_place sectors) k) (is_blank_at plain sectors k) (is_overfull (sector_at sectors k)) (λ unused. unused_roomy Rewritable (sector_at sectors k) (long k (omega arith)) unused)) in
+    ap (λ (o : Option Damaged). cond (list_all (is_closed_at plain sectors) (places sectors)) (Some (record { sector = 0; why = AllClosed })) (option_or second (option_or o last))) dirty
+    ∙ ap (λ (o : Option ℕ). cond (list_all (is_closed_at plain sectors) (places sectors)) (Some (record { sector = 0; why = AllClosed })) (option_or second (option_map (λ (place : ℕ). record { sector = place; why = Overfull }) o))) full

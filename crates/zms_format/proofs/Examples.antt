@@ -11,7 +11,7 @@ use Rattle.item_laws.specs.Area.{area_pairs, first_damage, open_sector}
 use Rattle.item_laws.specs.Slots.{slot_at, used_slots}
 use Rattle.zms_cycle.specs.Entries.{decoded, is_empty, is_close, is_done}
 use Rattle.zms_cycle.specs.Sector.{entry_in, is_valid_under, cycle_of, holds_close, holds_done, can_close, data_len, value_end, end_of, is_under, entry_cost, holds_too_much}
-use Rattle.zms_format.specs.Area.{reading, is_begun, is_unused, may_close, damage_of, list_of}
+use Rattle.zms_format.specs.Area.{reading, is_begun, is_unused, may_close, open_place, damage_of, list_of}
 
 -- a damage, or the open sector and the list
 data Reported : Type 0 where
@@ -210,6 +210,9 @@ no_close_beside_the_open = record { kind = Erasing; sectors = fresh ∷ no_close
 abbrev no_close_and_two_open : Example
 no_close_and_two_open = record { kind = Erasing; sectors = no_close ∷ one ∷ []; reported = IsDamaged (record { sector = 1; why = TwoOpen }) }
 
+abbrev no_close_before_the_open : Example
+no_close_before_the_open = record { kind = Erasing; sectors = no_close_bare ∷ one ∷ []; reported = IsDamaged (record { sector = 0; why = Dirty }) }
+
 abbrev old_close_is_in_the_way : Example
 old_close_is_in_the_way = record { kind = Erasing; sectors = stale_close ∷ blank ∷ []; reported = IsDamaged (record { sector = 0; why = Dirty }) }
 
@@ -229,9 +232,18 @@ abbrev no_close_among_copies : Example
 no_close_among_copies = record { kind = Erasing; sectors = no_close ∷ closed_long ∷ []; reported = Holds 0 ((9, (1 ∷ 2 ∷ 3 ∷ 4 ∷ 5 ∷ 6 ∷ 7 ∷ 8 ∷ 9 ∷ [])) ∷ []) }
 
 abbrev examples : List Example
-examples = all_closed ∷ entries_in_two ∷ entries_beside_the_open ∷ two_after_closed ∷ two_open_comes_first ∷ too_much ∷ no_guard_slot ∷ value_beside_units ∷ value_in_guard ∷ closed_too_full ∷ nothing ∷ one_value ∷ delete_stays ∷ long_value ∷ oldest_first ∷ round_the_end ∷ wrong_crc_ends_the_list ∷ wrong_head_is_blank ∷ old_cycle_counts_not ∷ under_a_gap_counts_not ∷ gap_makes_no_sector_open ∷ old_close_closes_not ∷ closed_after_a_round ∷ copies_count_not ∷ full_copies_count_not ∷ no_guard_among_copies ∷ victim_counts_not ∷ full_victim_counts_not ∷ done_alone ∷ done_at_rest ∷ collecting_of_three ∷ collected_of_three ∷ no_close_in_the_open ∷ no_close_beside_the_open ∷ no_close_and_two_open ∷ old_close_is_in_the_way ∷ left_over_is_no_entry ∷ left_over_beside_a_value ∷ no_cycle_no_close ∷ closed_and_left_over ∷ no_close_among_copies ∷ []
+examples = all_closed ∷ entries_in_two ∷ entries_beside_the_open ∷ two_after_closed ∷ two_open_comes_first ∷ too_much ∷ no_guard_slot ∷ value_beside_units ∷ value_in_guard ∷ closed_too_full ∷ nothing ∷ one_value ∷ delete_stays ∷ long_value ∷ oldest_first ∷ round_the_end ∷ wrong_crc_ends_the_list ∷ wrong_head_is_blank ∷ old_cycle_counts_not ∷ under_a_gap_counts_not ∷ gap_makes_no_sector_open ∷ old_close_closes_not ∷ closed_after_a_round ∷ copies_count_not ∷ full_copies_count_not ∷ no_guard_among_copies ∷ victim_counts_not ∷ full_victim_counts_not ∷ done_alone ∷ done_at_rest ∷ collecting_of_three ∷ collected_of_three ∷ no_close_in_the_open ∷ no_close_beside_the_open ∷ no_close_and_two_open ∷ no_close_before_the_open ∷ old_close_is_in_the_way ∷ left_over_is_no_entry ∷ left_over_beside_a_value ∷ no_cycle_no_close ∷ closed_and_left_over ∷ no_close_among_copies ∷ []
 
 -- each area reads as is said
 all_agree : map (λ (e : Example). reported_with (damage_of e.kind e.sectors) e.kind e.sectors) examples ≡ map (λ (e : Example). e.reported) examples
 unfolding area_pairs first_damage open_sector slot_at used_slots entry_in is_valid_under cycle_of holds_close holds_done can_close data_len value_end end_of is_under is_begun is_unused may_close entry_cost holds_too_much damage_of is_empty is_close is_done padded decoded crc extended bits_of
 all_agree = refl
+
+-- In `no_close_before_the_open` the list and the damage have different open sectors.
+list_opens : open_sector (reading Erasing) no_close_before_the_open.sectors ≡ 0
+unfolding open_sector slot_at used_slots is_valid_under cycle_of holds_close can_close is_begun is_unused may_close is_empty is_close decoded crc extended bits_of
+list_opens = refl
+
+damage_opens : open_place no_close_before_the_open.sectors ≡ 1
+unfolding open_sector slot_at used_slots is_valid_under cycle_of holds_close can_close is_begun is_unused may_close is_empty is_close decoded crc extended bits_of
+damage_opens = refl

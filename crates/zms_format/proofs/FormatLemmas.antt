@@ -1,8 +1,9 @@
 -- The format of ZMS is a lawful one.
-use Rattle.std.proofs.Common.{inl, inr, ◌≡◌, ℕ, ◌+◌, ◌*◌, ◌/◌, ◌≤◌, max, ◌&&◌, Bool, true, false, cond, leb, List, [], ◌∷◌, length, map, Option, Some, None, refl, sym, ap, ◌∙◌, arith}
+use Rattle.std.proofs.Common.{inl, inr, ◌≡◌, ℕ, ◌+◌, ◌*◌, ◌/◌, ◌%◌, ◌≤◌, max, ◌&&◌, Bool, true, false, cond, eqb, leb, List, [], ◌∷◌, length, map, Option, Some, None, refl, sym, ap, ◌∙◌, arith}
 use Rattle.std.specs.Prelude.{IsSome, is_some}
 use Rattle.std.specs.List.{range_with_len}
-use Rattle.std.proofs.lemmas.Bool.{true≢false, and_parts, cases_lt, cond-true, cond-false, le-leb, lt-leb}
+use Rattle.std.specs.Option.{option_map_or}
+use Rattle.std.proofs.lemmas.Bool.{true≢false, and_parts, cases_lt, cond-true, cond-false, eqb-true, le-leb, lt-leb}
 use Rattle.std.proofs.lemmas.List.Sums.{sum_by-cons}
 use Rattle.flash_map.specs.declared.area.Geometry.{Geometry}
 use Rattle.item_laws.specs.PairRounds.{copies_cost}
@@ -13,12 +14,15 @@ use Rattle.item_laws.specs.Slots.{Slot}
 use Rattle.item_store.specs.SectorFormat.{Range, LiesIn, CoversWhole, AreUnits, IsSectorFormat}
 use Rattle.item_store.proofs.ReadLemmas as own
 use Rattle.item_store.specs.declared.entry.Entry.{Entry}
+use Rattle.zms_cycle.specs.declared.entry.ZEntry.{ZEntry}
 use Rattle.zms_cycle.specs.declared.reading.SlotEntry.{SlotEntry}
-use Rattle.zms_cycle.specs.Sector.{slot_of, is_valid, holds_close, is_closed, cycle_of, valid_slots, free, entry_in, pair_of, is_sound, value_of, cost, capacity, data_len}
+use Rattle.zms_cycle.specs.Entries.{decoded}
+use Rattle.zms_cycle.specs.Sector.{slot_of, is_valid_under, is_valid, holds_close, is_closed, cycle_of, valid_slots, free, entry_in, pair_of, is_sound, value_of, cost, capacity, data_len}
 use Rattle.zms_cycle.proofs.CopyCalls.{ordinary_id}
 use Rattle.zms_cycle.specs.Changes.{guard_units, next_cycle, Empties, emptying, first_guard, closing_most}
 use Rattle.zms_cycle.proofs.GuardUnits.{emptied_guard}
-use Rattle.zms_format.specs.Area.{may_close, is_unused, is_clean}
+use Rattle.zms_cycle.proofs.Slots16.{valid-is}
+use Rattle.zms_format.specs.Area.{is_begun, may_close, is_unused, is_clean}
 use Rattle.zms_format.proofs.Roomy.{IsRoomy, roomy_of, clean_unused, unused_clean, clean_end, not_clean_cycle}
 use Rattle.zms_format.proofs.Damages.{ring_undamaged, undamaged_ring}
 use Rattle.zms_cycle.proofs.EntryReads.{bytes_len}
@@ -120,6 +124,10 @@ module _ (bank : BankKind) where
 pub begin_emptying : (bank : BankKind) (b : List ℕ) → cycle_of b ≡ None → ((units_of bank).begin b).lost ≡ emptying bank b
 begin_emptying bank b none = ap (λ (t : Bool). (cond t (just 0) (emptying_units bank b)).lost) (ap (λ (o : Option ℕ). is_some o) none)
 
+least_most : (bank : BankKind) → emptying_least bank ≤ emptying_most bank
+least_most Rewritable = omega arith
+least_most Erasing = omega arith
+
 -- a closed sector holds an empty entry, so it is not erased
 closed_kept : (b : List ℕ) → is_closed b ≡ true → is_erased b ≡ false
 closed_kept b closed = by_flag (is_erased b) refl
@@ -137,6 +145,36 @@ closed_least Erasing b closed = two_of (is_erased b) (closed_kept b closed)
     two_of : (t : Bool) → t ≡ false → 2 ≤ cond t 1 2
     two_of true is = absurd (true≢false is)
     two_of false is = omega arith
+
+-- an entry is of one cycle
+one_cycle : (o : Option ZEntry) (c d : ℕ) → option_map_or (λ e. eqb e.cycle c) o false ≡ true → option_map_or (λ e. eqb e.cycle d) o false ≡ true → c ≡ d
+one_cycle None c d first second = absurd (true≢false (sym first))
+one_cycle (Some e) c d first second = sym (eqb-true e.cycle c first) ∙ eqb-true e.cycle d second
+
+-- a slot of the sector's own cycle is not valid under the next one
+not_next : (cycle : Option ℕ) (slot : Slot) → is_valid cycle slot ≡ true → is_valid_under (next_cycle cycle) slot ≡ false
+not_next None slot valid = absurd (true≢false (sym valid))
+not_next (Some c) slot valid = by_flag (is_valid_under ((c + 1) % 256) slot) refl
+  where
+    by_flag : (t : Bool) → is_valid_under ((c + 1) % 256) slot ≡ t → t ≡ false
+    by_flag false is = refl
+    by_flag true is =
+        let same : c ≡ (c + 1) % 256 = one_cycle (decoded slot.bytes) c ((c + 1) % 256) (sym (valid-is c slot (decoded slot.bytes) refl) ∙ valid) (sym (valid-is ((c + 1) % 256) slot (decoded slot.bytes) refl) ∙ is) in
+        absurd (omega arith)
+
+-- so no guard is due there
+no_guard : (slot : ℕ) (b : List ℕ) → is_valid (cycle_of b) (slot_of b slot) ≡ true → guard_units Rewritable (Some (next_cycle (cycle_of b))) slot b ≡ 0
+no_guard slot b valid = cond-false (is_valid_under (next_cycle (cycle_of b)) (slot_of b slot)) 1 0 (not_next (cycle_of b) (slot_of b slot) valid)
+
+-- the emptying of a closed sector in use
+pub used_emptying : (bank : BankKind) (b : List ℕ) → is_closed b ≡ true → (bank ≡ Rewritable → is_begun b ≡ true) → emptying bank b ≡ emptying_least bank
+unfolding is_begun
+used_emptying Rewritable b closed begun =
+    let shut : is_valid (cycle_of b) (slot_of b 1) ≡ true = (and_parts (is_valid (cycle_of b) (slot_of b 1)) (holds_close (slot_of b 1)) closed).0 in
+    let first : guard_units Rewritable (Some (next_cycle (cycle_of b))) 1 b ≡ 0 = no_guard 1 b shut in
+    let second : guard_units Rewritable (Some (next_cycle (cycle_of b))) 2 b ≡ 0 = no_guard 2 b (begun refl) in
+    omega arith
+used_emptying Erasing b closed begun = cond-false (is_erased b) 1 2 (closed_kept b closed)
 
 closing_within : (bank : BankKind) (b : List ℕ) (size : ℕ) → length b ≡ size → closing_most bank (free bank b) ≤ size / 16 + 1
 closing_within Rewritable b size long = omega arith
@@ -168,9 +206,11 @@ module _ (bank : BankKind) where
     any_copies = λ len. omega arith;
     any_dones = omega arith;
     any_clears = omega arith;
+    closed_clears = omega arith;
     copy_in = λ b len. entry_in_any b (cost len / 16);
     done_in = λ b. entry_in_any b 1;
     clear_lost = λ b. (emptying_within bank b).1;
+    closed_lost = least_most bank;
   }
 
   closed_in : (b : List ℕ) → is_closed b ≡ true → LiesIn ((units_of bank).clear b) (units_of bank).any_clear
@@ -196,27 +236,55 @@ module _ (bank : BankKind) where
       by_flag true = begin_lost bank b
       by_flag false = emptied_within bank b
 
-  round_most : (size : ℕ) (closed opened : List ℕ) (pairs : List (ℕ × List ℕ)) → 512 ≤ size → length closed ≡ size → copies_cost cost pairs ≤ capacity size
-      → ((units_of bank).close closed).lost + ((cond (is_clean bank opened) ((units_of bank).begin opened) ((units_of bank).clear opened)).lost + (copies_cost (λ len. ((units_of bank).any_copy len).lost) pairs + ((units_of bank).any_done.lost + (units_of bank).any_clear.lost))) ≤ (units_of bank).round size
-  round_most size closed opened pairs large long costs =
-      let ready = ready_lost opened in
-      let one = guard_one bank in
-      let three = emptying_three bank in
-      let copied = copies_most pairs in
-      let close = closing_within bank closed size long in
-      omega arith
+-- on an erasing bank, where a copy has no guard
+begin_two : (b : List ℕ) → ((units_of Erasing).begin b).lost ≤ 2
+begin_two b = by_flag (is_some (cycle_of b))
+  where
+    by_flag : (used : Bool) → (cond used (just 0) (emptying_units Erasing b)).lost ≤ 2
+    by_flag true = omega arith
+    by_flag false = (emptying_within Erasing b).1
 
-  mount_most : (size : ℕ) (opened : List ℕ) (pairs : List (ℕ × List ℕ)) → 512 ≤ size → copies_cost cost pairs ≤ capacity size
-      → max ((units_of bank).begin opened).lost (units_of bank).any_clear.lost + (copies_cost (λ len. ((units_of bank).any_copy len).lost) pairs + ((units_of bank).any_done.lost + (units_of bank).any_clear.lost)) ≤ (units_of bank).mount size
-  mount_most size opened pairs large costs =
-      let begun = begin_lost bank opened in
-      let one = guard_one bank in
-      let three = emptying_three bank in
-      let copied = copies_most pairs in
-      omega arith
+ready_two : (b : List ℕ) → (cond (is_clean Erasing b) ((units_of Erasing).begin b) ((units_of Erasing).clear b)).lost ≤ 2
+ready_two b = by_flag (is_clean Erasing b)
+  where
+    by_flag : (clean : Bool) → (cond clean ((units_of Erasing).begin b) ((units_of Erasing).clear b)).lost ≤ 2
+    by_flag true = begin_two b
+    by_flag false = (emptying_within Erasing b).1
 
-  entry_most : (before begun : List ℕ) (len : ℕ) → ((units_of bank).begin before).lost + ((units_of bank).put begun len).lost ≤ (units_of bank).entry len
-  entry_most before begun len = let most = begin_lost bank before in let one = guard_one bank in omega arith
+copies_bare : (pairs : List (ℕ × List ℕ)) → 16 * copies_cost (λ len. ((units_of Erasing).any_copy len).lost) pairs ≤ copies_cost cost pairs
+copies_bare [] = omega arith
+copies_bare (p ∷ ps) =
+    let rest = copies_bare ps in
+    let all : copies_cost cost (p ∷ ps) ≡ cost (length p.1) + copies_cost cost ps = sum_by-cons (λ (q : ℕ × List ℕ). cost (length q.1)) p ps in
+    let units : copies_cost (λ len. ((units_of Erasing).any_copy len).lost) (p ∷ ps) ≡ cost (length p.1) / 16 + 0 + copies_cost (λ len. ((units_of Erasing).any_copy len).lost) ps = sum_by-cons (λ (q : ℕ × List ℕ). cost (length q.1) / 16 + 0) p ps in
+    omega arith
+
+round_most : (bank : BankKind) (size : ℕ) (closed opened : List ℕ) (pairs : List (ℕ × List ℕ)) → 512 ≤ size → length closed ≡ size → copies_cost cost pairs ≤ capacity size
+    → ((units_of bank).close closed).lost + ((cond (is_clean bank opened) ((units_of bank).begin opened) ((units_of bank).clear opened)).lost + (copies_cost (λ len. ((units_of bank).any_copy len).lost) pairs + ((units_of bank).any_done.lost + (units_of bank).any_clear.lost))) ≤ (units_of bank).round size
+round_most Rewritable size closed opened pairs large long costs =
+    let ready = ready_lost Rewritable opened in
+    let copied = copies_most Rewritable pairs in
+    let close = closing_within Rewritable closed size long in
+    omega arith
+round_most Erasing size closed opened pairs large long costs =
+    let ready = ready_two opened in
+    let copied = copies_bare pairs in
+    omega arith
+
+mount_most : (bank : BankKind) (size : ℕ) (opened : List ℕ) (pairs : List (ℕ × List ℕ)) → 512 ≤ size → copies_cost cost pairs ≤ capacity size
+    → max ((units_of bank).begin opened).lost (units_of bank).any_clear.lost + (copies_cost (λ len. ((units_of bank).any_copy len).lost) pairs + ((units_of bank).any_done.lost + (units_of bank).any_clear.lost)) ≤ (units_of bank).mount size
+mount_most Rewritable size opened pairs large costs =
+    let begun = begin_lost Rewritable opened in
+    let copied = copies_most Rewritable pairs in
+    omega arith
+mount_most Erasing size opened pairs large costs =
+    let begun = begin_two opened in
+    let copied = copies_bare pairs in
+    omega arith
+
+entry_most : (bank : BankKind) (before begun : List ℕ) (len : ℕ) → ((units_of bank).begin before).lost + ((units_of bank).put begun len).lost ≤ (units_of bank).entry len
+entry_most Rewritable before begun len = let most = begin_lost Rewritable before in omega arith
+entry_most Erasing before begun len = let most = begin_two before in omega arith
 
 least_cost : (len : ℕ) → len ≤ cost len
 unfolding data_len padded

@@ -18,11 +18,11 @@ use Rattle.zms_cycle.specs.Changes.{guard_units, KeepsList, KeepsSlots, AddsPair
 use Rattle.zms_cycle.specs.Sector.{slot_of, cycle_of, valid_slots, is_closed, has_gc_done, entries, cost, capacity, low, free, fits, is_sound, pairs}
 use Rattle.zms_cycle.proofs.Frames.{data_len-short}
 use Rattle.zms_format.specs.Area.{reading, is_begun, may_close, is_unused, is_clean}
-use Rattle.zms_format.proofs.Roomy.{IsRoomy, no_cycle, empties_unused, empties_clean, clean_blank, unused_clean, not_clean_cycle, roomy_of, ring_sound_of, ring_same, may_same}
-use Rattle.zms_format.proofs.Sectors.{laws, begun_count, unused_slots, empty_end, written-none, closed_may, closable_may, may_closable}
-use Rattle.zms_format.specs.Formats.{entry_of, placed_of, format_of, entry_units, opens_ready}
+use Rattle.zms_format.proofs.Roomy.{IsRoomy, no_cycle, empties_unused, empties_clean, clean_blank, unused_clean, unused_of, not_clean_cycle, roomy_of, ring_sound_of, ring_same, may_same}
+use Rattle.zms_format.proofs.Sectors.{laws, begun_count, unused_slots, empty_end, written-none, closed_may, closable_may, may_closable, may_close-never}
+use Rattle.zms_format.specs.Formats.{entry_of, placed_of, just, format_of, entry_units, opens_ready}
 use Rattle.zms_format.proofs.Erased.{cycle_none}
-use Rattle.zms_format.proofs.FormatLemmas.{some_flag, and_true, slot_is, used_guard, ready_of, first_entry_is_known as known}
+use Rattle.zms_format.proofs.FormatLemmas.{some_flag, and_true, slot_is, used_guard, used_emptying, ready_of, first_entry_is_known as known}
 use Rattle.std.specs.Option.{option_map, option_map_or}
 use Rattle.std.specs.List.{range_with_len}
 use Rattle.std.proofs.lemmas.List.{map_push, length-replicate}
@@ -65,6 +65,15 @@ open_closable bank b wide sound open_here used =
     let roomy : IsRoomy bank b = roomy_of bank b (omega arith) sound in
     may_closable bank b roomy.may open_here (some_flag (cycle_of b) (not_clean_cycle bank b used))
 
+-- on a rewritable bank, slot 2 of a sector that is neither clean nor closed is valid
+used_begun : (b : List ℕ) → is_clean Rewritable b ≡ false → is_closed b ≡ false → is_begun b ≡ true
+unfolding is_begun
+used_begun b used open_here = by_flag (is_begun b) refl
+  where
+    by_flag : (t : Bool) → is_begun b ≡ t → t ≡ true
+    by_flag true is = refl
+    by_flag false is = absurd (false≢true (sym used ∙ unused_clean b (unused_of Rewritable b is open_here (may_close-never b))))
+
 -- the entries of a sector, as `item_store` sees them
 entries_are : (geometry : Geometry) (b : List ℕ) → format_entries (format_of geometry) b ≡ map entry_of (entries b)
 entries_are geometry b =
@@ -94,12 +103,20 @@ module _ (geometry : Geometry) (b e : List ℕ) (wide : 512 ≤ length b) where
     long = empties.long;
   }
 
+  -- slot 2 is valid as before where the slots stay
+  begun_same : length e ≡ length b → valid_slots e ≡ valid_slots b → is_begun e ≡ is_begun b
+  begun_same long slots = sym (begun_count e (omega arith)) ∙ ap (λ (ss : List Slot). ltb 0 (length ss)) slots ∙ begun_count b (omega arith)
+
   pub closes : zms_closes geometry.kind b e → Closes (format_of geometry) b e
   closes c = record {
     list = record { list = c.list; gc_done = c.gc_done; closed = c.closed };
     same_entries = entries_are geometry e ∙ ap (map entry_of) c.same_entries ∙ sym (entries_are geometry b);
     long = c.long;
     sound = λ sound. ring_same geometry.kind b e (omega arith) (closed_may geometry.kind e c.closed) c.long c.lower c.same_entries c.list sound;
+    emptying = λ used open_here.
+        ap just
+        (used_emptying geometry.kind e c.closed
+        (λ is. begun_same c.long c.slots ∙ used_begun b (subst (λ (bank : BankKind). is_clean bank b ≡ false) is used) open_here));
   }
 
   -- the sector is in use as before where the slots stay, and what slot 1 says of it
@@ -107,7 +124,7 @@ module _ (geometry : Geometry) (b e : List ℕ) (wide : 512 ≤ length b) where
   unfolding is_unused
   unused_same kept may =
       let long = kept.long in
-      let begun : is_begun e ≡ is_begun b = sym (begun_count e (omega arith)) ∙ ap (λ (ss : List Slot). ltb 0 (length ss)) kept.slots ∙ begun_count b (omega arith) in
+      let begun = begun_same kept.long kept.slots in
       ap (λ (t : Bool). not t && (not (is_closed e) && may_close geometry.kind e)) begun
       ∙ ap (λ (t : Bool). not (is_begun b) && (not t && may_close geometry.kind e)) kept.closed
       ∙ ap (λ (t : Bool). not (is_begun b) && (not (is_closed b) && t)) may

@@ -35,7 +35,8 @@ abbrev pub emptying_most : BankKind → ℕ
 emptying_most Rewritable = 3
 emptying_most Erasing = 2
 
--- that of a closed sector, at least: on an erasing bank it is not erased yet
+-- That of a closed sector, at least: on an erasing bank it is not erased yet. It is exactly this if
+-- the sector was in use and a close has just closed it: then slots 1 and 2 are of its own cycle.
 abbrev pub emptying_least : BankKind → ℕ
 emptying_least Rewritable = 1
 emptying_least Erasing = 2
@@ -60,6 +61,20 @@ entry_units kind b units = record {
   lost = units + guard_most kind;
 }
 
+-- The most units and erases of a round, of a mount, and of what makes a sector ready for an entry,
+-- in sectors of this size. On an erasing bank no entry has a guard, and a close fills nothing.
+abbrev pub round_limit : BankKind → ℕ → ℕ
+round_limit Rewritable size = 3 * (size / 16) + 9
+round_limit Erasing size = size / 16 + 1
+
+abbrev pub mount_limit : BankKind → ℕ → ℕ
+mount_limit Rewritable size = 2 * (size / 16)
+mount_limit Erasing size = size / 16
+
+abbrev pub ready_limit : BankKind → ℕ
+ready_limit Rewritable = 4
+ready_limit Erasing = 2
+
 -- The bytes of a sector say exactly what a step in it spends; of a close they say the least and the
 -- most. In any sector of a rewritable bank a guard may be due or not. On an erasing bank a closed
 -- sector is emptied by exactly an erase and an empty entry.
@@ -82,9 +97,10 @@ units_of kind = record {
       };
   any_done = record { least = 1; most = 1 + guard_most kind; lost = 1 + guard_most kind };
   any_clear = record { least = emptying_least kind; most = emptying_most kind; lost = emptying_most kind };
-  round = λ size. 3 * (size / 16) + 9;
-  mount = λ size. 2 * (size / 16);
-  entry = λ len. cost len / 16 + 4;
+  clear_closed = just (emptying_least kind);
+  round = round_limit kind;
+  mount = mount_limit kind;
+  entry = λ len. cost len / 16 + ready_limit kind;
 }
 
 -- a sector of an erasing bank is made ready as soon as it is the open one

@@ -3,3 +3,4 @@ pub mod Formats
 pub mod Parts
 pub mod Lookup
 pub mod Units
+pub mod Opens

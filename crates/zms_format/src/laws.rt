@@ -1,6 +1,7 @@
-//! What the list of an area is made of, and what the first entry of a sector spends. The functions
-//! do nothing: their contracts are the laws.
+//! What the list of an area is made of, which sector is open, and what the first entry of a sector
+//! spends. The functions do nothing: their contracts are the laws.
 
+ghost use Rattle.zms_format.specs.Opens.{EachHasOneOpen, DamageHasThreeKinds};
 ghost use Rattle.zms_format.specs.Parts.{EachHasItsPart};
 ghost use Rattle.zms_format.specs.Units.{FirstEntryIsKnown};
 
@@ -15,4 +16,12 @@ pub fn parts_of_list()
 /// bytes that the sector has before it is emptied for that entry.
 pub fn first_entry_is_known()
     ensures known { FirstEntryIsKnown }
+{}
+
+/// The open sector of an area's list is the one that its damage goes by: in every image of a
+/// rewritable bank, and on an erasing bank wherever there is no damage, a sector is closed, or each
+/// sector may be closed. On a rewritable bank damage has three kinds: no sector is `Dirty` there.
+pub fn open_sector_is_one()
+    ensures one { EachHasOneOpen }
+    ensures three { DamageHasThreeKinds }
 {}

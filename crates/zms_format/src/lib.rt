@@ -7,6 +7,6 @@ mod mounting;
 mod places;
 mod sector;
 
-pub use laws::{first_entry_is_known, parts_of_list};
+pub use laws::{first_entry_is_known, open_sector_is_one, parts_of_list};
 pub use mounting::scan;
 pub use sector::{Found, Marks, find_in, is_clean};

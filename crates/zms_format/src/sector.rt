@@ -181,14 +181,16 @@ pub fn holds_too_much(sector: &[u8], slots: u32) -> bool
 }
 
 /// The last entry of the id in a sector. It may be a delete. `place` is the number of the sector.
-pub fn find_in(sector: &[u8], place: u32, id: u32) -> Option<Found>
+/// The first `known` slots of the sector's list are not checked.
+pub fn find_in(sector: &[u8], place: u32, known: u32, id: u32) -> Option<Found>
     requires long { 48 ≤ length sector.now }
     requires short { length sector.now ≤ 2 ^ 15 }
+    requires known { known ≤ length (valid_slots sector.now) }
     ensures last { result ≡ option_map (placed_at place) (last_in id (entries sector.now)) }
     ensures listed { IfSome result (λ p. IsListed sector.now p) }
     ensures sector { IfSome result (λ p. p.sector ≡ place) }
 {
-    let mut count = reach_in(sector, id, id);
+    let mut count = reach_in(sector, known, id, id);
     while count > 0 {
         if let Some(found) = listed_entry(sector, count + 1) {
             if found.entry.id == id {

@@ -1,5 +1,5 @@
 -- What the calls of a ZMS store spend, in numbers.
-use Rattle.std.proofs.Common.{◌≡◌, ℕ, ◌+◌, ◌*◌, ◌/◌, ◌≤◌, max, Bool, true, false, cond, eqb, List, length, Option, Some, None, Result, Ok, Err, refl, sym, subst, ◌∙◌, inl, inr, arith}
+use Rattle.std.proofs.Common.{◌≡◌, ℕ, ◌+◌, ◌-◌, ◌*◌, ◌/◌, ◌≤◌, max, Bool, true, false, cond, eqb, List, length, Option, Some, None, Result, Ok, Err, refl, sym, subst, ◌∙◌, inl, inr, arith}
 use Rattle.std.specs.FinMap.{get}
 use Rattle.flash_sim.specs.Device.{Device}
 use Rattle.flash_sim.specs.declared.flash.PowerLost.{PowerLost as Lost}
@@ -10,7 +10,7 @@ use Rattle.flash_map.specs.declared.faults.MountFault.{MountFault}
 use Rattle.flash_map.specs.declared.faults.MountFault.TheVariants.{Damaged as HasDamage, PowerLost as MountLost, NoMemory}
 use Rattle.flash_map.specs.declared.faults.WriteFault.{WriteFault}
 use Rattle.flash_map.specs.declared.faults.WriteFault.TheVariants.{NoSpace, TooLong, PowerLost}
-use Rattle.flash_map.specs.Area.{geometry_of, sector_at, sectors_of}
+use Rattle.flash_map.specs.Area.{geometry_of, sector_at, sector_size, sectors_of}
 use Rattle.flash_map.specs.Spending.{SpendsBetween}
 use Rattle.flash_map.proofs.SpendingBounds.{between_none, between_within}
 use Rattle.item_laws.specs.Area.{next, open_sector}
@@ -33,7 +33,8 @@ use Rattle.flash_sim.specs.declared.flash.Kind.TheVariants.{Erasing, Rewritable}
 use Rattle.zms_cycle.specs.Changes.{closing_most}
 use Rattle.zms_cycle.specs.Sector.{cost, data_len, free}
 use Rattle.zms_format.specs.Area.{is_clean}
-use Rattle.zms_format.specs.Formats.{format_of, units_of}
+use Rattle.std.proofs.Math.Nat.{mul-le-mul_left}
+use Rattle.zms_format.specs.Formats.{format_of, units_of, round_limit, ready_limit}
 use Rattle.zms_format.proofs.FormatLemmas.{zms_is_format, copies_most, begin_lost, emptied_within, emptying_three, guard_one}
 use Rattle.zms_store.specs.declared.sectors.ZmsOpen.{ZmsOpen}
 use Rattle.zms_store.specs.Spending.{most_round, most_mount, WriteSpends, DeleteSpends}
@@ -77,6 +78,22 @@ between_up r n spends w = between_within spends 0 n (omega arith) w.lost
 between_same : (old new : Device) (n : ℕ) → new ≡ old → SpendsBetween old new 0 n
 between_same old new n same = subst (λ (d : Device). SpendsBetween old d 0 n) (sym same) (between_within (between_none old) 0 n (omega arith) (omega arith))
 
+-- the limits of both kinds of bank
+round_nine : (bank : BankKind) (size : ℕ) → round_limit bank size ≤ 3 * (size / 16) + 9
+round_nine Rewritable size = omega arith
+round_nine Erasing size = omega arith
+
+ready_four : (bank : BankKind) → ready_limit bank ≤ 4
+ready_four Rewritable = omega arith
+ready_four Erasing = omega arith
+
+-- so many rounds and an entry
+write_most : (bank : BankKind) (size rounds len : ℕ) → rounds * (units_of bank).round size + (units_of bank).entry len ≤ rounds * (3 * (size / 16) + 9) + cost len / 16 + 4
+write_most bank size rounds len =
+    let all : rounds * round_limit bank size ≤ rounds * (3 * (size / 16) + 9) = mul-le-mul_left rounds (round_nine bank size) in
+    let four = ready_four bank in
+    omega arith
+
 closing_room : (bank : BankKind) (room : ℕ) → closing_most bank room ≤ room / 16 + 1
 closing_room Rewritable room = omega arith
 closing_room Erasing room = omega arith
@@ -112,14 +129,17 @@ module _ (u : Geometry) (sectors : List (List ℕ)) where
   again_within : (place : ℕ) → Within (again_units k sectors place) (3 + (copy_units place + (2 + 3)))
   again_within place = with_within place (victim_units k sectors place) (cleared_within (next sectors place))
 
-  any_within : Within k.units.any_clear 3
-  any_within = let three = emptying_three u.kind in record { most = omega arith; lost = omega arith }
+  closed_within : Within k.units.clear_closed 3
+  closed_within =
+      let three = emptying_three u.kind in
+      let least = (zms_is_format u).units.closed_lost in
+      record { most = omega arith; lost = omega arith }
 
   -- the victim of a round
   last_within : (place : ℕ) → Within (round_clear k sectors place) 3
   last_within place =
       let last : ℕ = next sectors (next sectors place) in
-      either_within (eqb last place) k.units.any_clear (k.units.clear (sector_at sectors last)) 3 any_within (cleared_within last)
+      either_within (eqb last place) k.units.clear_closed (k.units.clear (sector_at sectors last)) 3 closed_within (cleared_within last)
 
   round_within : (place : ℕ) → Within (round_units k sectors place) ((free u.kind (sector_at sectors place) + 2 * copied (next sectors place)) / 16 + 9)
   round_within place =
@@ -147,6 +167,7 @@ module _ (u : Geometry) (sectors : List (List ℕ)) where
       let begins = is.units.begins b in
       let puts = is.units.puts b len in
       let all = is.entry b b len in
+      let four = ready_four u.kind in
       record { most = omega arith; lost = largest (k.units.begin b).lost ((k.units.begin b).most + (k.units.put b len).lost) (cost len / 16 + 4) (omega arith) (omega arith) }
 
 -- ---- rounds and mounts
@@ -177,11 +198,11 @@ write_spends old new area id bytes (Ok done) ends = record {
   fitting = λ other room.
       let b : List ℕ = writing.open_at (format_on old area) old area in
       between_within (ends.fitting other room) (cost (length bytes) / 16) (cost (length bytes) / 16 + 4) (omega arith) (entry_within (geometry_of old area) (sectors_of old area) b (length bytes)).most;
-  at_most = between_within ends.at_most 0 _ (omega arith) (omega arith);
+  at_most = between_within ends.at_most 0 _ (omega arith) (write_most (geometry_of old area).kind (sector_size old area) (area.sectors - 1) (length bytes));
 }
 write_spends old new area id bytes (Err (NoSpace need live)) ends = record {
   fitting = λ room. absurd (no_room (sym ends.unfit ∙ room));
-  at_most = between_within ends.at_most 0 _ (omega arith) (omega arith);
+  at_most = between_within ends.at_most 0 _ (omega arith) (write_most (geometry_of old area).kind (sector_size old area) (area.sectors - 1) (length bytes));
 }
   where
     no_room : false ≡ true → ⊥
@@ -191,8 +212,8 @@ write_spends old new area id bytes (Err TooLong) ends = record {
   at_most = between_same old new _ ends.1;
 }
 write_spends old new area id bytes (Err PowerLost) ends = record {
-  fitting = λ room. ends.fitting room;
-  at_most = between_within ends.at_most 0 _ (omega arith) (omega arith);
+  fitting = λ room. let four = ready_four (geometry_of old area).kind in between_within (ends.fitting room) 0 (cost (length bytes) / 16 + 4) (omega arith) (omega arith);
+  at_most = between_within ends.at_most 0 _ (omega arith) (write_most (geometry_of old area).kind (sector_size old area) (area.sectors - 1) (length bytes));
 }
 
 delete_cost : cost 0 / 16 + 4 ≡ 5
@@ -205,7 +226,7 @@ delete_spends old new area id (Ok done) ends =
     record {
       absent = λ none. between_same old new 0 (ends.absent none);
       fitting = λ room. by_item room (get (items_at (format_on old area) old area) id) refl;
-      at_most = between_within ends.at_most 0 _ (omega arith) (omega arith);
+      at_most = between_within ends.at_most 0 _ (omega arith) (let all = write_most (geometry_of old area).kind (sector_size old area) 1 0 in omega arith);
     }
   where
     by_item : has_room_at (format_on old area) old area 0 ≡ true → (o : Option (List ℕ)) → get (items_at (format_on old area) old area) id ≡ o → SpendsBetween old new 0 5
@@ -222,6 +243,6 @@ delete_spends old new area id (Err fault) ends =
     let five = delete_cost in
     record {
       absent = λ none. absurd (ends.present none);
-      fitting = λ room. between_within (ends.fitting room) 0 5 (omega arith) (omega arith);
-      at_most = between_within ends.at_most 0 _ (omega arith) (omega arith);
+      fitting = λ room. let four = ready_four (geometry_of old area).kind in between_within (ends.fitting room) 0 5 (omega arith) (omega arith);
+      at_most = between_within ends.at_most 0 _ (omega arith) (let all = write_most (geometry_of old area).kind (sector_size old area) 1 0 in omega arith);
     }

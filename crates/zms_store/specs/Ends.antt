@@ -32,7 +32,7 @@ MarksFirst old new area = stands.MountMarksFirst (format_on old area) old new ar
 -- whole round was made: the room that it leaves, and its units. These are the units of the close,
 -- of the new open sector if that has to be made ready, and of a garbage collection if there is
 -- something to collect. The victim takes exactly what its bytes say; with two sectors, where the
--- round closes the victim itself, 1 to 3 units on a rewritable bank. On an erasing bank it takes
+-- round closes the victim itself, one unit on a rewritable bank. On an erasing bank it takes
 -- exactly an erase and an empty entry. If power was lost in the round, the list is as before or as
 -- the round leaves it, and where a byte of the victim changed, gc-done stands. A sector is clean
 -- (`is_clean_at`) if it has no entry and all its space is free.

@@ -102,6 +102,24 @@ fn note_listed<N: Notes>(bytes: &[u8], place: u32, slot: u32, notes: &mut N)
     }
 }
 
+// How many slots of the list of a sector of this cycle are known once the slots up to this one were
+// checked, as far as these are of the list. The first `known` slots are not checked.
+fn known_to(bytes: &[u8], cycle: u8, known: u32, slot: u32) -> u32
+    requires short { length bytes.now ≤ 2 ^ 15 }
+    requires cycle { cycle_of bytes.now ≡ Some cycle }
+    requires known { known ≤ length (valid_slots bytes.now) }
+    requires from { 2 ≤ slot }
+    requires inside { (slot + 1) * 16 ≤ length bytes.now }
+    ensures known { result ≤ length (valid_slots bytes.now) }
+    ensures listed { slot < length (valid_slots bytes.now) + 2 → slot ≤ result + 1 }
+{
+    let before = slot - FIRST;
+    if before < known {
+        return known;
+    }
+    valid_within(bytes, cycle, known, slot - 1)
+}
+
 // Notes the entry in a slot, if the slot is one of the list of a sector of this cycle. The CRCs of
 // the slots up to one that changes a note are checked, without the first `known`. It returns how
 // many slots of the list are known then.
@@ -116,10 +134,9 @@ fn note_slot<N: Notes>(
     requires short { length bytes.now ≤ 2 ^ 15 }
     requires cycle { cycle_of bytes.now ≡ Some cycle }
     requires known { known ≤ length (valid_slots bytes.now) }
-    requires behind { known + 2 ≤ slot }
+    requires from { 2 ≤ slot }
     requires inside { (slot + 1) * 16 ≤ length bytes.now }
     ensures known { result ≤ length (valid_slots bytes.now) }
-    ensures few { result + 1 ≤ slot }
     ensures noted { (geometry : geometry_type) (start : N) (before : List PlacedEntry)
         → slot < length (valid_slots bytes.now) + 2
         → let k = format_of geometry in N.noted start k.ids notes.old before
@@ -131,7 +148,7 @@ fn note_slot<N: Notes>(
     if is_moot(bytes, slot, notes) {
         return known;
     }
-    let valid = valid_within(bytes, cycle, known, slot - 1);
+    let valid = known_to(bytes, cycle, known, slot);
     if valid < slot - 1 {
         return valid;
     }
@@ -140,10 +157,12 @@ fn note_slot<N: Notes>(
 }
 
 // Notes the entries of a sector with these bytes, in the order of its list. It reads up to the
-// first slot of another cycle, and checks no CRC behind the last slot that changes a note.
-pub(crate) fn note_entries<N: Notes>(bytes: &[u8], place: u32, notes: &mut N)
+// first slot of another cycle, and checks no CRC behind the last slot that changes a note, and none
+// of the first `known` slots of the list.
+pub(crate) fn note_entries<N: Notes>(bytes: &[u8], place: u32, known: u32, notes: &mut N)
     requires long { 48 ≤ length bytes.now }
     requires short { length bytes.now ≤ 2 ^ 15 }
+    requires known { known ≤ length (valid_slots bytes.now) }
     ensures { (geometry : geometry_type) (start : N) (before : List PlacedEntry)
         → let k = format_of geometry in N.noted start k.ids notes.old before
         → N.noted start k.ids notes.new
@@ -152,12 +171,12 @@ pub(crate) fn note_entries<N: Notes>(bytes: &[u8], place: u32, notes: &mut N)
     let Some(cycle) = cycle_of(bytes) else {
         return;
     };
-    let mut known = 0;
+    let mut checked = known;
     for slot in FIRST..bytes.len() as u32 / SLOT {
         let fields = slot_of(bytes, slot);
         if fields[1] != cycle {
             return;
         }
-        known = note_slot(bytes, cycle, known, place, slot, notes);
+        checked = note_slot(bytes, cycle, checked, place, slot, notes);
     }
 }

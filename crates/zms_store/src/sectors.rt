@@ -8,7 +8,7 @@ ghost use Rattle.zms_format.proofs.FormatLemmas.{zms_is_format};
 use crate::entries::{named_id, note_entries, placed, value_in};
 use flash_map::{Area, Damaged, Geometry, geometry, sector_view};
 use flash_sim::{Flash, Kind, PowerLost, Steps};
-use item_store::{IdPair, IdRange, MayHave, Notes, Placed, SlotSectors};
+use item_store::{IdPair, IdRange, ListStart, MayHave, Notes, Placed, SlotSectors};
 use std::sync::ledger::Ledger;
 use zms_cycle::{
     FIRST, Opened, SLOT, SectorState, capacity, close_at, copy_entry_at, cost, empty_sector,
@@ -200,10 +200,11 @@ impl SlotSectors for ZmsOpen {
         flash: &F,
         area: &Area,
         place: u32,
+        known: u32,
         id: u32,
         steps: &mut Steps<L>,
     ) -> Option<Placed> {
-        match find_in(sector_view(flash, area, place, steps), place, id) {
+        match find_in(sector_view(flash, area, place, steps), place, known, id) {
             Some(found) => Some(Placed {
                 sector: found.sector,
                 slot: found.slot,
@@ -218,11 +219,16 @@ impl SlotSectors for ZmsOpen {
         flash: &F,
         area: &Area,
         place: u32,
-        least: u32,
-        most: u32,
+        known: u32,
+        ids: &IdRange,
         steps: &mut Steps<L>,
     ) -> u32 {
-        reach_in(sector_view(flash, area, place, steps), least, most)
+        reach_in(
+            sector_view(flash, area, place, steps),
+            known,
+            ids.least,
+            ids.most,
+        )
     }
 
     fn reach_of<F: Flash, L: Ledger>(
@@ -241,13 +247,20 @@ impl SlotSectors for ZmsOpen {
         flash: &F,
         area: &Area,
         place: u32,
-        skipped: u32,
+        start: &ListStart,
         ids: &IdRange,
         bytes: &[u8],
         steps: &mut Steps<L>,
     ) -> Option<Placed> {
         let sector = sector_view(flash, area, place, steps);
-        match find_bytes(sector, skipped, ids.least, ids.most, bytes) {
+        match find_bytes(
+            sector,
+            start.skipped,
+            start.known,
+            ids.least,
+            ids.most,
+            bytes,
+        ) {
             Some(found) => Some(placed(found, place)),
             None => None,
         }
@@ -270,10 +283,11 @@ impl SlotSectors for ZmsOpen {
         flash: &F,
         area: &Area,
         place: u32,
+        known: u32,
         notes: &mut N,
         steps: &mut Steps<L>,
     ) {
-        note_entries(sector_view(flash, area, place, steps), place, notes);
+        note_entries(sector_view(flash, area, place, steps), place, known, notes);
     }
 
     fn begin<F: Flash, L: Ledger>(

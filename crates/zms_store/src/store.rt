@@ -1,10 +1,11 @@
 // The ZMS store: mounting, and closing with a garbage collection.
 ghost use Rattle.std.specs.Prelude.{◌≡◌, ◌*◌, ◌/◌, ◌∷◌, [], false, is_err, OnOk, OnErr};
-ghost use Rattle.flash_map.specs.Area.{sector_size};
+ghost use Rattle.flash_map.specs.Area.{geometry_of, sector_size};
 ghost use Rattle.flash_map.specs.Faults.{mount_lost};
 ghost use Rattle.flash_map.specs.Spending.{SpendsBetween};
 ghost use Rattle.flash_map.specs.Touches.{Touches};
 ghost use Rattle.zms_store.specs.Ends.{MountEnds, MarksFirst, RoundEnds, KeepsWritten, SameOrWritten, SameBytesOrWritten};
+ghost use Rattle.zms_format.specs.Formats.{mount_limit};
 ghost use Rattle.zms_store.specs.Spending.{most_round, most_mount};
 ghost use Rattle.zms_store.specs.Standing.{IsZmsArea, StandsOn, KeepsItems};
 
@@ -25,10 +26,10 @@ impl Zms {
     /// Reads the area and completes what a power loss left undone: the emptying of a collected
     /// sector, which takes one to three units by its bytes (two on an erasing bank), or a whole
     /// garbage collection. The items stay, and so do the newest versions of each, even if power is
-    /// lost again. It spends at most twice the units of a sector, and at most twice those of what it
-    /// copies and 8 more. An area at rest stays as it is. If anything changed, a sector is in use
-    /// afterwards, even if power was lost. No byte of the collected sector changes before gc-done
-    /// stands.
+    /// lost again. It spends at most twice the units of a sector (once on an erasing bank), and at
+    /// most twice those of what it copies and 8 more. An area at rest stays as it is. If anything
+    /// changed, a sector is in use afterwards, even if power was lost. No byte of the collected
+    /// sector changes before gc-done stands.
     ///
     /// # Errors
     /// `Damaged` and `NoMemory`: nothing changed. `PowerLost`, only if the area was not at rest.
@@ -43,7 +44,8 @@ impl Zms {
             (F.device flash.new) (mount_lost result) }
         ensures ends { MountEnds (F.device flash.old) (F.device flash.new) area result }
         ensures at_most { let d = F.device flash.old in
-            SpendsBetween d (F.device flash.new) 0 (2 * (sector_size d area / 16)) }
+            SpendsBetween d (F.device flash.new) 0
+            (mount_limit (geometry_of d area).kind (sector_size d area)) }
         ensures copies { let d = F.device flash.old in
             SpendsBetween d (F.device flash.new) 0 (most_mount d area) }
         ensures written { KeepsWritten (F.device flash.old) (F.device flash.new) area }

@@ -15,6 +15,7 @@ use Rattle.item_laws.proofs.RingSteps.{reads}
 use Rattle.item_store.specs.Seen.{holds_live}
 use Rattle.item_store.proofs.LiveSteps.{victim_counts}
 use Rattle.item_store.proofs.SlotFacts.{none_yet, back_at, slot_in, below_few, live_flag, current_within, next_within, opens, within, room, inside, apart, listed_there, ready, closed, not_done, source, kept_there, one_more, one_lost, one_most, kept_after}
+use Rattle.item_store.proofs.KnownSlots.{known_none}
 use Rattle.item_store.proofs.collecting.copy_live.Goals as goal
 
 pub slots-slots-requires-clause-inside : goal.slots-slots-requires-clause-inside
@@ -209,7 +210,7 @@ live_entries-requires-clause-on g c =
     let a : Device = g.F.Flash.device c.args.flash.now in
     let area : Area = c.args.area.now in
     let place : ℕ = c.args.current in
-    record { area = c.requires.area; kept = c.requires.kept; current = sym (reads (g.T.SlotSectors.format_of (geometry_of a area)).reading (sectors_of a area) place (inr (inl c.requires.collecting))).0 }
+    record { area = c.requires.area; kept = c.requires.kept; current = sym (reads (g.T.SlotSectors.format_of (geometry_of a area)).reading (sectors_of a area) place (inr (inl c.requires.collecting))).0; known = known_none g.T.SlotSectors.format_of a area }
 
 pub live_entries-requires-clause-inside : goal.live_entries-requires-clause-inside
 live_entries-requires-clause-inside g c =

@@ -139,7 +139,7 @@ returns-in_err-open_next-clause-ends g c = record {
       let did = c.in_ok-close.ensures in
       let at : c.next-place.result ≡ next (sectors_of a area) place = c.next-place.ensures.value ∙ next_there a area place in
       let e : Device = g.F.Flash.device c.open_next.new.flash in
-      on_err c.from_residual-in_err-open_next.result (round_spends_lost g.T.SlotSectors.format_of g.T.SlotSectors.role a area place law (g.met.F.Flash.is_lawful c.args.flash.now) c.requires.stands.area c.requires.stands.undamaged c.requires.stands.current c.requires.stands.rested b did.touches.banks did.ends.only did.ends.closes c.next-place.result at e did.ends.spends c.in_err-open_next.ensures.ends.spends_lost);
+      on_err c.from_residual-in_err-open_next.result (round_spends_lost g.T.SlotSectors.format_of g.T.SlotSectors.role a area place law (g.met.F.Flash.is_lawful c.args.flash.now) c.requires.stands.area c.requires.stands.undamaged c.requires.stands.current c.requires.stands.rested b did.touches.banks did.ends.only did.ends.closes c.next-place.result at c.requires.used e did.ends.spends c.in_err-open_next.ensures.ends.spends_lost);
 }
 
 pub returns-clause-opened : goal.returns-clause-opened
@@ -196,7 +196,7 @@ returns-clause-ends g c = record {
       let did = c.in_ok-close.ensures in
       let at : c.next-place.result ≡ next (sectors_of a area) place = c.next-place.ensures.value ∙ next_there a area place in
       let e : Device = g.F.Flash.device c.open_next.new.flash in
-      round_spends g.T.SlotSectors.format_of g.T.SlotSectors.role a area place law (g.met.F.Flash.is_lawful c.args.flash.now) c.requires.stands.area c.requires.stands.undamaged c.requires.stands.current c.requires.stands.rested b did.touches.banks did.ends.only did.ends.closes c.next-place.result at e did.ends.spends c.in_ok-open_next.ensures.ends.spends;
+      round_spends g.T.SlotSectors.format_of g.T.SlotSectors.role a area place law (g.met.F.Flash.is_lawful c.args.flash.now) c.requires.stands.area c.requires.stands.undamaged c.requires.stands.current c.requires.stands.rested b did.touches.banks did.ends.only did.ends.closes c.next-place.result at c.requires.used e did.ends.spends c.in_ok-open_next.ensures.ends.spends;
   spends_lost = tt;
 }
 

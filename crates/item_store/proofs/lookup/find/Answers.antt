@@ -17,7 +17,7 @@ overflow_add-on g c =
 pub find_among-newest-requires-clause-on : goal.find_among-newest-requires-clause-on
 find_among-newest-requires-clause-on g c =
     let d : Device = g.F.Flash.device c.args.flash.now in
-    record { area = c.requires.on.area; kept = c.requires.on.kept; current = open_inside (g.T.SlotSectors.format_of (geometry_of d c.args.on.now.area.now)) d c.args.on.now.area.now c.args.on.now.current c.requires.on.area.lawful c.requires.on.current }
+    record { area = c.requires.on.area; kept = c.requires.on.kept; current = open_inside (g.T.SlotSectors.format_of (geometry_of d c.args.on.now.area.now)) d c.args.on.now.area.now c.args.on.now.current c.requires.on.area.lawful c.requires.on.current; known = c.requires.on.known }
 
 pub find_among-newest-requires-clause-inside : goal.find_among-newest-requires-clause-inside
 find_among-newest-requires-clause-inside g c =
@@ -42,7 +42,7 @@ overflow_add-on-2 g c =
 pub find_among-requires-clause-on : goal.find_among-requires-clause-on
 find_among-requires-clause-on g c =
     let d : Device = g.F.Flash.device c.args.flash.now in
-    record { area = c.requires.on.area; kept = c.requires.on.kept; current = open_inside (g.T.SlotSectors.format_of (geometry_of d c.args.on.now.area.now)) d c.args.on.now.area.now c.args.on.now.current c.requires.on.area.lawful c.requires.on.current }
+    record { area = c.requires.on.area; kept = c.requires.on.kept; current = open_inside (g.T.SlotSectors.format_of (geometry_of d c.args.on.now.area.now)) d c.args.on.now.area.now c.args.on.now.current c.requires.on.area.lawful c.requires.on.current; known = c.requires.on.known }
 
 pub find_among-requires-clause-order : goal.find_among-requires-clause-order
 find_among-requires-clause-order g c =

@@ -26,7 +26,7 @@ note_among-requires-clause-on g c =
     let k : SectorFormat = g.T.SlotSectors.format_of (geometry_of d area) in
     let sectors : List (List ℕ) = sectors_of d area in
     let within = open_inside k d area c.args.on.now.current c.requires.on.area.lawful c.requires.on.current in
-    record { area = c.requires.on.area; kept = c.requires.on.kept; current = within }
+    record { area = c.requires.on.area; kept = c.requires.on.kept; current = within; known = c.requires.on.known }
 
 pub note_among-requires-clause-order : goal.note_among-requires-clause-order
 note_among-requires-clause-order g c =
@@ -44,7 +44,7 @@ note_among-requires-2-clause-on g c =
     let k : SectorFormat = g.T.SlotSectors.format_of (geometry_of d area) in
     let sectors : List (List ℕ) = sectors_of d area in
     let within = open_inside k d area c.args.on.now.current c.requires.on.area.lawful c.requires.on.current in
-    record { area = c.requires.on.area; kept = c.requires.on.kept; current = within }
+    record { area = c.requires.on.area; kept = c.requires.on.kept; current = within; known = c.requires.on.known }
 
 pub note_among-requires-2-clause-inside : goal.note_among-requires-2-clause-inside
 note_among-requires-2-clause-inside g c =

@@ -21,7 +21,7 @@ newest_up_to-requires-clause-on g c =
     let k : SectorFormat = g.T.SlotSectors.format_of (geometry_of d area) in
     let sectors : List (List ℕ) = sectors_of d area in
     let within = open_inside k d area c.args.on.now.current c.requires.on.area.lawful c.requires.on.current in
-    record { area = c.requires.on.area; kept = c.requires.on.kept; current = within }
+    record { area = c.requires.on.area; kept = c.requires.on.kept; current = within; known = c.requires.on.known }
 
 pub newest_up_to-requires-clause-inside : goal.newest_up_to-requires-clause-inside
 newest_up_to-requires-clause-inside g c =
@@ -47,7 +47,7 @@ newest_up_to-requires-in-None-clause-on g c =
     let k : SectorFormat = g.T.SlotSectors.format_of (geometry_of d area) in
     let sectors : List (List ℕ) = sectors_of d area in
     let within = open_inside k d area c.args.on.now.current c.requires.on.area.lawful c.requires.on.current in
-    record { area = c.requires.on.area; kept = c.requires.on.kept; current = within }
+    record { area = c.requires.on.area; kept = c.requires.on.kept; current = within; known = c.requires.on.known }
 
 pub newest_up_to-requires-in-None-clause-inside : goal.newest_up_to-requires-in-None-clause-inside
 newest_up_to-requires-in-None-clause-inside g c =

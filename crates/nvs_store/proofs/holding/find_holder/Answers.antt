@@ -1,8 +1,7 @@
 use Rattle.std.proofs.Common.{◌≡◌, ℕ, true, Some, None, List, ap, subst, ◌+◌, ◌-◌, ◌*◌, length, ◌∙◌, arith}
 use Rattle.std.specs.Prelude.{slice_range}
-use Rattle.nvs_store.specs.Holding.{HoldsAt}
 use Rattle.nvs_store.specs.Sector.{slot_at, is_used}
-use Rattle.nvs_store.proofs.Holders.{used_before, used_after, stands_here, next_end, bytes_here, all_used, not_given, same_bytes, none_more, first_here}
+use Rattle.nvs_store.proofs.Holders.{HoldsAt, used_before, used_after, stands_here, next_end, bytes_here, all_used, not_given, same_bytes, none_more, first_here}
 use Rattle.nvs_store.proofs.LastLemmas.{few_slots}
 use Rattle.nvs_store.proofs.Lookups.{used_read}
 use Rattle.nvs_store.proofs.holding.find_holder.Goals as goal

@@ -18,8 +18,8 @@ last_checked-requires g c =
     subst (λ (geometry : Geometry). IsSector geometry.unit c.sector_view-sector.result.now) (sym c.geometry-unit.ensures)
     (sector_is (has_size d c.args.self.now.area (g.met.F.Flash.is_lawful c.args.flash.now) c.requires.stands.area) c.sector_view-sector.result.now c.sector_view-sector.ensures.len)
 
-pub returns-in-Some : goal.returns-in-Some
-returns-in-Some g c =
+pub returns-in-Some-clause-last : goal.returns-in-Some-clause-last
+returns-in-Some-clause-last g c =
     let d : Device = g.F.Flash.device c.args.flash.now in
     let area : Area = c.args.self.now.area in
     let view : List ℕ = c.sector_view-sector.result.now in
@@ -30,8 +30,8 @@ returns-in-Some g c =
     sym (last-sector (unit_of d area) c.args.place (sector_bytes d area c.args.place) c.args.prefix.now c.args.most
     ∙ ap (λ (o : Option Record). option_map (placed c.args.place) o) (sym found ∙ c.in-Some.is))
 
-pub returns-in-None : goal.returns-in-None
-returns-in-None g c =
+pub returns-in-None-clause-last : goal.returns-in-None-clause-last
+returns-in-None-clause-last g c =
     let d : Device = g.F.Flash.device c.args.flash.now in
     let area : Area = c.args.self.now.area in
     let view : List ℕ = c.sector_view-sector.result.now in

@@ -19,7 +19,7 @@ reach_counting-self-requires-clause-on g c =
     let d : Device = g.F.Flash.device c.args.flash.now in
     let area : Area = c.args.on.now.area.now in
     let k : SectorFormat = g.T.SlotSectors.format_of (geometry_of d area) in
-    record { area = c.requires.on.area; kept = c.requires.on.kept; current = open_inside k d area c.args.on.now.current c.requires.on.area.lawful c.requires.on.current }
+    record { area = c.requires.on.area; kept = c.requires.on.kept; current = open_inside k d area c.args.on.now.current c.requires.on.area.lawful c.requires.on.current; known = c.requires.on.known }
 
 pub returns-clause-at : goal.returns-clause-at
 returns-clause-at g c =

@@ -13,6 +13,7 @@ use Rattle.item_store.specs.Listed.{items_on}
 use Rattle.item_store.specs.SectorFormat.{SectorFormat, IsSectorFormat}
 use Rattle.item_store.proofs.Areas.{unit_is}
 use Rattle.item_store.proofs.HoldingSteps.{is-kept, none-step, none-end, holder-placed}
+use Rattle.item_store.proofs.KnownSlots.{known_in, known_on}
 use Rattle.item_store.proofs.ReadFacts.{within_on}
 use Rattle.item_store.proofs.store.Store.holder_in.Given.{Over}
 use Rattle.item_store.proofs.store.Store.holder_in.Goals.{then-ne+else-is_some, else-ne}
@@ -23,6 +24,14 @@ loop-holder-init g c = record { listed = omega arith; none = λ slot e from to r
 
 pub find_bytes-requires-clause-listed : goal.find_bytes-requires-clause-listed
 find_bytes-requires-clause-listed g c = c.loop-holder.invariant.listed
+
+pub find_bytes-requires-clause-known : goal.find_bytes-requires-clause-known
+find_bytes-requires-clause-known g c =
+    let d : Device = g.F.Flash.device c.args.flash.now in
+    let area : Area = c.args.self.now.area in
+    let law : IsSectorFormat (g.T.SlotSectors.format_of (geometry_of d area)) = g.met.T.SlotSectors.lawful (geometry_of d area) (unit_is d area (g.met.F.Flash.is_lawful c.args.flash.now) c.requires.stands.area.lawful) in
+    known_in g.T.SlotSectors.format_of d area c.tops-tops.result.now (known_on g.T.SlotSectors.role g.T.SlotSectors.format_of g.T.SlotSectors.kept d c.args.self.now law (g.met.F.Flash.is_lawful c.args.flash.now) c.requires.stands c.tops-tops.result.now c.tops-tops.ensures) c.args.place c.known_slots-known.result
+    (c.known_slots-known.ensures (geometry_of d area))
 
 pub find_bytes-requires-clause-within : goal.find_bytes-requires-clause-within
 find_bytes-requires-clause-within g c =

@@ -9,6 +9,7 @@ use Rattle.item_store.proofs.Areas.{unit_is}
 use Rattle.item_store.proofs.HoldingSteps.{placed-latest, none-here}
 use Rattle.item_store.proofs.ReadFacts.{current_on, placed_inside}
 use Rattle.item_store.proofs.SearchSteps.{search-enough, search-before}
+use Rattle.item_store.proofs.KnownSlots.{known_on}
 use Rattle.item_store.proofs.store.Store.last_entry.Goals as goal
 
 pub returns-in-Some : goal.returns-in-Some
@@ -19,7 +20,7 @@ find_before-requires-clause-on g c =
     let d : Device = g.F.Flash.device c.args.flash.now in
     let area : Area = c.args.self.now.area in
     let law : IsSectorFormat (g.T.SlotSectors.format_of (geometry_of d area)) = g.met.T.SlotSectors.lawful (geometry_of d area) (unit_is d area (g.met.F.Flash.is_lawful c.args.flash.now) c.requires.stands.area.lawful) in
-    record { area = c.requires.stands.area; kept = c.requires.stands.opened; current = current_on g.T.SlotSectors.role g.T.SlotSectors.format_of g.T.SlotSectors.kept d c.args.self.now law (g.met.F.Flash.is_lawful c.args.flash.now) c.requires.stands }
+    record { area = c.requires.stands.area; kept = c.requires.stands.opened; current = current_on g.T.SlotSectors.role g.T.SlotSectors.format_of g.T.SlotSectors.kept d c.args.self.now law (g.met.F.Flash.is_lawful c.args.flash.now) c.requires.stands; known = known_on g.T.SlotSectors.role g.T.SlotSectors.format_of g.T.SlotSectors.kept d c.args.self.now law (g.met.F.Flash.is_lawful c.args.flash.now) c.requires.stands c.tops-tops.result.now c.tops-tops.ensures }
 
 pub find_before-requires-clause-inside : goal.find_before-requires-clause-inside
 find_before-requires-clause-inside g c =
@@ -34,7 +35,7 @@ find_up_to-requires-clause-on g c =
     let d : Device = g.F.Flash.device c.args.flash.now in
     let area : Area = c.args.self.now.area in
     let law : IsSectorFormat (g.T.SlotSectors.format_of (geometry_of d area)) = g.met.T.SlotSectors.lawful (geometry_of d area) (unit_is d area (g.met.F.Flash.is_lawful c.args.flash.now) c.requires.stands.area.lawful) in
-    record { area = c.requires.stands.area; kept = c.requires.stands.opened; current = current_on g.T.SlotSectors.role g.T.SlotSectors.format_of g.T.SlotSectors.kept d c.args.self.now law (g.met.F.Flash.is_lawful c.args.flash.now) c.requires.stands }
+    record { area = c.requires.stands.area; kept = c.requires.stands.opened; current = current_on g.T.SlotSectors.role g.T.SlotSectors.format_of g.T.SlotSectors.kept d c.args.self.now law (g.met.F.Flash.is_lawful c.args.flash.now) c.requires.stands; known = known_on g.T.SlotSectors.role g.T.SlotSectors.format_of g.T.SlotSectors.kept d c.args.self.now law (g.met.F.Flash.is_lawful c.args.flash.now) c.requires.stands c.tops-tops.result.now c.tops-tops.ensures }
 
 pub find_up_to-requires-clause-inside : goal.find_up_to-requires-clause-inside
 find_up_to-requires-clause-inside g c =

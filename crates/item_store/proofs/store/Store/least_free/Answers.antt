@@ -7,7 +7,15 @@ use Rattle.item_store.specs.Free.{IsFirstUnmarked}
 use Rattle.item_store.specs.SectorFormat.{IsSectorFormat}
 use Rattle.item_store.proofs.Areas.{unit_is}
 use Rattle.item_store.proofs.FreeSteps.{none-free, some-free}
+use Rattle.item_store.proofs.KnownSlots.{known_on}
 use Rattle.item_store.proofs.store.Store.least_free.Goals as goal
+
+pub note_all-requires : goal.note_all-requires
+note_all-requires g c =
+    let d : Device = g.F.Flash.device c.args.flash.now in
+    let area : Area = c.args.self.now.area in
+    let law : IsSectorFormat (g.T.SlotSectors.format_of (geometry_of d area)) = g.met.T.SlotSectors.lawful (geometry_of d area) (unit_is d area (g.met.F.Flash.is_lawful c.args.flash.now) c.requires.stands.area.lawful) in
+    record { on = record { area = c.requires.stands.area; kept = c.requires.stands.opened; current = c.requires.stands.current; known = known_on g.T.SlotSectors.role g.T.SlotSectors.format_of g.T.SlotSectors.kept d c.args.self.now law (g.met.F.Flash.is_lawful c.args.flash.now) c.requires.stands c.tops-tops.result.now c.tops-tops.ensures } }
 
 pub returns-in-Some : goal.returns-in-Some
 returns-in-Some g c =

@@ -7,6 +7,7 @@ use Rattle.item_store.specs.SectorFormat.{SectorFormat, IsSectorFormat}
 use Rattle.item_store.proofs.Areas.{unit_is}
 use Rattle.item_store.proofs.HoldingSteps.{none-later, or-rules-out}
 use Rattle.item_store.proofs.ReadFacts.{current_on, placed_inside}
+use Rattle.item_store.proofs.KnownSlots.{known_on}
 use Rattle.item_store.proofs.store.Store.may_have_later.Goals as goal
 
 pub may_have-here-requires-clause-inside : goal.may_have-here-requires-clause-inside
@@ -22,6 +23,13 @@ may_have_behind-requires-clause-inside g c =
     let area : Area = c.args.self.now.area in
     let law : IsSectorFormat (g.T.SlotSectors.format_of (geometry_of d area)) = g.met.T.SlotSectors.lawful (geometry_of d area) (unit_is d area (g.met.F.Flash.is_lawful c.args.flash.now) c.requires.stands.area.lawful) in
     placed_inside g.T.SlotSectors.role g.T.SlotSectors.format_of g.T.SlotSectors.kept d c.args.self.now law (g.met.F.Flash.is_lawful c.args.flash.now) c.requires.stands c.args.holder.now c.requires.placed
+
+pub may_have_behind-requires-clause-on : goal.may_have_behind-requires-clause-on
+may_have_behind-requires-clause-on g c =
+    let d : Device = g.F.Flash.device c.args.flash.now in
+    let area : Area = c.args.self.now.area in
+    let law : IsSectorFormat (g.T.SlotSectors.format_of (geometry_of d area)) = g.met.T.SlotSectors.lawful (geometry_of d area) (unit_is d area (g.met.F.Flash.is_lawful c.args.flash.now) c.requires.stands.area.lawful) in
+    record { area = c.requires.stands.area; kept = c.requires.stands.opened; current = c.requires.stands.current; known = known_on g.T.SlotSectors.role g.T.SlotSectors.format_of g.T.SlotSectors.kept d c.args.self.now law (g.met.F.Flash.is_lawful c.args.flash.now) c.requires.stands c.tops-tops.result.now c.tops-tops.ensures }
 
 pub returns : goal.returns
 returns g c =

@@ -6,11 +6,13 @@ use Rattle.item_laws.specs.Forms.{AtRest}
 use Rattle.item_store.specs.SectorFormat.{SectorFormat, IsSectorFormat}
 use Rattle.item_store.specs.Collecting.{redo_of, redo_list, redo_units, KeepsOrRedoes, MarksFirst}
 use Rattle.item_store.specs.Standing.{list_of, SpendsIn, SpendsUpTo}
-use Rattle.item_store.proofs.Areas.{unit_is}
-use Rattle.item_store.proofs.MountSteps.{mount-most, mount-most_lost, mount-nothing}
+use Rattle.item_store.specs.declared.entry.Redo.TheVariants.{CollectAgain}
+use Rattle.item_store.proofs.Areas.{unit_is, form_undamaged}
+use Rattle.item_store.proofs.MountSteps.{mount-room, mount-most, mount-most_lost, mount-nothing}
 use Rattle.item_store.proofs.RoomFacts.{stands_with}
 use Rattle.item_store.proofs.Standings.{stands}
 use Rattle.item_store.proofs.WrittenFacts.{stays-written}
+use Rattle.item_store.proofs.KnownSlots.{known_none}
 use Rattle.item_store.proofs.store.Store.mount_with.Goals as goal
 
 pub returns-in-Ok-redo-clause-ends : goal.returns-in-Ok-redo-clause-ends
@@ -29,6 +31,8 @@ returns-in-Ok-redo-clause-ends g c =
       subst (λ (p : ℕ). SpendsIn a d (redo_units k (sectors_of a area) p (redo_of k (sectors_of a area) p))) found.opened did.ends.spends,
       λ rest. did.same (subst (λ (p : ℕ). AtRest (g.T.SlotSectors.format_of (geometry_of a area)).reading (sectors_of a area) p) (sym found.opened) rest),
       subst (λ (p : ℕ). list_of k (sectors_of d area) ≡ redo_list k (sectors_of a area) p (redo_of k (sectors_of a area) p)) found.opened did.ends.list,
+      λ again. mount-room k law g.T.SlotSectors.role a area (g.met.F.Flash.is_lawful c.args.flash.now) c.requires.area found.undamaged c.in-Ok.current found.opened (sectors_of d area)
+          (subst (λ (p : ℕ). redo_of k (sectors_of a area) p ≡ CollectAgain) (sym found.opened) again) did.ends.collects (form_undamaged k law (sectors_of d area) c.in-Ok.current (inl did.ends.rested)).0,
     )
 
 pub returns-in-Err-redo-clause-ends : goal.returns-in-Err-redo-clause-ends
@@ -103,7 +107,7 @@ fill-requires-clause-on g c =
     let law : IsSectorFormat (g.T.SlotSectors.format_of (geometry_of a area)) = g.met.T.SlotSectors.lawful (geometry_of a area) (unit_is a area (g.met.F.Flash.is_lawful c.args.flash.now) c.requires.area.lawful) in
     let did = c.in-Ok-redo.ensures in
     let there = stands g.T.SlotSectors.role g.T.SlotSectors.format_of g.T.SlotSectors.kept a d area c.in-Ok.current c.redo.new.opened law did.touches.banks c.requires.area did.ends.rested did.ends.kept in
-    record { area = there.area; kept = there.opened; current = there.current }
+    record { area = there.area; kept = there.opened; current = there.current; known = known_none g.T.SlotSectors.format_of d area }
 
 pub fill-requires-clause-empty : goal.fill-requires-clause-empty
 fill-requires-clause-empty g c =

@@ -10,6 +10,7 @@ use Rattle.item_store.specs.Lasts.{slots_left, WasGiven, IsLastIn, GivesNext}
 use Rattle.item_store.specs.Listed.{items_on}
 use Rattle.item_store.proofs.Areas.{unit_is}
 use Rattle.item_store.proofs.AskingSteps.{IsLeastTo, KnownBytes, least-step, least-end, value, has-bytes, covered-all, covered-more}
+use Rattle.item_store.proofs.KnownSlots.{known_on}
 use Rattle.item_store.proofs.store.Store.next_of.Goals as goal
 
 pub loop-placed-init : goal.loop-placed-init
@@ -68,8 +69,14 @@ returns g c =
 
 pub start-lasts-requires-clause-on : goal.start-lasts-requires-clause-on
 start-lasts-requires-clause-on g c =
-    record { area = c.requires.stands.area; kept = c.requires.stands.opened; current = c.requires.stands.current }
+    let d : Device = g.F.Flash.device c.args.flash.now in
+    let area : Area = c.args.self.now.area in
+    let law : IsSectorFormat (g.T.SlotSectors.format_of (geometry_of d area)) = g.met.T.SlotSectors.lawful (geometry_of d area) (unit_is d area (g.met.F.Flash.is_lawful c.args.flash.now) c.requires.stands.area.lawful) in
+    record { area = c.requires.stands.area; kept = c.requires.stands.opened; current = c.requires.stands.current; known = known_on g.T.SlotSectors.role g.T.SlotSectors.format_of g.T.SlotSectors.kept d c.args.self.now law (g.met.F.Flash.is_lawful c.args.flash.now) c.requires.stands c.tops-tops.result.now c.tops-tops.ensures }
 
 pub next-requires-clause-on : goal.next-requires-clause-on
 next-requires-clause-on g c =
-    record { area = c.requires.stands.area; kept = c.requires.stands.opened; current = c.requires.stands.current }
+    let d : Device = g.F.Flash.device c.args.flash.now in
+    let area : Area = c.args.self.now.area in
+    let law : IsSectorFormat (g.T.SlotSectors.format_of (geometry_of d area)) = g.met.T.SlotSectors.lawful (geometry_of d area) (unit_is d area (g.met.F.Flash.is_lawful c.args.flash.now) c.requires.stands.area.lawful) in
+    record { area = c.requires.stands.area; kept = c.requires.stands.opened; current = c.requires.stands.current; known = known_on g.T.SlotSectors.role g.T.SlotSectors.format_of g.T.SlotSectors.kept d c.args.self.now law (g.met.F.Flash.is_lawful c.args.flash.now) c.requires.stands c.tops-tops.result.now c.tops-tops.ensures }

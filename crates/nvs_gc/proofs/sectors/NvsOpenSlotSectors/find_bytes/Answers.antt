@@ -20,16 +20,16 @@ returns-in-Some-clause-found g c =
     let b : List ℕ = sector_at (sectors_of d c.args.area.now) c.args.place in
     let ids : IdRange = c.args.ids.now in
     let is : c.placed.result ≡ placed_at c.args.place (entry_of c.in-Some.found) = c.placed.ensures.value ∙ ap placed_of c.at.ensures in
-    first_held unit b ids c.args.bytes.now c.args.place (1 + c.args.skipped) c.in-Some.found c.placed.result is
-    (subst (FindsHolder unit b ids.least ids.most c.args.bytes.now c.args.skipped) c.in-Some.is
-    (subst (λ (xs : List ℕ). FindsHolder unit xs ids.least ids.most c.args.bytes.now c.args.skipped c.find_holder.result) c.sector_view-sector.ensures.bytes
-    (subst (λ (x : Geometry). FindsHolder x.unit c.sector_view-sector.result.now ids.least ids.most c.args.bytes.now c.args.skipped c.find_holder.result) c.geometry-unit.ensures c.find_holder.ensures)))
+    first_held unit b ids c.args.bytes.now c.args.place (1 + c.args.start.now.skipped) c.in-Some.found c.placed.result is
+    (subst (FindsHolder unit b ids.least ids.most c.args.bytes.now c.args.start.now.skipped) c.in-Some.is
+    (subst (λ (xs : List ℕ). FindsHolder unit xs ids.least ids.most c.args.bytes.now c.args.start.now.skipped c.find_holder.result) c.sector_view-sector.ensures.bytes
+    (subst (λ (x : Geometry). FindsHolder x.unit c.sector_view-sector.result.now ids.least ids.most c.args.bytes.now c.args.start.now.skipped c.find_holder.result) c.geometry-unit.ensures c.find_holder.ensures)))
 
 pub returns-in-Some-clause-small : goal.returns-in-Some-clause-small
 returns-in-Some-clause-small g c =
     let unit : ℕ = c.geometry-unit.result.unit in
     let b : List ℕ = c.sector_view-sector.result.now in
-    let found : FindsHolder unit b c.args.ids.now.least c.args.ids.now.most c.args.bytes.now c.args.skipped (Some c.in-Some.found) = c.in-Some.ensures in
+    let found : FindsHolder unit b c.args.ids.now.least c.args.ids.now.most c.args.bytes.now c.args.start.now.skipped (Some c.in-Some.found) = c.in-Some.ensures in
     let below = found.listed in
     let few = used_count_fits is_used 1 (slot_size unit) b in
     let slot : c.placed.result.slot ≡ c.in-Some.found.slot = ap (λ (p : Placed). p.slot) (c.placed.ensures.value ∙ ap placed_of c.at.ensures) in
@@ -41,7 +41,7 @@ returns-in-None-clause-found g c =
     let unit : ℕ = unit_of d c.args.area.now in
     let b : List ℕ = sector_at (sectors_of d c.args.area.now) c.args.place in
     let ids : IdRange = c.args.ids.now in
-    none_held unit b ids c.args.bytes.now (1 + c.args.skipped) (1 + length (used_slots unit b))
-    (subst (FindsHolder unit b ids.least ids.most c.args.bytes.now c.args.skipped) c.in-None.is
-    (subst (λ (xs : List ℕ). FindsHolder unit xs ids.least ids.most c.args.bytes.now c.args.skipped c.find_holder.result) c.sector_view-sector.ensures.bytes
-    (subst (λ (x : Geometry). FindsHolder x.unit c.sector_view-sector.result.now ids.least ids.most c.args.bytes.now c.args.skipped c.find_holder.result) c.geometry-unit.ensures c.find_holder.ensures)))
+    none_held unit b ids c.args.bytes.now (1 + c.args.start.now.skipped) (1 + length (used_slots unit b))
+    (subst (FindsHolder unit b ids.least ids.most c.args.bytes.now c.args.start.now.skipped) c.in-None.is
+    (subst (λ (xs : List ℕ). FindsHolder unit xs ids.least ids.most c.args.bytes.now c.args.start.now.skipped c.find_holder.result) c.sector_view-sector.ensures.bytes
+    (subst (λ (x : Geometry). FindsHolder x.unit c.sector_view-sector.result.now ids.least ids.most c.args.bytes.now c.args.start.now.skipped c.find_holder.result) c.geometry-unit.ensures c.find_holder.ensures)))

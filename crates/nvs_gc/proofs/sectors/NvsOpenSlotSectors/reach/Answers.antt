@@ -40,6 +40,6 @@ returns-clause-others g c =
     let used : c.used_count.result ≡ length (used_slots unit b) =
     c.used_count.ensures.count ∙ ap (λ (x : Geometry). length (used_slots x.unit c.sector_view-bytes.result.now)) c.geometry-unit.ensures
     ∙ ap (λ (xs : List ℕ). length (used_slots unit xs)) c.sector_view-bytes.ensures.bytes in
-    subst (λ (n : ℕ). AreOthers (format_in unit) b c.reach_in.result n c.args.least c.args.most) used
-    (subst (λ (xs : List ℕ). AreOthers (format_in unit) xs c.reach_in.result c.used_count.result c.args.least c.args.most) c.sector_view-bytes.ensures.bytes
-    (subst (λ (x : Geometry). AreOthers (format_in x.unit) c.sector_view-bytes.result.now c.reach_in.result c.used_count.result c.args.least c.args.most) c.geometry-unit.ensures c.reach_in.ensures.others))
+    subst (λ (n : ℕ). AreOthers (format_in unit) b c.reach_in.result n c.args.ids.now.least c.args.ids.now.most) used
+    (subst (λ (xs : List ℕ). AreOthers (format_in unit) xs c.reach_in.result c.used_count.result c.args.ids.now.least c.args.ids.now.most) c.sector_view-bytes.ensures.bytes
+    (subst (λ (x : Geometry). AreOthers (format_in x.unit) c.sector_view-bytes.result.now c.reach_in.result c.used_count.result c.args.ids.now.least c.args.ids.now.most) c.geometry-unit.ensures c.reach_in.ensures.others))

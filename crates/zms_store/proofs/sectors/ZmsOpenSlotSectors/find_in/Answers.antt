@@ -1,14 +1,17 @@
-use Rattle.std.proofs.Common.{ℕ, List, sym, ap, ◌∙◌}
+use Rattle.std.proofs.Common.{ℕ, ◌≤◌, List, length, sym, ap, subst, ◌∙◌}
 use Rattle.flash_sim.specs.Device.{Device}
 use Rattle.flash_map.specs.declared.area.Area.{Area}
 use Rattle.flash_map.specs.declared.area.Geometry.{Geometry}
 use Rattle.flash_map.specs.Area.{geometry_of, sectors_of, sector_at}
 use Rattle.zms_format.proofs.StepLemmas.{last_same}
 use Rattle.std.specs.Option.{option_map}
-use Rattle.zms_cycle.specs.Sector.{entries}
+use Rattle.zms_cycle.specs.Sector.{entries, valid_slots}
 use Rattle.zms_format.specs.Formats.{placed_of}
 use Rattle.zms_format.specs.Area.{placed_at as zms_placed_at, last_in}
 use Rattle.zms_store.proofs.sectors.ZmsOpenSlotSectors.find_in.Goals as goal
+
+pub find_in-requires-clause-known : goal.find_in-requires-clause-known
+find_in-requires-clause-known g c = subst (λ (b : List ℕ). c.args.known ≤ length (valid_slots b)) (sym c.sector_view.ensures.bytes) c.requires.known
 
 pub returns-in-Some : goal.returns-in-Some
 returns-in-Some g c =

@@ -1,2 +1,4 @@
 pub mod Blanks
+mod BootLemmas
 pub mod TestBeds
+mod UnitSteps

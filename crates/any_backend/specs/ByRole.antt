@@ -19,9 +19,10 @@ use Rattle.record_settings.specs.Numbers.{room}
 use Rattle.named_items.specs.NvsStore.{nvs_damage, nvs_items, nvs_price, nvs_cap}
 use Rattle.named_items.specs.ZmsStore.{zms_damage, zms_price, zms_cap}
 use Rattle.backend_nvs.specs.IdLayout.{settings_of as nvs_settings, nvs_room}
-use Rattle.backend_nvs.specs.Standing.{Rests as NvsRests}
+use Rattle.backend_nvs.specs.Standing.{Rests as NvsRests, Owes as NvsOwes, boot_units as nvs_boot}
 use Rattle.backend_zms.specs.IdLayout.{zms_room}
-use Rattle.backend_zms.specs.Standing.{settings_of as zms_settings, Rests as ZmsRests}
+use Rattle.backend_zms.specs.Standing.{settings_of as zms_settings, Rests as ZmsRests, Owes as ZmsOwes, boot_units as zms_boot}
+use Rattle.backend_fcb.specs.Members.{OwesBy as FcbOwes, boot_by as fcb_boot}
 use Rattle.backend_fcb.specs.Reading.{damage_of, settings_in}
 use Rattle.backend_fcb.specs.Tearing.{body_for, Tears}
 
@@ -67,6 +68,18 @@ rests_as Zms area geometry sectors = ZmsRests area geometry sectors
 rests_as Fcb area geometry sectors = erases_due (states geometry.unit sectors) ≡ 0
 rests_as Sel area geometry sectors = ⊥
 
+abbrev pub owes_as : Role → Area → Geometry → List (List ℕ) → ℕ → Type 0
+owes_as Nvs area geometry sectors most = NvsOwes area geometry sectors most
+owes_as Zms area geometry sectors most = ZmsOwes area geometry sectors most
+owes_as Fcb area geometry sectors most = FcbOwes area geometry sectors most
+owes_as Sel area geometry sectors most = ⊥
+
+abbrev pub boot_as : Role → Area → Geometry → ℕ
+boot_as Nvs area geometry = nvs_boot area geometry
+boot_as Zms area geometry = zms_boot area geometry
+boot_as Fcb area geometry = fcb_boot area geometry
+boot_as Sel area geometry = 0
+
 abbrev pub chance_as : Role → Area → Geometry → List (List ℕ) → Loss → Bool
 chance_as Nvs area geometry sectors loss = false
 chance_as Zms area geometry sectors loss = false
@@ -100,6 +113,14 @@ any_room area geometry = room_as area.role geometry
 -- a mount would have nothing to do
 abbrev pub any_rests : Area → Geometry → List (List ℕ) → Type 0
 any_rests area geometry sectors = rests_as area.role area geometry sectors
+
+-- a mount spends at most so many units and erases
+abbrev pub any_owes : Area → Geometry → List (List ℕ) → ℕ → Type 0
+any_owes area geometry sectors most = owes_as area.role area geometry sectors most
+
+-- the most that a command that was cut leaves to a mount
+abbrev pub any_boot : Area → Geometry → ℕ
+any_boot area geometry = boot_as area.role area geometry
 
 -- whether the units before a loss spell another record
 abbrev pub any_chance : Area → Geometry → List (List ℕ) → Loss → Bool

@@ -1,4 +1,5 @@
 pub mod Blank
+pub mod Boot
 pub mod ByRole
 pub mod Laws
 pub mod Standing

@@ -1,7 +1,7 @@
 -- When a backend stands on its area, by its store. Each case says that the area has
 -- the store's role.
-use Rattle.std.specs.Prelude.{◌≡◌, ℕ, Bool, true, List, None}
-use Rattle.std.proofs.Common.{refl, sym, ap, subst}
+use Rattle.std.specs.Prelude.{◌≡◌, ℕ, ◌≤◌, Bool, true, List, None}
+use Rattle.std.proofs.Common.{sym, ap, subst, inl}
 use Rattle.flash_sim.specs.Device.{Device}
 use Rattle.flash_map.specs.Lawful.{IsLawfulFor}
 use Rattle.flash_map.specs.On.{StandsOn}
@@ -10,12 +10,14 @@ use Rattle.flash_map.specs.declared.area.Geometry.{Geometry}
 use Rattle.flash_map.specs.declared.area.Role.{Role}
 use Rattle.fcb_ring.specs.Standing.{is_up as is_up_stage}
 use Rattle.fcb_ring.proofs.RestLemmas.{ready-rests}
-use Rattle.backend_nvs.specs.Standing.{Stands as NvsStands, stands-rest as nvs-rest}
-use Rattle.backend_zms.specs.Standing.{Stands as ZmsStands, stands-rest as zms-rest}
+use Rattle.flash_map.specs.declared.area.Role.TheVariants.{Nvs as NvsRole, Zms as ZmsRole, Fcb as FcbRole, Sel as SelRole}
+use Rattle.backend_nvs.specs.Standing.{Stands as NvsStands, stands-rest as nvs-rest, owes-more as nvs-more}
+use Rattle.backend_zms.specs.Standing.{Stands as ZmsStands, stands-rest as zms-rest, owes-more as zms-more}
+use Rattle.backend_fcb.specs.Members.{rests-owe as fcb-owe, owes-more as fcb-more}
 use Rattle.backend_fcb.specs.Standing.{Stands as FcbStands}
 use Rattle.any_backend.specs.declared.backend.AnyBackend.{AnyBackend}
 use Rattle.any_backend.specs.declared.backend.AnyBackend.TheVariants.{Nvs, Zms, Fcb}
-use Rattle.any_backend.specs.ByRole.{serves_as, damage_as, rests_as, any_serves, any_damage, any_rests}
+use Rattle.any_backend.specs.ByRole.{serves_as, damage_as, rests_as, owes_as, any_serves, any_damage, any_rests, any_owes}
 
 -- the area that it was mounted on
 abbrev pub area_of : AnyBackend → Area
@@ -77,3 +79,28 @@ stands-rests (Zms backend) geometry sectors stands =
 stands-rests (Fcb backend) geometry sectors stands =
     subst (λ (r : Role). rests_as r backend.ring.area geometry sectors) (sym stands.role)
     (ready-rests geometry.unit sectors backend.ring stands.ring stands.ready)
+
+-- if a mount has nothing to do, it spends nothing
+rests_owe_as : (role : Role) (area : Area) (geometry : Geometry) (sectors : List (List ℕ)) (most : ℕ)
+    → rests_as role area geometry sectors → owes_as role area geometry sectors most
+rests_owe_as NvsRole area geometry sectors most rests = inl rests
+rests_owe_as ZmsRole area geometry sectors most rests = inl rests
+rests_owe_as FcbRole area geometry sectors most rests = fcb-owe area geometry sectors most rests
+rests_owe_as SelRole area geometry sectors most rests = rests
+
+pub rests-owe : (area : Area) (geometry : Geometry) (sectors : List (List ℕ)) (most : ℕ)
+    → any_rests area geometry sectors → any_owes area geometry sectors most
+rests-owe area geometry sectors most rests = rests_owe_as area.role area geometry sectors most rests
+
+-- an area that owes at most so many owes at most more
+owes_more_as : (role : Role) (area : Area) (geometry : Geometry) (sectors : List (List ℕ)) (few most : ℕ)
+    → few ≤ most → owes_as role area geometry sectors few → owes_as role area geometry sectors most
+owes_more_as NvsRole area geometry sectors few most le owes = nvs-more area geometry sectors few most le owes
+owes_more_as ZmsRole area geometry sectors few most le owes = zms-more area geometry sectors few most le owes
+owes_more_as FcbRole area geometry sectors few most le owes = fcb-more area geometry sectors few most le owes
+owes_more_as SelRole area geometry sectors few most le owes = owes
+
+pub owes-more : (area : Area) (geometry : Geometry) (sectors : List (List ℕ)) (few most : ℕ) → few ≤ most
+    → any_owes area geometry sectors few → any_owes area geometry sectors most
+owes-more area geometry sectors few most le owes =
+    owes_more_as area.role area geometry sectors few most le owes

@@ -6,5 +6,5 @@ mod laws;
 mod tearing;
 
 pub use backend::AnyBackend;
-pub use laws::blank_areas;
+pub use laws::{blank_areas, boot_units_by_role, boot_within_mount};
 pub use tearing::chance;

@@ -1,3 +1,4 @@
+pub mod Boot
 pub mod Commands
 pub mod Ends
 pub mod Laws

@@ -15,6 +15,7 @@ ghost use Rattle.flash_map.specs.Sectors.{blanked_up_to};
 ghost use Rattle.flash_map.specs.Spending.{Spends, SpendsAtMost};
 ghost use Rattle.flash_map.specs.Touches.{Touches};
 ghost use Rattle.flash_map.specs.Units.{is_written};
+ghost use Rattle.backend_api.specs.Boot.{MountUnits, CommandUnits};
 ghost use Rattle.backend_api.specs.Commands.{Command, StopsOn};
 ghost use Rattle.backend_api.specs.Commands.Command.{Put, Del};
 ghost use Rattle.backend_api.specs.Ends.{MountEnds, set_lost, SetEndsOn, DeleteEndsOn};
@@ -60,6 +61,12 @@ pub trait Backend: Drop {
     /// A mount has nothing to do on these sectors.
     ghost rests: { area_type → Geometry → List (List ℕ) → Type 0 };
 
+    /// A mount of these sectors spends at most so many units and erases, cut or not.
+    ghost owes: { area_type → Geometry → List (List ℕ) → ℕ → Type 0 };
+
+    /// The most units and erases that a command that was cut leaves to the next mount.
+    ghost boot_units: { area_type → Geometry → ℕ };
+
     /// Whether the units that were programmed before this loss spell, by chance, another record
     /// than the intended one.
     ghost chance: { area_type → Geometry → List (List ℕ) → loss_type → Bool };
@@ -78,9 +85,9 @@ pub trait Backend: Drop {
     ghost runs: { Self → Bool };
 
     /// Mounts a backend on an area. The map stays, even if power is lost. Whatever the result, it
-    /// spends at most `mount_units` units and erases, and none if the area is at rest. An NVS or
-    /// ZMS area is all FF afterwards only if it was all FF before; of an FCB area a mount may erase
-    /// all that it holds.
+    /// spends at most `mount_units` units and erases, at most what the area owes, and none if the
+    /// area is at rest. The area owes no more afterwards. An NVS or ZMS area is all FF afterwards
+    /// only if it was all FF before; of an FCB area a mount may erase all that it holds.
     ///
     /// # Errors
     /// `NoMemory`; otherwise `Damaged` exactly if the area is damaged. Both leave the flash as it
@@ -106,8 +113,8 @@ pub trait Backend: Drop {
             → F.device flash.new ≡ F.device flash.old }
         ensures written { let d = F.device flash.old in
             (area.role ≡ FcbRole → ⊥) → StaysWritten d (F.device flash.new) area }
-        ensures at_most { let d = F.device flash.old in
-            SpendsAtMost d (F.device flash.new) (mount_units (geometry_of d area)) }
+        ensures units { let d = F.device flash.old in
+            MountUnits owes (mount_units (geometry_of d area)) d (F.device flash.new) area }
         ensures on { IfOk result (λ state. mounted_on state ≡ area) }
         ensures stands { IfOk result
             (λ state. StandsOn mounted_on stands (F.device flash.new) state) };
@@ -126,7 +133,7 @@ pub trait Backend: Drop {
 
     /// Gives a name a value, which is not empty and no longer than the area allows. If the name has
     /// this value already, nothing is programmed. It spends at most `command_units` units and
-    /// erases.
+    /// erases. If power is lost, it leaves at most `boot_units` of them to the next mount.
     ///
     /// # Errors
     /// `TooManyNames` exactly if the name would be one too many: nothing was programmed. `NoSpace`
@@ -150,9 +157,10 @@ pub trait Backend: Drop {
         ensures area { mounted_on self.new ≡ mounted_on self.old }
         ensures ends { let d = F.device flash.old in let e = F.device flash.new in
             SetEndsOn room contents d e (mounted_on self.old) name.now value.now result }
-        ensures at_most { let d = F.device flash.old in
-            SpendsAtMost d (F.device flash.new)
-            (command_units (geometry_of d (mounted_on self.old))) }
+        ensures units { let d = F.device flash.old in let area = mounted_on self.old in
+            let g = geometry_of d area in
+            CommandUnits owes (boot_units area g) (command_units g) d (F.device flash.new) area
+            (set_lost result) }
         ensures sound { on damage (F.device flash.new) (mounted_on self.old) ≡ None }
         ensures cut { let d = F.device flash.old in let e = F.device flash.new in
             d.is_on ≡ true → set_lost result ≡ true
@@ -162,8 +170,9 @@ pub trait Backend: Drop {
         ensures down { set_lost result ≡ true → runs self.new ≡ false };
 
     /// Deletes a name with its value. If the name has no value, nothing is programmed. A delete
-    /// always finds room. It spends at most `command_units` units and erases. An NVS or ZMS area is
-    /// all FF afterwards only if it was all FF before.
+    /// always finds room. It spends at most `command_units` units and erases. If power is lost, it
+    /// leaves at most `boot_units` of them to the next mount. An NVS or ZMS area is all FF
+    /// afterwards only if it was all FF before.
     ///
     /// # Errors
     /// `PowerLost`: the state is down. The map is as before or without the name, unless the units
@@ -184,9 +193,10 @@ pub trait Backend: Drop {
             DeleteEndsOn contents d e (mounted_on self.old) name.now result }
         ensures written { let d = F.device flash.old in let area = mounted_on self.old in
             (area.role ≡ FcbRole → ⊥) → StaysWritten d (F.device flash.new) area }
-        ensures at_most { let d = F.device flash.old in
-            SpendsAtMost d (F.device flash.new)
-            (command_units (geometry_of d (mounted_on self.old))) }
+        ensures units { let d = F.device flash.old in let area = mounted_on self.old in
+            let g = geometry_of d area in
+            CommandUnits owes (boot_units area g) (command_units g) d (F.device flash.new) area
+            (is_err result) }
         ensures sound { on damage (F.device flash.new) (mounted_on self.old) ≡ None }
         ensures cut { let d = F.device flash.old in let e = F.device flash.new in
             d.is_on ≡ true → is_err result ≡ true
@@ -223,7 +233,8 @@ pub trait Backend: Drop {
         ensures { let settings = on contents (F.device flash.now) (mounted_on self.now) in
             IfOk result (λ found. pairs_in found ≡ finite.entries settings) };
 
-    /// Erases each sector that is not all FF. The area then reads as the empty map.
+    /// Erases each sector that is not all FF. The area then reads as the empty map, and a mount of it
+    /// has nothing to do.
     ///
     /// # Errors
     /// `PowerLost` if power was off or was lost in the call: some first sectors are all FF, and the
@@ -244,6 +255,7 @@ pub trait Backend: Drop {
             ≡ replicate area.now.sectors (replicate (sector_size d area.now) 0xFF)) }
         ensures sound { OnOk result (on damage (F.device flash.new) area.now ≡ None) }
         ensures empty { OnOk result (on contents (F.device flash.new) area.now ≡ finite.empty) }
+        ensures rests { OnOk result (HoldsOn rests (F.device flash.new) area.now) }
         ensures units { let d = F.device flash.old in
             OnOk result
             (Spends d (F.device flash.new) (count_by is_written (sectors_of d area.now))) }
@@ -284,6 +296,14 @@ pub trait Backend: Drop {
 
     ghost stands_rests: { (state : Self) (geometry : Geometry) (sectors : List (List ℕ))
         → stands state geometry sectors → rests (mounted_on state) geometry sectors };
+
+    // If a mount has nothing to do, it spends nothing. An area that owes at most so many owes at most
+    // more.
+    ghost rests_owe: { (area : area_type) (geometry : Geometry) (sectors : List (List ℕ)) (most : ℕ)
+        → rests area geometry sectors → owes area geometry sectors most };
+
+    ghost owes_more: { (area : area_type) (geometry : Geometry) (sectors : List (List ℕ)) (few most : ℕ)
+        → few ≤ most → owes area geometry sectors few → owes area geometry sectors most };
 
     // A lawful area without damage reads as a map of lawful names and values.
     ghost reads_settings: { (d : Device) (area : area_type) → IsLawful d.banks d.bytes

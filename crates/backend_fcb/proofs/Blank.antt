@@ -1,5 +1,5 @@
 -- An area that is all FF.
-use Rattle.std.proofs.Common.{◌≡◌, true, ℕ, suc, ◌-◌, ◌<◌, ◌≤◌, min, List, [], ◌∷◌, length, map, replicate, None, refl, sym, ap, subst, ◌∙◌, arith}
+use Rattle.std.proofs.Common.{◌≡◌, true, false, ℕ, suc, ◌-◌, ◌<◌, ◌≤◌, min, List, [], ◌∷◌, length, map, replicate, None, refl, sym, ap, subst, ◌∙◌, arith}
 use Rattle.std.specs.FinMap.{empty}
 use Rattle.std.specs.List.{range_with_len, flat_map}
 use Rattle.std.proofs.lemmas.List.{length-replicate, get_or-replicate}
@@ -13,10 +13,11 @@ use Rattle.fcb_ring.specs.declared.sector.SectorState.{SectorState}
 use Rattle.fcb_ring.specs.Entries.{states, bodies, HasEntries}
 use Rattle.fcb_ring.specs.Rings.{state_at, turned, IsRing}
 use Rattle.fcb_ring.specs.SectorStates.{state_of}
-use Rattle.fcb_ring.specs.Standing.{IsRingArea}
+use Rattle.fcb_ring.specs.Standing.{IsRingArea, erases_due, erases_on}
+use Rattle.fcb_ring.proofs.RestLemmas.{none-due}
 use Rattle.fcb_ring.proofs.AreaLemmas.{has_size, count-sectors, area_after, length-states, state-at}
 use Rattle.fcb_ring.proofs.RingLemmas.{turned-within, undamaged}
-use Rattle.fcb_ring.proofs.StandLemmas.{part, entries-are, blank-free}
+use Rattle.fcb_ring.proofs.StandLemmas.{part, entries-are, blank-free, blank-untorn}
 use Rattle.record_settings.specs.Settings.{settings_of}
 use Rattle.backend_fcb.specs.Standing.{damage_on, settings_on}
 use Rattle.record_settings.proofs.BodyLemmas.{settings-none}
@@ -61,6 +62,18 @@ module _ (unit n size : ℕ) (several : 2 ≤ n) (few : n ≤ 64) where
     ids = λ k lt. absurd (omega arith);
   }
 
+  none-torn : 0 < size → (k : ℕ) → k < length (states unit (replicate n (replicate size 255))) → (state_at (states unit (replicate n (replicate size 255))) (turned (length (states unit (replicate n (replicate size 255)))) 0 k)).is_torn ≡ false
+  none-torn some k lt =
+      let place : ℕ = turned (length (states unit (replicate n (replicate size 255)))) 0 k in
+      let inside = turned-within (length (states unit (replicate n (replicate size 255)))) 0 k (omega (arith, long)) (omega arith) in
+      let in-list : turned (length (states unit (replicate n (replicate size 255)))) 0 k < length (replicate n (replicate size 255)) = omega (arith, long, length-replicate {A = List ℕ} n (replicate {A = ℕ} size 255)) in
+      ap (λ (s : SectorState). s.is_torn) (state-at unit (replicate n (replicate size 255)) place in-list)
+      ∙ ap (λ (s : List ℕ). (state_of unit s).is_torn) (get_or-replicate {A = List ℕ} n place (replicate {A = ℕ} size 255) [] (omega (arith, long))) ∙ blank-untorn unit size some
+
+  -- a mount has nothing to erase
+  pub blank-due : 0 < size → erases_due (states unit (replicate n (replicate size 255))) ≡ 0
+  blank-due some = none-due unit (replicate n (replicate size 255)) 0 0 form (omega (arith, long), λ k le lt. none-torn some k lt)
+
   pub blank-has : HasEntries unit (replicate n (replicate size 255)) []
   blank-has =
       let none : min 0 (length (replicate n (replicate {A = ℕ} size 255)) - 1) ≡ 0 = omega arith in
@@ -81,3 +94,8 @@ module _ (d e : Device) (area : Area) (lawful-d : IsLawful d.banks d.bytes) (law
 
   pub blank-empty : settings_on e area ≡ empty
   blank-empty = ap (λ (l : List Entry). settings_of (value_limit area) (bodies l)) has-none.are ∙ settings-none (value_limit area)
+
+  pub blank-rests : erases_on e area ≡ 0
+  blank-rests =
+      ap (λ (l : List (List ℕ)). erases_due (states (unit_of e area) l)) (blanked-on d e area lawful-d ring is)
+      ∙ blank-due (unit_of e area) area.sectors (sector_size d area) ring.lawful.several ring.lawful.few (omega (arith, ring.lawful.at_least))

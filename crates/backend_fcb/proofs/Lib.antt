@@ -22,3 +22,4 @@ mod Tearing
 mod TestBanks
 mod TryLemmas
 pub mod WalkLemmas
+mod DueLemmas

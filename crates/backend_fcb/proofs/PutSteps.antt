@@ -31,6 +31,7 @@ use Rattle.item_laws.proofs.NoRoom.{no_round, round_more}
 use Rattle.record_settings.proofs.NoRoom.{settings_rounds}
 use Rattle.backend_fcb.proofs.PartLists.{count-parts}
 use Rattle.backend_fcb.proofs.RingLists.{ready-none}
+use Rattle.fcb_ring.specs.Standing.{erases_on}
 
 -- what a sector has for records that leave so much room
 abbrev pub room_for : Device → Ring → ℕ → ℕ
@@ -212,11 +213,11 @@ module _ (a d : Device) (before now : Ring) (len kept rounds : ℕ) (so_far : Is
   searching-stops {T} e after body (Err PowerLost) all is other ends = searching-ends {T = T} e after body (Err PowerLost) is ends
 
   -- and a collection that was cut
-  pub searching-cut : (e : Device) (after : Ring) (body : List ℕ) → len ≡ length body → IsFull d now len kept → is_up after.stage ≡ false → damage_on e now.area ≡ None → settings_on e now.area ≡ settings_on d now.area → (d.is_on ≡ true → HasNoChance e now.area)
+  pub searching-cut : (e : Device) (after : Ring) (body : List ℕ) → len ≡ length body → IsFull d now len kept → is_up after.stage ≡ false → damage_on e now.area ≡ None → erases_on e now.area ≤ 1 → settings_on e now.area ≡ settings_on d now.area → (d.is_on ≡ true → HasNoChance e now.area)
       → StopsDown a e before after body × SpendsUpToCost a e before body kept
-  searching-cut e after body is full down undamaged settings lost = (
+  searching-cut e after body is full down undamaged due settings lost = (
     down-then a d e before now after body so_far.touches so_far.area so_far.settings
-        (record { down = down; undamaged = undamaged; stops = λ on. no-record-stops d e now.area body settings (lost on) }),
+        (record { down = down; undamaged = undamaged; due = due; stops = λ on. no-record-stops d e now.area body settings (lost on) }),
     λ stays. absurd (over-not body is stays (over-then full)),
   )
 

@@ -21,6 +21,7 @@ use Rattle.record_settings.proofs.TornLemmas.{torn-long, torn-setting}
 use Rattle.backend_fcb.specs.Changing.{StopsDown}
 use Rattle.backend_fcb.specs.Standing.{damage_on, settings_on}
 use Rattle.backend_fcb.specs.Tearing.{body_for, Tears, CutSettings, StopsPutting}
+use Rattle.fcb_ring.specs.Standing.{erases_on}
 
 -- ---- one call after another
 
@@ -53,6 +54,7 @@ pub down-then : (a d e : Device) (before now after : Ring) (body : List ℕ) →
 down-then a d e before now after body touches same settings stops = record {
   down = stops.down;
   undamaged = subst (λ (x : Area). damage_on e x ≡ None) same stops.undamaged;
+  due = subst (λ (x : Area). erases_on e x ≤ 1) same stops.due;
   stops = stops-then a d e before.area now.area body touches same settings stops.stops;
 }
 

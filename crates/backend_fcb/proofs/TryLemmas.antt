@@ -39,6 +39,9 @@ use Rattle.backend_fcb.proofs.SectorLists.{bodies-append}
 use Rattle.backend_fcb.specs.Tearing.{Tears, CutSettings, StopsPutting}
 use Rattle.backend_fcb.proofs.Tearing.{no-record-stops, put-cost_torn}
 use Rattle.backend_fcb.proofs.WalkLemmas.{Entry}
+use Rattle.flash_map.specs.Area.{OthersStay}
+use Rattle.fcb_ring.specs.Changing.{place_for}
+use Rattle.backend_fcb.proofs.DueLemmas.{cut-due}
 
 -- the record leaves the reserve, or puts no value
 abbrev pub LeavesRoom : Device → Ring → List ℕ → ℕ → Type 0
@@ -232,8 +235,8 @@ module _ (d : Device) (ring : Ring) (lawful : IsLawful d.banks d.bytes) (ready :
       by true one = omega arith
       by false one = omega arith
 
-  pub tried : {T : Type 0} (e : Device) (after : Ring) (result : Result T AppendFault) → IsLawful e.banks e.bytes → e.banks ≡ d.banks → after.area ≡ ring.area → after.reserve ≡ ring.reserve → AppendEnds d e ring after body kept result → TryEnds d e ring after body kept result
-  tried {T} e after (Ok x) lawful-e banks area kept-reserve (can, (at, here, adds), goes, is-ready) =
+  pub tried : {T : Type 0} (e : Device) (after : Ring) (result : Result T AppendFault) → IsLawful e.banks e.bytes → e.banks ≡ d.banks → after.area ≡ ring.area → after.reserve ≡ ring.reserve → OthersStay d e ring.area (place_for d ring body kept) → AppendEnds d e ring after body kept result → TryEnds d e ring after body kept result
+  tried {T} e after (Ok x) lawful-e banks area kept-reserve others (can, (at, here, adds), goes, is-ready) =
       let undamaged : damage_on e ring.area ≡ None = undamaged-after d e ring.area lawful-e ready.stands.area banks (entries_on d ring.area ++ (at, body) ∷ []) adds (added-fits body (omega arith) at here can) in
       let settings : settings_on e ring.area ≡ with_setting (settings_on d ring.area) (setting_of (value_limit ring.area) body) =
       ap (λ (l : List Entry). settings_of (value_limit ring.area) (bodies l)) adds.are ∙ ap (settings_of (value_limit ring.area)) (bodies-append (entries_on d ring.area) ((at, body) ∷ [])) ∙ settings-push (value_limit ring.area) (bodies (entries_on d ring.area)) body in
@@ -251,7 +254,7 @@ module _ (d : Device) (ring : Ring) (lawful : IsLawful d.banks d.bytes) (ready :
         few-units (stays_for d ring body kept),
         is-ready.units,
       )
-  tried {T} e after (Err Full) lawful-e banks area kept-reserve (long, stays, left, refused) =
+  tried {T} e after (Err Full) lawful-e banks area kept-reserve others (long, stays, left, refused) =
       let all : ring.used + 1 ≡ ring.area.sectors = eqb-true (ring.used + 1) ring.area.sectors left in
       let used : 0 < ring.used = omega (arith, ready.stands.area.lawful.several) in
       (refused.flash, refused.ring, stays-not used stays, all, cost-fits)
@@ -263,10 +266,10 @@ module _ (d : Device) (ring : Ring) (lawful : IsLawful d.banks d.bytes) (ready :
             let has : stays_for d ring body kept ≡ true = and_from (ltb 0 ring.used) (leb (ring.end + record_cost (unit_of d ring.area) (length body) + kept) (sector_size d ring.area)) (lt-ltb 0 ring.used used) (le-leb (ring.end + record_cost (unit_of d ring.area) (length body) + kept) (sector_size d ring.area) le) in
             absurd (both_ways (stays_for d ring body kept) stays has)
       ]
-  tried {T} e after (Err TooLong) lawful-e banks area kept-reserve (long, refused) = both_ways (too_long_for d ring body kept) not-long long
-  tried {T} e after (Err PowerLost) lawful-e banks area kept-reserve (can, cut, down) =
+  tried {T} e after (Err TooLong) lawful-e banks area kept-reserve others (long, refused) = both_ways (too_long_for d ring body kept) not-long long
+  tried {T} e after (Err PowerLost) lawful-e banks area kept-reserve others (can, cut, down) =
       let short = cut-short e lawful-e banks can cut in (
-        record { down = down.down; undamaged = short.0; stops = short.1 },
+        record { down = down.down; undamaged = short.0; due = cut-due d e ring ready.stands ready.ready banks (place_for d ring body kept) others; stops = short.1 },
         most_weaker d e (append_units (unit_of d ring.area) (length body) (stays_for d ring body kept)) (collect_units d ring) (few-units (stays_for d ring body kept)) down.units,
         λ stays. subst (λ (n : ℕ). SpendsAtMost d e n) (units-here (unit_of d ring.area) (length body) (stays_for d ring body kept) stays) down.units,
       )

@@ -9,7 +9,7 @@ use Rattle.fcb_ring.specs.Chance.{HasNoChance}
 use Rattle.fcb_ring.specs.Changing.{newest_place, sector_list, stays_for}
 use Rattle.fcb_ring.specs.Entries.{bodies}
 use Rattle.fcb_ring.specs.Rings.{turned}
-use Rattle.fcb_ring.specs.Standing.{StandsOn as RingStandsOn, entries_on, is_up}
+use Rattle.fcb_ring.specs.Standing.{StandsOn as RingStandsOn, entries_on, erases_on, is_up}
 use Rattle.fcb_ring.specs.Writing.{record_cost}
 use Rattle.fcb_ring.specs.declared.record.RecordAt.{RecordAt}
 use Rattle.fcb_ring.specs.declared.ring.Ring.{Ring}
@@ -85,11 +85,12 @@ collect_units d ring = sector_size d ring.area / unit_of d ring.area + 3
 abbrev pub IsFull : Device → Ring → ℕ → ℕ → Type 0
 IsFull d ring len kept = sector_size d ring.area < ring.end + record_cost (unit_of d ring.area) len + kept
 
--- Power was off, or was lost while a record with this body was put: the ring is down, and the area
--- shows no damage.
+-- Power was off, or was lost while a record with this body was put: the ring is down, the area shows
+-- no damage, and a mount erases at most one sector.
 pub record StopsDown (old new : Device) (before after : Ring) (body : List ℕ) : Type 0 where
   pub down : is_up after.stage ≡ false
   pub undamaged : damage_on new before.area ≡ None
+  pub due : erases_on new before.area ≤ 1
   pub stops : old.is_on ≡ true → StopsPutting old new before.area body
 
 -- if the record fits behind those of the newest sector, exactly its own units were spent
@@ -171,8 +172,9 @@ pub record IsCollected (old new : Device) (before after : Ring) : Type 0 where
   pub used : after.used ≡ before.used
   pub reserve : after.reserve ≡ before.reserve
 
--- Power was lost in the collection. The ring is down, and the loss spells no other record by
--- chance.
+-- Power was lost in the collection. The ring is down, a mount erases at most one sector, and the loss
+-- spells no other record by chance.
 pub record StopsCollecting (old new : Device) (before after : Ring) : Type 0 where
   pub down : is_up after.stage ≡ false
+  pub due : erases_on new before.area ≤ 1
   pub lost : old.is_on ≡ true → HasNoChance new before.area

@@ -4,11 +4,13 @@ use Rattle.flash_sim.specs.Device.{Device}
 use Rattle.flash_map.specs.Area.{geometry_of}
 use Rattle.flash_map.specs.Spending.{Spends, SpendsAtMost}
 use Rattle.flash_map.specs.declared.area.Area.{Area}
+use Rattle.backend_api.specs.Boot.{CommandUnits}
 use Rattle.backend_api.specs.Commands.{Command, applied}
 use Rattle.backend_api.specs.Commands.Command.{Put, Del}
 use Rattle.backend_api.specs.Room.{command_units}
 use Rattle.fcb_ring.specs.Standing.{erases_on}
 use Rattle.backend_fcb.specs.Changing.{SpendsCost, SpendsUpToCost, collect_units}
+use Rattle.backend_fcb.specs.Members.{OwesBy}
 use Rattle.backend_fcb.specs.Standing.{settings_on}
 use Rattle.backend_fcb.specs.Tearing.{body_for}
 use Rattle.backend_fcb.specs.declared.backend.FcbBackend.{FcbBackend}
@@ -34,12 +36,15 @@ SpendsUpToCostOf old new backend command =
 abbrev pub SpendsRounds : Device → Device → FcbBackend → ℕ → Type 0
 SpendsRounds old new backend rounds = SpendsAtMost old new ((rounds + 1) * collect_units old backend.ring)
 
--- What a set or delete spends: never more than any command may in an area of this geometry. If its
--- record fits behind those of the newest sector, exactly the units of that record, and no more up
--- to a power loss. In any case no more than so many collections and one append take.
+-- What a set or delete spends: never more than any command may in an area of this geometry. If it was
+-- cut, it leaves one erase to the next mount. If its record fits behind those of the newest sector,
+-- exactly the units of that record, and no more up to a power loss. In any case no more than so many
+-- collections and one append take.
 pub record SpendsFor {X E : Type 0} (old new : Device) (backend : FcbBackend) (command : Command)
     (rounds : ℕ) (result : Result X E) (stopped : Bool) : Type 0 where
-  pub at_most : SpendsAtMost old new (command_units (geometry_of old backend.ring.area))
+  pub units :
+      let area = backend.ring.area in
+      CommandUnits OwesBy 1 (command_units (geometry_of old area)) old new area stopped
   pub exact : OnOk result (SpendsCostOf old new backend command)
   pub no_more : stopped ≡ true → SpendsUpToCostOf old new backend command
   pub few : SpendsRounds old new backend rounds

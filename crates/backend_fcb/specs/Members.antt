@@ -1,10 +1,12 @@
 -- What the backend gives the members of the trait.
-use Rattle.std.specs.Prelude.{ℕ, Bool, List, Option}
+use Rattle.std.specs.Prelude.{◌≡◌, ℕ, ◌≤◌, Bool, List, Option}
+use Rattle.std.proofs.Common.{arith}
 use Rattle.flash_map.specs.Area.{value_limit}
 use Rattle.flash_map.specs.declared.area.Area.{Area}
 use Rattle.flash_map.specs.declared.area.Geometry.{Geometry}
 use Rattle.flash_map.specs.declared.faults.Damaged.{Damaged}
-use Rattle.fcb_ring.specs.Standing.{is_up}
+use Rattle.fcb_ring.specs.Entries.{states}
+use Rattle.fcb_ring.specs.Standing.{is_up, erases_due}
 use Rattle.backend_api.specs.Commands.{Command}
 use Rattle.backend_api.specs.Map.{Map}
 use Rattle.backend_api.specs.Room.{Room}
@@ -35,3 +37,20 @@ StandsBy backend geometry sectors = Stands backend geometry.unit sectors
 
 abbrev pub is_running : FcbBackend → Bool
 is_running backend = is_up backend.ring.stage
+
+-- a mount erases what is due, and spends nothing else
+abbrev pub OwesBy : Area → Geometry → List (List ℕ) → ℕ → Type 0
+OwesBy area geometry sectors most = erases_due (states geometry.unit sectors) ≤ most
+
+-- A command that was cut leaves one erase: of a torn header, or of the newest sector if no sector is
+-- free. A sector with a torn header is free.
+abbrev pub boot_by : Area → Geometry → ℕ
+boot_by area geometry = 1
+
+pub rests-owe : (area : Area) (geometry : Geometry) (sectors : List (List ℕ)) (most : ℕ)
+    → erases_due (states geometry.unit sectors) ≡ 0 → OwesBy area geometry sectors most
+rests-owe area geometry sectors most none = omega arith
+
+pub owes-more : (area : Area) (geometry : Geometry) (sectors : List (List ℕ)) (few most : ℕ) → few ≤ most
+    → OwesBy area geometry sectors few → OwesBy area geometry sectors most
+owes-more area geometry sectors few most le owes = omega arith

@@ -5,13 +5,13 @@ ghost use Rattle.flash_map.specs.Area.{value_limit, geometry_of};
 ghost use Rattle.flash_map.specs.Faults.{mount_lost};
 ghost use Rattle.flash_map.specs.Lawful.{IsLawfulFor};
 ghost use Rattle.flash_map.specs.On.{on, StandsOn};
-ghost use Rattle.flash_map.specs.Spending.{SpendsAtMost};
 ghost use Rattle.flash_map.specs.Touches.{Touches};
 ghost use Rattle.flash_map.specs.declared.area.Role.TheVariants.{Fcb as FcbRole};
 ghost use Rattle.fcb_ring.specs.Chance.{chance as chance_of};
 ghost use Rattle.fcb_ring.specs.Entries.{states};
 ghost use Rattle.fcb_ring.specs.Standing.{StandsOn as RingStandsOn, is_up as is_up_stage, erases_due, erases_on};
 ghost use Rattle.fcb_ring.proofs.RestLemmas.{ready-rests};
+ghost use Rattle.backend_api.specs.Boot.{MountUnits};
 ghost use Rattle.backend_api.specs.Commands.{StopsOn};
 ghost use Rattle.backend_api.specs.Commands.Command.{Put, Del};
 ghost use Rattle.backend_api.specs.Ends.{set_lost, MountEnds, SetEndsOn, DeleteEndsOn};
@@ -20,7 +20,7 @@ ghost use Rattle.backend_api.specs.Room.{mount_units};
 ghost use Rattle.backend_api.specs.Written.{StaysWritten};
 ghost use Rattle.backend_fcb.specs.Exact.{SpendsFor, SpendsErases};
 ghost use Rattle.backend_fcb.specs.Leaving.{Leaves};
-ghost use Rattle.backend_fcb.specs.Members.{damage_by, settings_by, room_by, TearsBy, area_of, StandsBy, is_running};
+ghost use Rattle.backend_fcb.specs.Members.{damage_by, settings_by, room_by, TearsBy, area_of, StandsBy, is_running, OwesBy, boot_by, rests-owe, owes-more};
 ghost use Rattle.backend_fcb.specs.Standing.{settings_on};
 ghost use Rattle.backend_fcb.specs.Laws.{reads_settings};
 
@@ -127,6 +127,10 @@ impl Backend for FcbBackend {
 
     ghost rests = { λ area geometry sectors. erases_due (states geometry.unit sectors) ≡ 0 };
 
+    ghost owes = { OwesBy };
+
+    ghost boot_units = { boot_by };
+
     ghost chance = { chance_of };
 
     ghost tears = { TearsBy };
@@ -144,6 +148,10 @@ impl Backend for FcbBackend {
     ghost stands_reads = { λ backend geometry sectors stands. stands.undamaged };
 
     ghost stands_rests = { λ backend geometry sectors stands. ready-rests geometry.unit sectors backend.ring stands.ring stands.ready };
+
+    ghost rests_owe = { rests-owe };
+
+    ghost owes_more = { owes-more };
 
     ghost reads_settings = { reads_settings };
 
@@ -169,8 +177,8 @@ impl Backend for FcbBackend {
             → F.device flash.new ≡ F.device flash.old }
         ensures written { let d = F.device flash.old in
             (area.role ≡ FcbRole → ⊥) → StaysWritten d (F.device flash.new) area }
-        ensures at_most { let d = F.device flash.old in
-            SpendsAtMost d (F.device flash.new) (mount_units (geometry_of d area)) }
+        ensures units { let d = F.device flash.old in
+            MountUnits OwesBy (mount_units (geometry_of d area)) d (F.device flash.new) area }
         ensures on { IfOk result (λ state. area_of state ≡ area) }
         ensures stands { IfOk result
             (λ state. StandsOn area_of StandsBy (F.device flash.new) state) }

@@ -1,3 +1,4 @@
+mod BootSteps
 mod CountSteps
 mod FormatSteps
 mod TestBanks

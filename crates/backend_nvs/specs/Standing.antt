@@ -1,6 +1,6 @@
 -- When the backend stands, and what its area reads as.
-use Rattle.std.specs.Prelude.{◌≡◌, ℕ, List, None}
-use Rattle.std.proofs.Common.{arith}
+use Rattle.std.specs.Prelude.{◌≡◌, ◌⊎◌, ℕ, ◌+◌, ◌≤◌, List, None}
+use Rattle.std.proofs.Common.{inl, inr, arith}
 use Rattle.flash_sim.specs.Bank.{IsLawful}
 use Rattle.flash_sim.specs.Device.{Device}
 use Rattle.flash_map.specs.Area.{value_limit, geometry_of, sectors_of}
@@ -12,7 +12,9 @@ use Rattle.flash_map.specs.declared.area.Role.TheVariants.{Nvs as NvsRole}
 use Rattle.backend_api.specs.Map.{IsSettings}
 use Rattle.named_items.specs.Pairs.{HasNoOrphans}
 use Rattle.named_items.proofs.LawfulLemmas.{settings-lawful}
-use Rattle.named_items.specs.NvsStore.{nvs_damage, nvs_items, nvs_rests, NvsStands, nvs-rested}
+use Rattle.named_items.specs.Orphans.{Owing, boot_of}
+use Rattle.named_items.proofs.OrphanUnits.{owing-more}
+use Rattle.named_items.specs.NvsStore.{nvs_damage, nvs_items, nvs_rests, NvsStands, nvs-rested, nvs_redo, nvs_clear, nvs_removal}
 use Rattle.backend_nvs.specs.declared.backend.NvsBackend.{NvsBackend}
 use Rattle.backend_nvs.specs.IdLayout.{numbering_of, nvs-numbering, settings_of}
 
@@ -43,3 +45,29 @@ reads_settings d area lawful for role undamaged =
 pub record StandsOn (d : Device) (backend : NvsBackend) : Type 0 where
   pub lawful : IsLawfulFor d.banks backend.store.store.area
   pub stands : Stands backend (geometry_of d backend.store.store.area) (sectors_of d backend.store.store.area)
+
+-- ---- what a mount spends
+
+-- the most of a mount that finds so many orphans
+abbrev pub boot_units_of : Geometry → ℕ → ℕ
+boot_units_of geometry = boot_of (nvs_redo geometry) (nvs_clear geometry) (nvs_removal geometry)
+
+-- A mount has nothing to do, or completes what a cut command left and deletes so many orphans.
+abbrev pub Owes : Area → Geometry → List (List ℕ) → ℕ → Type 0
+Owes area geometry sectors most =
+    Rests area geometry sectors
+    ⊎ Owing (numbering_of area) (nvs_items area geometry sectors) (boot_units_of geometry) most
+
+-- The most that a cut command leaves to a mount: the end of a garbage collection, and one orphan.
+abbrev pub boot_units : Area → Geometry → ℕ
+boot_units area geometry = nvs_clear geometry + nvs_removal geometry
+
+pub owes-more : (area : Area) (geometry : Geometry) (sectors : List (List ℕ)) (few most : ℕ) → few ≤ most
+    → Owes area geometry sectors few → Owes area geometry sectors most
+owes-more area geometry sectors few most le owes =
+    elim owes [
+      | inl rests ↦ inl rests
+      | inr owing ↦ inr
+          (owing-more (numbering_of area) (nvs_items area geometry sectors) (boot_units_of geometry) few most
+          le owing)
+    ]

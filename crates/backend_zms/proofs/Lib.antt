@@ -1,4 +1,5 @@
 mod BackendSteps
+mod BootSteps
 mod GroupLemmas
 mod CandidateSteps
 mod Vectors

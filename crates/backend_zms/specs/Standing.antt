@@ -1,5 +1,6 @@
 -- When a backend stands on its area.
-use Rattle.std.specs.Prelude.{◌≡◌, ℕ, List, None}
+use Rattle.std.specs.Prelude.{◌≡◌, ◌⊎◌, ℕ, ◌+◌, ◌≤◌, List, None}
+use Rattle.std.proofs.Common.{inl, inr}
 use Rattle.flash_sim.specs.Bank.{IsLawful}
 use Rattle.flash_sim.specs.Device.{Device}
 use Rattle.flash_map.specs.declared.area.Area.{Area}
@@ -11,7 +12,9 @@ use Rattle.flash_map.specs.On.{on}
 use Rattle.backend_api.specs.Map.{Map, IsSettings}
 use Rattle.named_items.specs.Pairs.{settings_in, HasNoOrphans}
 use Rattle.named_items.proofs.LawfulLemmas.{settings-lawful}
-use Rattle.named_items.specs.ZmsStore.{zms_damage, zms_items, zms_rests, ZmsStands, zms-rested}
+use Rattle.named_items.specs.Orphans.{Owing, boot_of}
+use Rattle.named_items.proofs.OrphanUnits.{owing-more}
+use Rattle.named_items.specs.ZmsStore.{zms_damage, zms_items, zms_rests, ZmsStands, zms-rested, zms_redo, zms_clear, zms_removal}
 use Rattle.backend_zms.specs.declared.backend.ZmsBackend.{ZmsBackend}
 use Rattle.backend_zms.specs.IdLayout.{numbering_of, zms-numbering, step-small}
 
@@ -48,3 +51,29 @@ pub reads_settings : (d : Device) (area : Area) → IsLawful d.banks d.bytes →
 reads_settings d area lawful for serves undamaged =
     settings-lawful (numbering_of area) (zms-numbering (value_limit area)) step-small
     (zms_items area (geometry_of d area) (sectors_of d area))
+
+-- ---- what a mount spends
+
+-- the most of a mount that finds so many orphans
+abbrev pub boot_units_of : Geometry → ℕ → ℕ
+boot_units_of geometry = boot_of (zms_redo geometry) (zms_clear geometry) (zms_removal geometry)
+
+-- A mount has nothing to do, or completes what a cut command left and deletes so many orphans.
+abbrev pub Owes : Area → Geometry → List (List ℕ) → ℕ → Type 0
+Owes area geometry sectors most =
+    Rests area geometry sectors
+    ⊎ Owing (numbering_of area) (zms_items area geometry sectors) (boot_units_of geometry) most
+
+-- The most that a cut command leaves to a mount: the end of a garbage collection, and one orphan.
+abbrev pub boot_units : Area → Geometry → ℕ
+boot_units area geometry = zms_clear geometry + zms_removal geometry
+
+pub owes-more : (area : Area) (geometry : Geometry) (sectors : List (List ℕ)) (few most : ℕ) → few ≤ most
+    → Owes area geometry sectors few → Owes area geometry sectors most
+owes-more area geometry sectors few most le owes =
+    elim owes [
+      | inl rests ↦ inl rests
+      | inr owing ↦ inr
+          (owing-more (numbering_of area) (zms_items area geometry sectors) (boot_units_of geometry) few most
+          le owing)
+    ]

@@ -4,9 +4,10 @@ ghost use Rattle.flash_map.specs.Area.{geometry_of, value_limit};
 ghost use Rattle.flash_map.specs.Faults.{mount_lost};
 ghost use Rattle.flash_map.specs.Lawful.{IsLawfulFor};
 ghost use Rattle.flash_map.specs.On.{on, HoldsOn, StandsOn};
-ghost use Rattle.flash_map.specs.Spending.{SpendsAtMost};
 ghost use Rattle.flash_map.specs.Touches.{Touches};
 ghost use Rattle.flash_map.specs.declared.area.Role.TheVariants.{Fcb as FcbRole};
+ghost use Rattle.std.proofs.Common.{inl};
+ghost use Rattle.backend_api.specs.Boot.{MountUnits, CommandUnits};
 ghost use Rattle.backend_api.specs.Commands.{StopsOn};
 ghost use Rattle.backend_api.specs.Commands.Command.{Put, Del};
 ghost use Rattle.backend_api.specs.Ends.{set_lost, MountEnds, SetEndsOn, DeleteEndsOn};
@@ -18,7 +19,7 @@ ghost use Rattle.named_items.specs.Putting.{IsStorable};
 ghost use Rattle.named_items.specs.ZmsStore.{zms_damage, zms_items};
 ghost use Rattle.backend_zms.specs.IdLayout.{numbering_of};
 ghost use Rattle.backend_zms.specs.Members.{room_by, chance_of, TearsBy, area_of, is_running};
-ghost use Rattle.backend_zms.specs.Standing.{IsServed, settings_of, Rests, Stands, stands-rest, reads_settings};
+ghost use Rattle.backend_zms.specs.Standing.{IsServed, settings_of, Rests, Stands, stands-rest, reads_settings, Owes, boot_units, owes-more};
 
 use crate::numbering::ZmsIdLayout;
 use backend_api::{Backend, SetFault};
@@ -51,6 +52,10 @@ impl Backend for ZmsBackend {
 
     ghost rests = { λ area geometry sectors. Rests area geometry sectors };
 
+    ghost owes = { Owes };
+
+    ghost boot_units = { boot_units };
+
     ghost chance = { chance_of };
 
     ghost tears = { TearsBy };
@@ -68,6 +73,10 @@ impl Backend for ZmsBackend {
     ghost stands_reads = { λ backend geometry sectors stands. stands.store.undamaged };
 
     ghost stands_rests = { λ backend geometry sectors stands. stands-rest backend geometry sectors stands };
+
+    ghost rests_owe = { λ area geometry sectors most rests. inl rests };
+
+    ghost owes_more = { owes-more };
 
     ghost reads_settings = { reads_settings };
 
@@ -98,8 +107,8 @@ impl Backend for ZmsBackend {
             → F.device flash.new ≡ F.device flash.old }
         ensures written { let d = F.device flash.old in
             (area.role ≡ FcbRole → ⊥) → StaysWritten d (F.device flash.new) area }
-        ensures at_most { let d = F.device flash.old in
-            SpendsAtMost d (F.device flash.new) (mount_units (geometry_of d area)) }
+        ensures units { let d = F.device flash.old in
+            MountUnits Owes (mount_units (geometry_of d area)) d (F.device flash.new) area }
         ensures on { IfOk result (λ state. area_of state ≡ area) }
         ensures stands { IfOk result
             (λ state. StandsOn area_of Stands (F.device flash.new) state) }
@@ -140,8 +149,10 @@ impl Backend for ZmsBackend {
         ensures items { let d = F.device flash.old in let area = area_of self.old in
             SetLeavesItems (numbering_of area) (on zms_items d area)
             (on zms_items (F.device flash.new) area) name.now value.now result }
-        ensures at_most { let d = F.device flash.old in
-            SpendsAtMost d (F.device flash.new) (command_units (geometry_of d (area_of self.old))) }
+        ensures units { let d = F.device flash.old in let area = area_of self.old in
+            let g = geometry_of d area in
+            CommandUnits Owes (boot_units area g) (command_units g) d (F.device flash.new) area
+            (set_lost result) }
         ensures sound { on zms_damage (F.device flash.new) (area_of self.old) ≡ None }
         ensures cut { let d = F.device flash.old in let e = F.device flash.new in
             d.is_on ≡ true → set_lost result ≡ true
@@ -175,8 +186,10 @@ impl Backend for ZmsBackend {
             (on zms_items (F.device flash.new) area) name.now result }
         ensures written { let d = F.device flash.old in let area = area_of self.old in
             (area.role ≡ FcbRole → ⊥) → StaysWritten d (F.device flash.new) area }
-        ensures at_most { let d = F.device flash.old in
-            SpendsAtMost d (F.device flash.new) (command_units (geometry_of d (area_of self.old))) }
+        ensures units { let d = F.device flash.old in let area = area_of self.old in
+            let g = geometry_of d area in
+            CommandUnits Owes (boot_units area g) (command_units g) d (F.device flash.new) area
+            (is_err result) }
         ensures sound { on zms_damage (F.device flash.new) (area_of self.old) ≡ None }
         ensures cut { let d = F.device flash.old in let e = F.device flash.new in
             d.is_on ≡ true → is_err result ≡ true

@@ -1,9 +1,9 @@
 -- A name stands only at a place of its own: look-ups over these places alone, and how many of them have a name.
-use Rattle.std.proofs.Common.{◌≡◌, ◌⊎◌, ℕ, zero, suc, ◌+◌, ◌-◌, ◌<◌, ◌≤◌, Bool, true, false, cond, ◌&&◌, List, [], ◌∷◌, ◌++◌, length, Option, Some, None, refl, sym, ap, subst, ◌∙◌, inl, inr, arith}
+use Rattle.std.proofs.Common.{◌≡◌, ◌⊎◌, ℕ, zero, suc, ◌+◌, ◌-◌, ◌<◌, ◌≤◌, Bool, true, false, cond, ◌&&◌, List, [], ◌∷◌, length, Option, Some, None, refl, sym, ap, subst, ◌∙◌, inl, inr, arith}
 use Rattle.std.specs.Prelude.{sum_by, count_by, map, nat_le}
 use Rattle.std.specs.List.{cons_option, filter_map, range_with_len}
 use Rattle.std.specs.FinMap as maps
-use Rattle.std.proofs.lemmas.Bool.{cases_eq, cases_lt, and_parts, cases_Bool}
+use Rattle.std.proofs.lemmas.Bool.{and_parts}
 use Rattle.std.proofs.lemmas.List.Elements.{filter_map-append}
 use Rattle.std.proofs.lemmas.List.Sums.{sum_by-cons, sum_by-append}
 use Rattle.item_laws.specs.Items.{Items}
@@ -13,9 +13,9 @@ use Rattle.named_items.specs.Candidates.{IsCandidate, IsFreeCandidate, Candidate
 use Rattle.item_store.specs.Free.{IsLeastFree}
 use Rattle.item_store.specs.declared.entry.IdRange.{IdRange}
 use Rattle.named_items.specs.Numbering.{Numbering, IsNumbering}
-use Rattle.named_items.specs.Pairs.{count_in, pair_at, settings_in, HasName, IsInside, IsAt, IsIdOfName, HasNoOrphans}
-use Rattle.named_items.proofs.RangePairs.{Pair, pairs_on, map_on, range-append}
-use Rattle.named_items.proofs.PairLemmas.{pair-made, no-name, has-pair, settings-on}
+use Rattle.named_items.specs.Pairs.{count_in, pair_at, settings_in, HasName, IsInside, IsIdOfName, HasNoOrphans}
+use Rattle.named_items.proofs.RangePairs.{Pair, pairs_on, range-append}
+use Rattle.named_items.proofs.PairLemmas.{pair-made, no-name, settings-on}
 use Rattle.named_items.proofs.CostLemmas.{map-sum, clean-distinct}
 use Rattle.named_items.proofs.NameLemmas.{on-full, on-free, used-name, used-value}
 use Rattle.named_items.specs.Ends.{IsFree}

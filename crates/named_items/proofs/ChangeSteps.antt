@@ -24,6 +24,8 @@ use Rattle.named_items.proofs.RoomLemmas.{refused-room, stored-numbering, items-
 use Rattle.named_items.proofs.OrphanLemmas.{one-place, put-clean}
 use Rattle.named_items.specs.Putting.{room_in, IsPut}
 use Rattle.named_items.proofs.SpendSteps.{geometry-stays}
+use Rattle.named_items.specs.Orphans.{HasOrphans}
+use Rattle.named_items.proofs.OrphanUnits.{no-orphans}
 
 some_same : {A : Type 0} (x y : A) → Some x ≡ Some y → x ≡ y
 some_same x y e = cc
@@ -127,6 +129,9 @@ module _ (n : Numbering) (laws : IsNumbering n) (counted : (ℕ → ℕ) → ℕ
           lives = lives;
           settings = ap (settings_in n) finds.items;
         }
+
+    pub change-orphans : stored.StopsWriting price cap items after second value → HasOrphans n after 1
+    change-orphans stops = elim stops.items [ inl same ↦ no-orphans n after 1 (subst (HasNoOrphans n) (sym same) clean) | inr put ↦ no-orphans n after 1 (subst (HasNoOrphans n) (sym put) change-clean) ]
 
     pub change-cut : stored.StopsWriting price cap items after second value → IsPut (settings_in n items) (settings_in n after) name value
     change-cut stops = elim stops.items [ inl same ↦ inl (ap (settings_in n) same) | inr put ↦ inr (ap (settings_in n) (put ∙ ap (λ (id : ℕ). insert items id value) is_second) ∙ change-sets) ]

@@ -1,12 +1,12 @@
 -- What items cost, and what the settings cost that they read as.
-use Rattle.std.proofs.Common.{◌≡◌, ◌⊎◌, ℕ, zero, suc, ◌+◌, ◌-◌, ◌<◌, ◌≤◌, Bool, true, false, cond, List, [], ◌∷◌, ◌++◌, length, Option, Some, None, Ordering, Less, Equal, Greater, is_eq, nat_cmp, refl, sym, ap, subst, ◌∙◌, inl, inr, arith}
+use Rattle.std.proofs.Common.{◌≡◌, ◌⊎◌, ℕ, zero, suc, ◌+◌, ◌<◌, ◌≤◌, Bool, true, false, cond, List, [], ◌∷◌, ◌++◌, length, Option, Some, None, Ordering, Less, Equal, Greater, is_eq, nat_cmp, refl, sym, ap, subst, ◌∙◌, inl, inr, arith}
 use Rattle.std.specs.Prelude.{sum_by}
 use Rattle.std.specs.List.{cons_option}
 use Rattle.std.specs.Ordering.{eq_by_cmp}
 use Rattle.std.specs.Cmp.Lexicographic.{slice_cmp, nat_list_cmp_total}
 use Rattle.std.specs.FinMap as map
 use Rattle.std.specs.FinMap.Entries.{by_order}
-use Rattle.std.proofs.lemmas.Bool.{cases_eq, cases_lt}
+use Rattle.std.proofs.lemmas.Bool.{cases_eq}
 use Rattle.std.proofs.lemmas.Cmp.{nat_cmp_total}
 use Rattle.std.proofs.lemmas.List.Sums.{sum_by-cons, sum_by-append}
 use Rattle.std.proofs.lemmas.Bool.Decides.{nat_tests}
@@ -15,10 +15,10 @@ use Rattle.item_laws.specs.Items.{Items}
 use Rattle.backend_api.specs.Map.{Map}
 use Rattle.named_items.specs.Numbering.{Numbering, IsNumbering}
 use Rattle.named_items.specs.Cost.{item_cost, pair_cost, settings_cost}
-use Rattle.named_items.specs.Pairs.{count_in, pair_of, pair_at, settings_in, HasName, IsInside, IsAt, HasNoOrphans}
-use Rattle.named_items.proofs.RangePairs.{Pair, look, pairs_on, map_on, get-on, on-agree, on-more, on-none}
-use Rattle.named_items.proofs.PairLemmas.{Makes, pair-made, made-pair, no-name, has-pair, one-name, settings-on}
-use Rattle.named_items.proofs.OrphanLemmas.{one-place, kept-place}
+use Rattle.named_items.specs.Pairs.{count_in, pair_of, pair_at, settings_in, HasName, HasNoOrphans}
+use Rattle.named_items.proofs.RangePairs.{Pair, pairs_on, map_on, on-agree, on-more, on-none}
+use Rattle.named_items.proofs.PairLemmas.{pair-made, made-pair, has-pair, settings-on}
+use Rattle.named_items.proofs.OrphanLemmas.{one-place}
 
 some_none : {A : Type 0} (x : A) → Some x ≡ None → ⊥
 some_none x e = cc

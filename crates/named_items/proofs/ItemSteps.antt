@@ -13,7 +13,9 @@ use Rattle.named_items.specs.Numbering.{Numbering, IsNumbering}
 use Rattle.named_items.specs.Pairs.{count_in, settings_in, IsInside, IsAt, IsIdOfName, HasNoOrphans}
 use Rattle.named_items.proofs.CostLemmas.{get-cut, get-cut_other}
 use Rattle.named_items.proofs.PairLemmas.{place-bare, place-taken, no-name}
-use Rattle.named_items.proofs.OrphanLemmas.{one-place, taken-clean}
+use Rattle.named_items.specs.Orphans.{HasOrphans}
+use Rattle.named_items.proofs.OrphanLemmas.{bare-clean, one-place, taken-clean}
+use Rattle.named_items.proofs.OrphanUnits.{no-orphans, one-orphan}
 use Rattle.named_items.proofs.NameLemmas.{get-at, get-nowhere, at-value}
 use Rattle.named_items.specs.Ends.{DeletesPair}
 
@@ -98,6 +100,19 @@ module _ (n : Numbering) (laws : IsNumbering n) (items : Items) (clean : HasNoOr
   pub delete-cut : {U : Type 0} (after : Items) (r : Result U Lost) → is_err r ≡ true → DeletesPair items after place (place + n.step) r → (settings_in n after ≡ settings_in n items) ⊎ (settings_in n after ≡ remove (settings_in n items) name)
   delete-cut after (Ok x) is ends = absurd (false≢true is)
   delete-cut after (Err lost) is ends = pair-cut after ends
+
+  -- where it was cut, at most the value is an orphan
+  pub delete-orphans : {U : Type 0} (after : Items) (r : Result U Lost) → is_err r ≡ true → DeletesPair items after place (place + n.step) r → HasOrphans n after 1
+  delete-orphans after (Ok x) is ends = absurd (false≢true is)
+  delete-orphans after (Err lost) is ends = elim ends [
+    | inl same ↦ no-orphans n after 1 (subst (HasNoOrphans n) (sym same) clean)
+    | inr more ↦ elim more [
+      | inl first ↦ subst (λ (m : Items). HasOrphans n m 1) (sym first)
+          (one-orphan n (remove items place) (place + n.step)
+          (bare-clean n laws items (remove items place) place at.inside (λ id a b. get-cut_other items place id a) (get-cut items place) clean))
+      | inr all ↦ no-orphans n after 1 (subst (HasNoOrphans n) (sym all) both-clean_after)
+    ]
+  ]
 
   pub delete-clean : {U : Type 0} (after : Items) (r : Result U Lost) → is_err r ≡ false → DeletesPair items after place (place + n.step) r → HasNoOrphans n after
   delete-clean after (Ok x) is ends = subst (HasNoOrphans n) (sym ends) both-clean_after

@@ -1,11 +1,11 @@
 -- The settings that items read as are lawful.
-use Rattle.std.proofs.Common.{◌≡◌, ℕ, zero, suc, ◌+◌, ◌^◌, ◌<◌, ◌≤◌, Bool, true, false, cond, ◌&&◌, List, [], ◌∷◌, length, Option, Some, None, Ordering, Less, Equal, Greater, nat_cmp, is_some, refl, sym, ap, subst, ◌∙◌, inl, inr, arith}
+use Rattle.std.proofs.Common.{◌≡◌, ℕ, zero, suc, ◌+◌, ◌^◌, ◌<◌, ◌≤◌, Bool, true, false, cond, List, [], ◌∷◌, length, Option, Some, None, Ordering, Less, Equal, Greater, nat_cmp, refl, sym, subst, ◌∙◌, arith}
 use Rattle.std.specs.Prelude.{All, nat_le, map}
-use Rattle.std.specs.List.{cons_option, filter_map, range_with_len}
+use Rattle.std.specs.List.{cons_option}
 use Rattle.std.specs.Cmp.Lexicographic.{slice_cmp, nat_list_cmp_total}
 use Rattle.std.specs.FinMap as maps
 use Rattle.std.specs.FinMap.Entries.{by_order}
-use Rattle.std.proofs.lemmas.Bool.{cases_Bool, and_parts}
+use Rattle.std.proofs.lemmas.Bool.{and_parts}
 use Rattle.std.proofs.lemmas.Bool.Decides.{nat_tests}
 use Rattle.std.proofs.lemmas.List.Elements.{All-nil, All-cons, All-head, All-tail}
 use Rattle.item_laws.specs.Items.{Items}
@@ -14,9 +14,7 @@ use Rattle.setting_name.proofs.NameTest.{is_name-sound}
 use Rattle.backend_api.specs.Map.{Map, IsValue, IsSettings}
 use Rattle.named_items.specs.Numbering.{Numbering, IsNumbering}
 use Rattle.named_items.specs.Pairs.{count_in, is_pair, pair_of, pair_at, settings_in}
-use Rattle.named_items.proofs.RangePairs.{Pair, pairs_on, map_on}
-use Rattle.named_items.proofs.PairLemmas.{settings-on}
-use Rattle.named_items.proofs.NameLemmas.{on-few}
+use Rattle.named_items.proofs.RangePairs.{Pair, pairs_on}
 
 module _ {K X : Type 0} (R : K → K → Ordering) where
   put-keys : (P : K → Type 0) (k : K) (v : X) (es : List (K × X)) → P k → All P (map (λ e. e.0) es) → All P (map (λ e. e.0) (maps.put R k v es))

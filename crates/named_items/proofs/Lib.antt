@@ -29,4 +29,5 @@ pub mod SpendSteps
 mod StopSteps
 pub mod OrphanLemmas
 pub mod OrphanSteps
+pub mod OrphanUnits
 mod ZmsSteps

@@ -38,3 +38,6 @@ pub units-within : (cost size unit : ℕ) → 0 < unit → cost ≤ size → cos
 units-within cost size unit some le =
     let back : cost / unit * unit ≤ cost = div-mul-le_self cost unit in
     le-div (cost / unit) size unit some (omega arith)
+
+pub between-same : (d e : Device) (least most : ℕ) → SpendsBetween d e least most → SpendsAtMost d e most
+between-same d e least most spent = (spent.units, spent.at_most, spent.spent)

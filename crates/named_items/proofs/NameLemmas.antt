@@ -1,25 +1,18 @@
 -- What the map says of a name, how many names it has, and that it is lawful.
-use Rattle.std.proofs.Common.{◌≡◌, ◌⊎◌, ℕ, zero, suc, ◌+◌, ◌-◌, ◌*◌, ◌^◌, ◌<◌, ◌≤◌, Bool, true, false, cond, ◌&&◌, List, [], ◌∷◌, ◌++◌, length, Option, Some, None, Ordering, Less, Equal, Greater, nat_cmp, is_some, refl, sym, ap, subst, ◌∙◌, inl, inr, arith}
-use Rattle.std.specs.Prelude.{sum_by, All, nat_le}
-use Rattle.std.specs.List.{cons_option, filter_map, range_with_len}
-use Rattle.std.specs.Cmp.Lexicographic.{slice_cmp, nat_list_cmp_total}
+use Rattle.std.proofs.Common.{◌≡◌, ℕ, zero, suc, ◌+◌, ◌-◌, ◌<◌, ◌≤◌, true, List, [], ◌∷◌, length, Option, Some, None, refl, sym, ap, subst, ◌∙◌, inl, inr, arith}
+use Rattle.std.specs.Prelude.{sum_by}
+use Rattle.std.specs.List.{cons_option}
 use Rattle.std.specs.FinMap as map
-use Rattle.std.specs.FinMap.Entries.{by_order}
-use Rattle.std.proofs.lemmas.Bool.{cases_Bool, cases_eq, cases_lt, cond-true, and_parts, and_from, false≢true}
-use Rattle.std.proofs.lemmas.Bool.Decides.{nat_tests}
-use Rattle.std.proofs.lemmas.List.Elements.{All-nil, All-cons, All-head, All-tail}
+use Rattle.std.proofs.lemmas.Bool.{cases_eq, cond-true}
 use Rattle.std.proofs.lemmas.List.Sums.{sum_by-cons}
 use Rattle.item_laws.specs.Items.{Items}
-use Rattle.setting_name.specs.Name.{IsName, is_name}
-use Rattle.setting_name.proofs.NameTest.{is_name-sound, is_name-complete}
-use Rattle.backend_api.specs.Map.{Map, IsValue, IsSettings}
+use Rattle.backend_api.specs.Map.{Map}
 use Rattle.backend_api.proofs.MapLemmas.{ties_itself}
 use Rattle.named_items.specs.Numbering.{Numbering, IsNumbering}
-use Rattle.named_items.specs.Pairs.{count_in, is_pair, pair_of, pair_at, settings_in, HasName, IsInside, IsLowest, IsAt, IsIdOfName, HasNoOrphans, IsKept}
-use Rattle.named_items.proofs.RangePairs.{Pair, tie, found, look, pairs_on, map_on, get-on, on-none, on-some, on-split, or-some, or-none}
-use Rattle.named_items.proofs.PairLemmas.{Makes, pair-made, made-pair, no-name, has-pair, one-name, settings-on}
-use Rattle.named_items.proofs.OrphanLemmas.{kept-place}
-use Rattle.named_items.proofs.CostLemmas.{Distinct, map-sum, clean-distinct}
+use Rattle.named_items.specs.Pairs.{count_in, is_pair, pair_at, settings_in, HasName, IsInside, IsAt, IsIdOfName, HasNoOrphans}
+use Rattle.named_items.proofs.RangePairs.{Pair, tie, found, look, pairs_on, get-on, on-none, on-some, on-split, or-some, or-none}
+use Rattle.named_items.proofs.PairLemmas.{pair-made, made-pair, settings-on}
+use Rattle.named_items.proofs.CostLemmas.{map-sum, clean-distinct}
 
 some_none : {A : Type 0} (x : A) → Some x ≡ None → ⊥
 some_none x e = cc

@@ -17,7 +17,11 @@ use Rattle.named_items.proofs.NameLemmas.{get-nowhere}
 use Rattle.named_items.proofs.RoomLemmas.{new-need}
 use Rattle.named_items.specs.Ends.{IsRefused, IsFree}
 use Rattle.named_items.specs.Putting.{IsPut}
-use Rattle.named_items.proofs.SetSteps.{value-leaves, name-sets, name-clean, refused-describes}
+use Rattle.named_items.specs.Orphans.{HasOrphans}
+use Rattle.named_items.proofs.CostLemmas.{get-put_other}
+use Rattle.named_items.proofs.OrphanLemmas.{bare-clean}
+use Rattle.named_items.proofs.OrphanUnits.{no-orphans, one-orphan}
+use Rattle.named_items.proofs.SetSteps.{valued-name, value-leaves, name-sets, name-clean, refused-describes}
 
 none_some : {A : Type 0} (x : A) → None ≡ Some x → ⊥
 none_some x e = cc
@@ -44,6 +48,19 @@ module _ (n : Numbering) (laws : IsNumbering n) (counted : (ℕ → ℕ) → ℕ
 
     pub new-clean : (after : Items) → after ≡ insert (insert items second value) place name → HasNoOrphans n after
     new-clean after is = subst (HasNoOrphans n) (sym (is ∙ ap (λ (id : ℕ). insert (insert items id value) place name) is_second)) (name-clean n laws items clean name value place inside free.0 absent passes)
+
+    -- where it was cut, at most the value is an orphan
+    pub new-orphans : (after : Items) → (after ≡ items) ⊎ (after ≡ insert items second value) ⊎ (after ≡ insert (insert items second value) place name) → HasOrphans n after 1
+    new-orphans after ends = elim ends [
+      | inl same ↦ no-orphans n after 1 (subst (HasNoOrphans n) (sym same) clean)
+      | inr more ↦ elim more [
+        | inl first ↦ subst (λ (m : Items). HasOrphans n m 1) (sym (first ∙ ap (λ (id : ℕ). insert items id value) is_second))
+            (one-orphan n (insert items (place + n.step) value) (place + n.step)
+            (bare-clean n laws items (insert items (place + n.step) value) place inside (λ id a b. get-put_other items (place + n.step) value id b)
+            (valued-name n laws items clean name value place inside free.0 absent passes) clean))
+        | inr all ↦ no-orphans n after 1 (new-clean after all)
+      ]
+    ]
 
     pub new-cut : (after : Items) → (after ≡ items) ⊎ (after ≡ insert items second value) ⊎ (after ≡ insert (insert items second value) place name)
         → IsPut (settings_in n items) (settings_in n after) name value

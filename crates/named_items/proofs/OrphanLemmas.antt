@@ -1,13 +1,13 @@
 -- Which items belong to no setting that counts, and what stays where one of them is removed.
-use Rattle.std.proofs.Common.{◌≡◌, ◌⊎◌, ℕ, zero, suc, ◌+◌, ◌-◌, ◌<◌, ◌≤◌, Bool, true, false, List, Option, Some, None, refl, sym, ap, subst, ◌∙◌, inl, inr, arith}
+use Rattle.std.proofs.Common.{◌≡◌, ◌⊎◌, ℕ, zero, suc, ◌+◌, ◌-◌, ◌<◌, ◌≤◌, true, List, Option, Some, None, refl, sym, ap, subst, ◌∙◌, inl, inr, arith}
 use Rattle.std.specs.FinMap.{get}
 use Rattle.std.proofs.lemmas.Bool.{cases_Bool, cases_eq, cases_lt, false≢true}
 use Rattle.backend_api.proofs.MapLemmas.{ties_itself, ties_same}
 use Rattle.item_laws.specs.Items.{Items}
 use Rattle.named_items.specs.Numbering.{Numbering, IsNumbering}
-use Rattle.named_items.specs.Pairs.{count_in, pair_of, pair_at, settings_in, HasName, IsInside, IsLowest, IsAt, IsCount, IsPart, IsKept, HasNoOrphans, AltersOnly}
+use Rattle.named_items.specs.Pairs.{count_in, pair_of, pair_at, settings_in, HasName, IsInside, IsAt, IsPart, IsKept, HasNoOrphans, AltersOnly}
 use Rattle.named_items.proofs.RangePairs.{Pair, tie}
-use Rattle.named_items.proofs.PairLemmas.{Makes, pair-made, no-name, no-value, has-pair, one-name, pair-stays, count-stays, pairs-stay, place-bare, place-ignored, place-count, others-stay}
+use Rattle.named_items.proofs.PairLemmas.{pair-made, no-name, no-value, has-pair, one-name, pair-stays, count-stays, pairs-stay, place-bare, place-ignored}
 
 -- ---- a name on a range
 
@@ -231,6 +231,17 @@ module _ (n : Numbering) (laws : IsNumbering n) (old new : Items) (place : ℕ) 
   pub taken-clean : get new place ≡ None → get new (place + n.step) ≡ None → HasNoOrphans n old → HasNoOrphans n new
   taken-clean name value clean =
       both-clean (λ t other within here has. let none : ⊥ = subst (λ (o : Option Pair). HasName o t) (no-name n place (get new place) (get new (place + n.step)) name) has in absurd none) (inl name) (inl value) clean
+
+  -- The place has no name any more, or none yet: its value alone may be an orphan.
+  pub bare-clean : get new place ≡ None → HasNoOrphans n old → (id : ℕ) → ¬ (id ≡ place + n.step) → (get new id ≡ None) ⊎ IsKept n new id
+  bare-clean name clean id apart =
+      elim (cases_eq id place) [
+        | inl e ↦ inl (ap (get new) e ∙ name)
+        | inr a ↦ elim (clean id) [
+          | inl none ↦ inl (only id a apart ∙ none)
+          | inr kept ↦ inr (both-kept (λ t other within here has. let none : ⊥ = subst (λ (o : Option Pair). HasName o t) (no-name n place (get new place) (get new (place + n.step)) name) has in absurd none) id a apart kept)
+        ]
+      ]
 
   -- the place has this setting, and no other place has the name
   pub put-clean : (name value : List ℕ) → pair_at n new place ≡ Some (name, value) → ((other : ℕ) → IsInside n old other → HasName (pair_at n old other) name → other ≡ place) → HasNoOrphans n old → HasNoOrphans n new

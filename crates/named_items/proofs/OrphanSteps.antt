@@ -12,7 +12,7 @@ use Rattle.named_items.specs.Pairs.{settings_in, IsAt, IsKept, HasNoOrphans}
 use Rattle.named_items.proofs.CostLemmas.{get-cut, get-cut_other}
 use Rattle.named_items.proofs.PairLemmas.{pair-made}
 use Rattle.named_items.proofs.OrphanLemmas.{orphan-removed, kept-stays}
-use Rattle.named_items.specs.StoreEnds.{IsNextId, DeleteEnds}
+use Rattle.named_items.specs.StoreEnds.{DeleteUnits, IsNextId, DeleteEnds}
 use Rattle.named_items.specs.Orphans.{KeepsEach, KeepsSettings, LooksAt, Removes, SpendsOnOne}
 use Rattle.named_items.proofs.RemovalUnits.{per-none}
 use Rattle.named_items.proofs.SoFar.{IsPast, HasNoneBefore, ids_left}
@@ -37,10 +37,15 @@ same-place n items name a b x y =
 -- ---- one id
 
 pub keeps-same : (n : Numbering) (items : Items) → KeepsSettings n items items
-keeps-same n items = record { settings = refl; kept = λ id is. refl; gone = λ id. inr refl }
+keeps-same n items = record { settings = refl; kept = λ id is. refl; still = λ id is. is; gone = λ id. inr refl }
 
-pub spends-kept : (most : ℕ) (d : Device) (items : Items) → SpendsOnOne most d d items items false
-spends-kept most d items = record { at_most = (0, omega arith, spends_none d); per_item = λ ok. per-none most d items }
+pub spends-kept : (most : ℕ) (costs : DeleteUnits) (d : Device) (items : Items) → SpendsOnOne most costs d d items items false
+spends-kept most costs d items = record {
+  at_most = (0, omega arith, spends_none d);
+  one = (0, omega arith, spends_none d);
+  next = (0, omega arith, spends_none d);
+  per_item = λ ok. per-none most d items;
+}
 
 -- the item is gone
 pub delete-cut : {U : Type 0} (items : Items) (id : ℕ) (d e : Device) (after : Items) (r : Result U Lost) → is_err r ≡ false → DeleteEnds d e items after id r → get after id ≡ None
@@ -54,6 +59,7 @@ module _ (n : Numbering) (laws : IsNumbering n) (items : Items) (id : ℕ) where
     others = λ other apart. refl;
     still = λ other is. is;
     idle = λ is. refl;
+    absent = λ is. refl;
     rests = λ clean. refl;
     present = λ lost. absurd (false≢true lost);
     removes = λ ok. record { done = inr kept; others = λ other apart. refl; kept = λ other apart was. was };
@@ -91,6 +97,11 @@ module _ (n : Numbering) (laws : IsNumbering n) (items : Items) (id : ℕ) where
         by : (other ≡ id) ⊎ ¬ (other ≡ id) → get after other ≡ get items other
         by (inl e) = absurd (orphan (subst (IsKept n items) e kept))
         by (inr apart) = ended r ends apart
+
+    -- without an item nothing is programmed
+    pub delete-absent : {U : Type 0} (d e : Device) (after : Items) (r : Result U Lost) → DeleteEnds d e items after id r → get items id ≡ None → e ≡ d
+    delete-absent d e after (Ok x) ends gone = ends.absent gone
+    delete-absent d e after (Err l) ends gone = absurd (ends.present gone)
 
     pub delete-rests : {U : Type 0} (d e : Device) (after : Items) (r : Result U Lost) → DeleteEnds d e items after id r → HasNoOrphans n items → e ≡ d
     delete-rests {U = U} d e after r ends clean = by (clean id)

@@ -1,12 +1,12 @@
 -- What the write or the delete of one item makes of the map that the items read as.
-use Rattle.std.proofs.Common.{◌≡◌, ◌⊎◌, ℕ, ◌+◌, ◌-◌, ◌<◌, ◌≤◌, Bool, true, false, cond, List, [], ◌∷◌, ◌++◌, length, Option, Some, None, refl, sym, ap, subst, ◌∙◌, inl, inr, arith}
-use Rattle.std.specs.FinMap.{get, insert, remove, from_entries}
-use Rattle.std.proofs.lemmas.Bool.{cases_Bool, cases_eq, cases_lt, false≢true}
+use Rattle.std.proofs.Common.{◌≡◌, ◌⊎◌, ℕ, ◌+◌, ◌<◌, ◌≤◌, Bool, true, cond, List, Option, Some, None, refl, sym, ap, subst, ◌∙◌, inl, inr, arith}
+use Rattle.std.specs.FinMap.{get, insert, remove}
+use Rattle.std.proofs.lemmas.Bool.{cases_Bool, cases_eq}
 use Rattle.item_laws.specs.Items.{Items}
 use Rattle.backend_api.specs.Map.{Map}
 use Rattle.named_items.specs.Numbering.{Numbering, IsNumbering}
-use Rattle.named_items.specs.Pairs.{count_in, is_pair, pair_of, pair_at, settings_in, HasName, IsInside, IsLowest, IsAt, IsIdOfName, IsCount, IsPart, IsKept, HasNoOrphans, AltersOnly}
-use Rattle.named_items.proofs.RangePairs.{Pair, pairs_on, map_on, map-agree, map-more, get-on, on-none, on-some, on-put, on-take, on-hide}
+use Rattle.named_items.specs.Pairs.{count_in, is_pair, pair_of, pair_at, settings_in, HasName, IsInside, IsLowest, IsAt, AltersOnly}
+use Rattle.named_items.proofs.RangePairs.{Pair, map_on, map-agree, map-more, on-put, on-take, on-hide}
 
 some_none : {A : Type 0} (x : A) → Some x ≡ None → ⊥
 some_none x e = cc

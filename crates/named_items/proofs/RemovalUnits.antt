@@ -21,13 +21,13 @@ step n m = grind arith
 
 -- ---- one item fewer
 
-some-items : (items : Items) (id : ℕ) → ¬ (map.get items id ≡ None) → 1 ≤ map.len items
+pub some-items : (items : Items) (id : ℕ) → ¬ (map.get items id ≡ None) → 1 ≤ map.len items
 some-items items id present = elim (cases_eq (map.len items) 0) [
   | inl none ↦ absurd (present (ap (λ (m : Items). map.get m id) (map.empty_of_len items none) ∙ map.get-empty nat_cmp id))
   | inr some ↦ omega arith
 ]
 
-removes-one : (items : Items) (id : ℕ) → ¬ (map.get items id ≡ None) → map.len (map.remove items id) + 1 ≡ map.len items
+pub removes-one : (items : Items) (id : ℕ) → ¬ (map.get items id ≡ None) → map.len (map.remove items id) + 1 ≡ map.len items
 removes-one items id present = by (map.get items id) refl
   where
     by : (o : Option (List ℕ)) → map.get items id ≡ o → map.len (map.remove items id) + 1 ≡ map.len items

@@ -1,6 +1,6 @@
 -- What the calls of a store over sectors of any format say of an area's geometry and sectors.
-use Rattle.std.proofs.Common.{◌≡◌, ℕ, zero, suc, ◌+◌, ◌-◌, ◌*◌, ◌/◌, ◌<◌, ◌≤◌, ◌⊎◌, true, false, List, [], length, None, Result, Ok, Err, refl, sym, ap, subst, ◌∙◌, inl, inr, arith}
-use Rattle.std.specs.Prelude.{IfOk}
+use Rattle.std.proofs.Common.{◌≡◌, ℕ, zero, suc, ◌+◌, ◌-◌, ◌*◌, ◌/◌, ◌<◌, ◌≤◌, ◌⊎◌, Bool, true, false, cond, List, [], length, None, Result, Ok, Err, refl, sym, ap, subst, ◌∙◌, inl, inr, arith}
+use Rattle.std.specs.Prelude.{IfOk, OnOk}
 use Rattle.std.specs.FinMap.{get, get-empty}
 use Rattle.std.specs.List.{list_all}
 use Rattle.std.specs.Ordering.{nat_cmp}
@@ -23,13 +23,17 @@ use Rattle.item_laws.specs.Costs.{items_cost}
 use Rattle.item_laws.specs.Items.{Items, items_of}
 use Rattle.item_laws.specs.PairRounds.{live_cost}
 use Rattle.item_laws.proofs.ItemsCost.{items_cost-is}
-use Rattle.item_laws.specs.Area.{is_blank_at, open_sector}
+use Rattle.item_laws.specs.Area.{is_blank_at, next, open_sector}
 use Rattle.item_laws.specs.Forms.{AtRest}
 use Rattle.item_laws.proofs.AreaReads.{length-sectors}
 use Rattle.item_laws.proofs.LiveLemmas.{option_cases, some_none}
 use Rattle.item_store.specs.declared.store.Store.{Store}
 use Rattle.item_store.specs.SectorFormat.{SectorFormat, IsSectorFormat}
-use Rattle.item_store.specs.Standing.{items, items_at, list_at}
+use Rattle.item_store.specs.declared.entry.Redo.{Redo}
+use Rattle.item_store.specs.declared.entry.Redo.TheVariants.{Nothing, ClearNext, CollectAgain}
+use Rattle.item_store.specs.Collecting.{redo_of, redo_units}
+use Rattle.item_store.specs.Room.{has_room, has_room_at}
+use Rattle.item_store.specs.Standing.{items, items_at, list_at, SpendsIn}
 use Rattle.item_store.specs.Stands as ring
 use Rattle.item_store.specs.Wrapped.{store_in}
 use Rattle.item_store.specs.Writing as ring_writing
@@ -43,7 +47,7 @@ use Rattle.backend_api.specs.Room.{removal_units}
 use Rattle.backend_api.specs.Written.{StaysWritten}
 use Rattle.named_items.specs.Blank.{items-none}
 use Rattle.named_items.specs.StoreEnds.{item_units, WriteEnds, DeleteEnds}
-use Rattle.named_items.specs.RingStore.{ring_rests, RingStands, IsFrugal}
+use Rattle.named_items.specs.RingStore.{ring_rests, ring_removal, RingStands, IsFrugal}
 use Rattle.named_items.proofs.MostUnits.{rounds-within, spends-none, between-most}
 
 -- ---- a store that stands
@@ -103,6 +107,26 @@ module _ {T : Type 0} (role : Role) (format_of : Geometry → SectorFormat) (kep
     ring-up (Ok s) ends = ring-of new (held s) ends.1
     ring-up (Err fault) ends = tt
 
+    -- it spends no more than the end of a collection, or leaves room for a delete
+    module _ (law : IsSectorFormat (format_of (geometry_of old area))) where
+      pub ring-redoes : (r : Result S MountFault) → ring.MountEnds role format_of kept old new area (store_in held r)
+          → OnOk r (SpendsAtMost old new (format_of (geometry_of old area)).units.any_clear.lost ⊎ (has_room (format_of (geometry_of new area)) (sectors_of new area) 0 ≡ true))
+      ring-redoes (Err fault) ends = tt
+      ring-redoes (Ok s) ends = by (redo_of (format_of (geometry_of old area)) (sectors_of old area) (open_sector (format_of (geometry_of old area)).reading (sectors_of old area))) refl
+        where
+          by : (redo : Redo) → redo_of (format_of (geometry_of old area)) (sectors_of old area) (open_sector (format_of (geometry_of old area)).reading (sectors_of old area)) ≡ redo
+              → SpendsAtMost old new (format_of (geometry_of old area)).units.any_clear.lost ⊎ (has_room (format_of (geometry_of new area)) (sectors_of new area) 0 ≡ true)
+          by Nothing is =
+              let spent = subst (λ (r : Redo). SpendsIn old new (redo_units (format_of (geometry_of old area)) (sectors_of old area) (open_sector (format_of (geometry_of old area)).reading (sectors_of old area)) r)) is ends.4 in
+              inl (between-most old new 0 0 (format_of (geometry_of old area)).units.any_clear.lost (omega arith) spent)
+          by ClearNext is =
+              let b = sector_at (sectors_of old area) (next (sectors_of old area) (open_sector (format_of (geometry_of old area)).reading (sectors_of old area))) in
+              let spent = subst (λ (r : Redo). SpendsIn old new (redo_units (format_of (geometry_of old area)) (sectors_of old area) (open_sector (format_of (geometry_of old area)).reading (sectors_of old area)) r)) is ends.4 in
+              let covers = law.units.clears b in
+              let wide = law.units.clear_lost b in
+              inl (between-most old new ((format_of (geometry_of old area)).units.clear b).least ((format_of (geometry_of old area)).units.clear b).most (format_of (geometry_of old area)).units.any_clear.lost (omega arith) spent)
+          by CollectAgain is = inr (from_geometry (λ u. has_room (format_of u) (sectors_of new area) 0 ≡ true) old new area banks (ends.7 is))
+
     -- where there is nothing to do, nothing changes
     module _ (law : IsSectorFormat (format_of (geometry_of old area))) (own : IsLawfulFor old.banks area) where
       at_rest : (format_of (geometry_of old area)).damage (sectors_of old area) ≡ None → ring_rests format_of area (geometry_of old area) (sectors_of old area) → AtRest (format_of (geometry_of old area)).reading (sectors_of old area) (open_sector (format_of (geometry_of old area)).reading (sectors_of old area))
@@ -119,6 +143,9 @@ module _ {T : Type 0} (role : Role) (format_of : Geometry → SectorFormat) (kep
       ring-idle (Err NoMemory) ends rests = ends
 
 -- ---- how writing and deleting end
+
+once : (a b : ℕ) → 1 * a + b ≤ a + b
+once a b = omega arith
 
 module _ (k : SectorFormat) (d e : Device) (area : Area) where
   pub ring-writes : {V : Type 0} (id : ℕ) (bytes : List ℕ) (r : Result V WriteFault) → ring_writing.WriteEnds k d e area id bytes r
@@ -146,6 +173,35 @@ module _ (k : SectorFormat) (d e : Device) (area : Area) where
   pub ring-deletes : {V : Type 0} (id : ℕ) (r : Result V Lost) → ring_writing.DeleteEnds k d e area id r → DeleteEnds d e (items_at k d area) (items_at k e area) id r
   ring-deletes id (Ok x) ends = record { items = ends.items; absent = ends.absent }
   ring-deletes id (Err x) ends = record { present = ends.present; items = ends.items }
+
+  -- a delete, by one round and one entry
+  pub ring-delete-one : {V : Type 0} (id : ℕ) (r : Result V Lost) → ring_writing.DeleteEnds k d e area id r → SpendsAtMost d e (ring_removal k (sector_size d area))
+  ring-delete-one id (Ok x) ends = between-most d e 0 _ _ (once (k.units.round (sector_size d area)) (k.units.entry 0)) ends.at_most
+  ring-delete-one id (Err x) ends = between-most d e 0 _ _ (once (k.units.round (sector_size d area)) (k.units.entry 0)) ends.at_most
+
+  module _ (law : IsSectorFormat k) where
+    -- one that needs no round
+    ring-delete-entry : {V : Type 0} (id : ℕ) (r : Result V Lost) → ring_writing.DeleteEnds k d e area id r → has_room_at k d area 0 ≡ true → SpendsAtMost d e (k.units.entry 0)
+    ring-delete-entry id (Ok x) ends room =
+        elim (option_cases (get (items_at k d area) id)) [
+          | inl absent ↦ spends-none d e _ (ends.absent absent)
+          | inr (bytes, there) ↦
+              let spent = ends.fitting (λ none. some_none bytes (sym there ∙ none)) room in
+              let b = ring_writing.open_at k d area in
+              let most = law.entry b b 0 in
+              let begins = law.units.begins b in
+              let puts = law.units.puts b 0 in
+              between-most d e ((k.units.begin b).least + (k.units.put b 0).least) ((k.units.begin b).most + (k.units.put b 0).most) (k.units.entry 0) (omega arith) spent
+        ]
+    ring-delete-entry id (Err x) ends room = between-most d e 0 (k.units.entry 0) (k.units.entry 0) (omega arith) (ends.fitting room)
+
+    -- by whether it needs one
+    pub ring-delete-next : {V : Type 0} (id : ℕ) (r : Result V Lost) → ring_writing.DeleteEnds k d e area id r → SpendsAtMost d e (cond (has_room_at k d area 0) (k.units.entry 0) (ring_removal k (sector_size d area)))
+    ring-delete-next {V = V} id r ends = by (has_room_at k d area 0) refl
+      where
+        by : (roomy : Bool) → has_room_at k d area 0 ≡ roomy → SpendsAtMost d e (cond roomy (k.units.entry 0) (ring_removal k (sector_size d area)))
+        by true is = ring-delete-entry id r ends is
+        by false is = ring-delete-one id r ends
 
   -- ---- what they spend at most
 

@@ -1,5 +1,5 @@
 -- A write of one item that a store refuses means that there is no room by the numbers.
-use Rattle.std.proofs.Common.{◌≡◌, ℕ, ◌+◌, ◌-◌, ◌*◌, ◌<◌, ◌≤◌, Bool, true, false, cond, List, length, Option, Some, None, refl, sym, ap, subst, ◌∙◌, inl, inr, arith}
+use Rattle.std.proofs.Common.{◌≡◌, ℕ, ◌+◌, ◌-◌, ◌*◌, ◌<◌, ◌≤◌, Bool, true, false, cond, List, length, sym, ap, subst, ◌∙◌, inl, inr, arith}
 use Rattle.std.specs.Prelude.{max}
 use Rattle.std.specs.FinMap as map
 use Rattle.std.proofs.Math.Nat.{le-max_left, le-max_right, mul-le-mul_left}
@@ -8,7 +8,7 @@ use Rattle.item_laws.specs.Items.{Items}
 use Rattle.backend_api.specs.Map.{Map}
 use Rattle.backend_api.specs.Room.{Room, HasNoRoom}
 use Rattle.named_items.specs.Numbering.{Numbering, IsNumbering}
-use Rattle.named_items.specs.Cost.{item_cost, settings_cost}
+use Rattle.named_items.specs.Cost.{item_cost}
 use Rattle.named_items.specs.Pairs.{settings_in, HasNoOrphans}
 use Rattle.named_items.specs.PairRoom.{pair_room, IsCountCost}
 use Rattle.named_items.proofs.CostLemmas.{clean-cost}

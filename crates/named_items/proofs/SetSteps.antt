@@ -31,7 +31,7 @@ module _ (n : Numbering) (laws : IsNumbering n) (items : Items) (clean : HasNoOr
       let few : count_in n items ≤ n.step = laws.few (get items n.count_id) in
       absurd (omega arith)
 
-  valued-name : get valued place ≡ None
+  pub valued-name : get (insert items (place + n.step) value) place ≡ None
   valued-name = get-put_other items (place + n.step) value place apart ∙ free_name
 
   -- the value alone leaves the settings

@@ -1,6 +1,5 @@
 -- The places at which a name may stand. A place is the id of a name.
 use Rattle.std.specs.Prelude.{◌≡◌, ℕ, ◌+◌, ◌<◌, ◌≤◌, true, List, Option, Some, None}
-use Rattle.std.specs.FinMap.{get}
 use Rattle.item_laws.specs.Items.{Items}
 use Rattle.named_items.specs.Numbering.{Numbering}
 use Rattle.named_items.specs.Pairs.{count_in, IsInside}

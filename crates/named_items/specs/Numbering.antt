@@ -1,5 +1,5 @@
 -- Which items of a store are names of settings, and which are their values.
-use Rattle.std.specs.Prelude.{◌≡◌, ℕ, ◌+◌, ◌<◌, ◌≤◌, Bool, false, List, Option, None}
+use Rattle.std.specs.Prelude.{◌≡◌, ℕ, ◌<◌, ◌≤◌, Bool, false, List, Option, None}
 
 pub record Numbering : Type 0 where
   -- the item that may hold a count, how many names it allows, and whether it is a count

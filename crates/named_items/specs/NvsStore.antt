@@ -1,5 +1,5 @@
 -- How an NVS area holds items, by its geometry and its sectors alone.
-use Rattle.std.specs.Prelude.{◌≡◌, ℕ, ◌+◌, ◌-◌, ◌*◌, ◌≤◌, List, Option}
+use Rattle.std.specs.Prelude.{◌≡◌, ℕ, ◌+◌, ◌-◌, ◌*◌, ◌≤◌, Bool, List, Option}
 use Rattle.std.proofs.Common.{sym, subst, inl, inr, arith}
 use Rattle.flash_sim.specs.Device.{Device}
 use Rattle.flash_map.specs.Area.{geometry_of, value_limit}
@@ -18,7 +18,7 @@ use Rattle.item_store.specs.declared.latest.LastSlots.{LastSlots}
 use Rattle.nvs_gc.specs.declared.nvs.Nvs.{Nvs}
 use Rattle.nvs_gc.specs.Standing.{kept}
 use Rattle.named_items.specs.Limits.{value-leaves_room}
-use Rattle.named_items.specs.RingStore.{ring_rests, RingStands, ring_describes, ring-rested}
+use Rattle.named_items.specs.RingStore.{ring_rests, ring_removal, ring_roomy, RingStands, ring_describes, ring-rested}
 
 abbrev pub nvs_damage : Area → Geometry → List (List ℕ) → Option Damaged
 nvs_damage area geometry sectors = damage_of geometry.unit sectors
@@ -35,6 +35,30 @@ nvs_price geometry = cost geometry.unit
 
 abbrev pub nvs_cap : Geometry → ℕ
 nvs_cap geometry = capacity geometry.unit geometry.sector
+
+-- the most units and erases of a mount, and of one delete
+abbrev pub nvs_redo : Geometry → ℕ
+nvs_redo geometry = (format_of geometry).units.mount geometry.sector
+
+abbrev pub nvs_removal : Geometry → ℕ
+nvs_removal geometry = ring_removal (format_of geometry) geometry.sector
+
+-- the most that ends a garbage collection whose copies are all made
+abbrev pub nvs_clear : Geometry → ℕ
+nvs_clear geometry = (format_of geometry).units.any_clear.lost
+
+-- the most of a delete that needs no collection, and whether one needs none
+abbrev pub nvs_entry : Geometry → ℕ
+nvs_entry geometry = (format_of geometry).units.entry 0
+
+abbrev pub nvs_roomy : Area → Geometry → List (List ℕ) → Bool
+nvs_roomy area geometry sectors = ring_roomy format_of area geometry sectors
+
+-- A mount that begins a collection again leaves room for a delete: both spend no more than the end of a
+-- collection and one whole removal.
+pub nvs-lean : (geometry : Geometry)
+    → nvs_redo geometry + nvs_entry geometry ≤ nvs_clear geometry + nvs_removal geometry
+nvs-lean geometry = omega arith
 
 -- The store is up: the area is undamaged and at rest, and the store knows its open sector.
 abbrev pub NvsStands : Nvs → Geometry → List (List ℕ) → Type 0

@@ -15,6 +15,7 @@ use Rattle.item_laws.specs.Items.{Items}
 use Rattle.named_items.specs.Ends.{AltersTwo, IsFree}
 use Rattle.named_items.specs.Numbering.{Numbering}
 use Rattle.named_items.specs.PairRoom.{pair_room}
+use Rattle.named_items.specs.Orphans.{HasOrphans}
 use Rattle.named_items.specs.Pairs.{settings_in, HasNoOrphans, IsAt, IsInside, IsIdOfName}
 
 -- by the cost of a count, the test for a name too many, and the store's price and cap
@@ -42,12 +43,13 @@ pub record IsNewAt (n : Numbering) (too_many : Map → List ℕ → Bool) (items
   pub candidate : n.is_candidate id name ≡ true
   pub free : IsFree items id (id + n.step)
 
--- How a set ends. If power was lost, the settings are the old ones or have the value; else no
--- item is an orphan.
+-- How a set ends. If power was lost, the settings are the old ones or have the value, and at most one
+-- item is an orphan; else none is.
 pub record SetLeaves {T : Type 0} (n : Numbering) (room : Room) (sectors : ℕ) (old new : Device)
     (before after : Items) (name value : List ℕ) (result : Result T SetFault) : Type 0 where
   pub ends : SetEnds room sectors old new (settings_in n before) (settings_in n after) name value result
   pub cut : set_lost result ≡ true → IsPut (settings_in n before) (settings_in n after) name value
+  pub few : set_lost result ≡ true → HasOrphans n after 1
   pub clean : set_lost result ≡ false → HasNoOrphans n after
 
 -- by the room and the items of an area
@@ -58,14 +60,15 @@ SetLeavesOn numbering room contents old new area name value result =
     SetLeaves (numbering area) (room (geometry_of old area)) area.sectors old new (on contents old area)
     (on contents new area) name value result
 
--- How a delete ends. If power was lost, the settings are the old ones or those without the name;
--- else no item is an orphan.
+-- How a delete ends. If power was lost, the settings are the old ones or those without the name, and
+-- at most one item is an orphan; else none is.
 pub record DeleteLeaves {T : Type 0} (n : Numbering) (old new : Device) (before after : Items) (name : List ℕ)
     (result : Result T Lost) : Type 0 where
   pub ends : DeleteEnds old new (settings_in n before) (settings_in n after) name result
   pub cut : is_err result ≡ true
       → (settings_in n after ≡ settings_in n before)
       ⊎ (settings_in n after ≡ remove (settings_in n before) name)
+  pub few : is_err result ≡ true → HasOrphans n after 1
   pub clean : is_err result ≡ false → HasNoOrphans n after
 
 -- only the two items of the name's setting changed

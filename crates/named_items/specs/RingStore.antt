@@ -1,6 +1,6 @@
 -- How an area holds items for a store over sectors of any format, by its geometry and its sectors
 -- alone. The geometry gives the format.
-use Rattle.std.specs.Prelude.{◌≡◌, ℕ, ◌+◌, ◌*◌, ◌≤◌, true, false, List, Option, None}
+use Rattle.std.specs.Prelude.{◌≡◌, ℕ, ◌+◌, ◌*◌, ◌≤◌, Bool, true, false, List, Option, None}
 use Rattle.std.proofs.Common.{subst}
 use Rattle.flash_map.specs.declared.area.Area.{Area}
 use Rattle.flash_map.specs.declared.area.Geometry.{Geometry}
@@ -15,6 +15,7 @@ use Rattle.item_store.specs.declared.store.Store.{Store}
 use Rattle.item_store.specs.Cached.{IsCacheOf}
 use Rattle.item_store.specs.SectorFormat.{SectorFormat, slots}
 use Rattle.item_store.specs.Latest.{Knows}
+use Rattle.item_store.specs.Room.{has_room}
 use Rattle.item_store.specs.Standing.{items}
 
 abbrev pub ring_damage : (Geometry → SectorFormat) → Area → Geometry → List (List ℕ) → Option Damaged
@@ -68,3 +69,11 @@ pub record IsFrugal (k : SectorFormat) (size units : ℕ) : Type 0 where
   pub mount : k.units.mount size ≤ 3 * (units + 3)
   -- a delete is short
   pub delete : k.cost 0 ≤ k.cap size
+
+-- the most units and erases of one delete in sectors of this size
+abbrev pub ring_removal : SectorFormat → ℕ → ℕ
+ring_removal k size = k.units.round size + k.units.entry 0
+
+-- whether a delete needs no garbage collection
+abbrev pub ring_roomy : (Geometry → SectorFormat) → Area → Geometry → List (List ℕ) → Bool
+ring_roomy format_of area geometry sectors = has_room (format_of geometry) sectors 0

@@ -1,5 +1,5 @@
 -- How a ZMS area holds items, by its geometry and its sectors alone.
-use Rattle.std.specs.Prelude.{◌≡◌, ℕ, ◌+◌, ◌-◌, ◌≤◌, List, Option}
+use Rattle.std.specs.Prelude.{◌≡◌, ℕ, ◌+◌, ◌-◌, ◌≤◌, Bool, List, Option}
 use Rattle.std.proofs.Common.{arith}
 use Rattle.std.proofs.lemmas.Bool.Decides.{nat_tests}
 use Rattle.flash_sim.specs.Device.{Device}
@@ -14,11 +14,13 @@ use Rattle.item_laws.specs.Items.{Items, items_of}
 use Rattle.item_store.specs.declared.latest.LastSlots.{LastSlots}
 use Rattle.zms_cycle.specs.Sector.{cost, capacity, data_len}
 use Rattle.zms_format.specs.Area.{damage_of, list_of}
-use Rattle.zms_format.specs.Formats.{format_of}
+use Rattle.flash_sim.specs.declared.flash.Kind.{Kind as BankKind}
+use Rattle.flash_sim.specs.declared.flash.Kind.TheVariants.{Erasing, Rewritable}
+use Rattle.zms_format.specs.Formats.{format_of, units_of}
 use Rattle.zms_store.specs.declared.store.Zms.{Zms}
 use Rattle.zms_store.specs.Standing.{kept}
 use Rattle.named_items.specs.Limits.{value-leaves_room}
-use Rattle.named_items.specs.RingStore.{ring_rests, RingStands, ring-rested, ring_describes}
+use Rattle.named_items.specs.RingStore.{ring_rests, ring_removal, ring_roomy, RingStands, ring-rested, ring_describes}
 
 abbrev pub zms_damage : Area → Geometry → List (List ℕ) → Option Damaged
 zms_damage area geometry sectors = damage_of geometry.kind sectors
@@ -35,6 +37,35 @@ zms_price geometry = cost
 
 abbrev pub zms_cap : Geometry → ℕ
 zms_cap geometry = capacity geometry.sector
+
+-- the most units and erases of a mount, and of one delete
+abbrev pub zms_redo : Geometry → ℕ
+zms_redo geometry = (format_of geometry).units.mount geometry.sector
+
+abbrev pub zms_removal : Geometry → ℕ
+zms_removal geometry = ring_removal (format_of geometry) geometry.sector
+
+-- the most that ends a garbage collection whose copies are all made
+abbrev pub zms_clear : Geometry → ℕ
+zms_clear geometry = (format_of geometry).units.any_clear.lost
+
+-- the most of a delete that needs no collection, and whether one needs none
+abbrev pub zms_entry : Geometry → ℕ
+zms_entry geometry = (format_of geometry).units.entry 0
+
+abbrev pub zms_roomy : Area → Geometry → List (List ℕ) → Bool
+zms_roomy area geometry sectors = ring_roomy format_of area geometry sectors
+
+-- A mount that begins a collection again leaves room for a delete: both spend no more than the end of a
+-- collection and one whole removal.
+pub zms-lean : (geometry : Geometry)
+    → zms_redo geometry + zms_entry geometry ≤ zms_clear geometry + zms_removal geometry
+zms-lean geometry = by geometry.kind
+  where
+    by : (bank : BankKind) → (units_of bank).mount geometry.sector + (units_of bank).entry 0
+        ≤ (units_of bank).any_clear.lost + ((units_of bank).round geometry.sector + (units_of bank).entry 0)
+    by Rewritable = omega arith
+    by Erasing = omega arith
 
 -- The store is up: the area is undamaged and at rest, and the store knows its open sector.
 abbrev pub ZmsStands : Zms → Geometry → List (List ℕ) → Type 0

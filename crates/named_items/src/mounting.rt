@@ -3,7 +3,6 @@ ghost use Rattle.std.specs.Prelude.{◌≡◌, ◌∷◌, [], None, IfOk};
 ghost use Rattle.flash_map.specs.Area.{geometry_of};
 ghost use Rattle.flash_map.specs.Faults.{mount_lost};
 ghost use Rattle.flash_map.specs.Lawful.{IsLawfulFor};
-ghost use Rattle.flash_map.specs.Spending.{SpendsAtMost};
 ghost use Rattle.flash_map.specs.Touches.{Touches};
 ghost use Rattle.backend_api.specs.Ends.{MountEnds};
 ghost use Rattle.backend_api.specs.Room.{mount_units};
@@ -12,7 +11,7 @@ ghost use Rattle.flash_map.specs.On.{on, HoldsOn};
 ghost use Rattle.named_items.specs.Mounted.{IsMountedOn};
 ghost use Rattle.named_items.specs.Pairs.{HasNoOrphans};
 ghost use Rattle.named_items.specs.Looking.{HasIds};
-ghost use Rattle.named_items.specs.Orphans.{KeepsSettings, RemovalEnds};
+ghost use Rattle.named_items.specs.Orphans.{KeepsSettings, RemovalEnds, SpendsBooting};
 
 use crate::numbering::IdLayout;
 use crate::orphans::remove_orphans;
@@ -25,7 +24,9 @@ use std::sync::ledger::Ledger;
 /// Mounts a store, and deletes the items that belong to no setting, in rising order of ids. The
 /// settings and each item that is kept stay, even if power is lost; no item is new or has other
 /// bytes. Whatever the result, it spends at most as many units and erases as `mount_units` says for
-/// the area's geometry. The area is all FF afterwards only if it was so before.
+/// the area's geometry. If no item is an orphan, it spends at most those of the store's redo. If some
+/// are, it spends at most those that end a garbage collection, and those of one delete for each. The
+/// area is all FF afterwards only if it was so before.
 ///
 /// # Errors
 /// `Damaged` exactly if the area shows damage; nothing was programmed then. `PowerLost`: the
@@ -58,8 +59,9 @@ pub fn mount_store<N: IdLayout, S: ItemStore, F: Flash, L: Ledger>(
         → HasNoOrphans (N.numbering area) (on S.contents (F.device flash.old) area)
         → F.device flash.new ≡ F.device flash.old }
     ensures written { StaysWritten (F.device flash.old) (F.device flash.new) area }
-    ensures at_most { let d = F.device flash.old in
-        SpendsAtMost d (F.device flash.new) (mount_units (geometry_of d area)) }
+    ensures units { let d = F.device flash.old in let g = geometry_of d area in
+        SpendsBooting (N.numbering area) (mount_units g) (S.redo g) (S.clear g) (S.removal g) d
+        (F.device flash.new) (on S.contents d area) }
     ensures store { let e = F.device flash.new in
         IfOk result
         (λ store. IsMountedOn S.mounted_on S.stands S.contents N.numbering e area store) }

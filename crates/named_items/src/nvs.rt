@@ -1,9 +1,10 @@
 // The store over NVS.
 ghost use Rattle.std.specs.Prelude.{◌≡◌, ◌<◌, min, option_map};
+ghost use Rattle.flash_map.specs.Area.{geometry_of};
 ghost use Rattle.flash_map.specs.declared.area.Role.TheVariants.{Nvs as NvsRole};
 ghost use Rattle.named_items.specs.Blank.{nvs-undamaged, nvs-empty};
 ghost use Rattle.named_items.specs.Few.{nvs-few};
-ghost use Rattle.named_items.specs.NvsStore.{nvs_damage, nvs_items, nvs_rests, nvs_price, nvs_cap, nvs_describes, NvsStands, nvs-rested, nvs-fits};
+ghost use Rattle.named_items.specs.NvsStore.{nvs_damage, nvs_items, nvs_rests, nvs_price, nvs_cap, nvs_redo, nvs_removal, nvs_clear, nvs_entry, nvs_roomy, nvs_describes, NvsStands, nvs-lean, nvs-rested, nvs-fits};
 
 use crate::store::ItemStore;
 use flash_map::{Area, MountFault, WriteFault, geometry};
@@ -39,6 +40,16 @@ impl ItemStore for Nvs {
 
     ghost cap = { λ geometry. nvs_cap geometry };
 
+    ghost redo = { λ geometry. nvs_redo geometry };
+
+    ghost removal = { λ geometry. nvs_removal geometry };
+
+    ghost clear = { λ geometry. nvs_clear geometry };
+
+    ghost entry = { λ geometry. nvs_entry geometry };
+
+    ghost roomy = { λ area geometry sectors. nvs_roomy area geometry sectors };
+
     ghost is_id = { λ id. id < 0xFFFF };
 
     ghost mounted_on = { λ store. store.store.area };
@@ -56,6 +67,8 @@ impl ItemStore for Nvs {
     ghost stands_reads = { λ store geometry sectors stands. stands.undamaged };
 
     ghost stands_rests = { λ store geometry sectors stands. nvs-rested store geometry sectors stands };
+
+    ghost lean = { λ d area bank lawful serves. nvs-lean (geometry_of d area) };
 
     ghost fits = { λ d area length lawful serves short. nvs-fits d area length lawful serves short };
 

@@ -1,9 +1,8 @@
 // The removal of items that belong to no setting.
-ghost use Rattle.std.specs.Prelude.{◌≡◌, ◌+◌, ◌*◌, ◌<◌, ◌∷◌, [], false, is_err, None};
+ghost use Rattle.std.specs.Prelude.{◌≡◌, ◌+◌, ◌<◌, ◌∷◌, [], false, is_err, None};
 ghost use Rattle.std.specs.FinMap as finite;
 ghost use Rattle.flash_map.specs.Area.{geometry_of};
 ghost use Rattle.flash_map.specs.Lawful.{IsLawfulFor};
-ghost use Rattle.flash_map.specs.Spending.{SpendsAtMost};
 ghost use Rattle.flash_map.specs.Touches.{Touches};
 ghost use Rattle.flash_map.specs.On.{on, HoldsOn, StandsOn};
 ghost use Rattle.backend_api.specs.Room.{removal_units};
@@ -12,7 +11,8 @@ ghost use Rattle.named_items.specs.Mounted.{StaysMounted};
 ghost use Rattle.named_items.specs.Pairs.{HasNoOrphans, IsKept};
 ghost use Rattle.named_items.specs.Seen.{HasCome, SawBelow};
 ghost use Rattle.named_items.specs.Looking.{HasIds};
-ghost use Rattle.named_items.specs.Orphans.{KeepsSettings, PassesOne, RemovalEnds};
+ghost use Rattle.named_items.specs.Orphans.{KeepsSettings, PassesOne, RemovalEnds, SpendsRemoving};
+ghost use Rattle.named_items.specs.StoreEnds.{delete_units};
 
 use crate::keeping::is_kept_next;
 use crate::numbering::IdLayout;
@@ -43,7 +43,8 @@ fn remove_orphan<N: IdLayout, S: ItemStore, F: Flash, L: Ledger>(
         store.old store.new (is_err result) }
     ensures one { let d = F.device flash.old in let e = F.device flash.new in
         let area = S.mounted_on store.old in
-        PassesOne (N.numbering area) (removal_units (geometry_of d area)) d e (on S.contents d area)
+        PassesOne (N.numbering area) (removal_units (geometry_of d area))
+        (delete_units S.removal S.entry S.roomy d area) d e (on S.contents d area)
         (on S.contents e area) id (is_err result) }
     ensures written { StaysWritten (F.device flash.old) (F.device flash.new)
         (S.mounted_on store.old) }
@@ -83,7 +84,8 @@ fn remove_next<N: IdLayout, S: ItemStore, F: Flash, L: Ledger>(
         store.old store.new (is_err result) }
     ensures one { let d = F.device flash.old in let e = F.device flash.new in
         let area = S.mounted_on store.old in
-        PassesOne (N.numbering area) (removal_units (geometry_of d area)) d e (on S.contents d area)
+        PassesOne (N.numbering area) (removal_units (geometry_of d area))
+        (delete_units S.removal S.entry S.roomy d area) d e (on S.contents d area)
         (on S.contents e area) id (is_err result) }
     ensures written { StaysWritten (F.device flash.old) (F.device flash.new)
         (S.mounted_on store.old) }
@@ -101,8 +103,9 @@ fn remove_next<N: IdLayout, S: ItemStore, F: Flash, L: Ledger>(
 
 /// Deletes every orphan, in rising order of ids: each item that is neither the count nor a part of
 /// a setting in effect. All others stay, and none is new. It spends at most the units and erases of
-/// one removal (`removal_units`) for each item that there is. The area is all FF afterwards only if
-/// it was so before.
+/// one removal (`removal_units`) for each item that there is, and at most those of one delete of the
+/// store for each orphan, of which the first may need no garbage collection. The area is all FF
+/// afterwards only if it was so before.
 ///
 /// # Errors
 /// `PowerLost`: the settings and each item that is kept are as before. There is an id below
@@ -128,9 +131,10 @@ pub fn remove_orphans<N: IdLayout, S: ItemStore, F: Flash, L: Ledger>(
     ensures ends { let area = S.mounted_on store.old in
         RemovalEnds (N.numbering area) (on S.contents (F.device flash.old) area)
         (on S.contents (F.device flash.new) area) result }
-    ensures at_most { let d = F.device flash.old in let area = S.mounted_on store.old in
-        SpendsAtMost d (F.device flash.new)
-        (finite.len (on S.contents d area) * removal_units (geometry_of d area)) }
+    ensures units { let d = F.device flash.old in let area = S.mounted_on store.old in
+        SpendsRemoving (N.numbering area) (removal_units (geometry_of d area))
+        (delete_units S.removal S.entry S.roomy d area) d (F.device flash.new)
+        (on S.contents d area) }
     ensures written { StaysWritten (F.device flash.old) (F.device flash.new)
         (S.mounted_on store.old) }
     ensures rests { let area = S.mounted_on store.old in

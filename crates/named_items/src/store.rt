@@ -17,12 +17,11 @@ ghost use Rattle.item_laws.specs.Items.{Items};
 ghost use Rattle.item_store.specs.declared.free.TheConstants.{MOST_CANDIDATES};
 ghost use Rattle.item_store.specs.declared.lasts.TheConstants.{MOST_IDS};
 ghost use Rattle.backend_api.specs.Ends.{MountEnds};
-ghost use Rattle.backend_api.specs.Room.{removal_units};
 ghost use Rattle.backend_api.specs.Written.{StaysWritten};
 ghost use Rattle.flash_map.specs.On.{on, HoldsOn, StandsOn};
 ghost use Rattle.item_store.specs.Asking.{IsHolderOf};
 ghost use Rattle.item_store.specs.Free.{IsLeastFree};
-ghost use Rattle.named_items.specs.StoreEnds.{most_items, item_units, IsNextId, WriteEnds, DeleteEnds};
+ghost use Rattle.named_items.specs.StoreEnds.{most_items, item_units, delete_units, IsNextId, SpendsMounting, SpendsDeleting, WriteEnds, DeleteEnds};
 
 use flash_map::{Area, MountFault, WriteFault};
 use flash_sim::{Flash, PowerLost, Steps};
@@ -53,6 +52,21 @@ pub trait ItemStore: Drop {
     /// How many bytes a sector has for data and entries.
     ghost cap: { Geometry → ℕ };
 
+    /// The most units and erases of a mount, which does again what a cut command left undone.
+    ghost redo: { Geometry → ℕ };
+
+    /// The most units and erases of one delete: those of one garbage collection and of one entry.
+    ghost removal: { Geometry → ℕ };
+
+    /// The most units and erases that end a garbage collection whose copies are all made.
+    ghost clear: { Geometry → ℕ };
+
+    /// The most units and erases of a delete that needs no garbage collection.
+    ghost entry: { Geometry → ℕ };
+
+    /// Whether a delete in these sectors needs no garbage collection.
+    ghost roomy: { area_type → Geometry → List (List ℕ) → Bool };
+
     /// An item may have this id.
     ghost is_id: { ℕ → Type 0 };
 
@@ -69,8 +83,9 @@ pub trait ItemStore: Drop {
     ghost describes: { Self.Index → area_type → Geometry → List (List ℕ) → Type 0 };
 
     /// Mounts a store on an area. The items stay, even if power is lost. It spends at most the
-    /// units and erases of one write (`item_units`). The area is all FF afterwards only if it
-    /// was so before.
+    /// units and erases of a redo (`redo`), which one write may spend too (`item_units`). If it
+    /// spends more than the end of a garbage collection (`clear`), it leaves room for a delete. The
+    /// area is all FF afterwards only if it was so before.
     ///
     /// # Errors
     /// `Damaged` exactly if the area shows damage; nothing was programmed then. `PowerLost`: the
@@ -95,8 +110,9 @@ pub trait ItemStore: Drop {
         ensures rests { HoldsOn rests (F.device flash.old) area
             → F.device flash.new ≡ F.device flash.old }
         ensures written { StaysWritten (F.device flash.old) (F.device flash.new) area }
-        ensures at_most { let d = F.device flash.old in
-            SpendsAtMost d (F.device flash.new) (item_units (geometry_of d area)) }
+        ensures units { let d = F.device flash.old in let e = F.device flash.new in
+            let g = geometry_of d area in
+            SpendsMounting (item_units g) (redo g) (clear g) (on roomy e area) d e result }
         ensures on { IfOk result (λ store. mounted_on store ≡ area) }
         ensures stands { IfOk result
             (λ store. StandsOn mounted_on stands (F.device flash.new) store) };
@@ -262,13 +278,11 @@ pub trait ItemStore: Drop {
         ensures ends { let area = mounted_on self.old in let d = F.device flash.old in
             let e = F.device flash.new in
             DeleteEnds d e (on contents d area) (on contents e area) id result }
-        ensures at_most { let d = F.device flash.old in
-            SpendsAtMost d (F.device flash.new) (item_units (geometry_of d (mounted_on self.old))) }
+        ensures units { let d = F.device flash.old in let area = mounted_on self.old in
+            SpendsDeleting (delete_units removal entry roomy d area) (geometry_of d area) d
+            (F.device flash.new) }
         ensures written { StaysWritten (F.device flash.old) (F.device flash.new)
             (mounted_on self.old) }
-        ensures removal { let d = F.device flash.old in
-            SpendsAtMost d (F.device flash.new)
-            (removal_units (geometry_of d (mounted_on self.old))) }
         ensures sound { on damage (F.device flash.new) (mounted_on self.old) ≡ None }
         ensures stands { is_err result ≡ false
             → StandsOn mounted_on stands (F.device flash.new) self.new }
@@ -337,6 +351,11 @@ pub trait ItemStore: Drop {
     ghost stands_reads: { (store : Self) (geometry : Geometry) (sectors : List (List ℕ)) → stands store geometry sectors → damage (mounted_on store) geometry sectors ≡ None };
 
     ghost stands_rests: { (store : Self) (geometry : Geometry) (sectors : List (List ℕ)) → stands store geometry sectors → rests (mounted_on store) geometry sectors };
+
+    // A mount that begins a garbage collection again leaves room for a delete. Both together spend
+    // no more than the end of a collection and one whole removal.
+    ghost lean: { (d : Device) (area : area_type) → IsLawful d.banks d.bytes → IsLawfulFor d.banks area → serves area (geometry_of d area)
+        → redo (geometry_of d area) + entry (geometry_of d area) ≤ clear (geometry_of d area) + removal (geometry_of d area) };
 
     // A value as long as the area allows fits a sector.
     ghost fits: { (d : Device) (area : area_type) (length : ℕ) → IsLawfulFor d.banks area → serves area (geometry_of d area) → length ≤ value_limit area

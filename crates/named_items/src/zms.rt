@@ -1,9 +1,10 @@
 // The store over ZMS.
 ghost use Rattle.std.specs.Prelude.{◌≡◌, ◌<◌};
+ghost use Rattle.flash_map.specs.Area.{geometry_of};
 ghost use Rattle.flash_map.specs.declared.area.Role.TheVariants.{Zms as ZmsRole};
 ghost use Rattle.named_items.specs.Blank.{zms-undamaged, zms-empty};
 ghost use Rattle.named_items.specs.Few.{zms-few};
-ghost use Rattle.named_items.specs.ZmsStore.{zms_damage, zms_items, zms_rests, zms_price, zms_cap, zms_describes, ZmsStands, zms-rested, zms-fits};
+ghost use Rattle.named_items.specs.ZmsStore.{zms_damage, zms_items, zms_rests, zms_price, zms_cap, zms_redo, zms_removal, zms_clear, zms_entry, zms_roomy, zms_describes, ZmsStands, zms-lean, zms-rested, zms-fits};
 
 use crate::store::ItemStore;
 use flash_map::{Area, MountFault, WriteFault};
@@ -29,6 +30,16 @@ impl ItemStore for Zms {
 
     ghost cap = { λ geometry. zms_cap geometry };
 
+    ghost redo = { λ geometry. zms_redo geometry };
+
+    ghost removal = { λ geometry. zms_removal geometry };
+
+    ghost clear = { λ geometry. zms_clear geometry };
+
+    ghost entry = { λ geometry. zms_entry geometry };
+
+    ghost roomy = { λ area geometry sectors. zms_roomy area geometry sectors };
+
     ghost is_id = { λ id. id < 0xFFFFFFFF };
 
     ghost mounted_on = { λ store. store.store.area };
@@ -46,6 +57,8 @@ impl ItemStore for Zms {
     ghost stands_reads = { λ store geometry sectors stands. stands.undamaged };
 
     ghost stands_rests = { λ store geometry sectors stands. zms-rested store geometry sectors stands };
+
+    ghost lean = { λ d area bank lawful serves. zms-lean (geometry_of d area) };
 
     ghost fits = { λ d area length lawful serves short. zms-fits d area length lawful serves short };
 

@@ -18,6 +18,8 @@ use Rattle.fcb_ring.specs.Changing.{next_place}
 use Rattle.fcb_ring.proofs.AreaLemmas.{area_after}
 use Rattle.fcb_ring.proofs.ChanceLemmas.{header-chance, erase-chance}
 use Rattle.backend_fcb.proofs.Tearing.{lost-then}
+use Rattle.backend_fcb.proofs.DueLemmas.{cut-due, scratch-others, same-others}
+use Rattle.flash_map.specs.Area.{sectors_of}
 use Rattle.backend_fcb.proofs.collecting.collect.Goals as goal
 
 pub returns-in_err-begin_collect-clause-collected : goal.returns-in_err-begin_collect-clause-collected
@@ -253,6 +255,7 @@ returns-in_err-begin_collect-clause-stopped g c =
     let b : Device = g.F.Flash.device c.begin_collect.new.flash in
     on_err c.from_residual.result (record {
       down = c.in_err-begin_collect.ensures.stopped.down;
+      due = cut-due (g.F.Flash.device c.args.flash.now) b c.args.ring.now c.requires.ready.stands c.requires.ready.ready c.in_err-begin_collect.ensures.touches.banks (next_place c.args.ring.now) c.in_err-begin_collect.ensures.stopped.others;
       lost = λ on. header-chance b c.args.ring.now.area (g.met.F.Flash.is_lawful c.begin_collect.new.flash) (area_after (g.F.Flash.device c.args.flash.now) b c.args.ring.now.area c.in_err-begin_collect.ensures.touches.banks c.requires.ready.stands.area) (next_place c.args.ring.now) (c.in_err-begin_collect.ensures.stopped.lost on);
     })
 
@@ -261,6 +264,12 @@ returns-in_err-copy_live-clause-stopped g c =
     let one = c.in_ok-begin_collect.ensures.begun in
     on_err c.from_residual-in_err-copy_live.result (record {
       down = c.in_err-copy_live.ensures.stops.down;
+      due =
+          let a : Device = g.F.Flash.device c.args.flash.now in
+          let b : Device = g.F.Flash.device c.begin_collect.new.flash in
+          let d : Device = g.F.Flash.device c.copy_live.new.flash in
+          cut-due a d c.args.ring.now c.requires.ready.stands c.requires.ready.ready (c.in_err-copy_live.ensures.touches.banks ∙ one.banks) (next_place c.args.ring.now)
+          (scratch-others a b c.args.ring.now c.begin_collect.new.self one d c.in_err-copy_live.ensures.only.others);
       lost = lost-then (g.F.Flash.device c.args.flash.now) (g.F.Flash.device c.begin_collect.new.flash) (g.F.Flash.device c.copy_live.new.flash) c.args.ring.now.area c.begin_collect.new.self.area c.in_ok-begin_collect.ensures.touches one.area c.in_err-copy_live.ensures.lost;
     })
 
@@ -278,5 +287,9 @@ returns-in_err-end_collect-clause-stopped g c =
     let erase : (on : d.is_on ≡ true) → HasNoChance e c.copy_live.new.ring.area = λ on. erase-chance e c.copy_live.new.ring.area (g.met.F.Flash.is_lawful c.end_collect.new.flash) (area_after d e c.copy_live.new.ring.area three.touches.banks (copied-now b d c.begin_collect.new.self c.copy_live.new.ring one.stands one.stage two.copies).1.stands.area) c.copy_live.new.ring.oldest (three.stopped.lost on) in
     on_err c.from_residual-in_err-end_collect.result (record {
       down = c.in_err-end_collect.ensures.stopped.ring.down;
+      due =
+          cut-due a e c.args.ring.now c.requires.ready.stands c.requires.ready.ready (three.touches.banks ∙ two.touches.banks ∙ one.banks) (next_place c.args.ring.now)
+          (same-others a d e area (next_place c.args.ring.now) (scratch-others a b c.args.ring.now c.begin_collect.new.self one d two.only.others)
+          (subst (λ (x : Area). sectors_of e x ≡ sectors_of d x) (two.only.area ∙ one.area) three.stopped.same));
       lost = lost-then a d e area c.copy_live.new.ring.area touches (two.only.area ∙ one.area) erase;
     })

@@ -1,4 +1,4 @@
-use Rattle.std.proofs.Common.{◌≡◌, ℕ, ◌+◌, ◌<◌, [], ◌∷◌, length, true, false, Bool, Result, Ok, Err, is_err, OnOk, OnErr, None, refl, sym, ap, subst, ◌∙◌, arith}
+use Rattle.std.proofs.Common.{◌≤◌, ◌≡◌, ℕ, ◌+◌, ◌<◌, [], ◌∷◌, length, true, false, Bool, Result, Ok, Err, is_err, OnOk, OnErr, None, refl, sym, ap, subst, ◌∙◌, arith}
 use Rattle.std.proofs.lemmas.Bool.{both_ways}
 use Rattle.flash_sim.specs.Device.{Device}
 use Rattle.flash_map.specs.declared.area.Area.{Area}
@@ -16,6 +16,7 @@ use Rattle.backend_fcb.specs.Changing.{Collects, TryEnds, PutEnds, collect_units
 use Rattle.fcb_ring.specs.Chance.{HasNoChance}
 use Rattle.backend_fcb.specs.Standing.{damage_on, settings_on}
 use Rattle.backend_fcb.proofs.PutSteps.{IsSearching, searching-start, kept-same, searching-touches, searching-lost, searching-more, searching-ends, searching-stops, searching-most, searching-cut, ok-other, lost-other}
+use Rattle.fcb_ring.specs.Standing.{erases_on}
 use Rattle.backend_fcb.proofs.writing.put.Goals as goal
 
 ok-by : {T E P : Type 0} (r : Result T E) → OnOk r P → is_err r ≡ false → P
@@ -186,7 +187,8 @@ returns-then-is_err-clause-ends g c =
     let settings : settings_on f now.area ≡ settings_on d now.area = subst (λ (r : Ring). settings_on f r.area ≡ settings_on d r.area) full.1 (subst (λ (x : Device). settings_on f ring.area ≡ settings_on x ring.area) full.0 did.settings) in
     let undamaged : damage_on f now.area ≡ None = subst (λ (r : Ring). damage_on f r.area ≡ None) full.1 did.undamaged in
     let lost : d.is_on ≡ true → HasNoChance f now.area = subst (λ (r : Ring). d.is_on ≡ true → HasNoChance f r.area) full.1 (subst (λ (x : Device). x.is_on ≡ true → HasNoChance f ring.area) full.0 (err-by c.collect.result did.stopped failed).lost) in
-    searching-cut a d before now len kept c.loop-round._round so_far f c.collect.new.ring c.args.body.now refl full.2 (err-by c.collect.result did.stopped failed).down undamaged settings lost
+    let due : erases_on f now.area ≤ 1 = subst (λ (r : Ring). erases_on f r.area ≤ 1) full.1 (err-by c.collect.result did.stopped failed).due in
+    searching-cut a d before now len kept c.loop-round._round so_far f c.collect.new.ring c.args.body.now refl full.2 (err-by c.collect.result did.stopped failed).down undamaged due settings lost
 
 pub loop-round-preserved : goal.loop-round-preserved
 loop-round-preserved g c =

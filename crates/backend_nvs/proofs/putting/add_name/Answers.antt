@@ -28,6 +28,8 @@ use Rattle.backend_nvs.proofs.CountSteps.{few-free, count-differs, count-leaves,
 use Rattle.flash_map.proofs.Touches.{then}
 use Rattle.named_items.specs.Limits.{limit-least}
 use Rattle.named_items.proofs.NameLemmas.{get-nowhere, nowhere-none}
+use Rattle.named_items.specs.Orphans.{HasOrphans}
+use Rattle.named_items.proofs.OrphanUnits.{no-orphans}
 use Rattle.backend_nvs.proofs.putting.add_name.Goals as goal
 
 -- the count before is another
@@ -168,6 +170,7 @@ returns-in-Ok-clause-ends g c =
     record {
       ends = set-after (Unit {0}) (nvs_room g.S.ItemStore.price g.S.ItemStore.cap k) own.sectors d b e (settings_of own before) (settings_of own after) c.args.name.now c.args.value.now c.put_new.result (few-free (settings_of own before) c.args.name.now (count-leaves (value_limit own) before c.requires.here.clean few)) (not-stored (numbering_of own) (nvs-numbering (value_limit own)) nvs_counted too_many (nvs-counts (value_limit own)) before c.requires.here.clean c.args.name.now c.args.value.now c.requires.absent) (λ changed. spends-some g.S.ItemStore.contents d e own (own ∷ []) (set_lost c.put_new.result) all (λ same. changed (ap (settings_in (numbering_of own)) same))) (subst (λ (m : Map). SetEnds (nvs_room g.S.ItemStore.price g.S.ItemStore.cap k) own.sectors b e m (settings_of own (on g.S.ItemStore.contents e own)) c.args.name.now c.args.value.now c.put_new.result) same second);
       cut = λ given. subst (λ (m : Map). IsPut m (settings_of own (on g.S.ItemStore.contents e own)) c.args.name.now c.args.value.now) same (subst (λ (x : Area). IsPut (settings_of x (on g.S.ItemStore.contents b x)) (settings_of x (on g.S.ItemStore.contents e x)) c.args.name.now c.args.value.now) c.in-Ok.ensures.area (c.put_new.ensures.ends.cut given));
+      few = λ given. subst (λ (x : Area). HasOrphans (numbering_of x) (on g.S.ItemStore.contents e x) 1) c.in-Ok.ensures.area (c.put_new.ensures.ends.few given);
       clean = λ given. subst (λ (x : Area). HasNoOrphans (numbering_of x) (on g.S.ItemStore.contents e x)) c.in-Ok.ensures.area (c.put_new.ensures.ends.clean given);
     }
 
@@ -195,6 +198,7 @@ returns-in-Err-PowerLost-clause-ends g c =
     record {
       ends = (few-free (settings_of own before) c.args.name.now (count-leaves (value_limit own) before c.requires.here.clean few), not-stored (numbering_of own) (nvs-numbering (value_limit own)) nvs_counted too_many (nvs-counts (value_limit own)) before c.requires.here.clean c.args.name.now c.args.value.now c.requires.absent);
       cut = λ given. elim ended.items [ inl none ↦ inl (ap (settings_in (numbering_of own)) none) | inr put ↦ inl (ap (settings_in (numbering_of own)) put ∙ raised-same (value_limit own) before c.requires.here.clean bytes c.bytes_of_count-bytes.ensures.two more) ];
+      few = λ given. elim ended.items [ inl none ↦ no-orphans (numbering_of own) mid 1 (subst (HasNoOrphans (numbering_of own)) (sym none) c.requires.here.clean) | inr put ↦ no-orphans (numbering_of own) mid 1 (subst (HasNoOrphans (numbering_of own)) (sym put) (raised-kept (value_limit own) before c.requires.here.clean bytes c.bytes_of_count-bytes.ensures.two more)) ];
       clean = λ kept. absurd {A = HasNoOrphans (numbering_of own) mid} (false≢true (sym kept));
     }
 
@@ -225,6 +229,7 @@ returns-in-Err-NoSpace-clause-ends g c =
     record {
       ends = subst (λ (w : SetFault). SetEnds {T = Unit {0}} (nvs_room g.S.ItemStore.price g.S.ItemStore.cap k) own.sectors d b (settings_of own (on g.S.ItemStore.contents d own)) (settings_of own (on g.S.ItemStore.contents b own)) c.args.name.now c.args.value.now (Err w)) (sym c.refused.ensures) (count-refused (value_limit own) before c.requires.here.clean c.args.name.now c.args.value.now c.requires.absent (g.S.ItemStore.price k) (g.S.ItemStore.cap k) own.sectors bytes mid c.in-Err-NoSpace.field-0-0 c.in-Err-NoSpace.field-0-1 c.bytes_of_count-bytes.ensures.two (count-leaves (value_limit own) before c.requires.here.clean few) ended c.price_of_pair-need.result ((nvs_room g.S.ItemStore.price g.S.ItemStore.cap (geometry_of b other)).cost (settings_of other (on g.S.ItemStore.contents b other))) c.price_of_pair-need.ensures.value (moved-cost numbering_of nvs_counted too_many g.S.ItemStore.contents own other c.in-Err-NoSpace.ensures.area g.S.ItemStore.price g.S.ItemStore.cap d b (settings_of own before) c.in-Err-NoSpace.ensures.touches.banks (ap (settings_in (numbering_of own)) ended.items)));
       cut = λ lost. absurd {A = IsPut (settings_of own before) (settings_of own mid) c.args.name.now c.args.value.now} (false≢true (sym still ∙ lost));
+      few = λ lost. absurd {A = HasOrphans (numbering_of own) mid 1} (false≢true (sym still ∙ lost));
       clean = λ kept. subst (HasNoOrphans (numbering_of own)) (sym ended.items) c.requires.here.clean;
     }
 

@@ -1,6 +1,5 @@
-use Rattle.std.proofs.Common.{◌+◌, refl, inl, ℕ, ◌≡◌, ◌<◌, ◌≤◌, arith}
+use Rattle.std.proofs.Common.{◌+◌, refl, inl, ◌≡◌, ◌≤◌, arith}
 use Rattle.std.specs.FinMap.{get, remove}
-use Rattle.named_items.specs.Pairs.{count_in}
 use Rattle.named_items.proofs.CostLemmas.{get-cut, get-cut_other}
 use Rattle.named_items.proofs.PairLemmas.{place-taken, no-name}
 use Rattle.named_items.proofs.OrphanLemmas.{one-place}

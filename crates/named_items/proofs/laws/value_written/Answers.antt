@@ -1,4 +1,4 @@
-use Rattle.std.proofs.Common.{◌+◌, ◌∙◌, refl, inr, ℕ, ◌≡◌, ◌<◌, ◌≤◌, arith}
+use Rattle.std.proofs.Common.{◌+◌, ◌∙◌, refl, inr, ◌≡◌, ◌<◌, ◌≤◌, arith}
 use Rattle.std.specs.FinMap.{get, insert}
 use Rattle.named_items.specs.Pairs.{count_in}
 use Rattle.named_items.proofs.CostLemmas.{get-put_other}

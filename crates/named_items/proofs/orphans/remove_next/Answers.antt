@@ -7,6 +7,7 @@ use Rattle.flash_map.specs.On.{on}
 use Rattle.flash_map.proofs.Touches.{untouched}
 use Rattle.item_laws.specs.Items.{Items}
 use Rattle.backend_api.specs.Room.{removal_units}
+use Rattle.named_items.specs.StoreEnds.{delete_units}
 use Rattle.named_items.proofs.OrphanSteps.{keeps-same, looks-kept, spends-kept}
 use Rattle.named_items.proofs.KeepSteps.{saw-after}
 use Rattle.named_items.proofs.orphans.remove_next.Goals as goal
@@ -27,7 +28,7 @@ returns-then-is_kept_next g c =
       one = record {
         keeps = keeps-same (g.N.IdLayout.numbering area) items;
         ends = looks-kept (g.N.IdLayout.numbering area) (g.met.N.IdLayout.is_numbering area) items c.args.id d (c.is_kept_next.ensures.yes_it c.if-is_kept_next.true);
-        units = spends-kept (removal_units (geometry_of d area)) d items;
+        units = spends-kept (removal_units (geometry_of d area)) (delete_units g.S.ItemStore.removal g.S.ItemStore.entry g.S.ItemStore.roomy d area) d items;
       };
       written = λ blank. blank;
       describes = λ kept. c.requires.describes;

@@ -11,7 +11,7 @@ use Rattle.named_items.specs.Numbering.{Numbering}
 use Rattle.named_items.specs.Pairs.{IsKept}
 use Rattle.named_items.proofs.RemovalUnits.{delete-per_item, delete-present}
 use Rattle.named_items.proofs.RemovedSteps.{delete-alters, delete-gone, delete-still}
-use Rattle.named_items.proofs.OrphanSteps.{delete-cut, delete-keeps, delete-removes, delete-kept, delete-rests}
+use Rattle.named_items.proofs.OrphanSteps.{delete-cut, delete-keeps, delete-removes, delete-kept, delete-absent, delete-rests}
 use Rattle.flash_map.specs.Touches.{Touches}
 use Rattle.named_items.proofs.orphans.remove_orphan.Goals as goal
 
@@ -34,6 +34,7 @@ returns g c = record {
         record {
           settings = delete-keeps n (g.met.N.IdLayout.is_numbering area) before c.args.id orphan d e after c.delete.result c.delete.ensures.ends;
           kept = delete-kept n (g.met.N.IdLayout.is_numbering area) before c.args.id orphan d e after c.delete.result c.delete.ensures.ends;
+          still = delete-still before after c.args.id n (g.met.N.IdLayout.is_numbering area) orphan d e c.delete.result c.delete.ensures.ends;
           gone = delete-gone before after c.args.id d e c.delete.result c.delete.ensures.ends;
         };
     ends = let d : Device = g.F.Flash.device c.args.flash.now in
@@ -47,6 +48,7 @@ returns g c = record {
           others = delete-alters before after c.args.id d e c.delete.result c.delete.ensures.ends;
           still = delete-still before after c.args.id n (g.met.N.IdLayout.is_numbering area) orphan d e c.delete.result c.delete.ensures.ends;
           idle = λ kept. absurd (orphan kept);
+          absent = λ none. delete-absent n (g.met.N.IdLayout.is_numbering area) before c.args.id orphan d e after c.delete.result c.delete.ensures.ends none;
           rests = λ clean. delete-rests n (g.met.N.IdLayout.is_numbering area) before c.args.id orphan d e after c.delete.result c.delete.ensures.ends clean;
           present = λ lost. absurd (false≢true lost);
           removes = λ kept. delete-removes n (g.met.N.IdLayout.is_numbering area) before c.args.id orphan d e after c.delete.result (ap is_err c.in_ok-delete.was) c.delete.ensures.ends;
@@ -59,8 +61,10 @@ returns g c = record {
         let after : Items = on g.S.ItemStore.contents e area in
         let orphan : ¬ IsKept n before c.args.id = c.requires.orphan in
         record {
-          at_most = c.delete.ensures.removal;
-          per_item = λ kept. delete-per_item (removal_units (geometry_of d area)) d e before after c.args.id c.delete.result (ap is_err c.in_ok-delete.was) c.delete.ensures.ends c.delete.ensures.removal;
+          at_most = c.delete.ensures.units.removal;
+          one = c.delete.ensures.units.one;
+          next = c.delete.ensures.units.next;
+          per_item = λ kept. delete-per_item (removal_units (geometry_of d area)) d e before after c.args.id c.delete.result (ap is_err c.in_ok-delete.was) c.delete.ensures.ends c.delete.ensures.units.removal;
         };
   };
   touches = c.in_ok-delete.ensures.touches;
@@ -91,6 +95,7 @@ returns-in_err-delete g c = record {
         record {
           settings = delete-keeps n (g.met.N.IdLayout.is_numbering area) before c.args.id orphan d e after c.delete.result c.delete.ensures.ends;
           kept = delete-kept n (g.met.N.IdLayout.is_numbering area) before c.args.id orphan d e after c.delete.result c.delete.ensures.ends;
+          still = delete-still before after c.args.id n (g.met.N.IdLayout.is_numbering area) orphan d e c.delete.result c.delete.ensures.ends;
           gone = delete-gone before after c.args.id d e c.delete.result c.delete.ensures.ends;
         };
     ends = let d : Device = g.F.Flash.device c.args.flash.now in
@@ -104,6 +109,7 @@ returns-in_err-delete g c = record {
           others = delete-alters before after c.args.id d e c.delete.result c.delete.ensures.ends;
           still = delete-still before after c.args.id n (g.met.N.IdLayout.is_numbering area) orphan d e c.delete.result c.delete.ensures.ends;
           idle = λ kept. absurd (orphan kept);
+          absent = λ none. delete-absent n (g.met.N.IdLayout.is_numbering area) before c.args.id orphan d e after c.delete.result c.delete.ensures.ends none;
           rests = λ clean. delete-rests n (g.met.N.IdLayout.is_numbering area) before c.args.id orphan d e after c.delete.result c.delete.ensures.ends clean;
           present = λ lost. delete-present d e before after c.args.id c.delete.result (ap is_err c.in_err-delete.was) c.delete.ensures.ends;
           removes = λ kept. absurd (false≢true (sym kept ∙ c.from_residual.ensures.0));
@@ -116,7 +122,9 @@ returns-in_err-delete g c = record {
         let after : Items = on g.S.ItemStore.contents e area in
         let orphan : ¬ IsKept n before c.args.id = c.requires.orphan in
         record {
-          at_most = c.delete.ensures.removal;
+          at_most = c.delete.ensures.units.removal;
+          one = c.delete.ensures.units.one;
+          next = c.delete.ensures.units.next;
           per_item = λ kept. absurd (false≢true (sym kept ∙ c.from_residual.ensures.0));
         };
   };

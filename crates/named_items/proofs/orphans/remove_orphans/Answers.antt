@@ -1,5 +1,5 @@
 -- In the loop the store's area is that of the start by an equation alone, so each fact of a step is moved along it.
-use Rattle.std.proofs.Common.{◌≡◌, ℕ, ◌+◌, ◌<◌, ◌∷◌, [], Bool, false, true, Option, Some, None, refl, sym, ap, subst, ◌∙◌, inr}
+use Rattle.std.proofs.Common.{◌≡◌, ℕ, ◌+◌, ◌<◌, ◌∷◌, [], Bool, false, true, Option, Some, None, refl, sym, ap, subst, ◌∙◌, inl, inr, ◌⊎◌}
 use Rattle.std.specs.Prelude.{IfSome}
 use Rattle.std.specs.FinMap.{get}
 use Rattle.std.proofs.lemmas.Bool.{false≢true}
@@ -16,7 +16,9 @@ use Rattle.named_items.specs.Pairs.{settings_in, AltersOnly, HasNoOrphans, IsKep
 use Rattle.named_items.specs.StoreEnds.{IsNextId}
 use Rattle.backend_api.specs.Room.{removal_units}
 use Rattle.backend_api.specs.Written.{StaysWritten}
-use Rattle.named_items.specs.Orphans.{IsCleanBelow, KeepsEach, OnlyRemoves, Removes, SpendsPerItem, StaysKept, StopsAt}
+use Rattle.named_items.specs.Orphans.{IsCleanBelow, KeepsEach, OnlyRemoves, Removes, SpendsPerItem, StaysKept, StopsAt, OrphansIn}
+use Rattle.named_items.specs.StoreEnds.{delete_units, next_delete}
+use Rattle.named_items.proofs.OrphanUnits.{removes-next, orphans-cut, orphans-whole}
 use Rattle.named_items.proofs.RemovalUnits.{per-none, per-most, per-then, per-cut}
 use Rattle.named_items.proofs.RemovedSteps.{StaysAhead, gone-then, ahead-start, ahead-step, stops-at, removal-cut}
 use Rattle.named_items.proofs.SpendSteps.{geometry-stays}
@@ -45,6 +47,7 @@ loop-at-init g c =
       written = λ blank. blank;
       so_far = orphans-start (g.N.IdLayout.numbering own) (on g.S.ItemStore.contents a own) c.next_by-at.result c.next_by-at.ensures.next;
       per_item = per-none (removal_units (geometry_of a own)) a (on g.S.ItemStore.contents a own);
+      gone_so_far = λ orphans only. inl refl;
       saw = saw-first (g.N.IdLayout.numbering own) (on g.S.ItemStore.contents a own) c.new-seen.result.words c.next_by-at.result c.next_by-at.ensures.next;
       known = IfSome_then c.next_by-at.result c.next_by-at.ensures.known (λ id is. c.requires.ids.only id is);
     }
@@ -106,6 +109,20 @@ loop-at-preserved g c =
       per_item = per-then (removal_units (geometry_of a own)) a b e (on g.S.ItemStore.contents a own) (on g.S.ItemStore.contents b own) kept.per_item (on g.S.ItemStore.contents e own)
           (subst (λ (k : Geometry). SpendsPerItem (removal_units k) b e (on g.S.ItemStore.contents b own) (on g.S.ItemStore.contents e own)) (geometry-stays a b own kept.touches.banks)
           (subst (λ (x : Area). SpendsPerItem (removal_units (geometry_of b x)) b e (on g.S.ItemStore.contents b x) (on g.S.ItemStore.contents e x)) kept.area (step.one.units.per_item refl)));
+      gone_so_far = λ orphans only.
+          let costs = delete_units g.S.ItemStore.removal g.S.ItemStore.entry g.S.ItemStore.roomy in
+          removes-next (g.N.IdLayout.numbering own) (next_delete (costs a own)) (g.S.ItemStore.removal (geometry_of a own)) a b e (on g.S.ItemStore.contents b own) (on g.S.ItemStore.contents e own) orphans c.in-Some.id (kept.gone_so_far orphans only)
+          (λ start. subst (λ (x : Device). OrphansIn (g.N.IdLayout.numbering own) (on g.S.ItemStore.contents x own) orphans) (sym start) only)
+          (λ is. step.one.ends.idle (subst (λ (x : Area). IsKept (g.N.IdLayout.numbering x) (on g.S.ItemStore.contents b x) c.in-Some.id) (sym kept.area) is))
+          (λ none. step.one.ends.absent (subst (λ (x : Area). get (on g.S.ItemStore.contents b x) c.in-Some.id ≡ None) (sym kept.area) none))
+          (subst (λ (k : Geometry). SpendsAtMost b e (g.S.ItemStore.removal k)) (geometry-stays a b own kept.touches.banks)
+          (subst (λ (x : Area). SpendsAtMost b e (g.S.ItemStore.removal (geometry_of b x))) kept.area step.one.units.one))
+          (λ start. subst (λ (x : Device). SpendsAtMost b e (next_delete (costs x own))) start
+          (subst (λ (x : Area). SpendsAtMost b e (next_delete (costs b x))) kept.area step.one.units.next))
+          (λ same. ap (λ (x : Device). on g.S.ItemStore.contents x own) same)
+          (subst (λ (x : Area). (get (on g.S.ItemStore.contents e x) c.in-Some.id ≡ None) ⊎ IsKept (g.N.IdLayout.numbering x) (on g.S.ItemStore.contents e x) c.in-Some.id) kept.area (step.one.ends.removes refl).done)
+          (subst (λ (x : Area). AltersOnly (on g.S.ItemStore.contents b x) (on g.S.ItemStore.contents e x) c.in-Some.id) kept.area step.one.ends.others)
+          (subst (λ (x : Area). StaysKept (g.N.IdLayout.numbering x) (on g.S.ItemStore.contents b x) (on g.S.ItemStore.contents e x)) kept.area step.one.ends.still);
       saw = saw-next (g.N.IdLayout.numbering own) (on g.S.ItemStore.contents e own) c.remove_next.new.seen.words c.in-Some.id c.next_by-at-in-Some.result
           (subst (λ (x : Area). SawBelow (g.N.IdLayout.numbering x) (on g.S.ItemStore.contents e x) c.remove_next.new.seen.words (c.in-Some.id + 1)) kept.area (step.saw refl))
           (subst (λ (x : Area). IsNextId (on g.S.ItemStore.contents e x) (Some c.in-Some.id) c.next_by-at-in-Some.result) area c.next_by-at-in-Some.ensures.next);
@@ -132,15 +149,28 @@ returns-in_err-remove_next g c = record {
       let kept = c.loop-at.invariant in
       let same = kept.same clean in
       c.in_err-remove_next.ensures.one.ends.rests (subst (λ (x : Area). HasNoOrphans (g.N.IdLayout.numbering x) (on g.S.ItemStore.contents b x)) (sym kept.area) (subst (λ (d : Device). HasNoOrphans (g.N.IdLayout.numbering own) (on g.S.ItemStore.contents d own)) (sym same) clean)) ∙ same;
-  at_most = let a : Device = g.F.Flash.device c.args.flash.now in
+  units = let a : Device = g.F.Flash.device c.args.flash.now in
       let b : Device = g.F.Flash.device c.loop-at.flash in
       let e : Device = g.F.Flash.device c.remove_next.new.flash in
       let own : Area = g.S.ItemStore.mounted_on c.args.store.now in
       let kept = c.loop-at.invariant in
-      per-cut (removal_units (geometry_of a own)) a b e (on g.S.ItemStore.contents a own) (on g.S.ItemStore.contents b own) kept.per_item c.in-Some.id
-      (subst (λ (x : Area). ¬ (get (on g.S.ItemStore.contents b x) c.in-Some.id ≡ None)) kept.area (c.in_err-remove_next.ensures.one.ends.present refl))
-      (subst (λ (k : Geometry). SpendsAtMost b e (removal_units k)) (geometry-stays a b own kept.touches.banks)
-      (subst (λ (x : Area). SpendsAtMost b e (removal_units (geometry_of b x))) kept.area c.in_err-remove_next.ensures.one.units.at_most));
+      let step = c.in_err-remove_next.ensures in
+      let costs = delete_units g.S.ItemStore.removal g.S.ItemStore.entry g.S.ItemStore.roomy in
+      record {
+        at_most = per-cut (removal_units (geometry_of a own)) a b e (on g.S.ItemStore.contents a own) (on g.S.ItemStore.contents b own) kept.per_item c.in-Some.id
+            (subst (λ (x : Area). ¬ (get (on g.S.ItemStore.contents b x) c.in-Some.id ≡ None)) kept.area (c.in_err-remove_next.ensures.one.ends.present refl))
+            (subst (λ (k : Geometry). SpendsAtMost b e (removal_units k)) (geometry-stays a b own kept.touches.banks)
+            (subst (λ (x : Area). SpendsAtMost b e (removal_units (geometry_of b x))) kept.area step.one.units.at_most));
+        few = λ orphans only.
+            orphans-cut (g.N.IdLayout.numbering own) (next_delete (costs a own)) (g.S.ItemStore.removal (geometry_of a own)) a b e (on g.S.ItemStore.contents b own) (on g.S.ItemStore.contents e own) orphans c.in-Some.id (kept.gone_so_far orphans only)
+            (λ start. subst (λ (x : Device). OrphansIn (g.N.IdLayout.numbering own) (on g.S.ItemStore.contents x own) orphans) (sym start) only)
+            (λ is. step.one.ends.idle (subst (λ (x : Area). IsKept (g.N.IdLayout.numbering x) (on g.S.ItemStore.contents b x) c.in-Some.id) (sym kept.area) is))
+            (λ none. step.one.ends.absent (subst (λ (x : Area). get (on g.S.ItemStore.contents b x) c.in-Some.id ≡ None) (sym kept.area) none))
+            (subst (λ (k : Geometry). SpendsAtMost b e (g.S.ItemStore.removal k)) (geometry-stays a b own kept.touches.banks)
+            (subst (λ (x : Area). SpendsAtMost b e (g.S.ItemStore.removal (geometry_of b x))) kept.area step.one.units.one))
+            (λ start. subst (λ (x : Device). SpendsAtMost b e (next_delete (costs x own))) start
+            (subst (λ (x : Area). SpendsAtMost b e (next_delete (costs b x))) kept.area step.one.units.next));
+      };
   written = λ blank.
       let b : Device = g.F.Flash.device c.loop-at.flash in
       let e : Device = g.F.Flash.device c.remove_next.new.flash in
@@ -162,6 +192,7 @@ returns-in_err-remove_next g c = record {
       record {
         settings = subst (λ (x : Area). settings_in (g.N.IdLayout.numbering x) (on g.S.ItemStore.contents e x) ≡ settings_in (g.N.IdLayout.numbering x) (on g.S.ItemStore.contents b x)) kept.area step.one.keeps.settings ∙ kept.keeps;
         kept = kept-more (g.N.IdLayout.numbering own) (on g.S.ItemStore.contents a own) (on g.S.ItemStore.contents b own) (on g.S.ItemStore.contents e own) kept.kept (subst (λ (x : Area). KeepsEach (g.N.IdLayout.numbering x) (on g.S.ItemStore.contents b x) (on g.S.ItemStore.contents e x)) kept.area c.in_err-remove_next.ensures.one.keeps.kept);
+        still = λ id is. subst (λ (x : Area). StaysKept (g.N.IdLayout.numbering x) (on g.S.ItemStore.contents b x) (on g.S.ItemStore.contents e x)) kept.area step.one.ends.still id (kept.kept id is).0;
         gone = gone-then (on g.S.ItemStore.contents a own) (on g.S.ItemStore.contents b own) (on g.S.ItemStore.contents e own) kept.gone (subst (λ (x : Area). OnlyRemoves (on g.S.ItemStore.contents b x) (on g.S.ItemStore.contents e x)) kept.area c.in_err-remove_next.ensures.one.keeps.gone);
       };
   ends = let a : Device = g.F.Flash.device c.args.flash.now in
@@ -182,10 +213,14 @@ returns-in_err-remove_next g c = record {
 
 pub returns : goal.returns
 returns g c = record {
-  at_most = let a : Device = g.F.Flash.device c.args.flash.now in
+  units = let a : Device = g.F.Flash.device c.args.flash.now in
       let b : Device = g.F.Flash.device c.loop-at.flash in
       let own : Area = g.S.ItemStore.mounted_on c.args.store.now in
-      per-most (removal_units (geometry_of a own)) a b (on g.S.ItemStore.contents a own) (on g.S.ItemStore.contents b own) c.loop-at.invariant.per_item;
+      record {
+        at_most = per-most (removal_units (geometry_of a own)) a b (on g.S.ItemStore.contents a own) (on g.S.ItemStore.contents b own) c.loop-at.invariant.per_item;
+        few = λ orphans only.
+            orphans-whole (g.N.IdLayout.numbering own) (next_delete (delete_units g.S.ItemStore.removal g.S.ItemStore.entry g.S.ItemStore.roomy a own)) (g.S.ItemStore.removal (geometry_of a own)) a b (on g.S.ItemStore.contents b own) orphans (c.loop-at.invariant.gone_so_far orphans only);
+      };
   store = record {
     area = c.loop-at.invariant.area;
     sound = c.loop-at.invariant.sound;
@@ -195,6 +230,7 @@ returns g c = record {
   keeps = record {
     settings = c.loop-at.invariant.keeps;
     kept = λ id is. (c.loop-at.invariant.kept id is).1;
+    still = λ id is. (c.loop-at.invariant.kept id is).0;
     gone = c.loop-at.invariant.gone;
   };
   ends = let b : Device = g.F.Flash.device c.loop-at.flash in

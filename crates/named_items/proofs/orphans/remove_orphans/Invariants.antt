@@ -6,7 +6,9 @@ use Rattle.flash_map.specs.On.{on, HoldsOn, StandsOn}
 use Rattle.named_items.specs.Pairs.{settings_in, HasNoOrphans}
 use Rattle.backend_api.specs.Room.{removal_units}
 use Rattle.backend_api.specs.Written.{StaysWritten}
-use Rattle.named_items.specs.Orphans.{OnlyRemoves, SpendsPerItem}
+use Rattle.item_laws.specs.Items.{Items}
+use Rattle.named_items.specs.Orphans.{OnlyRemoves, SpendsPerItem, OrphansIn, MayRemove}
+use Rattle.named_items.specs.StoreEnds.{delete_units, next_delete}
 use Rattle.named_items.specs.Seen.{SawBelow}
 use Rattle.named_items.proofs.RemovedSteps.{StaysAhead}
 use Rattle.named_items.proofs.SoFar.{HasNoneBefore, ids_left}
@@ -32,6 +34,8 @@ invariant-loop-at g l =
       written : StaysWritten a b own;
       so_far : HasNoneBefore (g.N.IdLayout.numbering own) (on g.S.ItemStore.contents b own) l.at;
       per_item : SpendsPerItem (removal_units (geometry_of a own)) a b (on g.S.ItemStore.contents a own) (on g.S.ItemStore.contents b own);
+      gone_so_far : (orphans : Items) → OrphansIn (g.N.IdLayout.numbering own) (on g.S.ItemStore.contents a own) orphans
+          → MayRemove (g.N.IdLayout.numbering own) (next_delete (delete_units g.S.ItemStore.removal g.S.ItemStore.entry g.S.ItemStore.roomy a own)) (g.S.ItemStore.removal (geometry_of a own)) a b (on g.S.ItemStore.contents b own) orphans;
       saw : IfSome l.at (λ id. SawBelow (g.N.IdLayout.numbering own) (on g.S.ItemStore.contents b own) l.seen.words id);
       known : IfSome l.at (λ id. id < g.N.IdLayout.top);
     }

@@ -16,12 +16,13 @@ use Rattle.named_items.specs.Leaving.{SetLeavesItems}
 use Rattle.named_items.specs.Numbering.{Numbering}
 use Rattle.named_items.specs.Pairs.{is_pair, settings_in, AltersOnly, HasNoOrphans}
 use Rattle.named_items.specs.Putting.{room_in, IsPut}
-use Rattle.named_items.proofs.ChangeSteps.{moved-clean, moved-lawful, moved-cost, moved-price, change-clean, change-done, change-refused, change-cut, change-few, stored-holds}
+use Rattle.named_items.proofs.ChangeSteps.{moved-clean, moved-lawful, moved-cost, moved-price, change-clean, change-done, change-refused, change-cut, change-orphans, change-few, stored-holds}
 use Rattle.named_items.proofs.LeavingSteps.{one-cut, changes}
 use Rattle.named_items.proofs.LookupSteps.{at-passes, at-known}
 use Rattle.named_items.proofs.OtherSteps.{write-alters}
 use Rattle.named_items.proofs.SpendSteps.{spends-some}
 use Rattle.flash_map.specs.Touches.{Touches}
+use Rattle.named_items.specs.Orphans.{HasOrphans}
 use Rattle.named_items.proofs.putting.change_value.Goals as goal
 
 pub overflow_add-first : goal.overflow_add-first
@@ -94,6 +95,7 @@ returns-in-Ok g c = record {
         ends = change-done n (g.met.N.IdLayout.is_numbering own) g.N.IdLayout.counted g.N.IdLayout.too_many (g.met.N.IdLayout.count_cost own) g.met.N.IdLayout.stored_few before c.requires.here.clean c.args.name.now c.args.value.now c.args.first (c.args.first + n.step) c.requires.at pair refl (g.S.ItemStore.price k) (g.S.ItemStore.cap k) own.sectors d e after writes.items writes.equal
             (λ changed. spends-some g.S.ItemStore.contents d e own (own ∷ []) (write_lost c.write_changed.result) c.write_changed.ensures.touches (λ same. changed (ap (settings_in n) same)));
         cut = λ lost. absurd {A = IsPut (settings_in n before) (settings_in n after) c.args.name.now c.args.value.now} (false≢true lost);
+        few = λ lost. absurd {A = HasOrphans n after 1} (false≢true lost);
         clean = λ kept. subst (HasNoOrphans n) (sym writes.items) (change-clean n (g.met.N.IdLayout.is_numbering own) g.N.IdLayout.counted g.N.IdLayout.too_many (g.met.N.IdLayout.count_cost own) g.met.N.IdLayout.stored_few before c.requires.here.clean c.args.name.now c.args.value.now c.args.first (c.args.first + n.step) c.requires.at pair refl);
       };
   items = let d : Device = g.F.Flash.device c.args.flash.now in
@@ -141,6 +143,7 @@ returns-in-Err-PowerLost g c = record {
       record {
         ends = (change-few n (g.met.N.IdLayout.is_numbering own) g.N.IdLayout.counted g.N.IdLayout.too_many (g.met.N.IdLayout.count_cost own) g.met.N.IdLayout.stored_few before c.requires.here.clean c.args.name.now c.args.value.now c.args.first (c.args.first + n.step) c.requires.at pair refl, λ is. stops.other (stored-holds n (g.met.N.IdLayout.is_numbering own) g.N.IdLayout.counted g.N.IdLayout.too_many (g.met.N.IdLayout.count_cost own) g.met.N.IdLayout.stored_few before c.requires.here.clean c.args.name.now c.args.value.now c.args.first (c.args.first + n.step) c.requires.at pair refl is));
         cut = λ lost. change-cut n (g.met.N.IdLayout.is_numbering own) g.N.IdLayout.counted g.N.IdLayout.too_many (g.met.N.IdLayout.count_cost own) g.met.N.IdLayout.stored_few before c.requires.here.clean c.args.name.now c.args.value.now c.args.first (c.args.first + n.step) c.requires.at pair refl (g.S.ItemStore.price k) (g.S.ItemStore.cap k) own.sectors d e after stops;
+        few = λ lost. change-orphans n (g.met.N.IdLayout.is_numbering own) g.N.IdLayout.counted g.N.IdLayout.too_many (g.met.N.IdLayout.count_cost own) g.met.N.IdLayout.stored_few before c.requires.here.clean c.args.name.now c.args.value.now c.args.first (c.args.first + n.step) c.requires.at pair refl (g.S.ItemStore.price k) (g.S.ItemStore.cap k) own.sectors d e after stops;
         clean = λ kept. absurd {A = HasNoOrphans n after} (false≢true (sym kept));
       };
   items = let d : Device = g.F.Flash.device c.args.flash.now in
@@ -196,6 +199,7 @@ returns-in-Err-NoSpace g c = record {
             (c.price_of-need.ensures.value ∙ moved-price g.N.IdLayout.numbering g.N.IdLayout.counted g.N.IdLayout.too_many g.S.ItemStore.contents own other c.write_changed.ensures.area g.S.ItemStore.price d e (length c.args.value.now) c.write_changed.ensures.touches.banks)
             (moved-cost g.N.IdLayout.numbering g.N.IdLayout.counted g.N.IdLayout.too_many g.S.ItemStore.contents own other c.write_changed.ensures.area g.S.ItemStore.price g.S.ItemStore.cap d e (settings_in n before) c.write_changed.ensures.touches.banks (ap (settings_in n) finds.items)));
         cut = λ lost. absurd {A = IsPut (settings_in n before) (settings_in n after) c.args.name.now c.args.value.now} (false≢true (sym still ∙ lost));
+        few = λ lost. absurd {A = HasOrphans n after 1} (false≢true (sym still ∙ lost));
         clean = λ kept. subst (HasNoOrphans n) (sym finds.items) c.requires.here.clean;
       };
   items = let d : Device = g.F.Flash.device c.args.flash.now in

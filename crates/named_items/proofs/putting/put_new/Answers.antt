@@ -19,12 +19,13 @@ use Rattle.named_items.specs.Putting.{room_in, IsPut}
 use Rattle.named_items.proofs.ChangeSteps.{moved-clean, moved-lawful, moved-cost}
 use Rattle.named_items.proofs.LeavingSteps.{pair-cut}
 use Rattle.named_items.proofs.LookupSteps.{all-pass, inside-known}
-use Rattle.named_items.proofs.NewSteps.{not-stored, new-done, new-clean, new-cut, new-refused}
+use Rattle.named_items.proofs.NewSteps.{not-stored, new-done, new-clean, new-cut, new-orphans, new-refused}
 use Rattle.named_items.proofs.OtherSteps.{puts-alters}
 use Rattle.named_items.proofs.PutSteps.{both-fit}
 use Rattle.named_items.proofs.SpendSteps.{spends-some}
 use Rattle.named_items.specs.Limits.{limit-least}
 use Rattle.flash_map.specs.Touches.{Touches}
+use Rattle.named_items.specs.Orphans.{HasOrphans}
 use Rattle.named_items.proofs.putting.put_new.Goals as goal
 
 pub overflow_add-first : goal.overflow_add-first
@@ -107,6 +108,7 @@ returns-in-Ok g c = record {
         ends = new-done n (g.met.N.IdLayout.is_numbering own) g.N.IdLayout.counted g.N.IdLayout.too_many (g.met.N.IdLayout.count_cost own) before c.requires.here.clean c.args.name.now c.args.value.now c.requires.place.absent c.args.first (c.args.first + n.step) c.requires.place.inside c.requires.place.free pair c.requires.place.few refl (g.S.ItemStore.price k) (g.S.ItemStore.cap k) d e after puts
             (λ changed. spends-some g.S.ItemStore.contents d e own (own ∷ []) (write_lost c.put_pair.result) c.put_pair.ensures.touches (λ same. changed (ap (settings_in n) same)));
         cut = λ lost. absurd {A = IsPut (settings_in n before) (settings_in n after) c.args.name.now c.args.value.now} (false≢true lost);
+        few = λ lost. absurd {A = HasOrphans n after 1} (false≢true lost);
         clean = λ kept. new-clean n (g.met.N.IdLayout.is_numbering own) g.N.IdLayout.counted g.N.IdLayout.too_many (g.met.N.IdLayout.count_cost own) before c.requires.here.clean c.args.name.now c.args.value.now c.requires.place.absent c.args.first (c.args.first + n.step) c.requires.place.inside c.requires.place.free pair c.requires.place.few refl after puts;
       };
   items = let d : Device = g.F.Flash.device c.args.flash.now in
@@ -152,6 +154,7 @@ returns-in-Err-PowerLost g c = record {
       record {
         ends = (c.requires.place.few, not-stored n (g.met.N.IdLayout.is_numbering own) g.N.IdLayout.counted g.N.IdLayout.too_many (g.met.N.IdLayout.count_cost own) before c.requires.here.clean c.args.name.now c.args.value.now c.requires.place.absent);
         cut = λ lost. new-cut n (g.met.N.IdLayout.is_numbering own) g.N.IdLayout.counted g.N.IdLayout.too_many (g.met.N.IdLayout.count_cost own) before c.requires.here.clean c.args.name.now c.args.value.now c.requires.place.absent c.args.first (c.args.first + n.step) c.requires.place.inside c.requires.place.free pair c.requires.place.few refl after puts;
+        few = λ lost. new-orphans n (g.met.N.IdLayout.is_numbering own) g.N.IdLayout.counted g.N.IdLayout.too_many (g.met.N.IdLayout.count_cost own) before c.requires.here.clean c.args.name.now c.args.value.now c.requires.place.absent c.args.first (c.args.first + n.step) c.requires.place.inside c.requires.place.free pair c.requires.place.few refl after puts;
         clean = λ kept. absurd {A = HasNoOrphans n after} (false≢true (sym kept));
       };
   items = let d : Device = g.F.Flash.device c.args.flash.now in
@@ -208,6 +211,7 @@ returns-in-Err-NoSpace g c = record {
             c.price_of_pair-need.result ((room_in g.N.IdLayout.counted g.N.IdLayout.too_many g.S.ItemStore.price g.S.ItemStore.cap (geometry_of e other)).cost (settings_in (g.N.IdLayout.numbering other) (on g.S.ItemStore.contents e other))) c.price_of_pair-need.ensures.value
             (moved-cost g.N.IdLayout.numbering g.N.IdLayout.counted g.N.IdLayout.too_many g.S.ItemStore.contents own other c.put_pair.ensures.store.area g.S.ItemStore.price g.S.ItemStore.cap d e (settings_in n before) c.put_pair.ensures.touches.banks (ap (settings_in n) puts.0)));
         cut = λ lost. absurd {A = IsPut (settings_in n before) (settings_in n after) c.args.name.now c.args.value.now} (false≢true (sym still ∙ lost));
+        few = λ lost. absurd {A = HasOrphans n after 1} (false≢true (sym still ∙ lost));
         clean = λ kept. subst (HasNoOrphans n) (sym puts.0) c.requires.here.clean;
       };
   items = let d : Device = g.F.Flash.device c.args.flash.now in

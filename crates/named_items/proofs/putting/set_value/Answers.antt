@@ -17,6 +17,7 @@ use Rattle.named_items.proofs.LeavingSteps.{changes}
 use Rattle.named_items.proofs.LookupSteps.{at-passes}
 use Rattle.named_items.proofs.PlaceSteps.{none-found}
 use Rattle.named_items.proofs.SpendSteps.{one-call, calls-within}
+use Rattle.named_items.specs.Orphans.{HasOrphans}
 use Rattle.named_items.proofs.putting.set_value.Goals as goal
 
 pub setting_of-requires-clause-lawful : goal.setting_of-requires-clause-lawful
@@ -67,6 +68,7 @@ returns-then-has_bytes-clause-ends g c =
     record {
       ends = change-none n (g.met.N.IdLayout.is_numbering own) g.N.IdLayout.counted g.N.IdLayout.too_many (g.met.N.IdLayout.count_cost own) g.met.N.IdLayout.stored_few before c.requires.here.clean c.args.name.now c.args.value.now place (place + n.step) c.in-Some.ensures.place pair refl here (g.S.ItemStore.price k) (g.S.ItemStore.cap k) d;
       cut = λ lost. absurd {A = IsPut (settings_in n before) (settings_in n before) c.args.name.now c.args.value.now} (false≢true lost);
+      few = λ lost. absurd {A = HasOrphans n before 1} (false≢true lost);
       clean = λ kept. c.requires.here.clean;
     }
 

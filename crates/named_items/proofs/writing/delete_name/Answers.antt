@@ -9,7 +9,7 @@ use Rattle.item_laws.specs.Items.{Items}
 use Rattle.named_items.specs.Numbering.{Numbering}
 use Rattle.named_items.specs.Pairs.{settings_in}
 use Rattle.named_items.specs.Ends.{AltersTwo, DeletesPair}
-use Rattle.named_items.proofs.ItemSteps.{delete-ends, delete-cut, delete-clean, delete-absent}
+use Rattle.named_items.proofs.ItemSteps.{delete-ends, delete-cut, delete-orphans, delete-clean, delete-absent}
 use Rattle.named_items.proofs.LeavingSteps.{delete-leaves}
 use Rattle.named_items.proofs.OtherSteps.{deletes-alters}
 use Rattle.named_items.proofs.OrphanSteps.{same-place}
@@ -27,6 +27,7 @@ returns-clause-ends g c =
       ends = delete-ends n (g.met.N.IdLayout.is_numbering area) (on g.S.ItemStore.contents d area) c.requires.here.clean c.args.name.now c.in-Some.setting.id c.in-Some.ensures.place d e (on g.S.ItemStore.contents e area) c.delete_pair.result
           (λ changed. spends-some g.S.ItemStore.contents d e area (area ∷ []) (is_err c.delete_pair.result) c.delete_pair.ensures.touches (λ same. changed (ap (settings_in n) same))) (subst (λ (k : ℕ). DeletesPair (on g.S.ItemStore.contents d area) (on g.S.ItemStore.contents e area) c.in-Some.setting.id (c.in-Some.setting.id + k) c.delete_pair.result) (sym (c.step.ensures area)) c.delete_pair.ensures.ends);
       cut = λ lost. delete-cut n (g.met.N.IdLayout.is_numbering area) (on g.S.ItemStore.contents d area) c.requires.here.clean c.args.name.now c.in-Some.setting.id c.in-Some.ensures.place (on g.S.ItemStore.contents e area) c.delete_pair.result lost (subst (λ (k : ℕ). DeletesPair (on g.S.ItemStore.contents d area) (on g.S.ItemStore.contents e area) c.in-Some.setting.id (c.in-Some.setting.id + k) c.delete_pair.result) (sym (c.step.ensures area)) c.delete_pair.ensures.ends);
+      few = λ lost. delete-orphans n (g.met.N.IdLayout.is_numbering area) (on g.S.ItemStore.contents d area) c.requires.here.clean c.args.name.now c.in-Some.setting.id c.in-Some.ensures.place (on g.S.ItemStore.contents e area) c.delete_pair.result lost (subst (λ (k : ℕ). DeletesPair (on g.S.ItemStore.contents d area) (on g.S.ItemStore.contents e area) c.in-Some.setting.id (c.in-Some.setting.id + k) c.delete_pair.result) (sym (c.step.ensures area)) c.delete_pair.ensures.ends);
       clean = λ kept. delete-clean n (g.met.N.IdLayout.is_numbering area) (on g.S.ItemStore.contents d area) c.requires.here.clean c.args.name.now c.in-Some.setting.id c.in-Some.ensures.place (on g.S.ItemStore.contents e area) c.delete_pair.result kept (subst (λ (k : ℕ). DeletesPair (on g.S.ItemStore.contents d area) (on g.S.ItemStore.contents e area) c.in-Some.setting.id (c.in-Some.setting.id + k) c.delete_pair.result) (sym (c.step.ensures area)) c.delete_pair.ensures.ends);
     }
 
@@ -37,6 +38,7 @@ returns-in_default-clause-ends g c =
     record {
       ends = delete-absent d (g.N.IdLayout.numbering area) (on g.S.ItemStore.contents d area) c.args.name.now (none-found (g.N.IdLayout.numbering area) (on g.S.ItemStore.contents d area) c.args.name.now c.setting_of.result c.in_default.is c.setting_of.ensures.place);
       cut = λ lost. absurd (false≢true lost);
+      few = λ lost. absurd (false≢true lost);
       clean = λ kept. c.requires.here.clean;
     }
 

@@ -18,7 +18,14 @@ returns-clause-at_most g c =
     let area = g.S.ItemStore.mounted_on c.args.store.now in
     calls-within a e 2 (geometry_of a (g.S.ItemStore.mounted_on c.args.store.now)) (omega arith)
     (spends-calls a b e (g.S.ItemStore.mounted_on c.args.store.now) (g.S.ItemStore.mounted_on c.delete.new.self) 1 c.delete.ensures.touches.banks c.delete.ensures.area
-    (one-call a b (items.item_units (geometry_of a (g.S.ItemStore.mounted_on c.args.store.now))) c.delete.ensures.at_most) c.delete-2.ensures.at_most)
+    (one-call a b (items.item_units (geometry_of a (g.S.ItemStore.mounted_on c.args.store.now))) c.delete.ensures.units.at_most) c.delete-2.ensures.units.at_most)
+
+pub returns-in_err-delete-clause-at_most : goal.returns-in_err-delete-clause-at_most
+returns-in_err-delete-clause-at_most g c =
+    let a : Device = g.F.Flash.device c.args.flash.now in
+    let b : Device = g.F.Flash.device c.delete.new.flash in
+    let k = geometry_of a (g.S.ItemStore.mounted_on c.args.store.now) in
+    calls-within a b 1 k (omega arith) (one-call a b (items.item_units k) c.delete.ensures.units.at_most)
 
 pub returns-clause-store : goal.returns-clause-store
 returns-clause-store g c =

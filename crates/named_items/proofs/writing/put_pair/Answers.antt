@@ -74,7 +74,7 @@ returns-in-Ok-delete g c = record {
       let one = one-call a b (calls.item_units (geometry_of a own)) c.write_changed.ensures.at_most in
       let two = spends-calls a b e own (g.S.ItemStore.mounted_on c.write_changed.new.self) 1 c.write_changed.ensures.touches.banks c.write_changed.ensures.area one c.write_changed-2.ensures.at_most in
       let f : Device = g.F.Flash.device c.delete.new.flash in
-      spends-calls a e f own (g.S.ItemStore.mounted_on c.write_changed-2.new.self) 2 (c.write_changed-2.ensures.touches.banks ∙ c.write_changed.ensures.touches.banks) (c.write_changed-2.ensures.area ∙ c.write_changed.ensures.area) two c.delete.ensures.at_most;
+      spends-calls a e f own (g.S.ItemStore.mounted_on c.write_changed-2.new.self) 2 (c.write_changed-2.ensures.touches.banks ∙ c.write_changed.ensures.touches.banks) (c.write_changed-2.ensures.area ∙ c.write_changed.ensures.area) two c.delete.ensures.units.at_most;
   store = record {
     area = c.delete.ensures.area ∙ c.write_changed-2.ensures.area ∙ c.write_changed.ensures.area;
     sound = subst (λ (x : Area). on g.S.ItemStore.damage (g.F.Flash.device c.delete.new.flash) x ≡ None) (c.write_changed-2.ensures.area ∙ c.write_changed.ensures.area) c.delete.ensures.sound;
@@ -112,7 +112,7 @@ returns-in-Err-delete g c = record {
       let one = one-call a b (calls.item_units (geometry_of a own)) c.write_changed.ensures.at_most in
       let two = spends-calls a b e own (g.S.ItemStore.mounted_on c.write_changed.new.self) 1 c.write_changed.ensures.touches.banks c.write_changed.ensures.area one c.write_changed-2.ensures.at_most in
       let f : Device = g.F.Flash.device c.delete.new.flash in
-      spends-calls a e f own (g.S.ItemStore.mounted_on c.write_changed-2.new.self) 2 (c.write_changed-2.ensures.touches.banks ∙ c.write_changed.ensures.touches.banks) (c.write_changed-2.ensures.area ∙ c.write_changed.ensures.area) two c.delete.ensures.at_most;
+      spends-calls a e f own (g.S.ItemStore.mounted_on c.write_changed-2.new.self) 2 (c.write_changed-2.ensures.touches.banks ∙ c.write_changed.ensures.touches.banks) (c.write_changed-2.ensures.area ∙ c.write_changed.ensures.area) two c.delete.ensures.units.at_most;
   store = record {
     area = c.delete.ensures.area ∙ c.write_changed-2.ensures.area ∙ c.write_changed.ensures.area;
     sound = subst (λ (x : Area). on g.S.ItemStore.damage (g.F.Flash.device c.delete.new.flash) x ≡ None) (c.write_changed-2.ensures.area ∙ c.write_changed.ensures.area) c.delete.ensures.sound;
@@ -153,7 +153,7 @@ returns-in-Ok-delete-2 g c = record {
       let one = one-call a b (calls.item_units (geometry_of a own)) c.write_changed.ensures.at_most in
       let two = spends-calls a b e own (g.S.ItemStore.mounted_on c.write_changed.new.self) 1 c.write_changed.ensures.touches.banks c.write_changed.ensures.area one c.write_changed-2.ensures.at_most in
       let f : Device = g.F.Flash.device c.delete-in-Err-NoSpace.new.flash in
-      spends-calls a e f own (g.S.ItemStore.mounted_on c.write_changed-2.new.self) 2 (c.write_changed-2.ensures.touches.banks ∙ c.write_changed.ensures.touches.banks) (c.write_changed-2.ensures.area ∙ c.write_changed.ensures.area) two c.delete-in-Err-NoSpace.ensures.at_most;
+      spends-calls a e f own (g.S.ItemStore.mounted_on c.write_changed-2.new.self) 2 (c.write_changed-2.ensures.touches.banks ∙ c.write_changed.ensures.touches.banks) (c.write_changed-2.ensures.area ∙ c.write_changed.ensures.area) two c.delete-in-Err-NoSpace.ensures.units.at_most;
   store = record {
     area = c.delete-in-Err-NoSpace.ensures.area ∙ c.write_changed-2.ensures.area ∙ c.write_changed.ensures.area;
     sound = subst (λ (x : Area). on g.S.ItemStore.damage (g.F.Flash.device c.delete-in-Err-NoSpace.new.flash) x ≡ None) (c.write_changed-2.ensures.area ∙ c.write_changed.ensures.area) c.delete-in-Err-NoSpace.ensures.sound;
@@ -191,7 +191,7 @@ returns-in-Err-delete-2 g c = record {
       let one = one-call a b (calls.item_units (geometry_of a own)) c.write_changed.ensures.at_most in
       let two = spends-calls a b e own (g.S.ItemStore.mounted_on c.write_changed.new.self) 1 c.write_changed.ensures.touches.banks c.write_changed.ensures.area one c.write_changed-2.ensures.at_most in
       let f : Device = g.F.Flash.device c.delete-in-Err-NoSpace.new.flash in
-      spends-calls a e f own (g.S.ItemStore.mounted_on c.write_changed-2.new.self) 2 (c.write_changed-2.ensures.touches.banks ∙ c.write_changed.ensures.touches.banks) (c.write_changed-2.ensures.area ∙ c.write_changed.ensures.area) two c.delete-in-Err-NoSpace.ensures.at_most;
+      spends-calls a e f own (g.S.ItemStore.mounted_on c.write_changed-2.new.self) 2 (c.write_changed-2.ensures.touches.banks ∙ c.write_changed.ensures.touches.banks) (c.write_changed-2.ensures.area ∙ c.write_changed.ensures.area) two c.delete-in-Err-NoSpace.ensures.units.at_most;
   store = record {
     area = c.delete-in-Err-NoSpace.ensures.area ∙ c.write_changed-2.ensures.area ∙ c.write_changed.ensures.area;
     sound = subst (λ (x : Area). on g.S.ItemStore.damage (g.F.Flash.device c.delete-in-Err-NoSpace.new.flash) x ≡ None) (c.write_changed-2.ensures.area ∙ c.write_changed.ensures.area) c.delete-in-Err-NoSpace.ensures.sound;

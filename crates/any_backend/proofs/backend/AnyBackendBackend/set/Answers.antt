@@ -6,7 +6,6 @@ use Rattle.flash_map.specs.declared.area.Area.{Area}
 use Rattle.flash_map.specs.declared.area.Role.{Role}
 use Rattle.flash_map.specs.Area.{geometry_of, sectors_of}
 use Rattle.flash_map.specs.Lawful.{IsLawfulFor}
-use Rattle.flash_map.specs.Spending.{SpendsAtMost}
 use Rattle.flash_map.specs.Touches.{Touches}
 use Rattle.backend_api.specs.Commands.{StopsAt}
 use Rattle.backend_api.specs.Commands.Command.{Put}
@@ -14,8 +13,9 @@ use Rattle.backend_api.specs.Ends.{SetEnds, set_lost}
 use Rattle.backend_api.specs.Room.{command_units}
 use Rattle.any_backend.specs.declared.backend.AnyBackend.{AnyBackend}
 use Rattle.any_backend.specs.declared.backend.AnyBackend.TheVariants.{Nvs, Zms, Fcb}
-use Rattle.any_backend.specs.ByRole.{chance_as, contents_as, damage_as, room_as, tears_as}
+use Rattle.any_backend.specs.ByRole.{boot_as, owes_as, chance_as, contents_as, damage_as, room_as, tears_as}
 use Rattle.any_backend.specs.Standing.{area_of, Stands}
+use Rattle.flash_map.specs.Spending.{SpendsAtMost}
 use Rattle.any_backend.proofs.backend.AnyBackendBackend.set.Goals as goal
 
 pub set-requires-clause-lawful : goal.set-requires-clause-lawful
@@ -47,11 +47,19 @@ returns-in-Nvs-clause-ends g c =
     subst (λ (s : AnyBackend). SetEnds (room_as (area_of s).role (geometry_of d (area_of s))) (area_of s).sectors d e (contents_as (area_of s).role (area_of s) (geometry_of d (area_of s)) (sectors_of d (area_of s))) (contents_as (area_of s).role (area_of s) (geometry_of e (area_of s)) (sectors_of e (area_of s))) c.args.name.now c.args.value.now c.set.result) (sym c.in-Nvs.is)
     (subst (λ (r : Role). SetEnds (room_as r (geometry_of d here)) here.sectors d e (contents_as r here (geometry_of d here) (sectors_of d here)) (contents_as r here (geometry_of e here) (sectors_of e here)) c.args.name.now c.args.value.now c.set.result) (sym stands.store.role) c.set.ensures.ends)
 
-pub returns-in-Nvs-clause-at_most : goal.returns-in-Nvs-clause-at_most
-returns-in-Nvs-clause-at_most g c =
+pub returns-in-Nvs-clause-units : goal.returns-in-Nvs-clause-units
+returns-in-Nvs-clause-units g c =
     let d : Device = g.F.Flash.device c.args.flash.now in
     let e : Device = g.F.Flash.device c.set.new.flash in
-    subst (λ (s : AnyBackend). SpendsAtMost d e (command_units (geometry_of d (area_of s)))) (sym c.in-Nvs.is) c.set.ensures.at_most
+    let here : Area = c.in-Nvs.backend.store.store.area in
+    let stands : Stands (Nvs c.in-Nvs.backend) (geometry_of d here) (sectors_of d here) =
+    subst (λ (s : AnyBackend). Stands s (geometry_of d (area_of s)) (sectors_of d (area_of s))) c.in-Nvs.is c.requires.stands in
+    record {
+      at_most = subst (λ (s : AnyBackend). SpendsAtMost d e (command_units (geometry_of d (area_of s)))) (sym c.in-Nvs.is) c.set.ensures.units.at_most;
+      owes = λ lost.
+          subst (λ (s : AnyBackend). owes_as (area_of s).role (area_of s) (geometry_of e (area_of s)) (sectors_of e (area_of s)) (boot_as (area_of s).role (area_of s) (geometry_of d (area_of s)))) (sym c.in-Nvs.is)
+          (subst (λ (r : Role). owes_as r here (geometry_of e here) (sectors_of e here) (boot_as r here (geometry_of d here))) (sym stands.store.role) (c.set.ensures.units.owes lost));
+    }
 
 pub returns-in-Nvs-clause-sound : goal.returns-in-Nvs-clause-sound
 returns-in-Nvs-clause-sound g c =
@@ -108,11 +116,19 @@ returns-in-Zms-clause-ends g c =
     subst (λ (s : AnyBackend). SetEnds (room_as (area_of s).role (geometry_of d (area_of s))) (area_of s).sectors d e (contents_as (area_of s).role (area_of s) (geometry_of d (area_of s)) (sectors_of d (area_of s))) (contents_as (area_of s).role (area_of s) (geometry_of e (area_of s)) (sectors_of e (area_of s))) c.args.name.now c.args.value.now c.set-in-Zms.result) (sym c.in-Zms.is)
     (subst (λ (r : Role). SetEnds (room_as r (geometry_of d here)) here.sectors d e (contents_as r here (geometry_of d here) (sectors_of d here)) (contents_as r here (geometry_of e here) (sectors_of e here)) c.args.name.now c.args.value.now c.set-in-Zms.result) (sym stands.store.role) c.set-in-Zms.ensures.ends)
 
-pub returns-in-Zms-clause-at_most : goal.returns-in-Zms-clause-at_most
-returns-in-Zms-clause-at_most g c =
+pub returns-in-Zms-clause-units : goal.returns-in-Zms-clause-units
+returns-in-Zms-clause-units g c =
     let d : Device = g.F.Flash.device c.args.flash.now in
     let e : Device = g.F.Flash.device c.set-in-Zms.new.flash in
-    subst (λ (s : AnyBackend). SpendsAtMost d e (command_units (geometry_of d (area_of s)))) (sym c.in-Zms.is) c.set-in-Zms.ensures.at_most
+    let here : Area = c.in-Zms.backend.store.store.area in
+    let stands : Stands (Zms c.in-Zms.backend) (geometry_of d here) (sectors_of d here) =
+    subst (λ (s : AnyBackend). Stands s (geometry_of d (area_of s)) (sectors_of d (area_of s))) c.in-Zms.is c.requires.stands in
+    record {
+      at_most = subst (λ (s : AnyBackend). SpendsAtMost d e (command_units (geometry_of d (area_of s)))) (sym c.in-Zms.is) c.set-in-Zms.ensures.units.at_most;
+      owes = λ lost.
+          subst (λ (s : AnyBackend). owes_as (area_of s).role (area_of s) (geometry_of e (area_of s)) (sectors_of e (area_of s)) (boot_as (area_of s).role (area_of s) (geometry_of d (area_of s)))) (sym c.in-Zms.is)
+          (subst (λ (r : Role). owes_as r here (geometry_of e here) (sectors_of e here) (boot_as r here (geometry_of d here))) (sym stands.store.role) (c.set-in-Zms.ensures.units.owes lost));
+    }
 
 pub returns-in-Zms-clause-sound : goal.returns-in-Zms-clause-sound
 returns-in-Zms-clause-sound g c =
@@ -169,11 +185,19 @@ returns-in-Fcb-clause-ends g c =
     subst (λ (s : AnyBackend). SetEnds (room_as (area_of s).role (geometry_of d (area_of s))) (area_of s).sectors d e (contents_as (area_of s).role (area_of s) (geometry_of d (area_of s)) (sectors_of d (area_of s))) (contents_as (area_of s).role (area_of s) (geometry_of e (area_of s)) (sectors_of e (area_of s))) c.args.name.now c.args.value.now c.set-in-Fcb.result) (sym c.in-Fcb.is)
     (subst (λ (r : Role). SetEnds (room_as r (geometry_of d here)) here.sectors d e (contents_as r here (geometry_of d here) (sectors_of d here)) (contents_as r here (geometry_of e here) (sectors_of e here)) c.args.name.now c.args.value.now c.set-in-Fcb.result) (sym stands.role) c.set-in-Fcb.ensures.ends)
 
-pub returns-in-Fcb-clause-at_most : goal.returns-in-Fcb-clause-at_most
-returns-in-Fcb-clause-at_most g c =
+pub returns-in-Fcb-clause-units : goal.returns-in-Fcb-clause-units
+returns-in-Fcb-clause-units g c =
     let d : Device = g.F.Flash.device c.args.flash.now in
     let e : Device = g.F.Flash.device c.set-in-Fcb.new.flash in
-    subst (λ (s : AnyBackend). SpendsAtMost d e (command_units (geometry_of d (area_of s)))) (sym c.in-Fcb.is) c.set-in-Fcb.ensures.spends.at_most
+    let here : Area = c.in-Fcb.backend.ring.area in
+    let stands : Stands (Fcb c.in-Fcb.backend) (geometry_of d here) (sectors_of d here) =
+    subst (λ (s : AnyBackend). Stands s (geometry_of d (area_of s)) (sectors_of d (area_of s))) c.in-Fcb.is c.requires.stands in
+    record {
+      at_most = subst (λ (s : AnyBackend). SpendsAtMost d e (command_units (geometry_of d (area_of s)))) (sym c.in-Fcb.is) c.set-in-Fcb.ensures.spends.units.at_most;
+      owes = λ lost.
+          subst (λ (s : AnyBackend). owes_as (area_of s).role (area_of s) (geometry_of e (area_of s)) (sectors_of e (area_of s)) (boot_as (area_of s).role (area_of s) (geometry_of d (area_of s)))) (sym c.in-Fcb.is)
+          (subst (λ (r : Role). owes_as r here (geometry_of e here) (sectors_of e here) (boot_as r here (geometry_of d here))) (sym stands.role) (c.set-in-Fcb.ensures.spends.units.owes lost));
+    }
 
 pub returns-in-Fcb-clause-sound : goal.returns-in-Fcb-clause-sound
 returns-in-Fcb-clause-sound g c =

@@ -62,7 +62,7 @@ returns-in-Ok g c =
         down = λ lost. absurd (false≢true lost);
       };
       spends = record {
-        at_most = most_weaker d e ((c.geometry-geometry.result.sectors - 1 + 1) * collect_units d ring) (command_units (geometry_of d area)) few c.in-Ok.ensures.at_most;
+        units = record { at_most = most_weaker d e ((c.geometry-geometry.result.sectors - 1 + 1) * collect_units d ring) (command_units (geometry_of d area)) few c.in-Ok.ensures.at_most; owes = λ lost. absurd (false≢true lost) };
         exact = λ changes. subst (λ (b : List ℕ). SpendsCost d e ring b ring.reserve) body ends.2;
         no_more = λ lost. absurd (false≢true lost);
         few = subst (λ (n : ℕ). SpendsAtMost d e ((n - 1 + 1) * collect_units d ring)) sectors c.in-Ok.ensures.at_most;
@@ -90,7 +90,7 @@ returns-in-Err-PowerLost g c =
         down = λ lost. ends.0.down;
       };
       spends = record {
-        at_most = most_weaker d e ((c.geometry-geometry.result.sectors - 1 + 1) * collect_units d ring) (command_units (geometry_of d area)) few c.in-Err-PowerLost.ensures.at_most;
+        units = record { at_most = most_weaker d e ((c.geometry-geometry.result.sectors - 1 + 1) * collect_units d ring) (command_units (geometry_of d area)) few c.in-Err-PowerLost.ensures.at_most; owes = λ lost. ends.0.due };
         exact = tt;
         no_more = λ lost. subst (λ (b : List ℕ). SpendsUpToCost d e ring b ring.reserve) body ends.1;
         few = subst (λ (n : ℕ). SpendsAtMost d e ((n - 1 + 1) * collect_units d ring)) sectors c.in-Err-PowerLost.ensures.at_most;
@@ -128,7 +128,7 @@ returns-in-Err-Full g c =
         down = λ lost. absurd (false≢true lost);
       };
       spends = record {
-        at_most = most_weaker d e ((c.geometry-geometry.result.sectors - 1 + 1) * collect_units d ring) (command_units (geometry_of d area)) few c.in-Err-Full.ensures.at_most;
+        units = record { at_most = most_weaker d e ((c.geometry-geometry.result.sectors - 1 + 1) * collect_units d ring) (command_units (geometry_of d area)) few c.in-Err-Full.ensures.at_most; owes = λ lost. absurd (false≢true lost) };
         exact = tt;
         no_more = λ lost. absurd (false≢true lost);
         few = subst (λ (n : ℕ). SpendsAtMost d e ((n - 1 + 1) * collect_units d ring)) sectors c.in-Err-Full.ensures.at_most;

@@ -44,7 +44,7 @@ returns-then-is_none g c =
       down = λ lost. absurd (false≢true lost);
       written = λ other. absurd (other c.requires.stands.role);
       spends = record {
-        at_most = none-more d (command_units (geometry_of d area));
+        units = record { at_most = none-more d (command_units (geometry_of d area)); owes = λ lost. absurd (false≢true lost) };
         exact = λ changes. absurd (changes (remove-absent (settings_on d area) c.args.name.now absent));
         no_more = λ lost. absurd (false≢true lost);
         few = (0, omega arith, spends_none d);
@@ -84,7 +84,7 @@ returns-in-Ok g c =
       down = λ lost. absurd (false≢true lost);
       written = λ other. absurd (other c.requires.stands.role);
       spends = record {
-        at_most = most_weaker d e ((1 + 1) * collect_units d ring) (command_units (geometry_of d area)) (two-rounds d ring c.requires.lawful.several) c.in-Ok.ensures.at_most;
+        units = record { at_most = most_weaker d e ((1 + 1) * collect_units d ring) (command_units (geometry_of d area)) (two-rounds d ring c.requires.lawful.several) c.in-Ok.ensures.at_most; owes = λ lost. absurd (false≢true lost) };
         exact = λ changes. subst (λ (b : List ℕ). SpendsCost d e ring b 0) body ends.2;
         no_more = λ lost. absurd (false≢true lost);
         few = c.in-Ok.ensures.at_most;
@@ -109,7 +109,7 @@ returns-in-Err-PowerLost g c =
       down = λ lost. ends.0.down;
       written = λ other. absurd (other c.requires.stands.role);
       spends = record {
-        at_most = most_weaker d e ((1 + 1) * collect_units d ring) (command_units (geometry_of d area)) (two-rounds d ring c.requires.lawful.several) c.in-Err-PowerLost.ensures.at_most;
+        units = record { at_most = most_weaker d e ((1 + 1) * collect_units d ring) (command_units (geometry_of d area)) (two-rounds d ring c.requires.lawful.several) c.in-Err-PowerLost.ensures.at_most; owes = λ lost. ends.0.due };
         exact = tt;
         no_more = λ lost. subst (λ (b : List ℕ). SpendsUpToCost d e ring b 0) body ends.1;
         few = c.in-Err-PowerLost.ensures.at_most;

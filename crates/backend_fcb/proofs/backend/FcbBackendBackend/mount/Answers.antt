@@ -1,4 +1,4 @@
-use Rattle.std.proofs.Common.{◌≡◌, ◌∷◌, [], None, refl, sym, ap, subst, ◌∙◌, arith}
+use Rattle.std.proofs.Common.{ℕ, ◌+◌, ◌≤◌, ◌≡◌, ◌∷◌, [], None, refl, sym, ap, subst, ◌∙◌, arith}
 use Rattle.flash_sim.specs.Device.{Device}
 use Rattle.flash_map.specs.declared.area.Area.{Area}
 use Rattle.flash_map.specs.declared.area.Geometry.{Geometry}
@@ -17,15 +17,18 @@ use Rattle.backend_fcb.specs.Standing.{IsReady, damage_on}
 use Rattle.backend_fcb.proofs.MountUnits.{mount-most}
 use Rattle.backend_fcb.proofs.Ends.{none-more, ring-area, ready-stands, damage-none, overfull-not}
 use Rattle.backend_fcb.proofs.PutsCosts.{overfull_at, undamaged-kept}
+use Rattle.flash_map.proofs.SpendingLemmas.{most_weaker}
+use Rattle.fcb_ring.specs.Standing.{uncounted}
+use Rattle.backend_fcb.proofs.DueLemmas.{ready-due, left-due}
 use Rattle.backend_fcb.proofs.backend.FcbBackendBackend.mount.Goals as goal
 
 pub returns-in-Err-clause-touches : goal.returns-in-Err-clause-touches
 returns-in-Err-clause-touches g c = untouched (c.args.area ∷ []) (g.F.Flash.device c.args.flash.now)
 
-pub returns-in-Err-clause-at_most : goal.returns-in-Err-clause-at_most
-returns-in-Err-clause-at_most g c =
+pub returns-in-Err-clause-units : goal.returns-in-Err-clause-units
+returns-in-Err-clause-units g c =
     let d : Device = g.F.Flash.device c.args.flash.now in
-    none-more d (mount_units (geometry_of d c.args.area))
+    record { at_most = none-more d (mount_units (geometry_of d c.args.area)); owed = λ most owes. none-more d most; left = λ most owes. owes }
 
 pub returns-in-Err-clause-spends : goal.returns-in-Err-clause-spends
 returns-in-Err-clause-spends g c =
@@ -56,10 +59,10 @@ returns-in-Err-clause-stands g c = tt
 pub returns-in-Some-clause-touches : goal.returns-in-Some-clause-touches
 returns-in-Some-clause-touches g c = untouched (c.args.area ∷ []) (g.F.Flash.device c.args.flash.now)
 
-pub returns-in-Some-clause-at_most : goal.returns-in-Some-clause-at_most
-returns-in-Some-clause-at_most g c =
+pub returns-in-Some-clause-units : goal.returns-in-Some-clause-units
+returns-in-Some-clause-units g c =
     let d : Device = g.F.Flash.device c.args.flash.now in
-    none-more d (mount_units (geometry_of d c.args.area))
+    record { at_most = none-more d (mount_units (geometry_of d c.args.area)); owed = λ most owes. none-more d most; left = λ most owes. owes }
 
 pub returns-in-Some-clause-spends : goal.returns-in-Some-clause-spends
 returns-in-Some-clause-spends g c =
@@ -172,14 +175,32 @@ returns-in-Ok-finish-clause-spends g c =
       few = (erases_on d c.args.area, omega arith, subst (λ (x : Area). Spends d e (erases_on d x)) c.in-Ok.ensures.ring.0 c.in-Ok-finish.ensures.finished.units);
     }
 
-pub returns-in-Ok-finish-clause-at_most : goal.returns-in-Ok-finish-clause-at_most
-returns-in-Ok-finish-clause-at_most g c =
+pub returns-in-Ok-finish-clause-units : goal.returns-in-Ok-finish-clause-units
+returns-in-Ok-finish-clause-units g c =
     let d : Device = g.F.Flash.device c.args.flash.now in
     let e : Device = g.F.Flash.device c.finish.new.flash in
-    mount-most d c.args.area c.requires.lawful e (erases_on d c.args.area, omega arith, subst (λ (x : Area). Spends d e (erases_on d x)) c.in-Ok.ensures.ring.0 c.in-Ok-finish.ensures.finished.units)
+    let area : Area = c.args.area in
+    let did = c.in-Ok-finish.ensures.finished in
+    let few : SpendsAtMost d e (erases_on d area) = (erases_on d area, omega arith, subst (λ (x : Area). Spends d e (erases_on d x)) c.in-Ok.ensures.ring.0 did.units) in
+    let none : erases_on e area ≡ 0 = ready-due e c.finish.new.self area (did.area ∙ c.in-Ok.ensures.ring.0) did.stands did.ready in
+    record {
+      at_most = mount-most d area c.requires.lawful e few;
+      owed = λ most owes. most_weaker d e (erases_on d area) most owes few;
+      left = λ most owes. omega arith;
+    }
 
-pub returns-in-Err-finish-clause-at_most : goal.returns-in-Err-finish-clause-at_most
-returns-in-Err-finish-clause-at_most g c =
+pub returns-in-Err-finish-clause-units : goal.returns-in-Err-finish-clause-units
+returns-in-Err-finish-clause-units g c =
     let d : Device = g.F.Flash.device c.args.flash.now in
     let e : Device = g.F.Flash.device c.finish.new.flash in
-    mount-most d c.args.area c.requires.lawful e (subst (λ (x : Area). SpendsAtMost d e (erases_on d x)) c.in-Ok.ensures.ring.0 c.in-Err-finish.ensures.stopped.bound)
+    let area : Area = c.args.area in
+    let ring = c.in-Ok.ring in
+    let stopped = c.in-Err-finish.ensures.stopped in
+    let few : SpendsAtMost d e (erases_on d area) = subst (λ (x : Area). SpendsAtMost d e (erases_on d x)) c.in-Ok.ensures.ring.0 stopped.bound in
+    let less : erases_on e area ≤ erases_on d area = subst (λ (x : Area). erases_on e x ≤ erases_on d x) c.in-Ok.ensures.ring.0
+    (left-due d e ring.area c.in-Err-finish.ensures.touches.banks ring.oldest (ring.used + uncounted ring.stage) c.in-Ok.ensures.ok.sectors.form stopped.part) in
+    record {
+      at_most = mount-most d area c.requires.lawful e few;
+      owed = λ most owes. most_weaker d e (erases_on d area) most owes few;
+      left = λ most owes. omega arith;
+    }

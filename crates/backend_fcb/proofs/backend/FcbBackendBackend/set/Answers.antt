@@ -32,7 +32,7 @@ returns-then-holds g c =
       stands = λ up. c.requires.stands;
       down = λ lost. absurd (false≢true lost);
       spends = record {
-        at_most = none-more d (command_units (geometry_of d area));
+        units = record { at_most = none-more d (command_units (geometry_of d area)); owes = λ lost. absurd (false≢true lost) };
         exact = λ changes. absurd (changes (insert-stored (settings_on d area) c.args.name.now c.args.value.now same));
         no_more = λ lost. absurd (false≢true lost);
         few = (0, omega arith, spends_none d);

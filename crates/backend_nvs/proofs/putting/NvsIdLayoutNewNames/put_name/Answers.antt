@@ -12,6 +12,7 @@ use Rattle.named_items.proofs.LeavingSteps.{takes, puts-leave}
 use Rattle.named_items.specs.Leaving.{pair_at_place}
 use Rattle.backend_nvs.specs.IdLayout.{numbering_of, settings_of}
 use Rattle.backend_nvs.proofs.CountSteps.{all-used, names-over, few-free, free-few}
+use Rattle.named_items.specs.Orphans.{HasOrphans}
 use Rattle.backend_nvs.proofs.putting.NvsIdLayoutNewNames.put_name.Goals as goal
 
 pub put_new-requires-clause-place : goal.put_new-requires-clause-place
@@ -40,6 +41,7 @@ returns-then-is_full-clause-ends g c =
     record {
       ends = (names-over (value_limit own) before c.requires.here.clean c.args.name.now c.requires.absent (all-used (value_limit own) before c.requires.here.clean c.args.name.now (c.in-None.ensures c.args.name.now) full), refl);
       cut = λ lost. absurd {A = IsPut (settings_of own before) (settings_of own before) c.args.name.now c.args.value.now} (false≢true lost);
+      few = λ lost. absurd {A = HasOrphans (numbering_of own) before 1} (false≢true lost);
       clean = λ kept. c.requires.here.clean;
     }
 

@@ -6,6 +6,7 @@ use Rattle.flash_map.specs.Touches.{Ends, IsCut}
 use Rattle.named_items.specs.Pairs.{HasNoOrphans}
 use Rattle.named_items.specs.ZmsStore.{zms_items}
 use Rattle.backend_zms.specs.IdLayout.{numbering_of}
+use Rattle.backend_zms.proofs.BootSteps.{cut-owes}
 use Rattle.backend_zms.proofs.backend.ZmsBackendBackend.delete.Goals as goal
 
 pub delete_name-requires-clause-here : goal.delete_name-requires-clause-here
@@ -46,3 +47,9 @@ returns-clause-written g c other = c.delete_name.ensures.written
 
 pub returns-clause-items : goal.returns-clause-items
 returns-clause-items g c = c.delete_name.ensures.items
+
+pub returns-clause-units : goal.returns-clause-units
+returns-clause-units g c = record {
+  at_most = c.delete_name.ensures.at_most;
+  owes = λ lost. cut-owes (g.F.Flash.device c.args.flash.now) (g.F.Flash.device c.delete_name.new.flash) c.args.self.now.store.store.area c.delete_name.ensures.touches.banks (c.delete_name.ensures.ends.few lost);
+}

@@ -6,6 +6,7 @@ use Rattle.flash_map.specs.Touches.{Ends, IsCut}
 use Rattle.named_items.specs.Pairs.{HasNoOrphans}
 use Rattle.named_items.specs.ZmsStore.{zms_items}
 use Rattle.backend_zms.specs.IdLayout.{numbering_of}
+use Rattle.backend_zms.proofs.BootSteps.{cut-owes}
 use Rattle.backend_zms.proofs.backend.ZmsBackendBackend.set.Goals as goal
 
 pub set_value-requires-clause-here : goal.set_value-requires-clause-here
@@ -46,3 +47,9 @@ returns-clause-stands g c = λ kept.
 
 pub returns-clause-items : goal.returns-clause-items
 returns-clause-items g c = c.set_value.ensures.items
+
+pub returns-clause-units : goal.returns-clause-units
+returns-clause-units g c = record {
+  at_most = c.set_value.ensures.at_most;
+  owes = λ lost. cut-owes (g.F.Flash.device c.args.flash.now) (g.F.Flash.device c.set_value.new.flash) c.args.self.now.store.store.area c.set_value.ensures.touches.banks (c.set_value.ensures.ends.few lost);
+}

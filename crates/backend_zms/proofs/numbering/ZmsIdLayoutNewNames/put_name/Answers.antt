@@ -11,6 +11,7 @@ use Rattle.named_items.specs.Putting.{IsPut}
 use Rattle.named_items.proofs.LeavingSteps.{takes, puts-leave}
 use Rattle.backend_zms.specs.IdLayout.{numbering_of}
 use Rattle.backend_zms.proofs.GroupLemmas.{group-full, group-free}
+use Rattle.named_items.specs.Orphans.{HasOrphans}
 use Rattle.backend_zms.proofs.numbering.ZmsIdLayoutNewNames.put_name.Goals as goal
 
 -- there is an id left
@@ -34,6 +35,7 @@ returns-in-None-clause-ends g c =
     record {
       ends = (group-full (value_limit area) before c.args.name.now c.requires.here.clean c.requires.absent c.in-None.ensures, refl);
       cut = λ lost. absurd {A = IsPut (settings_in (numbering_of area) before) (settings_in (numbering_of area) before) c.args.name.now c.args.value.now} (false≢true lost);
+      few = λ lost. absurd {A = HasOrphans (numbering_of area) before 1} (false≢true lost);
       clean = λ kept. c.requires.here.clean;
     }
 

@@ -3,8 +3,10 @@ use Rattle.flash_map.specs.declared.area.Role.TheVariants.{Nvs as NvsRole}
 use Rattle.nvs_gc.specs.declared.nvs.Nvs.{Nvs}
 use Rattle.nvs_gc.specs.Standing.{kept}
 use Rattle.nvs_format.specs.Formats.{format_of}
+use Rattle.named_items.specs.NvsStore.{nvs_redo}
+use Rattle.named_items.proofs.MostUnits.{between-same}
 use Rattle.named_items.proofs.NvsSteps.{nvs-law, nvs-frugal, nvs-erased}
-use Rattle.named_items.proofs.RingSteps.{ring-mounts, ring-sound, ring-keeps, ring-mounted, ring-up, ring-idle, ring-mount-most, ring-changed}
+use Rattle.named_items.proofs.RingSteps.{ring-mounts, ring-sound, ring-keeps, ring-mounted, ring-up, ring-redoes, ring-idle, ring-mount-most, ring-changed}
 use Rattle.named_items.proofs.nvs.NvsItemStore.mount.Goals as goal
 
 pub returns-clause-ends : goal.returns-clause-ends
@@ -29,11 +31,16 @@ returns-clause-written g c =
     let geometry = geometry_of (g.F.Flash.device c.args.flash.now) c.args.area in
     ring-changed (format_of geometry) (nvs-erased geometry) (g.F.Flash.device c.args.flash.now) (g.F.Flash.device c.mount.new.flash) c.args.area c.mount.ensures.changed
 
-pub returns-clause-at_most : goal.returns-clause-at_most
-returns-clause-at_most g c =
-    let geometry = geometry_of (g.F.Flash.device c.args.flash.now) c.args.area in
-    ring-mount-most (format_of geometry) (g.F.Flash.device c.args.flash.now) (g.F.Flash.device c.mount.new.flash) c.args.area c.requires.lawful.several
-    (nvs-frugal (g.F.Flash.device c.args.flash.now) c.args.area (g.met.F.Flash.is_lawful c.args.flash.now) c.requires.lawful) c.mount.ensures.at_most
+pub returns-clause-units : goal.returns-clause-units
+returns-clause-units g c =
+    let d = g.F.Flash.device c.args.flash.now in
+    let e = g.F.Flash.device c.mount.new.flash in
+    let area = c.args.area in
+    record {
+      at_most = ring-mount-most (format_of (geometry_of d area)) d e area c.requires.lawful.several (nvs-frugal d area (g.met.F.Flash.is_lawful c.args.flash.now) c.requires.lawful) c.mount.ensures.at_most;
+      redoes = between-same d e 0 (nvs_redo (geometry_of d area)) c.mount.ensures.at_most;
+      ends = ring-redoes NvsRole format_of kept (λ (nvs : Nvs). nvs.store) d e area c.mount.ensures.touches.banks (nvs-law d area (g.met.F.Flash.is_lawful c.args.flash.now) c.requires.lawful) c.mount.result c.mount.ensures.ends;
+    }
 
 pub returns-clause-on : goal.returns-clause-on
 returns-clause-on g c =

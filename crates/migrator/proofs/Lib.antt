@@ -4,6 +4,7 @@ pub mod Latest
 mod Choices
 mod Collecting
 mod Putting
+pub mod ErasesLeft
 pub mod Names
 pub mod Spent
 pub mod Copies

@@ -1,5 +1,5 @@
 -- A whole migration.
-use Rattle.std.proofs.Common.{◌≡◌, ◌≢◌, ℕ, zero, suc, Bool, true, false, not, cond, List, [], ◌∷◌, length, Option, Some, None, Result, Ok, Err, refl, sym, ap, subst, ◌∙◌, inl, inr, arith}
+use Rattle.std.proofs.Common.{◌≡◌, ◌≢◌, ◌≤◌, ℕ, zero, suc, Bool, true, false, not, cond, List, [], ◌∷◌, length, Option, Some, None, Result, Ok, Err, refl, sym, ap, subst, ◌∙◌, inl, inr, arith}
 use Rattle.std.specs.Prelude.{unwrap_or, IfOk, OnOk}
 use Rattle.std.specs.List.{slice_get}
 use Rattle.std.specs.Option.{option_map_or, option_and_then}
@@ -14,17 +14,17 @@ use Rattle.flash_map.specs.Area.{AreApart, geometry_of}
 use Rattle.flash_map.specs.Spending.{SpendsAtMost}
 use Rattle.fcb_ring.specs.declared.ring.Ring.{Ring}
 use Rattle.fcb_ring.specs.Entries.{bodies}
-use Rattle.fcb_ring.specs.Standing.{entries_on, ring_damage}
+use Rattle.fcb_ring.specs.Standing.{entries_on, erases_on, ring_damage}
 use Rattle.fcb_ring.proofs.PlaceLemmas.{found_some, found_none}
 use Rattle.backend_api.specs.Map.{Map}
-use Rattle.flash_map.specs.On.{on, StandsOn}
+use Rattle.flash_map.specs.On.{on, HoldsOn, StandsOn}
 use Rattle.backend_api.specs.Room.{Room}
 use Rattle.migrator.specs.declared.migrating.MigrateFault.{MigrateFault}
 use Rattle.migrator.specs.declared.migrating.MigrateFault.TheVariants.{NoTarget, NoSpace, TooManyNames, PowerLost, NoMemory}
 use Rattle.migrator.specs.Active.{named, chosen, active_in, active_on, active_with, selector_damage_on}
 use Rattle.migrator.specs.Areas.{IsLawfulMap, is_store, is_store_at, store_from, first_store, selector_of, target}
 use Rattle.migrator.specs.Choosing.{IsOpen}
-use Rattle.migrator.specs.Migrating.{migrate_lost, is_refused, IsServed, move_units, migrate_units, worked_on, room_on, ReadsAs, FillsAndChooses, IsMoved, StaysActive, MoveEnds, MigrateEnds}
+use Rattle.migrator.specs.Migrating.{ActiveRests, IsLeftResting, migrate_lost, is_refused, IsServed, move_units, migrate_units, worked_on, room_on, ReadsAs, FillsAndChooses, IsMoved, StaysActive, MoveEnds, MigrateEnds}
 use Rattle.migrator.proofs.AreaLemmas.{store-within}
 use Rattle.migrator.proofs.Choices.{named-says}
 use Rattle.migrator.proofs.Copies.{geometry-same}
@@ -168,6 +168,18 @@ module _ {S : Type 0} (mounted : S → Area) (damage : Area → Geometry → Lis
       at (Err (NoSpace need live)) ends = stays ends.1
       at (Err PowerLost) ends = elim ends [ inl same ↦ stays same | inr moved ↦ moves moved ]
       at (Err NoMemory) ends = stays ends
+
+-- ---- what it leaves to the next mount
+
+module _ (rests : Area → Geometry → List (List ℕ) → Type 0) (areas : List Area) (selector source : Area) (active : ℕ) (selected : selector_of areas ≡ Some selector) (there : slice_get areas active ≡ Some source) where
+  pub rests-still : (d : Device) → active ≡ active_on areas d → HoldsOn rests d source → erases_on d selector ≤ 1 → IsLeftResting rests areas selector d
+  rests-still d is held few = record { area = source; there = ap (slice_get areas) (sym is) ∙ there; at_rest = held; erases = few }
+
+  pub rests-through : (area : Area) (index : ℕ) (old new : Device) → active ≡ active_on areas old → slice_get areas index ≡ Some area → HoldsOn rests new source → erases_on new selector ≤ 1 → ActiveRests rests areas selector area index old new → IsLeftResting rests areas selector new
+  rests-through area index old new is there-target held few ends = elim ends [
+    | inl same ↦ rests-still new (is ∙ active-on areas old selector selected ∙ sym same ∙ sym (active-on areas new selector selected)) held few
+    | inr moved ↦ record { area = area; there = ap (slice_get areas) (active-on areas new selector selected ∙ moved.0) ∙ there-target; at_rest = moved.1; erases = few }
+  ]
 
 -- ---- the selector and a store, behind a migration
 

@@ -16,7 +16,7 @@ use Rattle.fcb_ring.specs.declared.ring.Ring.{Ring}
 use Rattle.fcb_ring.specs.Standing.{IsRingArea, Stands, is_up, ring_damage}
 use Rattle.backend_api.specs.Ends.{set_lost}
 use Rattle.backend_api.specs.Map.{Map}
-use Rattle.flash_map.specs.On.{on, StandsOn}
+use Rattle.flash_map.specs.On.{on, HoldsOn, StandsOn}
 use Rattle.backend_api.specs.Room.{Room}
 use Rattle.backend_api.specs.declared.backend.SetFault.{SetFault}
 use Rattle.backend_api.specs.declared.backend.SetFault.TheVariants.{NoSpace as NoPlace, TooManyNames as OneTooMany, PowerLost as CopyLost}
@@ -25,7 +25,7 @@ use Rattle.migrator.specs.declared.migrating.MigrateFault.TheVariants.{NoTarget,
 use Rattle.migrator.specs.Active.{active_in, active_by}
 use Rattle.migrator.specs.Choosing.{IsOpen, ChooseEnds, Chooses}
 use Rattle.migrator.specs.Copying.{NoneTooMany, CopyEnds}
-use Rattle.migrator.specs.Migrating.{migrate_lost, is_refused, filled_as, moved_as, OpenEnds, Fills, FillEnds, FillsAndChooses, MoveEnds, StaysActive}
+use Rattle.migrator.specs.Migrating.{ActiveRests, migrate_lost, is_refused, filled_as, moved_as, OpenEnds, Fills, FillEnds, FillsAndChooses, MoveEnds, StaysActive}
 use Rattle.migrator.proofs.Collecting.{kept-itself}
 use Rattle.migrator.proofs.Copies.{geometry-same}
 
@@ -154,6 +154,15 @@ filled-chosen {T} areas a b e ring area index names moved chosen result banks sa
     at : (r : Result (Unit {0}) Lost) → OnOk r (Chooses areas b e ring index) → OnOk (moved_as moved r) (FillsAndChooses areas a e ring area index names)
     at (Ok x) chooses = record { mid = b; banks = banks; filled = filled; selector = same; chosen = chooses }
     at (Err lost) chooses = tt
+
+-- the area rests, and may be the active one now
+pub chosen-rests : (rests : Area → Geometry → List (List ℕ) → Type 0) (areas : List Area) (area : Area) (index : ℕ) (a b e : Device) (before after : Ring) (chosen : Result (Unit {0}) Lost) → StaysActive areas before.area a b → HoldsOn rests e area
+    → ChooseEnds areas b e before after index chosen → ActiveRests rests areas before.area area index a e
+chosen-rests rests areas area index a b e before after (Ok x) stays held ends = inr (ends.1, held)
+chosen-rests rests areas area index a b e before after (Err lost) stays held ends = elim ends.0 [
+  | inl old ↦ inl (old ∙ stays)
+  | inr new ↦ inr (new, held)
+]
 
 -- on another device with the same banks and sectors
 pub still : {T : Type 0} (f : Area → Geometry → List (List ℕ) → T) (a d : Device) (area : Area) → d.banks ≡ a.banks → sectors_of d area ≡ sectors_of a area → on f d area ≡ on f a area

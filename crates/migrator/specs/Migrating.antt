@@ -1,5 +1,5 @@
 -- How a migration changes the areas, and how it ends.
-use Rattle.std.specs.Prelude.{◌≡◌, ◌⊎◌, ℕ, ◌+◌, ◌*◌, Bool, true, false, List, [], ◌∷◌, count_by, Option, Some, None, Result, Ok, Err, IfOk, OnOk}
+use Rattle.std.specs.Prelude.{◌≡◌, ◌⊎◌, ℕ, ◌+◌, ◌*◌, ◌≤◌, Bool, true, false, List, [], ◌∷◌, count_by, Option, Some, None, Result, Ok, Err, IfOk, OnOk}
 use Rattle.std.specs.FinMap as finite
 use Rattle.std.specs.List.{slice_get}
 use Rattle.std.specs.Option.{option_map_or, option_and_then}
@@ -11,10 +11,10 @@ use Rattle.flash_map.specs.Area.{geometry_of, sectors_of, AreApart}
 use Rattle.flash_map.specs.Lawful.{IsLawfulFor}
 use Rattle.flash_map.specs.Spending.{SpendsAtMost, SpendsBetween}
 use Rattle.flash_map.specs.Units.{is_written}
-use Rattle.fcb_ring.specs.Standing.{is_up, ring_damage}
+use Rattle.fcb_ring.specs.Standing.{is_up, erases_on, ring_damage}
 use Rattle.fcb_ring.specs.declared.ring.Ring.{Ring}
 use Rattle.backend_api.specs.Map.{Map}
-use Rattle.flash_map.specs.On.{on, StandsOn}
+use Rattle.flash_map.specs.On.{on, HoldsOn, StandsOn}
 use Rattle.backend_api.specs.Room.{Room, command_units, mount_units}
 use Rattle.backend_api.specs.declared.backend.SetFault.{SetFault}
 use Rattle.backend_api.specs.declared.backend.SetFault.TheVariants.{NoSpace as NoPlace, TooManyNames as OneTooMany, PowerLost as CopyLost}
@@ -168,9 +168,23 @@ ChoosesOnce mounted_on areas old new ring names result =
     (is_refused result ≡ true → sectors_of new ring.area ≡ sectors_of old ring.area)
     × IfOk result (λ moved. FillsAndChooses areas old new ring (mounted_on moved.0) moved.1 names)
 
+-- A mount of the active area has nothing to do, and one of the selector erases at most one sector.
+pub record IsLeftResting (rests : Area → Geometry → List (List ℕ) → Type 0) (areas : List Area)
+    (selector : Area) (d : Device) : Type 0 where
+  pub area : Area
+  pub there : slice_get areas (active_on areas d) ≡ Some area
+  pub at_rest : HoldsOn rests d area
+  pub erases : erases_on d selector ≤ 1
+
 -- the active area is as before
 abbrev pub StaysActive : List Area → Area → Device → Device → Type 0
 StaysActive areas selector old new = active_in areas new selector ≡ active_in areas old selector
+
+-- The active area is as before; or it is the one at this index, and rests.
+abbrev pub ActiveRests : (Area → Geometry → List (List ℕ) → Type 0) → List Area → Area → Area → ℕ → Device
+    → Device → Type 0
+ActiveRests rests areas selector area index old new =
+    StaysActive areas selector old new ⊎ ((active_in areas new selector ≡ index) × HoldsOn rests new area)
 
 -- The settings of a mounted store can move to this area. It, the store's area and the selector's
 -- share no sector. The selector takes records.

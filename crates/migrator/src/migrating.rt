@@ -1,5 +1,5 @@
 // The migration of all settings to another area.
-ghost use Rattle.std.specs.Prelude.{◌≡◌, ◌⊎◌, ◌+◌, ◌<◌, ◌∷◌, [], true, false, Some, None, IfOk, OnErr, OnOk, count_by, is_err};
+ghost use Rattle.std.specs.Prelude.{◌≡◌, ◌⊎◌, ◌+◌, ◌<◌, ◌≤◌, ◌∷◌, [], true, false, Some, None, IfOk, OnErr, OnOk, count_by, is_err};
 ghost use Rattle.std.specs.FinMap as finite;
 ghost use Rattle.flash_map.specs.Area.{sectors_of, geometry_of, AreApart};
 ghost use Rattle.flash_map.specs.Lawful.{IsLawfulFor};
@@ -8,10 +8,10 @@ ghost use Rattle.flash_map.specs.Touches.{Touches};
 ghost use Rattle.flash_map.specs.Units.{is_written};
 ghost use Rattle.backend_api.specs.Room.{mount_units};
 ghost use Rattle.flash_map.specs.On.{on, StandsOn};
-ghost use Rattle.fcb_ring.specs.Standing.{is_up};
+ghost use Rattle.fcb_ring.specs.Standing.{erases_on, is_up};
 ghost use Rattle.migrator.specs.Areas.{is_store_at};
 ghost use Rattle.migrator.specs.Choosing.{IsOpen};
-ghost use Rattle.migrator.specs.Migrating.{migrate_lost, is_refused, IsServed, CanMove, KeepsSelector, ChoosesOnce, FillSpends, FillsAndChooses, fill_units, move_units, migrate_units, filled_as, moved_as, worked_on, room_on, OpenEnds, FillEnds, ReadsAs, MoveEnds, MigrateEnds};
+ghost use Rattle.migrator.specs.Migrating.{migrate_lost, is_refused, ActiveRests, IsLeftResting, IsServed, CanMove, KeepsSelector, ChoosesOnce, FillSpends, FillsAndChooses, fill_units, move_units, migrate_units, filled_as, moved_as, worked_on, room_on, OpenEnds, FillEnds, ReadsAs, MoveEnds, MigrateEnds};
 
 use crate::Selector;
 use crate::areas::{area_at, target};
@@ -206,6 +206,9 @@ fn move_to<F: Flash, K: Backend, L: Ledger>(
     ensures chosen { let d = F.device flash.old in let e = F.device flash.new in
         let names = finite.len (on K.contents d (K.mounted_on from.now)) in
         OnOk result (FillsAndChooses map.now d e selector.old.ring area index names) }
+    ensures rests { let d = F.device flash.old in let e = F.device flash.new in
+        ActiveRests K.rests map.now selector.old.ring.area area index d e }
+    ensures left { erases_on (F.device flash.new) selector.old.ring.area ≤ 1 }
 {
     let filled: Result<K, MigrateFault> = fill(alloc, from, flash, area, steps);
     let to = match filled {
@@ -219,8 +222,9 @@ fn move_to<F: Flash, K: Backend, L: Ledger>(
 /// Moves all settings to the next store area of the map, and makes that area the active one. All
 /// of them are in memory before the target is erased. It returns the store on that area, and the
 /// area's index. The selector gets one record more, after the target was filled. The sectors of the
-/// source stay as they are. Whatever happens, the active area reads as the same settings. It spends
-/// at most the units and erases of filling the target once and choosing it (`migrate_units`).
+/// source stay as they are. Whatever happens, the active area reads as the same settings, a mount
+/// of it has nothing to do, and one of the selector erases at most one sector. It spends at most
+/// the units and erases of filling the target once and choosing it (`migrate_units`).
 ///
 /// # Errors
 /// `NoTarget` exactly if there is no other store area; nothing changed then. `TooManyNames` and
@@ -264,6 +268,7 @@ pub fn migrate<F: Flash, K: Backend, L: Ledger>(
     ensures once { let d = F.device flash.old in let e = F.device flash.new in
         let names = finite.len (on K.contents d (K.mounted_on from.now)) in
         ChoosesOnce K.mounted_on map.now d e selector.old.ring names result }
+    ensures rests { IsLeftResting K.rests map.now selector.old.ring.area (F.device flash.new) }
 {
     match target(map, active) {
         Some(index) => {

@@ -1,6 +1,6 @@
 // The selector: a ring of records. The last record that names a store area says which
 // one is active.
-ghost use Rattle.std.specs.Prelude.{◌≡◌, ◌+◌, ◌<◌, ◌∷◌, [], List, true, false, is_err, None, Some, OnOk, OnErr};
+ghost use Rattle.std.specs.Prelude.{◌≡◌, ◌+◌, ◌<◌, ◌≤◌, ◌∷◌, [], List, true, false, is_err, None, Some, OnOk, OnErr};
 ghost use Rattle.std.specs.Option.{option_map, option_or, ForSome};
 ghost use Rattle.flash_map.specs.declared.area.Area.{Area as area_type};
 ghost use Rattle.flash_map.specs.Area.{sectors_of};
@@ -144,6 +144,7 @@ fn collect<F: Flash, L: Ledger>(
     ensures at_most { let d = F.device flash.old in
         SpendsAtMost d (F.device flash.new)
         (header_units d ring.old.area + record_units d ring.old.area 2 + 1) }
+    ensures left { erases_on (F.device flash.new) ring.old.area ≤ 1 }
 {
     let last = last_record(ring, flash, map, steps);
     ring.begin_collect(flash)?;
@@ -171,6 +172,7 @@ fn put_choice<F: Flash>(ring: &mut Ring, flash: &mut F, index: u8) -> Result<(),
     ensures at_most { let d = F.device flash.old in
         SpendsAtMost d (F.device flash.new)
         (header_units d ring.old.area + record_units d ring.old.area 2) }
+    ensures left { erases_on (F.device flash.new) ring.old.area ≤ 1 }
 {
     let body = choice_of(index);
     ring.append(flash, &body, false)
@@ -198,6 +200,7 @@ fn collect_and_put<F: Flash, L: Ledger>(
         (CollectsAndAdds map.now (F.device flash.old) (F.device flash.new) ring.old index) }
     ensures at_most { let d = F.device flash.old in
         SpendsAtMost d (F.device flash.new) (choice_units d ring.old.area) }
+    ensures left { erases_on (F.device flash.new) ring.old.area ≤ 1 }
 {
     collect(ring, flash, map, steps)?;
     match put_choice(ring, flash, index) {
@@ -210,7 +213,8 @@ fn collect_and_put<F: Flash, L: Ledger>(
 
 impl Selector {
     /// Mounts the selector on its area. The records and the active area stay, even if power is
-    /// lost. It erases the sectors that are due (`erases_on`), and takes no memory.
+    /// lost. It erases the sectors that are due (`erases_on`), and takes no memory. No more are due
+    /// afterwards.
     ///
     /// # Errors
     /// `Damaged` exactly if the area shows damage; nothing was programmed then. `PowerLost`: the
@@ -241,6 +245,7 @@ impl Selector {
             OnOk result (Spends d (F.device flash.new) (erases_on d area)) }
         ensures bound { let d = F.device flash.old in
             mount_lost result ≡ true → SpendsAtMost d (F.device flash.new) (erases_on d area) }
+        ensures left { erases_on (F.device flash.new) area ≤ erases_on (F.device flash.old) area }
     {
         match Ring::mount(flash, area, 0, steps) {
             Ok(ring) => Ok(Selector { ring }),
@@ -276,7 +281,7 @@ impl Selector {
     /// already. If that record does not fit, and no sector but the scratch one is free, the
     /// oldest sector is collected first; the last record that names a store area is kept.
     /// Whatever the result, it spends at most as many units and erases as `choice_units` gives
-    /// for the area's geometry.
+    /// for the area's geometry, and the next mount of the selector erases at most one sector.
     ///
     /// # Errors
     /// `PowerLost`: the active area is as before, or the one that was chosen, and the
@@ -300,6 +305,7 @@ impl Selector {
             (Chooses map.now (F.device flash.old) (F.device flash.new) self.old.ring index) }
         ensures at_most { let d = F.device flash.old in
             SpendsAtMost d (F.device flash.new) (choice_units d self.old.ring.area) }
+        ensures left { erases_on (F.device flash.new) self.old.ring.area ≤ 1 }
     {
         match put_choice(&mut self.ring, flash, index) {
             Ok(()) => Ok(()),

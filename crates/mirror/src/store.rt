@@ -1,6 +1,7 @@
 // The store of a mirror.
-ghost use Rattle.any_backend.specs.ByRole.{any_serves, any_damage, any_contents, any_room, any_rests, any_chance, any_tears};
+ghost use Rattle.any_backend.specs.ByRole.{any_serves, any_damage, any_contents, any_room, any_rests, any_owes, any_boot, any_chance, any_tears};
 ghost use Rattle.any_backend.specs.Laws.{reads_settings};
+ghost use Rattle.any_backend.specs.Standing.{rests-owe, owes-more};
 ghost use Rattle.mirror.specs.Laws.{blank-empty, blank-reads, blank-rests, is-room, never-chance};
 ghost use Rattle.mirror.specs.Prices.{mirror_prices};
 ghost use Rattle.mirror.specs.Standing.{area_of, Stands, is_up, stands-up, stands-serves, stands-reads, stands-rests};
@@ -38,6 +39,10 @@ impl Backend for MirrorStore {
 
     ghost rests = { any_rests };
 
+    ghost owes = { any_owes };
+
+    ghost boot_units = { any_boot };
+
     ghost chance = { any_chance };
 
     ghost tears = { any_tears };
@@ -55,6 +60,10 @@ impl Backend for MirrorStore {
     ghost stands_reads = { stands-reads };
 
     ghost stands_rests = { stands-rests };
+
+    ghost rests_owe = { rests-owe };
+
+    ghost owes_more = { owes-more };
 
     ghost reads_settings = { reads_settings };
 

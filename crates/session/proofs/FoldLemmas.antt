@@ -26,7 +26,7 @@ use Rattle.session.specs.OnMap.{LacksAnswer, LineRan, LineStops, Ran, RunEnds, S
 suc_is : (i : ℕ) → suc i ≡ i + 1
 suc_is i = omega arith
 
-lines_on : (lines : List Line) (i : ℕ) (line : Line) → i < length lines → line ≡ get_or lines i line → take (i + 1) lines ≡ take i lines ++ line ∷ []
+pub lines_on : (lines : List Line) (i : ℕ) (line : Line) → i < length lines → line ≡ get_or lines i line → take (i + 1) lines ≡ take i lines ++ line ∷ []
 lines_on lines i line below is = take_more lines i line below ∙ ap (λ (x : Line). take i lines ++ x ∷ []) (sym is)
 
 lines_at : (lines : List Line) (i : ℕ) (line : Line) → i < length lines → line ≡ get_or lines i line → lines ≡ take i lines ++ line ∷ drop (i + 1) lines

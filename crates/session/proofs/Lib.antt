@@ -13,6 +13,7 @@ mod MountUnits
 mod MoveLemmas
 mod MovesLemmas
 mod OpenLemmas
+pub mod OwesLemmas
 mod PoolLemmas
 mod PutLemmas
 mod QuietLemmas

@@ -39,6 +39,9 @@ selector_most areas area d e r is ends units bound =
     at (Err MountLost) ends units bound = bound refl
     at (Err MountNoMemory) ends units bound = absurd ends
 
+pub selector_left : (areas : List Area) (area : Area) (d e : Device) → selector_of areas ≡ Some area → erases_on e area ≤ erases_on d area → selector_erases areas e ≤ selector_erases areas d
+selector_left areas area d e is less = subst (λ (o : Option Area). option_map_or (λ (x : Area). erases_on e x) o 0 ≤ option_map_or (λ (x : Area). erases_on d x) o 0) (sym is) less
+
 -- it was not mounted
 pub stopped_most : (areas : List Area) (d e : Device) → SpendsAtMost d e (selector_erases areas d) → SpendsAtMost d e (mount_bound areas d)
 stopped_most areas d e spent = most_weaker d e (selector_erases areas d) (mount_bound areas d) (omega arith) spent

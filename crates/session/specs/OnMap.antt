@@ -241,7 +241,8 @@ pub record DoneWithin (m : Meanings) (areas : List Area) (line : Line) (answer :
 -- A line was carried out by the table, and touched the bench only where it works. A line on the plan
 -- changed nothing else. A mount, even one that was cut, found no damage and kept within its bound, as
 -- did a save and a migration. A map without damage shows none afterwards. A migration that moved the
--- settings put one record into the selector. No other line put any, but one that was cut may have.
+-- settings put one record into the selector. No other line put any, but a migration that was cut may
+-- have.
 pub record LineCarried (m : Meanings) (damage : Area → Geometry → List (List ℕ) → Option Damaged)
     (areas : List Area) (line : Line) (answer : Answer) (old new : Moment) : Type 0 where
   pub done : LineDone m areas line answer old new

@@ -1,10 +1,11 @@
 // Lines that change settings, with power on.
-ghost use Rattle.std.specs.Prelude.{◌≡◌, ◌≤◌, None, Some, length};
+ghost use Rattle.std.specs.Prelude.{◌≡◌, ◌≤◌, false, None, Some, length};
 ghost use Rattle.flash_sim.specs.declared.flash.Loss.{Loss as loss_type};
 ghost use Rattle.flash_map.specs.Area.{geometry_of, value_limit};
 ghost use Rattle.flash_map.specs.Lawful.{IsLawfulFor};
 ghost use Rattle.flash_map.specs.On.{on};
 ghost use Rattle.script_lines.specs.declared.line.Line.TheVariants.{Set, Del};
+ghost use Rattle.settings_core.specs.Owing.{OwesBoot};
 ghost use Rattle.session.specs.OnMap.{DoneBeside, IsServedMap, meanings, StandsOnActive, StaysOnArea};
 
 use backend_api::Backend;
@@ -53,6 +54,8 @@ pub fn set_setting<K: Backend, B: Bench, L: Ledger>(
     ensures sound { on K.damage (B.device bench.new) area.now ≡ None }
     ensures stays { let e = B.device bench.new in
         StaysOnArea K.mounted_on K.stands K.runs e area.now settings.new.backend }
+    ensures left { (B.device bench.new).is_on ≡ false
+        → OwesBoot K.owes K.boot_units (B.device bench.new) area.now }
 {
     let before = bench.spent();
     let end = settings.save_one(bench, name, value.as_slice(), steps);
@@ -88,6 +91,8 @@ pub fn delete_setting<K: Backend, B: Bench, L: Ledger>(
     ensures sound { on K.damage (B.device bench.new) area.now ≡ None }
     ensures stays { let e = B.device bench.new in
         StaysOnArea K.mounted_on K.stands K.runs e area.now settings.new.backend }
+    ensures left { (B.device bench.new).is_on ≡ false
+        → OwesBoot K.owes K.boot_units (B.device bench.new) area.now }
 {
     let before = bench.spent();
     let end = settings.delete(bench, name, steps);

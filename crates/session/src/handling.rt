@@ -1,5 +1,5 @@
 // Lines on handlers, with power on.
-ghost use Rattle.std.specs.Prelude.{◌≡◌, ◌<◌, length, get_or, ℕ, true, None, IfOk, OnErr, All, List};
+ghost use Rattle.std.specs.Prelude.{◌≡◌, ◌<◌, length, get_or, ℕ, true, false, None, IfOk, OnErr, All, List};
 ghost use Rattle.std.specs.List.{list_any};
 ghost use Rattle.std.specs.Str.{bytes_eq};
 ghost use Rattle.flash_map.specs.Lawful.{IsLawfulFor};
@@ -11,6 +11,7 @@ ghost use Rattle.settings_core.specs.Saving.{AreLawful};
 ghost use Rattle.script_lines.specs.declared.line.Line.TheVariants.{Save};
 ghost use Rattle.session_table.specs.State.{State};
 ghost use Rattle.session_table.specs.Step.{Registers, Loads, Commits, Offers, Asks, same_kind};
+ghost use Rattle.settings_core.specs.Owing.{OwesBoot};
 ghost use Rattle.session.specs.Handling.{beside, FirstAt, MovesHandlers, RegisterMoves, TakeEnds};
 ghost use Rattle.session.specs.OnMap.{meanings, moment, kinds, DoneWithin, IsFresh, IsServedMap, IsServed, is_handled, limit_of, StandsOnActive, StaysOnArea, HandlersFit, StopsUnchanged};
 
@@ -280,6 +281,8 @@ fn save_settings<K: Backend, B: Bench, L: Ledger>(
     ensures sound { on K.damage (B.device bench.new) area.now ≡ None }
     ensures stays { let e = B.device bench.new in
         StaysOnArea K.mounted_on K.stands K.runs e area.now settings.new.backend }
+    ensures left { (B.device bench.new).is_on ≡ false
+        → OwesBoot K.owes K.boot_units (B.device bench.new) area.now }
 {
     let before = bench.spent();
     let saved = settings.save(bench, registry, subtree.as_ref(), steps);
@@ -343,6 +346,8 @@ pub fn with_handlers<K: Backend, B: Bench, L: Ledger>(
         (StopsUnchanged line.now (B.device bench.old) (B.device bench.new)) }
     ensures stays { let e = B.device bench.new in
         StaysOnArea K.mounted_on K.stands K.runs e area.now settings.new.backend }
+    ensures left { (B.device bench.new).is_on ≡ false
+        → OwesBoot K.owes K.boot_units (B.device bench.new) area.now }
     ensures handlers { let hs = registered state registry.new in
         HandlersFit state (limit_of map.now) hs pool.new.items }
     ensures moves { let before = pool.old.items in

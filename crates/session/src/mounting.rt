@@ -1,5 +1,5 @@
 // The mount of a map: its selector, and then settings on the active area.
-ghost use Rattle.std.specs.Prelude.{◌≡◌, ℕ, ◌++◌, ◌∷◌, [], true, None, Some, OnOk};
+ghost use Rattle.std.specs.Prelude.{◌≡◌, ℕ, ◌≤◌, ◌++◌, ◌∷◌, [], true, None, Some, OnOk};
 ghost use Rattle.flash_map.specs.declared.area.Area.{Area as area_type};
 ghost use Rattle.flash_map.specs.Spending.{Spends, SpendsAtMost};
 ghost use Rattle.flash_map.specs.Touches.{Touches};
@@ -7,6 +7,7 @@ ghost use Rattle.fcb_ring.specs.Standing.{erases_on};
 ghost use Rattle.migrator.specs.Active.{active_on, selector_damage_on};
 ghost use Rattle.migrator.specs.Areas.{IsLawfulMap, selector_of};
 ghost use Rattle.session.specs.OnMap.{HasSelector, IsAtRest, IsServedMap, SameRecords, active_area, damage_in, mount_bound, selector_erases, selectors};
+ghost use Rattle.session.specs.Owing.{MapUnits};
 ghost use Rattle.session.specs.Mounting.{MapEnds, SelectorEnds, answered, map_lost, mounted_as, selected_as};
 
 use crate::areas::selector_place;
@@ -73,6 +74,8 @@ fn mount_selector<F: Flash, L: Ledger>(
         → Spends (F.device flash.old) (F.device flash.new) (erases_on (F.device flash.old) area)) }
     ensures at_most { SpendsAtMost (F.device flash.old) (F.device flash.new)
         (selector_erases map.now (F.device flash.old)) }
+    ensures left { selector_erases map.now (F.device flash.new)
+        ≤ selector_erases map.now (F.device flash.old) }
 {
     match selector_place(map) {
         Some(place) => {
@@ -145,6 +148,7 @@ pub(crate) fn mount_map<K: Backend, F: Flash, L: Ledger>(
         → F.device flash.new ≡ F.device flash.old }
     ensures at_most { SpendsAtMost (F.device flash.old) (F.device flash.new)
         (mount_bound map.now (F.device flash.old)) }
+    ensures owes { MapUnits K.owes map.now (F.device flash.old) (F.device flash.new) }
 {
     let selector = match mount_selector(flash, map, steps) {
         Ok(selector) => selector,

@@ -2,6 +2,7 @@
 ghost use Rattle.std.specs.Prelude.{◌≡◌, true, false, None, Some, IfOk, OnErr, OnOk};
 ghost use Rattle.script_lines.specs.declared.line.Line.TheVariants.{Migrate};
 ghost use Rattle.session.specs.Moving.{answer_to};
+ghost use Rattle.session.specs.Owing.{OwesUpTo, map_boot};
 ghost use Rattle.session.specs.OnMap.{BeginsMove, ChoosesOnce, DoneBeside, IsReady, IsServedMap, SameSelector, StandsOnMap, damage_in, may_choose, meanings};
 
 use backend_api::Backend;
@@ -47,6 +48,8 @@ pub fn move_settings<K: Backend, B: Bench, L: Ledger>(
         OnOk result
         (IsReady K.mounted_on K.stands K.runs map.now e (Some selector.new) active.new
         (Some settings.new)) }
+    ensures left { let d = B.device bench.old in let e = B.device bench.new in
+        OwesUpTo K.owes (map_boot K.boot_units d.banks map.now) map.now d e }
 {
     let before = bench.spent();
     let end = migrate(

@@ -1,5 +1,5 @@
 // The run of all lines of a script.
-ghost use Rattle.std.specs.Prelude.{◌≡◌, ◌∷◌, true, All, None, IfErr, IfOk, OnOk};
+ghost use Rattle.std.specs.Prelude.{◌≡◌, ℕ, ◌≤◌, ◌∷◌, true, All, None, IfErr, IfOk, OnOk};
 ghost use Rattle.handlers.specs.Registry.{registered};
 ghost use Rattle.script_lines.specs.Answer.{CanReport};
 ghost use Rattle.script_lines.specs.declared.line.Line.TheVariants.{Mount};
@@ -7,6 +7,7 @@ ghost use Rattle.settings_core.specs.Saving.{AreLawful};
 ghost use Rattle.session.specs.declared.fault.SessionFault.TheVariants.{NoMemory};
 ghost use Rattle.session.specs.Handling.{RunLeaves, boxes};
 ghost use Rattle.session.specs.OnMap.{IsAtRest, IsFresh, IsServed, IsServedMap, RunEnds, damage_in, kinds, limit_of, meanings, moment};
+ghost use Rattle.session.specs.Owing.{MountsWithin, OwesOnMap, map_boot};
 ghost use Rattle.session.specs.Texts.{AreLabelled};
 
 use crate::answers::Answers;
@@ -24,7 +25,9 @@ use std::sync::ledger::Ledger;
 /// each line. The handlers of the pool hold nothing; those that lines register move from it into
 /// the registry, each time the first of the kind. If power is on after the last line, another mount
 /// of the map would have nothing to do. A map without damage has none afterwards, whatever the
-/// result. If the labels of the map are lawful, each answer has a text (`answer_text`).
+/// result. If the labels of the map are lawful, each answer has a text (`answer_text`). If the map
+/// owes at most so many units and erases (`OwesOnMap`), and that is at least `map_boot`, then no
+/// mount of the run reports more, and the map owes no more behind the lines, whatever the result.
 ///
 /// # Errors
 /// `Damaged` with the damage that a mount found; a map without damage does not give it. The registry
@@ -58,6 +61,11 @@ pub fn run_lines<K: Backend, B: Bench, L: Ledger>(
         damage_in K.damage map.now d ≡ None → IfErr result (λ fault. fault ≡ NoMemory) }
     ensures rests { let e = B.device bench.new in
         OnOk result (e.is_on ≡ true → IsAtRest K.rests map.now e) }
+    ensures boots { let d = B.device bench.old in let e = B.device bench.new in
+        let limit = map_boot K.boot_units d.banks map.now in
+        (most : ℕ) → limit ≤ most → OwesOnMap K.owes map.now d most
+        → OwesOnMap K.owes map.now e most
+        × IfOk result (λ answers. MountsWithin most (Mount ∷ lines.now) answers) }
     ensures texts { AreLabelled map.now → IfOk result (λ answers. All CanReport answers) }
 {
     let opened = Session::<K>::open(alloc, bench, map, steps);

@@ -5,8 +5,10 @@ ghost use Rattle.handlers.specs.Registry.{registered};
 ghost use Rattle.script_lines.specs.declared.answer.Answer.TheVariants.{Done};
 ghost use Rattle.script_lines.specs.declared.line.Line.TheVariants.{Mount, Migrate};
 ghost use Rattle.session_table.specs.Step.{needs_power};
+ghost use Rattle.settings_core.specs.Owing.{OwesBoot};
 ghost use Rattle.session.specs.Handling.{LeavesHandlers, MovesHandlers};
 ghost use Rattle.session.specs.Mounting.{down};
+ghost use Rattle.session.specs.Owing.{OwesUpTo, ReportsOwed, map_boot};
 ghost use Rattle.session.specs.OnMap.{CarriedBeside, DoesNothing, DoneWithin, IsAtRest, IsReady, IsServed, IsServedMap, LineCarried, LineStops, damage_in, is_local, kinds, limit_of, meanings, moment, StandsOnActive, StaysOnArea, HandlersFit, StopsUnchanged};
 
 use crate::changing::{delete_setting, set_setting};
@@ -52,8 +54,9 @@ impl<K: Backend> Session<K> {
     /// Turns power on, and mounts the selector, if the map has one, and settings on the active
     /// area. It returns the session with the answer to that mount. It spends nothing if the map is
     /// at rest. Else it spends at most the erases that are due in the selector and the most units
-    /// of a mount of the active area (`mount_bound`). A map without damage has none afterwards,
-    /// whatever the result.
+    /// of a mount of the active area (`mount_bound`), and at most what the map owes (`OwesOnMap`).
+    /// The map owes no more afterwards. A map without damage has none afterwards, whatever the
+    /// result.
     ///
     /// # Errors
     /// `Damaged` with the damage that the map shows; `NoMemory`. The bench is then as before,
@@ -80,6 +83,10 @@ impl<K: Backend> Session<K> {
         ensures ready { IfOk result
             (λ opened. let e = B.device bench.new in IsReady K.mounted_on K.stands K.runs map.now e
             opened.0.selector opened.0.active opened.0.settings) }
+        ensures boots { let d = B.device bench.old in
+            IfOk result (λ opened. ReportsOwed K.owes map.now d opened.1) }
+        ensures left { let d = B.device bench.old in let e = B.device bench.new in
+            OwesUpTo K.owes 0 map.now d e }
     {
         bench.restore();
         let before = bench.spent();
@@ -90,12 +97,13 @@ impl<K: Backend> Session<K> {
 
     /// Carries out a line. With power off, every line but `mount`, `cut` and `uncut` answers `off`.
     /// A mount of a map at rest spends nothing. No mount, save or migration spends more than its
-    /// bound (`mount_bound`, `save_bound`, `move_bound`). A migration that moved the settings puts
-    /// one record into the selector. No other line puts any, but a migration that was cut may. A map
-    /// without damage has none afterwards, whatever the result. A `register` that answers `Done`
-    /// moves the first handler of the kind out of the pool, behind the registered ones. No other
-    /// line that is answered changes the pool, and none but `load`, `commit` and `rset` changes the
-    /// registry.
+    /// bound (`mount_bound`, `save_bound`, `move_bound`), and no mount more than the map owes.
+    /// After any line the map owes no more than before, or at most `map_boot`. A migration that
+    /// moved the settings puts one record into the selector. No other line puts any, but a
+    /// migration that was cut may. A map without damage has none afterwards, whatever the result. A
+    /// `register` that answers `Done` moves the first handler of the kind out of the pool, behind
+    /// the registered ones. No other line that is answered changes the pool, and none but `load`,
+    /// `commit` and `rset` changes the registry.
     ///
     /// # Errors
     /// `Damaged`, only for a mount, with the damage that the map shows; the pool and the registry
@@ -141,6 +149,11 @@ impl<K: Backend> Session<K> {
             OnOk result
             (IsReady K.mounted_on K.stands K.runs map.now e self.new.selector self.new.active
             self.new.settings) }
+        ensures boots { let d = B.device bench.old in
+            line.now ≡ Mount
+            → IfOk result (λ answer. ReportsOwed K.owes map.now d answer) }
+        ensures left { let d = B.device bench.old in let e = B.device bench.new in
+            OwesUpTo K.owes (map_boot K.boot_units d.banks map.now) map.now d e }
         ensures handlers { let hs = registered state registry.new in
             HandlersFit state (limit_of map.now) hs pool.new.items }
         ensures moves { let before = pool.old.items in
@@ -190,6 +203,11 @@ impl<K: Backend> Session<K> {
             OnOk result
             (IsReady K.mounted_on K.stands K.runs map.now e self.new.selector self.new.active
             self.new.settings) }
+        ensures boots { let d = B.device bench.old in
+            line.now ≡ Mount
+            → IfOk result (λ answer. ReportsOwed K.owes map.now d answer) }
+        ensures left { let d = B.device bench.old in let e = B.device bench.new in
+            OwesUpTo K.owes 0 map.now d e }
     {
         match line {
             Line::Mount => self.mount(alloc, bench, map, steps),
@@ -224,6 +242,10 @@ impl<K: Backend> Session<K> {
             OnOk result
             (IsReady K.mounted_on K.stands K.runs map.now e self.new.selector self.new.active
             self.new.settings) }
+        ensures boots { let d = B.device bench.old in
+            IfOk result (λ answer. ReportsOwed K.owes map.now d answer) }
+        ensures left { let d = B.device bench.old in let e = B.device bench.new in
+            OwesUpTo K.owes 0 map.now d e }
     {
         match Session::open(alloc, bench, map, steps) {
             Ok((session, answer)) => {
@@ -261,6 +283,8 @@ impl<K: Backend> Session<K> {
             OnOk result
             (IsReady K.mounted_on K.stands K.runs map.now e self.new.selector self.new.active
             self.new.settings) }
+        ensures left { let d = B.device bench.old in let e = B.device bench.new in
+            OwesUpTo K.owes (map_boot K.boot_units d.banks map.now) map.now d e }
     {
         match (&mut self.selector, &mut self.settings) {
             (Some(selector), Some(settings)) => {
@@ -313,6 +337,8 @@ impl<K: Backend> Session<K> {
             OnOk result
             (IsReady K.mounted_on K.stands K.runs map.now e self.new.selector self.new.active
             self.new.settings) }
+        ensures left { let d = B.device bench.old in let e = B.device bench.new in
+            OwesUpTo K.owes (map_boot K.boot_units d.banks map.now) map.now d e }
         ensures handlers { let hs = registered state registry.new in
             HandlersFit state (limit_of map.now) hs pool.new.items }
         ensures moves { let before = pool.old.items in
@@ -381,6 +407,8 @@ fn with_power<K: Backend, B: Bench, L: Ledger>(
         (StopsUnchanged line.now (B.device bench.old) (B.device bench.new)) }
     ensures stays { let e = B.device bench.new in
         StaysOnArea K.mounted_on K.stands K.runs e area.now settings.new.backend }
+    ensures left { (B.device bench.new).is_on ≡ false
+        → OwesBoot K.owes K.boot_units (B.device bench.new) area.now }
     ensures handlers { let hs = registered state registry.new in
         HandlersFit state (limit_of map.now) hs pool.new.items }
     ensures moves { let before = pool.old.items in

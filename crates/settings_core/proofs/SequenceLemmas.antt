@@ -199,7 +199,7 @@ module _ {S : Type 0} {mounted_on : S → Area} {stands : S → Geometry → Lis
     down = part.down;
   }
 
-lost_same : (T U : Type 0) (fault : SaveFault) → save_lost {T = T} (Err fault) ≡ save_lost {T = U} (Err fault)
+pub lost_same : (T U : Type 0) (fault : SaveFault) → save_lost {T = T} (Err fault) ≡ save_lost {T = U} (Err fault)
 lost_same T U Off = refl
 lost_same T U (NoSpace need live) = refl
 lost_same T U TooManyNames = refl

@@ -4,6 +4,7 @@ pub mod Deliveries
 pub mod Direct
 pub mod Laws
 pub mod Loading
+pub mod Owing
 pub mod Reading
 pub mod Runtime
 pub mod Saving

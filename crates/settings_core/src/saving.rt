@@ -13,6 +13,7 @@ ghost use Rattle.backend_api.specs.Commands.Command.{Put};
 ghost use Rattle.backend_api.specs.Map.{IsValue};
 ghost use Rattle.flash_map.specs.On.{on, StandsOn};
 ghost use Rattle.settings_core.specs.Carrying.{CarryEndsOn, due_units, save_lost};
+ghost use Rattle.settings_core.specs.Owing.{OwesBoot};
 ghost use Rattle.settings_core.specs.Saving.{AreSettings, AreLawful, pairs_of, exported, exported_of, more_pairs, CarriesOn};
 
 use crate::committing::is_place_under;
@@ -39,6 +40,7 @@ impl<K: Backend> Settings<K> {
     /// registration and then in byte order of the rests. With no subtree given, it stores those of
     /// all. It ends at the first error; the pairs before that one are stored. Whatever the result,
     /// it spends at most the units and erases of one set for each pair that differs (`due_units`).
+    /// If power is lost, it leaves at most `boot_units` of them to the next mount.
     pub fn save<F: Flash, L: Ledger>(
         &mut self,
         flash: &mut F,
@@ -70,6 +72,8 @@ impl<K: Backend> Settings<K> {
             → on K.damage (F.device flash.new) (K.mounted_on self.old.backend) ≡ None }
         ensures stands { K.runs self.new.backend ≡ true
             → StandsOn K.mounted_on K.stands (F.device flash.new) self.new.backend }
+        ensures owes { save_lost result.end ≡ true
+            → OwesBoot K.owes K.boot_units (F.device flash.new) (K.mounted_on self.new.backend) }
         ensures down { save_lost result.end ≡ true → K.runs self.new.backend ≡ false }
         ensures up { save_lost result.end ≡ false
             → K.runs self.new.backend ≡ K.runs self.old.backend }
@@ -106,11 +110,13 @@ fn save_all<K: Backend, F: Flash, L: Ledger>(
     requires stands { StandsOn K.mounted_on K.stands (F.device flash.old) backend.old }
     requires settings { AreLawful (value_limit (K.mounted_on backend.old))
         (registered state registry.now) }
-    ensures { CarriesOn K.mounted_on K.stands K.runs K.damage K.room K.contents K.chance K.tears
+    ensures carries { CarriesOn K.mounted_on K.stands K.runs K.damage K.room K.contents K.chance K.tears
         (K.mounted_on backend.old) backend.new (F.device flash.old) (F.device flash.new)
         (puts_of
         (exported (option_map (λ name. name.now) subtree.entry) (registered state registry.now)))
         pairs.old pairs.new result }
+    ensures owes { save_lost result ≡ true
+        → OwesBoot K.owes K.boot_units (F.device flash.new) (K.mounted_on backend.new) }
 {
     let mut i = 0;
     while i < registry.len() {
@@ -137,11 +143,13 @@ fn save_at<K: Backend, F: Flash, L: Ledger>(
     requires settings { AreLawful (value_limit (K.mounted_on backend.old))
         (registered state registry.now) }
     requires within { i < length (registered state registry.now) }
-    ensures { CarriesOn K.mounted_on K.stands K.runs K.damage K.room K.contents K.chance K.tears
+    ensures carries { CarriesOn K.mounted_on K.stands K.runs K.damage K.room K.contents K.chance K.tears
         (K.mounted_on backend.old) backend.new (F.device flash.old) (F.device flash.new)
         (puts_of
         (exported_of (option_map (λ name. name.now) subtree.entry)
         (get_or (registered state registry.now) i nobody))) pairs.old pairs.new result }
+    ensures owes { save_lost result ≡ true
+        → OwesBoot K.owes K.boot_units (F.device flash.new) (K.mounted_on backend.new) }
 {
     if !is_place_under(registry, i, subtree) {
         return Ok(());
@@ -175,9 +183,11 @@ fn save_handler<K: Backend, F: Flash, L: Ledger>(
     requires stands { StandsOn K.mounted_on K.stands (F.device flash.old) backend.old }
     requires settings { AreSettings (value_limit (K.mounted_on backend.old))
         (pairs_of subtree.now (state handler.now).held) }
-    ensures { CarriesOn K.mounted_on K.stands K.runs K.damage K.room K.contents K.chance K.tears
+    ensures carries { CarriesOn K.mounted_on K.stands K.runs K.damage K.room K.contents K.chance K.tears
         (K.mounted_on backend.old) backend.new (F.device flash.old) (F.device flash.new)
         (puts_of (pairs_of subtree.now (state handler.now).held)) pairs.old pairs.new result }
+    ensures owes { save_lost result ≡ true
+        → OwesBoot K.owes K.boot_units (F.device flash.new) (K.mounted_on backend.new) }
 {
     let mut i = 0;
     while let Some((rest, value)) = handler.export_at(i) {
@@ -203,9 +213,11 @@ fn save_pair<K: Backend, F: Flash, L: Ledger>(
     requires stands { StandsOn K.mounted_on K.stands (F.device flash.old) backend.old }
     requires name { IsName (joined_text subtree.now rest.now) }
     requires value { IsValue (value_limit (K.mounted_on backend.old)) value.now }
-    ensures { CarriesOn K.mounted_on K.stands K.runs K.damage K.room K.contents K.chance K.tears
+    ensures carries { CarriesOn K.mounted_on K.stands K.runs K.damage K.room K.contents K.chance K.tears
         (K.mounted_on backend.old) backend.new (F.device flash.old) (F.device flash.new)
         (Put (joined_text subtree.now rest.now) value.now ∷ []) pairs.old pairs.new result }
+    ensures owes { save_lost result ≡ true
+        → OwesBoot K.owes K.boot_units (F.device flash.new) (K.mounted_on backend.new) }
 {
     let name = joined(subtree, rest);
     match put(backend, flash, &name, value, steps) {

@@ -3,8 +3,8 @@ ghost use Rattle.std.specs.Prelude.{◌≡◌, ◌∷◌, [], not, true, None, I
 ghost use Rattle.flash_map.specs.Area.{geometry_of};
 ghost use Rattle.flash_map.specs.Faults.{mount_lost};
 ghost use Rattle.flash_map.specs.Lawful.{IsLawfulFor};
-ghost use Rattle.flash_map.specs.Spending.{SpendsAtMost};
 ghost use Rattle.flash_map.specs.Touches.{Touches};
+ghost use Rattle.backend_api.specs.Boot.{MountUnits};
 ghost use Rattle.backend_api.specs.Ends.{MountEnds};
 ghost use Rattle.backend_api.specs.Room.{mount_units};
 ghost use Rattle.flash_map.specs.On.{on, HoldsOn, StandsOn};
@@ -29,7 +29,8 @@ pub struct Settings<K: Backend> {
 
 impl<K: Backend> Settings<K> {
     /// Mounts a backend on an area. The map stays, even if power is lost. It spends at most the
-    /// units and erases of `Backend::mount`.
+    /// units and erases of `Backend::mount`, and at most what the area owes. The area owes no more
+    /// afterwards.
     ///
     /// # Errors
     /// Those of `Backend::mount`.
@@ -52,8 +53,8 @@ impl<K: Backend> Settings<K> {
             → on K.contents (F.device flash.new) area ≡ on K.contents (F.device flash.old) area }
         ensures rests { HoldsOn K.rests (F.device flash.old) area
             → F.device flash.new ≡ F.device flash.old }
-        ensures at_most { let d = F.device flash.old in
-            SpendsAtMost d (F.device flash.new) (mount_units (geometry_of d area)) }
+        ensures units { let d = F.device flash.old in
+            MountUnits K.owes (mount_units (geometry_of d area)) d (F.device flash.new) area }
         ensures area { IfOk result (λ settings. K.mounted_on settings.backend ≡ area) }
         ensures stands { IfOk result
             (λ settings. StandsOn K.mounted_on K.stands (F.device flash.new) settings.backend) }

@@ -7,6 +7,7 @@ ghost use Rattle.flash_map.specs.Touches.{Touches};
 ghost use Rattle.backend_api.specs.Commands.Command.{Put, Del};
 ghost use Rattle.flash_map.specs.On.{on, StandsOn};
 ghost use Rattle.backend_api.specs.Room.{command_units};
+ghost use Rattle.settings_core.specs.Owing.{OwesBoot};
 ghost use Rattle.settings_core.specs.Carrying.{command_of, is_idle, due_units, CarryEndsOn, save_lost, as_save, fault_of, lost_as_save, put_count};
 
 use crate::settings::Settings;
@@ -40,7 +41,8 @@ pub enum DeleteFault {
 
 impl<K: Backend> Settings<K> {
     /// Gives a name a value. The empty value deletes the name. Whatever the result, it spends at
-    /// most the units and erases of one command (`command_units`).
+    /// most the units and erases of one command (`command_units`). If power is lost, it leaves at
+    /// most `boot_units` of them to the next mount.
     ///
     /// # Errors
     /// `Off` exactly if an earlier call answered that power was lost; nothing changes then. The
@@ -71,6 +73,8 @@ impl<K: Backend> Settings<K> {
             → on K.damage (F.device flash.new) (K.mounted_on self.old.backend) ≡ None }
         ensures stands { K.runs self.new.backend ≡ true
             → StandsOn K.mounted_on K.stands (F.device flash.new) self.new.backend }
+        ensures owes { save_lost result ≡ true
+            → OwesBoot K.owes K.boot_units (F.device flash.new) (K.mounted_on self.new.backend) }
         ensures down { save_lost result ≡ true → K.runs self.new.backend ≡ false }
         ensures up { save_lost result ≡ false → K.runs self.new.backend ≡ K.runs self.old.backend }
     {
@@ -88,7 +92,8 @@ impl<K: Backend> Settings<K> {
     }
 
     /// Deletes a name. Whatever the result, it spends at most the units and erases of one command
-    /// (`command_units`).
+    /// (`command_units`). If power is lost, it leaves at most `boot_units` of them to the next
+    /// mount.
     ///
     /// # Errors
     /// `Off` exactly if an earlier call answered that power was lost; nothing changes then.
@@ -117,6 +122,8 @@ impl<K: Backend> Settings<K> {
             → on K.damage (F.device flash.new) (K.mounted_on self.old.backend) ≡ None }
         ensures stands { K.runs self.new.backend ≡ true
             → StandsOn K.mounted_on K.stands (F.device flash.new) self.new.backend }
+        ensures owes { save_lost (as_save result) ≡ true
+            → OwesBoot K.owes K.boot_units (F.device flash.new) (K.mounted_on self.new.backend) }
         ensures down { save_lost (as_save result) ≡ true → K.runs self.new.backend ≡ false }
         ensures up { save_lost (as_save result) ≡ false
             → K.runs self.new.backend ≡ K.runs self.old.backend }
@@ -157,6 +164,8 @@ fn store<K: Backend, F: Flash, L: Ledger>(
     ensures sound { on K.damage (F.device flash.new) (K.mounted_on backend.old) ≡ None }
     ensures stands { save_lost result ≡ false
         → StandsOn K.mounted_on K.stands (F.device flash.new) backend.new }
+    ensures owes { save_lost result ≡ true
+        → OwesBoot K.owes K.boot_units (F.device flash.new) (K.mounted_on backend.new) }
     ensures down { save_lost result ≡ true → K.runs backend.new ≡ false }
 {
     match backend.set(flash, name, value, steps) {
@@ -200,6 +209,8 @@ pub(crate) fn put<K: Backend, F: Flash, L: Ledger>(
     ensures sound { on K.damage (F.device flash.new) (K.mounted_on backend.old) ≡ None }
     ensures stands { save_lost result ≡ false
         → StandsOn K.mounted_on K.stands (F.device flash.new) backend.new }
+    ensures owes { save_lost result ≡ true
+        → OwesBoot K.owes K.boot_units (F.device flash.new) (K.mounted_on backend.new) }
     ensures down { save_lost result ≡ true → K.runs backend.new ≡ false }
 {
     if is_stored(backend, flash, name, value, steps) {
@@ -263,6 +274,8 @@ fn remove<K: Backend, F: Flash, L: Ledger>(
     ensures sound { on K.damage (F.device flash.new) (K.mounted_on backend.old) ≡ None }
     ensures stands { is_err result ≡ false
         → StandsOn K.mounted_on K.stands (F.device flash.new) backend.new }
+    ensures owes { is_err result ≡ true
+        → OwesBoot K.owes K.boot_units (F.device flash.new) (K.mounted_on backend.new) }
     ensures down { is_err result ≡ true → K.runs backend.new ≡ false }
 {
     backend.delete(flash, name, steps)

@@ -52,7 +52,7 @@ pub loop-setting-preserved : goal.loop-setting-preserved
 loop-setting-preserved g c =
     let at = pair-at c.args.settings.now c.loop-setting.setting-index c.setting-item.result c.deref.result.now c.loop-setting-test.true c.setting-item.is c.deref.ensures.value in
     put-more g.K.Backend.mounted_on g.K.Backend.stands g.K.Backend.contents g.K.Backend.room (g.F.Flash.device c.args.flash.now) (g.F.Flash.device c.loop-setting.flash) (g.F.Flash.device c.set.new.flash) c.args.to.now c.loop-setting.to c.set.new.self (map pair_of c.args.settings.now) c.loop-setting.setting-index
-    c.setting-item.result.name c.deref.result.now c.set.result c.in_ok-set.field-0 c.in_ok-set.was c.loop-setting.invariant at c.set.ensures.touches c.set.ensures.area c.set.ensures.ends c.set.ensures.at_most c.set.ensures.stands
+    c.setting-item.result.name c.deref.result.now c.set.result c.in_ok-set.field-0 c.in_ok-set.was c.loop-setting.invariant at c.set.ensures.touches c.set.ensures.area c.set.ensures.ends c.set.ensures.units.at_most c.set.ensures.stands
 
 pub returns-in_err-set : goal.returns-in_err-set
 returns-in_err-set g c =
@@ -75,7 +75,7 @@ returns-in_err-set g c =
           λ all pairs_are.
           subst (λ (r : Result (Unit {0}) SetFault). CopyEnds (g.K.Backend.room area (geometry_of a area)) area.sectors all (on g.K.Backend.contents e area) r) (sym is)
           (put-refused g.K.Backend.mounted_on g.K.Backend.stands g.K.Backend.contents g.K.Backend.room a d e c.args.to.now c.loop-setting.to pairs c.loop-setting.setting-index c.setting-item.result.name c.deref.result.now c.set.result fault c.in_err-set.was c.loop-setting.invariant at c.set.ensures.ends all pairs_are);
-      at_most = put-most g.K.Backend.mounted_on g.K.Backend.stands g.K.Backend.contents g.K.Backend.room a d e c.args.to.now c.loop-setting.to pairs c.loop-setting.setting-index (length c.args.settings.now) c.loop-setting.invariant c.loop-setting-test.true c.set.ensures.at_most;
+      at_most = put-most g.K.Backend.mounted_on g.K.Backend.stands g.K.Backend.contents g.K.Backend.room a d e c.args.to.now c.loop-setting.to pairs c.loop-setting.setting-index (length c.args.settings.now) c.loop-setting.invariant c.loop-setting-test.true c.set.ensures.units.at_most;
       stands = λ kept. c.set.ensures.stands (ap set_lost same ∙ kept);
     }
 

@@ -1,3 +1,5 @@
+use Rattle.migrator.proofs.ErasesLeft.{ready-few}
+use Rattle.migrator.proofs.Migration.{rests-still, rests-through}
 use Rattle.std.specs.FinMap as finite
 use Rattle.std.proofs.Common.{◌≡◌, ℕ, List, true, refl, sym, subst, ◌∙◌}
 use Rattle.std.proofs.lemmas.Bool.{false≢true}
@@ -131,3 +133,19 @@ returns-in-Some-clause-once g c =
 
 pub returns-in-None-clause-once : goal.returns-in-None-clause-once
 returns-in-None-clause-once g c = (λ refused. refl, tt)
+
+pub returns-in-Some-clause-rests : goal.returns-in-Some-clause-rests
+returns-in-Some-clause-rests g c =
+    let a : Device = g.F.Flash.device c.args.flash.now in
+    let e : Device = g.F.Flash.device c.move_to.new.flash in
+    let source = g.K.Backend.mounted_on c.args.from.now in
+    let standing = stands-still g.K.Backend.mounted_on g.K.Backend.stands g.K.Backend.contents g.K.Backend.room a e c.args.from.now c.move_to.ensures.touches.banks c.move_to.ensures.source c.requires.up in
+    rests-through g.K.Backend.rests c.args.map.now c.args.selector.now.ring.area source c.args.active c.requires.selected c.requires.there c.area_at-area.result c.in-Some.index a e c.requires.is_active c.area_at-area.ensures
+    (g.met.K.Backend.stands_rests c.args.from.now (geometry_of e source) (sectors_of e source) standing) c.move_to.ensures.left c.move_to.ensures.rests
+
+pub returns-in-None-clause-rests : goal.returns-in-None-clause-rests
+returns-in-None-clause-rests g c =
+    let a : Device = g.F.Flash.device c.args.flash.now in
+    let source = g.K.Backend.mounted_on c.args.from.now in
+    rests-still g.K.Backend.rests c.args.map.now c.args.selector.now.ring.area source c.args.active c.requires.selected c.requires.there a c.requires.is_active
+    (g.met.K.Backend.stands_rests c.args.from.now (geometry_of a source) (sectors_of a source) c.requires.up) (ready-few a c.args.selector.now.ring c.args.selector.now.ring.area refl c.requires.open_ring.stands c.requires.open_ring.ready)

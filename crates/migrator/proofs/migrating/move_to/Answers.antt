@@ -1,3 +1,6 @@
+use Rattle.flash_map.specs.On.{HoldsOn}
+use Rattle.migrator.proofs.ErasesLeft.{ready-few}
+use Rattle.migrator.proofs.Moving.{chosen-rests}
 use Rattle.std.specs.FinMap as finite
 use Rattle.std.proofs.Common.{◌≡◌, ℕ, Bool, List, [], ◌∷◌, sym, ap, subst, ◌∙◌, refl, inl, inr}
 use Rattle.std.proofs.lemmas.Bool.{false≢true}
@@ -150,3 +153,35 @@ returns-clause-chosen g c =
     (c.in-Ok.to, c.args.index) c.choose-chosen.result c.moved_as.result c.fill-filled.ensures.touches.banks
     (same_apart (g.met.F.Flash.is_lawful c.args.flash.now) (g.met.F.Flash.is_lawful c.fill-filled.new.flash) c.requires.moves.mounted.stands.area.lawful.in_bank c.requires.moves.apart_selector c.fill-filled.ensures.touches)
     c.in-Ok.ensures.spends.1 c.choose-chosen.ensures.chosen c.moved_as.ensures
+
+pub returns-in-Err-clause-rests : goal.returns-in-Err-clause-rests
+returns-in-Err-clause-rests g c =
+    let a : Device = g.F.Flash.device c.args.flash.now in
+    let b : Device = g.F.Flash.device c.fill-filled.new.flash in
+    let same = same_apart (g.met.F.Flash.is_lawful c.args.flash.now) (g.met.F.Flash.is_lawful c.fill-filled.new.flash) c.requires.moves.mounted.stands.area.lawful.in_bank c.requires.moves.apart_selector c.fill-filled.ensures.touches in
+    inl (active-still c.args.map.now a b c.args.selector.now.ring.area c.fill-filled.ensures.touches.banks same)
+
+pub returns-in-Err-clause-left : goal.returns-in-Err-clause-left
+returns-in-Err-clause-left g c =
+    let a : Device = g.F.Flash.device c.args.flash.now in
+    let b : Device = g.F.Flash.device c.fill-filled.new.flash in
+    let same = same_apart (g.met.F.Flash.is_lawful c.args.flash.now) (g.met.F.Flash.is_lawful c.fill-filled.new.flash) c.requires.moves.mounted.stands.area.lawful.in_bank c.requires.moves.apart_selector c.fill-filled.ensures.touches in
+    let opened = open-still a b c.args.selector.now.ring c.fill-filled.ensures.touches.banks same c.requires.moves.mounted in
+    ready-few b c.args.selector.now.ring c.args.selector.now.ring.area refl opened.stands opened.ready
+
+pub returns-clause-rests : goal.returns-clause-rests
+returns-clause-rests g c =
+    let a : Device = g.F.Flash.device c.args.flash.now in
+    let b : Device = g.F.Flash.device c.fill-filled.new.flash in
+    let e : Device = g.F.Flash.device c.choose-chosen.new.flash in
+    let selector = same_apart (g.met.F.Flash.is_lawful c.args.flash.now) (g.met.F.Flash.is_lawful c.fill-filled.new.flash) c.requires.moves.mounted.stands.area.lawful.in_bank c.requires.moves.apart_selector c.fill-filled.ensures.touches in
+    let target = same_apart (g.met.F.Flash.is_lawful c.fill-filled.new.flash) (g.met.F.Flash.is_lawful c.choose-chosen.new.flash)
+    (subst (λ (banks : List Bank). IsLawfulArea banks c.args.area) (sym c.fill-filled.ensures.touches.banks) c.requires.moves.lawful.in_bank) c.requires.moves.selector_target c.choose-chosen.ensures.touches in
+    let to-area = g.K.Backend.mounted_on c.in-Ok.to in
+    let standing = stands-still g.K.Backend.mounted_on g.K.Backend.stands g.K.Backend.contents g.K.Backend.room b e c.in-Ok.to c.choose-chosen.ensures.touches.banks (subst (λ (x : Area). sectors_of e x ≡ sectors_of b x) (sym c.in-Ok.ensures.on) target) c.in-Ok.ensures.stands in
+    let held : HoldsOn g.K.Backend.rests e c.args.area = subst (λ (x : Area). HoldsOn g.K.Backend.rests e x) c.in-Ok.ensures.on (g.met.K.Backend.stands_rests c.in-Ok.to (geometry_of e to-area) (sectors_of e to-area) standing) in
+    chosen-rests g.K.Backend.rests c.args.map.now c.args.area c.args.index a b e c.args.selector.now.ring c.choose-chosen.new.self.ring c.choose-chosen.result
+    (active-still c.args.map.now a b c.args.selector.now.ring.area c.fill-filled.ensures.touches.banks selector) held c.choose-chosen.ensures.ends
+
+pub returns-clause-left : goal.returns-clause-left
+returns-clause-left g c = c.choose-chosen.ensures.left

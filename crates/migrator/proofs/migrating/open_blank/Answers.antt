@@ -25,17 +25,17 @@ returns-in-Err-clause-at_most g c =
 pub returns-in-Ok-mount-clause-at_most : goal.returns-in-Ok-mount-clause-at_most
 returns-in-Ok-mount-clause-at_most g c =
     opened-most (g.F.Flash.device c.args.flash.now) (g.F.Flash.device c.erase-erased.new.flash) (g.F.Flash.device c.mount.new.flash) c.args.area c.in-Ok.ensures.touches.banks
-    (erased-most (g.F.Flash.device c.args.flash.now) (g.F.Flash.device c.erase-erased.new.flash) c.args.area c.erase-erased.result c.erase-erased.ensures.units c.erase-erased.ensures.units_lost) c.mount.ensures.at_most
+    (erased-most (g.F.Flash.device c.args.flash.now) (g.F.Flash.device c.erase-erased.new.flash) c.args.area c.erase-erased.result c.erase-erased.ensures.units c.erase-erased.ensures.units_lost) c.mount.ensures.units.at_most
 
 pub returns-in-Err-PowerLost-clause-at_most : goal.returns-in-Err-PowerLost-clause-at_most
 returns-in-Err-PowerLost-clause-at_most g c =
     opened-most (g.F.Flash.device c.args.flash.now) (g.F.Flash.device c.erase-erased.new.flash) (g.F.Flash.device c.mount.new.flash) c.args.area c.in-Ok.ensures.touches.banks
-    (erased-most (g.F.Flash.device c.args.flash.now) (g.F.Flash.device c.erase-erased.new.flash) c.args.area c.erase-erased.result c.erase-erased.ensures.units c.erase-erased.ensures.units_lost) c.mount.ensures.at_most
+    (erased-most (g.F.Flash.device c.args.flash.now) (g.F.Flash.device c.erase-erased.new.flash) c.args.area c.erase-erased.result c.erase-erased.ensures.units c.erase-erased.ensures.units_lost) c.mount.ensures.units.at_most
 
 pub returns-in-Err-NoMemory-clause-at_most : goal.returns-in-Err-NoMemory-clause-at_most
 returns-in-Err-NoMemory-clause-at_most g c =
     opened-most (g.F.Flash.device c.args.flash.now) (g.F.Flash.device c.erase-erased.new.flash) (g.F.Flash.device c.mount.new.flash) c.args.area c.in-Ok.ensures.touches.banks
-    (erased-most (g.F.Flash.device c.args.flash.now) (g.F.Flash.device c.erase-erased.new.flash) c.args.area c.erase-erased.result c.erase-erased.ensures.units c.erase-erased.ensures.units_lost) c.mount.ensures.at_most
+    (erased-most (g.F.Flash.device c.args.flash.now) (g.F.Flash.device c.erase-erased.new.flash) c.args.area c.erase-erased.result c.erase-erased.ensures.units c.erase-erased.ensures.units_lost) c.mount.ensures.units.at_most
 
 pub returns-in-Ok-mount-clause-erased : goal.returns-in-Ok-mount-clause-erased
-returns-in-Ok-mount-clause-erased g c = opened-between (g.F.Flash.device c.args.flash.now) (g.F.Flash.device c.erase-erased.new.flash) (g.F.Flash.device c.mount.new.flash) c.args.area c.in-Ok.ensures.touches.banks c.in-Ok.ensures.units c.mount.ensures.at_most
+returns-in-Ok-mount-clause-erased g c = opened-between (g.F.Flash.device c.args.flash.now) (g.F.Flash.device c.erase-erased.new.flash) (g.F.Flash.device c.mount.new.flash) c.args.area c.in-Ok.ensures.touches.banks c.in-Ok.ensures.units c.mount.ensures.units.at_most

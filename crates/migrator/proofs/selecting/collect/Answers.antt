@@ -1,3 +1,7 @@
+use Rattle.std.proofs.Common.{◌≡◌}
+use Rattle.flash_map.specs.Area.{sectors_of}
+use Rattle.fcb_ring.specs.Changing.{next_place}
+use Rattle.migrator.proofs.ErasesLeft.{changed-left, ready-few, same-others, scratch-others}
 use Rattle.migrator.proofs.Spent.{most_then, record-same}
 use Rattle.fcb_ring.specs.Changing.{header_units, record_units}
 use Rattle.flash_map.proofs.SpendingLemmas.{most_weaker, spends_most}
@@ -99,3 +103,35 @@ copy_last-requires-clause-scratch g c =
       no_copies = begun-fresh d b c.args.ring.now c.begin_collect.new.self one;
       end = begun-end d b c.args.ring.now c.begin_collect.new.self one;
     }
+
+pub returns-in_err-begin_collect-clause-left : goal.returns-in_err-begin_collect-clause-left
+returns-in_err-begin_collect-clause-left g c =
+    let stopped = c.in_err-begin_collect.ensures.stopped in
+    changed-left (g.F.Flash.device c.args.flash.now) (g.F.Flash.device c.begin_collect.new.flash) c.args.ring.now c.requires.mounted.stands c.requires.mounted.ready stopped.banks (next_place c.args.ring.now) stopped.others
+
+pub returns-in_err-copy_last-clause-left : goal.returns-in_err-copy_last-clause-left
+returns-in_err-copy_last-clause-left g c =
+    let a : Device = g.F.Flash.device c.args.flash.now in
+    let b : Device = g.F.Flash.device c.begin_collect.new.flash in
+    let d : Device = g.F.Flash.device c.copy_last.new.flash in
+    let one = c.in_ok-begin_collect.ensures.begun in
+    changed-left a d c.args.ring.now c.requires.mounted.stands c.requires.mounted.ready (c.in_err-copy_last.ensures.touches.banks ∙ one.banks) (next_place c.args.ring.now)
+    (scratch-others a b c.args.ring.now c.begin_collect.new.self one d c.in_err-copy_last.ensures.only.others)
+
+pub returns-in_err-end_collect-clause-left : goal.returns-in_err-end_collect-clause-left
+returns-in_err-end_collect-clause-left g c =
+    let a : Device = g.F.Flash.device c.args.flash.now in
+    let b : Device = g.F.Flash.device c.begin_collect.new.flash in
+    let d : Device = g.F.Flash.device c.copy_last.new.flash in
+    let e : Device = g.F.Flash.device c.end_collect.new.flash in
+    let one = c.in_ok-begin_collect.ensures.begun in
+    let two = c.in_ok-copy_last.ensures in
+    let three = c.in_err-end_collect.ensures in
+    changed-left a e c.args.ring.now c.requires.mounted.stands c.requires.mounted.ready (three.touches.banks ∙ two.touches.banks ∙ one.banks) (next_place c.args.ring.now)
+    (same-others a d e c.args.ring.now.area (next_place c.args.ring.now) (scratch-others a b c.args.ring.now c.begin_collect.new.self one d two.only.others)
+    (subst (λ (x : Area). sectors_of e x ≡ sectors_of d x) (two.only.area ∙ one.area) three.stopped.same))
+
+pub returns-clause-left : goal.returns-clause-left
+returns-clause-left g c =
+    let three = c.in_ok-end_collect.ensures in
+    ready-few (g.F.Flash.device c.end_collect.new.flash) c.end_collect.new.self c.args.ring.now.area (three.ended.area ∙ c.in_ok-copy_last.ensures.only.area ∙ c.in_ok-begin_collect.ensures.begun.area) three.ended.stands three.ended.ready

@@ -1,3 +1,5 @@
+use Rattle.std.proofs.Common.{◌≤◌}
+use Rattle.fcb_ring.specs.Standing.{erases_on}
 use Rattle.migrator.proofs.Spent.{choice-behind, choice-first}
 use Rattle.flash_sim.specs.Device.{Device}
 use Rattle.std.proofs.Common.{[], ◌∷◌, true, false, Result, Ok, Err, ap, subst, ◌∙◌}
@@ -94,3 +96,12 @@ returns-in-Err-PowerLost-clause-touches g c =
     (subst (λ (x : Area). Touches (x ∷ []) (g.F.Flash.device c.collect.new.flash) (g.F.Flash.device c.put_choice.new.flash) true) one.area
     (subst (λ (r : Result (Unit {0}) AppendFault). Touches (c.collect.new.ring.area ∷ []) (g.F.Flash.device c.collect.new.flash) (g.F.Flash.device c.put_choice.new.flash) (append_lost r))
     (c.in-Err-PowerLost.is ∙ ap (λ (x : AppendFault). Err x) c.in-Err-PowerLost.field-0-is) c.put_choice.ensures.touches))
+
+pub returns-in_err-collect-clause-left : goal.returns-in_err-collect-clause-left
+returns-in_err-collect-clause-left g c = c.collect.ensures.left
+
+pub returns-in-Ok-clause-left : goal.returns-in-Ok-clause-left
+returns-in-Ok-clause-left g c = subst (λ (x : Area). erases_on (g.F.Flash.device c.put_choice.new.flash) x ≤ 1) c.in_ok-collect.ensures.area c.put_choice.ensures.left
+
+pub returns-in-Err-PowerLost-clause-left : goal.returns-in-Err-PowerLost-clause-left
+returns-in-Err-PowerLost-clause-left g c = subst (λ (x : Area). erases_on (g.F.Flash.device c.put_choice.new.flash) x ≤ 1) c.in_ok-collect.ensures.area c.put_choice.ensures.left

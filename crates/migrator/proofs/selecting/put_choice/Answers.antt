@@ -1,3 +1,4 @@
+use Rattle.migrator.proofs.ErasesLeft.{changed-left}
 use Rattle.migrator.proofs.Spent.{put-most}
 use Rattle.std.proofs.Common.{refl}
 use Rattle.std.proofs.Common.{◌≤◌, ℕ, List, length, sym, subst}
@@ -22,3 +23,7 @@ pub returns-clause-at_most : goal.returns-clause-at_most
 returns-clause-at_most g c =
     put-most (g.F.Flash.device c.args.flash.now) (g.F.Flash.device c.append.new.flash) c.args.ring.now c.append.new.self (choice_of c.args.index) c.args.ring.now.reserve c.append.result refl
     (subst (λ (body : List ℕ). AppendEnds (g.F.Flash.device c.args.flash.now) (g.F.Flash.device c.append.new.flash) c.args.ring.now c.append.new.self body c.args.ring.now.reserve c.append.result) c.choice_of-body.ensures c.append.ensures.ends)
+
+pub returns-clause-left : goal.returns-clause-left
+returns-clause-left g c =
+    changed-left (g.F.Flash.device c.args.flash.now) (g.F.Flash.device c.append.new.flash) c.args.ring.now c.requires.mounted.stands c.requires.mounted.ready c.append.ensures.touches.banks _ c.append.ensures.others

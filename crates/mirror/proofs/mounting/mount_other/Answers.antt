@@ -54,22 +54,22 @@ returns-in-Err-Damaged-clause-ends g c =
 pub returns-in-Ok-clause-held : goal.returns-in-Ok-clause-held
 returns-in-Ok-clause-held g c settings =
     held-on g.K.Backend.damage g.K.Backend.contents g.K.Backend.rests (g.F.Flash.device c.args.flash.now) (g.F.Flash.device c.mount.new.flash) c.args.area settings c.mount.ensures.sound c.mount.ensures.keeps
-    c.mount.ensures.rests (c.mount.ensures.written (not-records c.args.area c.requires.other.role)) c.mount.ensures.at_most
+    c.mount.ensures.rests (c.mount.ensures.written (not-records c.args.area c.requires.other.role)) c.mount.ensures.units.at_most
 
 pub returns-in-Err-Damaged-clause-held : goal.returns-in-Err-Damaged-clause-held
 returns-in-Err-Damaged-clause-held g c settings =
     held-on g.K.Backend.damage g.K.Backend.contents g.K.Backend.rests (g.F.Flash.device c.args.flash.now) (g.F.Flash.device c.mount.new.flash) c.args.area settings c.mount.ensures.sound c.mount.ensures.keeps
-    c.mount.ensures.rests (c.mount.ensures.written (not-records c.args.area c.requires.other.role)) c.mount.ensures.at_most
+    c.mount.ensures.rests (c.mount.ensures.written (not-records c.args.area c.requires.other.role)) c.mount.ensures.units.at_most
 
 pub returns-in-Err-PowerLost-clause-held : goal.returns-in-Err-PowerLost-clause-held
 returns-in-Err-PowerLost-clause-held g c settings =
     held-on g.K.Backend.damage g.K.Backend.contents g.K.Backend.rests (g.F.Flash.device c.args.flash.now) (g.F.Flash.device c.mount.new.flash) c.args.area settings c.mount.ensures.sound c.mount.ensures.keeps
-    c.mount.ensures.rests (c.mount.ensures.written (not-records c.args.area c.requires.other.role)) c.mount.ensures.at_most
+    c.mount.ensures.rests (c.mount.ensures.written (not-records c.args.area c.requires.other.role)) c.mount.ensures.units.at_most
 
 pub returns-in-Err-NoMemory-clause-held : goal.returns-in-Err-NoMemory-clause-held
 returns-in-Err-NoMemory-clause-held g c settings =
     held-on g.K.Backend.damage g.K.Backend.contents g.K.Backend.rests (g.F.Flash.device c.args.flash.now) (g.F.Flash.device c.mount.new.flash) c.args.area settings c.mount.ensures.sound c.mount.ensures.keeps
-    c.mount.ensures.rests (c.mount.ensures.written (not-records c.args.area c.requires.other.role)) c.mount.ensures.at_most
+    c.mount.ensures.rests (c.mount.ensures.written (not-records c.args.area c.requires.other.role)) c.mount.ensures.units.at_most
 
 pub returns-in-Err-PowerLost-clause-trusted : goal.returns-in-Err-PowerLost-clause-trusted
 returns-in-Err-PowerLost-clause-trusted g c = same_apart (g.met.F.Flash.is_lawful c.args.flash.now) (g.met.F.Flash.is_lawful c.mount.new.flash) c.requires.other.lawful_trusted.in_bank c.requires.other.apart c.mount.ensures.touches

@@ -51,7 +51,7 @@ pub returns-in-Ok-clause-at_most : goal.returns-in-Ok-clause-at_most
 returns-in-Ok-clause-at_most g c =
     let d = g.F.Flash.device c.args.flash.now in
     let e = g.F.Flash.device c.set.new.flash in
-    subst (λ (x : Area). SpendsAtMost d e (command_units (geometry_of d x))) c.requires.stands.here c.in-Ok.ensures.at_most
+    subst (λ (x : Area). SpendsAtMost d e (command_units (geometry_of d x))) c.requires.stands.here c.in-Ok.ensures.units.at_most
 
 pub returns-in-Ok-clause-sound : goal.returns-in-Ok-clause-sound
 returns-in-Ok-clause-sound g c =
@@ -79,7 +79,7 @@ pub returns-in-Err-PowerLost-clause-at_most : goal.returns-in-Err-PowerLost-clau
 returns-in-Err-PowerLost-clause-at_most g c =
     let d = g.F.Flash.device c.args.flash.now in
     let e = g.F.Flash.device c.set.new.flash in
-    subst (λ (x : Area). SpendsAtMost d e (command_units (geometry_of d x))) c.requires.stands.here c.in-Err-PowerLost.ensures.at_most
+    subst (λ (x : Area). SpendsAtMost d e (command_units (geometry_of d x))) c.requires.stands.here c.in-Err-PowerLost.ensures.units.at_most
 
 pub returns-in-Err-PowerLost-clause-sound : goal.returns-in-Err-PowerLost-clause-sound
 returns-in-Err-PowerLost-clause-sound g c =

@@ -29,7 +29,7 @@ pub returns-clause-at_most : goal.returns-clause-at_most
 returns-clause-at_most g c =
     let d = g.F.Flash.device c.args.flash.now in
     let e = g.F.Flash.device c.delete.new.flash in
-    subst (λ (x : Area). SpendsAtMost d e (command_units (geometry_of d x))) c.requires.stands.here c.delete.ensures.at_most
+    subst (λ (x : Area). SpendsAtMost d e (command_units (geometry_of d x))) c.requires.stands.here c.delete.ensures.units.at_most
 
 pub returns-clause-sound : goal.returns-clause-sound
 returns-clause-sound g c =

@@ -1,4 +1,5 @@
 -- each end of the call makes its answer
+use Rattle.session.proofs.OwesLemmas.{dark-boot}
 use Rattle.std.proofs.Common.{◌≡◌, ◌∷◌, [], List, Ok, Err, ap, subst, sym, ◌∙◌, None}
 use Rattle.std.specs.Prelude.{Result}
 use Rattle.flash_sim.specs.declared.flash.Bank.{Bank}
@@ -38,6 +39,7 @@ returns-in-Ok g c = record {
       (record { touches = c.delete-end.ensures.touches; at_most = c.delete-end.ensures.at_most; count = c.delete-end.ensures.ends.0; ends = c.delete-end.ensures.ends.1 }) in
       let stays = active_beside g.K.Backend.serves c.args.map.now old new c.requires.map (g.met.B.Flash.is_lawful c.args.bench.now) (g.met.B.Flash.is_lawful c.delete-end.new.flash) here.touches.banks here.touches.outside in
       λ registry pool. delete_by_ok g.K.Backend.contents g.K.Backend.room g.K.Backend.chance g.K.Backend.tears registry pool c.args.map.now c.args.name.now old new c.requires.here.powered stays up c.spent-before.result c.spent.result c.spent-before.ensures c.spent.ensures c.in-Ok.field-0 here;
+  left = dark-boot g.K.Backend.owes g.K.Backend.boot_units (g.B.Flash.device c.args.bench.now) (g.B.Flash.device c.delete-end.new.flash) (g.K.Backend.mounted_on c.args.settings.now.backend) (g.K.Backend.mounted_on c.delete-end.new.self.backend) c.args.area.now _ c.requires.here.powered c.delete-end.ensures.touches c.delete-end.ensures.area c.requires.here.mounted c.delete-end.ensures.owes;
   sound = subst (λ (a : Area). on g.K.Backend.damage (g.B.Flash.device c.delete-end.new.flash) a ≡ None) c.requires.here.mounted (c.delete-end.ensures.sound c.requires.here.up);
   stays = stays_up g.K.Backend.mounted_on g.K.Backend.stands g.K.Backend.runs c.args.map.now (g.B.Flash.device c.args.bench.now) (g.B.Flash.device c.delete-end.new.flash) c.args.area.now c.args.settings.now.backend c.delete-end.new.self.backend c.requires.here c.delete-end.ensures.area c.delete-end.ensures.stands (c.delete-end.ensures.up (ap (λ (r : Result (Unit {0}) DeleteFault). save_lost (as_save r)) c.in-Ok.is));
 }
@@ -56,6 +58,7 @@ returns-in-Err-PowerLost g c =
           let stays = active_beside g.K.Backend.serves c.args.map.now old new c.requires.map (g.met.B.Flash.is_lawful c.args.bench.now) (g.met.B.Flash.is_lawful c.delete-end.new.flash) here.touches.banks here.touches.outside in
           let reports = reported_at g.K.Backend.chance new c.args.area.now (active_area c.args.map.now old) c.spells_another.result c.requires.here.active c.spells_another.ensures in
           λ registry pool. delete_by_lost g.K.Backend.contents g.K.Backend.room g.K.Backend.chance g.K.Backend.tears registry pool c.args.map.now c.args.name.now old new c.requires.here.powered stays up c.spent-before.result c.spent.result c.spent-before.ensures c.spent.ensures c.spells_another.result reports here;
+      left = dark-boot g.K.Backend.owes g.K.Backend.boot_units (g.B.Flash.device c.args.bench.now) (g.B.Flash.device c.delete-end.new.flash) (g.K.Backend.mounted_on c.args.settings.now.backend) (g.K.Backend.mounted_on c.delete-end.new.self.backend) c.args.area.now _ c.requires.here.powered c.delete-end.ensures.touches c.delete-end.ensures.area c.requires.here.mounted c.delete-end.ensures.owes;
       sound = subst (λ (a : Area). on g.K.Backend.damage (g.B.Flash.device c.delete-end.new.flash) a ≡ None) c.requires.here.mounted (c.delete-end.ensures.sound c.requires.here.up);
       stays = stays_off g.K.Backend.mounted_on g.K.Backend.stands g.K.Backend.runs c.args.map.now (g.B.Flash.device c.args.bench.now) (g.B.Flash.device c.delete-end.new.flash) c.args.area.now c.args.settings.now.backend c.delete-end.new.self.backend c.requires.here c.delete-end.ensures.area c.delete-end.ensures.stands _ (ap (λ (r : Result (Unit {0}) DeleteFault). save_lost (as_save r)) (c.in-Err-PowerLost.is ∙ ap (λ (fault : DeleteFault). Err fault) which)) c.delete-end.ensures.touches;
     }

@@ -1,4 +1,5 @@
 -- each end of the call makes its answer
+use Rattle.session.proofs.OwesLemmas.{dark-boot}
 use Rattle.std.proofs.Common.{◌≡◌, ◌≤◌, length, ℕ, ◌-◌, List, ◌∷◌, [], Result, Ok, Err, ap, subst, sym, ◌∙◌, None}
 use Rattle.flash_sim.specs.declared.flash.Bank.{Bank}
 use Rattle.flash_map.specs.Lawful.{IsLawfulFor}
@@ -38,6 +39,7 @@ returns-in-Ok g c = record {
       let stays = active_beside g.K.Backend.serves c.args.map.now old new c.requires.map (g.met.B.Flash.is_lawful c.args.bench.now) (g.met.B.Flash.is_lawful c.save_one-end.new.flash) here.touches.banks here.touches.outside in
       λ registry pool. subst (λ (value : List ℕ). CarriedAt g.K.Backend.contents g.K.Backend.room g.K.Backend.chance g.K.Backend.tears registry pool c.args.map.now (Set c.args.name.now value) (Done (c.spent.result - c.spent-before.result)) old new) c.as_slice.ensures
       (set_by_ok g.K.Backend.contents g.K.Backend.room g.K.Backend.chance g.K.Backend.tears registry pool c.args.map.now c.args.name.now bytes old new c.requires.here.powered stays up c.spent-before.result c.spent.result c.spent-before.ensures c.spent.ensures c.in-Ok.field-0 here);
+  left = dark-boot g.K.Backend.owes g.K.Backend.boot_units (g.B.Flash.device c.args.bench.now) (g.B.Flash.device c.save_one-end.new.flash) (g.K.Backend.mounted_on c.args.settings.now.backend) (g.K.Backend.mounted_on c.save_one-end.new.self.backend) c.args.area.now _ c.requires.here.powered c.save_one-end.ensures.touches c.save_one-end.ensures.area c.requires.here.mounted c.save_one-end.ensures.owes;
   sound = subst (λ (a : Area). on g.K.Backend.damage (g.B.Flash.device c.save_one-end.new.flash) a ≡ None) c.requires.here.mounted (c.save_one-end.ensures.sound c.requires.here.up);
   stays = stays_up g.K.Backend.mounted_on g.K.Backend.stands g.K.Backend.runs c.args.map.now (g.B.Flash.device c.args.bench.now) (g.B.Flash.device c.save_one-end.new.flash) c.args.area.now c.args.settings.now.backend c.save_one-end.new.self.backend c.requires.here c.save_one-end.ensures.area c.save_one-end.ensures.stands (c.save_one-end.ensures.up (ap (λ (r : Result (Unit {0}) SaveFault). save_lost r) c.in-Ok.is));
 }
@@ -57,6 +59,7 @@ returns-in-Err-NoSpace g c =
           let stays = active_beside g.K.Backend.serves c.args.map.now old new c.requires.map (g.met.B.Flash.is_lawful c.args.bench.now) (g.met.B.Flash.is_lawful c.save_one-end.new.flash) here.touches.banks here.touches.outside in
           λ registry pool. subst (λ (value : List ℕ). CarriedAt g.K.Backend.contents g.K.Backend.room g.K.Backend.chance g.K.Backend.tears registry pool c.args.map.now (Set c.args.name.now value) (Full (c.spent.result - c.spent-before.result) c.in-Err-NoSpace.need c.in-Err-NoSpace.live) old new) c.as_slice.ensures
           (set_by_full g.K.Backend.contents g.K.Backend.room g.K.Backend.chance g.K.Backend.tears registry pool c.args.map.now c.args.name.now bytes old new c.requires.here.powered stays up c.spent-before.result c.spent.result c.spent-before.ensures c.spent.ensures c.in-Err-NoSpace.need c.in-Err-NoSpace.live here);
+      left = dark-boot g.K.Backend.owes g.K.Backend.boot_units (g.B.Flash.device c.args.bench.now) (g.B.Flash.device c.save_one-end.new.flash) (g.K.Backend.mounted_on c.args.settings.now.backend) (g.K.Backend.mounted_on c.save_one-end.new.self.backend) c.args.area.now _ c.requires.here.powered c.save_one-end.ensures.touches c.save_one-end.ensures.area c.requires.here.mounted c.save_one-end.ensures.owes;
       sound = subst (λ (a : Area). on g.K.Backend.damage (g.B.Flash.device c.save_one-end.new.flash) a ≡ None) c.requires.here.mounted (c.save_one-end.ensures.sound c.requires.here.up);
       stays = stays_up g.K.Backend.mounted_on g.K.Backend.stands g.K.Backend.runs c.args.map.now (g.B.Flash.device c.args.bench.now) (g.B.Flash.device c.save_one-end.new.flash) c.args.area.now c.args.settings.now.backend c.save_one-end.new.self.backend c.requires.here c.save_one-end.ensures.area c.save_one-end.ensures.stands (c.save_one-end.ensures.up (ap (λ (r : Result (Unit {0}) SaveFault). save_lost r) (c.in-Err-NoSpace.is ∙ ap (λ (fault : SaveFault). Err fault) which)));
     }
@@ -76,6 +79,7 @@ returns-in-Err-TooManyNames g c =
           let stays = active_beside g.K.Backend.serves c.args.map.now old new c.requires.map (g.met.B.Flash.is_lawful c.args.bench.now) (g.met.B.Flash.is_lawful c.save_one-end.new.flash) here.touches.banks here.touches.outside in
           λ registry pool. subst (λ (value : List ℕ). CarriedAt g.K.Backend.contents g.K.Backend.room g.K.Backend.chance g.K.Backend.tears registry pool c.args.map.now (Set c.args.name.now value) (TooMany (c.spent.result - c.spent-before.result)) old new) c.as_slice.ensures
           (set_by_many g.K.Backend.contents g.K.Backend.room g.K.Backend.chance g.K.Backend.tears registry pool c.args.map.now c.args.name.now bytes old new c.requires.here.powered stays up c.spent-before.result c.spent.result c.spent-before.ensures c.spent.ensures here);
+      left = dark-boot g.K.Backend.owes g.K.Backend.boot_units (g.B.Flash.device c.args.bench.now) (g.B.Flash.device c.save_one-end.new.flash) (g.K.Backend.mounted_on c.args.settings.now.backend) (g.K.Backend.mounted_on c.save_one-end.new.self.backend) c.args.area.now _ c.requires.here.powered c.save_one-end.ensures.touches c.save_one-end.ensures.area c.requires.here.mounted c.save_one-end.ensures.owes;
       sound = subst (λ (a : Area). on g.K.Backend.damage (g.B.Flash.device c.save_one-end.new.flash) a ≡ None) c.requires.here.mounted (c.save_one-end.ensures.sound c.requires.here.up);
       stays = stays_up g.K.Backend.mounted_on g.K.Backend.stands g.K.Backend.runs c.args.map.now (g.B.Flash.device c.args.bench.now) (g.B.Flash.device c.save_one-end.new.flash) c.args.area.now c.args.settings.now.backend c.save_one-end.new.self.backend c.requires.here c.save_one-end.ensures.area c.save_one-end.ensures.stands (c.save_one-end.ensures.up (ap (λ (r : Result (Unit {0}) SaveFault). save_lost r) (c.in-Err-TooManyNames.is ∙ ap (λ (fault : SaveFault). Err fault) which)));
     }
@@ -96,6 +100,7 @@ returns-in-Err-PowerLost g c =
           let reports = reported_at g.K.Backend.chance new c.args.area.now (active_area c.args.map.now old) c.spells_another.result c.requires.here.active c.spells_another.ensures in
           λ registry pool. subst (λ (value : List ℕ). CarriedAt g.K.Backend.contents g.K.Backend.room g.K.Backend.chance g.K.Backend.tears registry pool c.args.map.now (Set c.args.name.now value) (Lost (c.spent.result - c.spent-before.result) c.spells_another.result) old new) c.as_slice.ensures
           (set_by_lost g.K.Backend.contents g.K.Backend.room g.K.Backend.chance g.K.Backend.tears registry pool c.args.map.now c.args.name.now bytes old new c.requires.here.powered stays up c.spent-before.result c.spent.result c.spent-before.ensures c.spent.ensures c.spells_another.result reports here);
+      left = dark-boot g.K.Backend.owes g.K.Backend.boot_units (g.B.Flash.device c.args.bench.now) (g.B.Flash.device c.save_one-end.new.flash) (g.K.Backend.mounted_on c.args.settings.now.backend) (g.K.Backend.mounted_on c.save_one-end.new.self.backend) c.args.area.now _ c.requires.here.powered c.save_one-end.ensures.touches c.save_one-end.ensures.area c.requires.here.mounted c.save_one-end.ensures.owes;
       sound = subst (λ (a : Area). on g.K.Backend.damage (g.B.Flash.device c.save_one-end.new.flash) a ≡ None) c.requires.here.mounted (c.save_one-end.ensures.sound c.requires.here.up);
       stays = stays_off g.K.Backend.mounted_on g.K.Backend.stands g.K.Backend.runs c.args.map.now (g.B.Flash.device c.args.bench.now) (g.B.Flash.device c.save_one-end.new.flash) c.args.area.now c.args.settings.now.backend c.save_one-end.new.self.backend c.requires.here c.save_one-end.ensures.area c.save_one-end.ensures.stands _ (ap (λ (r : Result (Unit {0}) SaveFault). save_lost r) (c.in-Err-PowerLost.is ∙ ap (λ (fault : SaveFault). Err fault) which)) c.save_one-end.ensures.touches;
     }

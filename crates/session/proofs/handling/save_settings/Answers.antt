@@ -1,4 +1,5 @@
 -- each end of the call makes its answer
+use Rattle.session.proofs.OwesLemmas.{dark-boot}
 use Rattle.std.proofs.Common.{◌≡◌, ℕ, ◌-◌, List, ◌∷◌, [], Option, None, Result, Ok, Err, ap, subst, sym, ◌∙◌}
 use Rattle.std.specs.Prelude.{option_map}
 use Rattle.flash_sim.specs.declared.flash.Bank.{Bank}
@@ -63,6 +64,7 @@ returns-in-Ok g c = record {
       λ pool. subst (λ (subtree : Option (List ℕ)). DoneWithin (meanings g.K.Backend.contents g.K.Backend.room g.K.Backend.chance g.K.Backend.tears) areas (Save subtree) (Saved c.save-saved.result.pairs units Whole) (moment old hs pool) (moment new hs pool)) c.as_ref.ensures.value
       (saved-whole g.K.Backend.contents g.K.Backend.room g.K.Backend.chance g.K.Backend.tears areas hs pool asked old new c.requires.here.powered stays up c.save-saved.result.pairs units spent c.in-Ok.field-0 here);
   stays = stays_up g.K.Backend.mounted_on g.K.Backend.stands g.K.Backend.runs c.args.map.now (g.B.Flash.device c.args.bench.now) (g.B.Flash.device c.save-saved.new.flash) c.args.area.now c.args.settings.now.backend c.save-saved.new.self.backend c.requires.here c.save-saved.ensures.area c.save-saved.ensures.stands (c.save-saved.ensures.up (ap (λ (r : Result (Unit {0}) SaveFault). save_lost r) c.in-Ok.is));
+  left = dark-boot g.K.Backend.owes g.K.Backend.boot_units (g.B.Flash.device c.args.bench.now) (g.B.Flash.device c.save-saved.new.flash) (g.K.Backend.mounted_on c.args.settings.now.backend) (g.K.Backend.mounted_on c.save-saved.new.self.backend) c.args.area.now _ c.requires.here.powered c.save-saved.ensures.touches c.save-saved.ensures.area c.requires.here.mounted c.save-saved.ensures.owes;
   sound = subst (λ (a : Area). on g.K.Backend.damage (g.B.Flash.device c.save-saved.new.flash) a ≡ None) c.requires.here.mounted (c.save-saved.ensures.sound c.requires.here.up);
 }
 
@@ -89,6 +91,7 @@ returns-in-Err-NoSpace g c = record {
   stays =
       let which : c.in-Err-NoSpace.field-0 ≡ NoSpace c.in-Err-NoSpace.need c.in-Err-NoSpace.live = rw c.in-Err-NoSpace.is at c.in-Err-NoSpace.field-0-is in
       stays_up g.K.Backend.mounted_on g.K.Backend.stands g.K.Backend.runs c.args.map.now (g.B.Flash.device c.args.bench.now) (g.B.Flash.device c.save-saved.new.flash) c.args.area.now c.args.settings.now.backend c.save-saved.new.self.backend c.requires.here c.save-saved.ensures.area c.save-saved.ensures.stands (c.save-saved.ensures.up (ap (λ (r : Result (Unit {0}) SaveFault). save_lost r) (c.in-Err-NoSpace.is ∙ ap (λ (fault : SaveFault). Err fault) which)));
+  left = dark-boot g.K.Backend.owes g.K.Backend.boot_units (g.B.Flash.device c.args.bench.now) (g.B.Flash.device c.save-saved.new.flash) (g.K.Backend.mounted_on c.args.settings.now.backend) (g.K.Backend.mounted_on c.save-saved.new.self.backend) c.args.area.now _ c.requires.here.powered c.save-saved.ensures.touches c.save-saved.ensures.area c.requires.here.mounted c.save-saved.ensures.owes;
   sound = subst (λ (a : Area). on g.K.Backend.damage (g.B.Flash.device c.save-saved.new.flash) a ≡ None) c.requires.here.mounted (c.save-saved.ensures.sound c.requires.here.up);
 }
 
@@ -114,6 +117,7 @@ returns-in-Err-TooManyNames g c =
           λ pool. subst (λ (subtree : Option (List ℕ)). DoneWithin (meanings g.K.Backend.contents g.K.Backend.room g.K.Backend.chance g.K.Backend.tears) areas (Save subtree) (Saved c.save-saved.result.pairs units TooMany) (moment old hs pool) (moment new hs pool)) c.as_ref.ensures.value
           (saved-many g.K.Backend.contents g.K.Backend.room g.K.Backend.chance g.K.Backend.tears areas hs pool asked old new c.requires.here.powered stays up c.save-saved.result.pairs units spent here);
       stays = stays_up g.K.Backend.mounted_on g.K.Backend.stands g.K.Backend.runs c.args.map.now (g.B.Flash.device c.args.bench.now) (g.B.Flash.device c.save-saved.new.flash) c.args.area.now c.args.settings.now.backend c.save-saved.new.self.backend c.requires.here c.save-saved.ensures.area c.save-saved.ensures.stands (c.save-saved.ensures.up (ap (λ (r : Result (Unit {0}) SaveFault). save_lost r) (c.in-Err-TooManyNames.is ∙ ap (λ (fault : SaveFault). Err fault) which)));
+      left = dark-boot g.K.Backend.owes g.K.Backend.boot_units (g.B.Flash.device c.args.bench.now) (g.B.Flash.device c.save-saved.new.flash) (g.K.Backend.mounted_on c.args.settings.now.backend) (g.K.Backend.mounted_on c.save-saved.new.self.backend) c.args.area.now _ c.requires.here.powered c.save-saved.ensures.touches c.save-saved.ensures.area c.requires.here.mounted c.save-saved.ensures.owes;
       sound = subst (λ (a : Area). on g.K.Backend.damage (g.B.Flash.device c.save-saved.new.flash) a ≡ None) c.requires.here.mounted (c.save-saved.ensures.sound c.requires.here.up);
     }
 
@@ -139,5 +143,6 @@ returns-in-Err-PowerLost g c =
           λ pool. subst (λ (subtree : Option (List ℕ)). DoneWithin (meanings g.K.Backend.contents g.K.Backend.room g.K.Backend.chance g.K.Backend.tears) areas (Save subtree) (Lost units c.spells_another.result) (moment old hs pool) (moment new hs pool)) c.as_ref.ensures.value
           (saved-lost g.K.Backend.contents g.K.Backend.room g.K.Backend.chance g.K.Backend.tears areas hs pool asked old new c.requires.here.powered stays up c.save-saved.result.pairs units spent c.spells_another.result (λ loss last. c.spells_another.ensures loss last ∙ ap (λ (a : Area). on g.K.Backend.chance new a loss) c.requires.here.active) here);
       stays = stays_off g.K.Backend.mounted_on g.K.Backend.stands g.K.Backend.runs c.args.map.now (g.B.Flash.device c.args.bench.now) (g.B.Flash.device c.save-saved.new.flash) c.args.area.now c.args.settings.now.backend c.save-saved.new.self.backend c.requires.here c.save-saved.ensures.area c.save-saved.ensures.stands _ (ap (λ (r : Result (Unit {0}) SaveFault). save_lost r) (c.in-Err-PowerLost.is ∙ ap (λ (fault : SaveFault). Err fault) which)) c.save-saved.ensures.touches;
+      left = dark-boot g.K.Backend.owes g.K.Backend.boot_units (g.B.Flash.device c.args.bench.now) (g.B.Flash.device c.save-saved.new.flash) (g.K.Backend.mounted_on c.args.settings.now.backend) (g.K.Backend.mounted_on c.save-saved.new.self.backend) c.args.area.now _ c.requires.here.powered c.save-saved.ensures.touches c.save-saved.ensures.area c.requires.here.mounted c.save-saved.ensures.owes;
       sound = subst (λ (a : Area). on g.K.Backend.damage (g.B.Flash.device c.save-saved.new.flash) a ≡ None) c.requires.here.mounted (c.save-saved.ensures.sound c.requires.here.up);
     }

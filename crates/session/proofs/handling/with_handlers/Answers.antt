@@ -1,4 +1,5 @@
 -- each line by its own call
+use Rattle.std.proofs.lemmas.Bool.{false≢true}
 use Rattle.std.proofs.Common.{◌≡◌, ℕ, refl, ap, subst, sym, ◌∙◌}
 use Rattle.std.specs.Prelude.{IfOk}
 use Rattle.flash_map.specs.declared.area.Area.{Area}
@@ -42,6 +43,7 @@ returns-in-Register g c = record {
       (λ answer. DoneWithin (meanings g.K.Backend.contents g.K.Backend.room g.K.Backend.chance g.K.Backend.tears) c.args.map.now (Register c.in-Register.subtree c.in-Register.kind) answer (moment d hs pool) (moment d after left)) c.register_handler.result
       (λ answer is. registers (meanings g.K.Backend.contents g.K.Backend.room g.K.Backend.chance g.K.Backend.tears) c.args.map.now d c.requires.here.powered hs after pool left c.in-Register.subtree c.in-Register.kind answer is) c.register_handler.ensures.done);
   handlers = record { registry = c.register_handler.ensures.lawful (limit_of c.args.map.now) c.requires.handlers.registry; pool = c.register_handler.ensures.pool };
+  left = λ dark. absurd (false≢true (sym dark ∙ c.requires.here.powered));
   stays = record {
     mounted = c.requires.here.mounted;
     up = λ powered. c.requires.here.up;
@@ -80,6 +82,7 @@ returns-in-Load g c =
                 (subst (λ (limit : ℕ). IsSettings limit (on g.K.Backend.contents d at)) (ap value_limit place ∙ active-limit g.K.Backend.serves areas d c.requires.map) is) c.requires.handlers.registry;
             pool = c.requires.handlers.pool;
           };
+      left = λ dark. absurd (false≢true (sym dark ∙ c.requires.here.powered));
       stays = record {
         mounted = c.requires.here.mounted;
         up = λ powered. c.requires.here.up;
@@ -100,6 +103,7 @@ returns-in-Save g c = record {
       let pool = kinds (λ b. (goal.Handler-dyn g (b.vtable, b.value)).state b.value) c.args.pool.now.items in
       subst (λ (line : Line). DoneWithin (meanings g.K.Backend.contents g.K.Backend.room g.K.Backend.chance g.K.Backend.tears) c.args.map.now line c.save_settings.result (moment old hs pool) (moment new hs pool)) (sym c.in-Save.is) (c.save_settings.ensures.done pool);
   handlers = c.requires.handlers;
+  left = c.save_settings.ensures.left;
   stays = c.save_settings.ensures.stays;
   sound = λ none. c.save_settings.ensures.sound;
   stops = tt;
@@ -116,6 +120,7 @@ returns-in-Commit g c = record {
       subst (λ (line : Line). DoneWithin (meanings g.K.Backend.contents g.K.Backend.room g.K.Backend.chance g.K.Backend.tears) c.args.map.now line c.commit_handlers.result (moment d hs pool) (moment d after pool)) (sym c.in-Commit.is)
       (commits (meanings g.K.Backend.contents g.K.Backend.room g.K.Backend.chance g.K.Backend.tears) c.args.map.now d c.requires.here.powered hs after pool c.commit_handlers.result c.commit_handlers.ensures.done);
   handlers = record { registry = c.commit_handlers.ensures.lawful (limit_of c.args.map.now) c.requires.handlers.registry; pool = c.requires.handlers.pool };
+  left = λ dark. absurd (false≢true (sym dark ∙ c.requires.here.powered));
   stays = record {
     mounted = c.requires.here.mounted;
     up = λ powered. c.requires.here.up;
@@ -139,6 +144,7 @@ returns-in-RunSet g c = record {
       (λ answer. DoneWithin (meanings g.K.Backend.contents g.K.Backend.room g.K.Backend.chance g.K.Backend.tears) c.args.map.now (RunSet c.in-RunSet.name c.in-RunSet.value) answer (moment d hs pool) (moment d after pool)) c.offer_value.result
       (λ answer is. offers (meanings g.K.Backend.contents g.K.Backend.room g.K.Backend.chance g.K.Backend.tears) c.args.map.now d c.requires.here.powered hs after pool c.in-RunSet.name c.in-RunSet.value answer is) c.offer_value.ensures.done);
   handlers = record { registry = c.offer_value.ensures.lawful (limit_of c.args.map.now) (subst (λ (line : Line). IsServed (limit_of c.args.map.now) line) c.in-RunSet.is c.requires.line) c.requires.handlers.registry; pool = c.requires.handlers.pool };
+  left = λ dark. absurd (false≢true (sym dark ∙ c.requires.here.powered));
   stays = record {
     mounted = c.requires.here.mounted;
     up = λ powered. c.requires.here.up;
@@ -161,6 +167,7 @@ returns-in-RunGet g c = record {
       (λ answer. DoneWithin (meanings g.K.Backend.contents g.K.Backend.room g.K.Backend.chance g.K.Backend.tears) c.args.map.now (RunGet c.in-RunGet.name) answer (moment d hs pool) (moment d hs pool)) c.ask_handler.result
       (λ answer is. asks (meanings g.K.Backend.contents g.K.Backend.room g.K.Backend.chance g.K.Backend.tears) c.args.map.now d c.requires.here.powered hs pool c.in-RunGet.name answer is) c.ask_handler.ensures);
   handlers = c.requires.handlers;
+  left = λ dark. absurd (false≢true (sym dark ∙ c.requires.here.powered));
   stays = record {
     mounted = c.requires.here.mounted;
     up = λ powered. c.requires.here.up;

@@ -1,9 +1,9 @@
 -- the map has a selector, whose mount it is; or it has none
-use Rattle.std.proofs.Common.{refl, sym, ◌∙◌}
+use Rattle.std.proofs.Common.{refl, sym, ◌∙◌, arith}
 use Rattle.std.proofs.lemmas.Option.{none-some}
 use Rattle.session.proofs.ActiveAreas.{found_within, selected, selector_ring, unselected}
 use Rattle.session.proofs.MountLemmas.{chosen_touches, chosen_ends, chosen_sound, chosen_active, chosen_idle, chosen_records, chosen_units, none_ends}
-use Rattle.session.proofs.MountUnits.{selector_most, spends_nothing}
+use Rattle.session.proofs.MountUnits.{selector_left, selector_most, spends_nothing}
 use Rattle.session.specs.OnMap.{selector_erases}
 use Rattle.session.proofs.mounting.mount_selector.Goals as goal
 
@@ -30,6 +30,8 @@ returns-in-Some g c = record {
       c.mount-mounted.ensures.idle;
   units = chosen_units c.args.map.now c.in-Some.place c.area_at.result (g.F.Flash.device c.args.flash.now) (g.F.Flash.device c.mount-mounted.new.flash) c.mount-mounted.result (sym c.selector_place.ensures ∙ c.in-Some.is) c.area_at.ensures
       c.mount-mounted.ensures.units c.selected_as.result c.selected_as.ensures;
+  left = selector_left c.args.map.now c.area_at.result (g.F.Flash.device c.args.flash.now) (g.F.Flash.device c.mount-mounted.new.flash)
+      (selected c.args.map.now c.in-Some.place c.area_at.result (sym c.selector_place.ensures ∙ c.in-Some.is) c.area_at.ensures) c.mount-mounted.ensures.left;
   at_most = selector_most c.args.map.now c.area_at.result (g.F.Flash.device c.args.flash.now) (g.F.Flash.device c.mount-mounted.new.flash) c.mount-mounted.result
       (selected c.args.map.now c.in-Some.place c.area_at.result (sym c.selector_place.ensures ∙ c.in-Some.is) c.area_at.ensures) c.mount-mounted.ensures.ends c.mount-mounted.ensures.units c.mount-mounted.ensures.bound;
 }
@@ -46,3 +48,6 @@ returns-in-None-clause-units g c = λ area is. absurd (none-some area (sym (unse
 pub returns-in-None-clause-at_most : goal.returns-in-None-clause-at_most
 returns-in-None-clause-at_most g c =
     spends_nothing (g.F.Flash.device c.args.flash.now) (g.F.Flash.device c.args.flash.now) (selector_erases c.args.map.now (g.F.Flash.device c.args.flash.now)) refl
+
+pub returns-in-None-clause-left : goal.returns-in-None-clause-left
+returns-in-None-clause-left g c = omega arith

@@ -1,4 +1,5 @@
 -- the settings were moved, or not
+use Rattle.session.proofs.OwesLemmas.{move-owes}
 use Rattle.std.proofs.Common.{Ok, Err, ap, refl, sym, ◌∙◌, ◌-◌}
 use Rattle.std.proofs.lemmas.Bool.{false≢true}
 use Rattle.flash_map.specs.Area.{geometry_of, sectors_of}
@@ -80,3 +81,12 @@ returns-in-None-clause-stops g c =
     (ap g.K.Backend.mounted_on c.backend.ensures ∙ at_active c.args.map.now (g.B.Flash.device c.args.bench.now) c.args.active.now (g.K.Backend.mounted_on c.args.settings.now.backend) c.requires.ready.is_active c.requires.ready.there)
     c.in-Err.is c.requires.ready.selects.selected c.migrate-end.ensures.touches c.migrate-end.ensures.map c.migrate-end.ensures.ends c.migrate-end.ensures.at_most c.migrate-end.ensures.once.0 in
     begins_by g.K.Backend.mounted_on g.K.Backend.damage g.K.Backend.contents g.K.Backend.room g.K.Backend.chance g.K.Backend.tears c.args.map.now c.args.selector.now.ring.area (g.B.Flash.device c.args.bench.now) (g.B.Flash.device c.migrate-end.new.flash) c.in-Err.fault (c.spent.result - c.spent-before.result) c.answer_to.result c.answer_to.ensures c.in-None.is m
+
+pub returns-in-Ok-clause-left : goal.returns-in-Ok-clause-left
+returns-in-Ok-clause-left g c = move-owes g.K.Backend.owes c.args.map.now g.K.Backend.rests g.met.K.Backend.rests_owe g.K.Backend.boot_units (g.B.Flash.device c.args.bench.now) (g.B.Flash.device c.migrate-end.new.flash) c.args.selector.now.ring.area c.requires.ready.selects.selected c.migrate-end.ensures.rests
+
+pub returns-in-Some-clause-left : goal.returns-in-Some-clause-left
+returns-in-Some-clause-left g c = move-owes g.K.Backend.owes c.args.map.now g.K.Backend.rests g.met.K.Backend.rests_owe g.K.Backend.boot_units (g.B.Flash.device c.args.bench.now) (g.B.Flash.device c.migrate-end.new.flash) c.args.selector.now.ring.area c.requires.ready.selects.selected c.migrate-end.ensures.rests
+
+pub returns-in-None-clause-left : goal.returns-in-None-clause-left
+returns-in-None-clause-left g c = move-owes g.K.Backend.owes c.args.map.now g.K.Backend.rests g.met.K.Backend.rests_owe g.K.Backend.boot_units (g.B.Flash.device c.args.bench.now) (g.B.Flash.device c.migrate-end.new.flash) c.args.selector.now.ring.area c.requires.ready.selects.selected c.migrate-end.ensures.rests

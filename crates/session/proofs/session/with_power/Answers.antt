@@ -1,4 +1,5 @@
 -- each line is carried out by the function for it
+use Rattle.std.proofs.lemmas.Bool.{false≢true}
 use Rattle.std.proofs.Common.{◌≡◌, ◌≤◌, ◌∙◌, ℕ, length, refl, ap, subst, sym}
 use Rattle.flash_map.specs.declared.area.Area.{Area}
 use Rattle.flash_map.specs.Area.{value_limit}
@@ -14,6 +15,7 @@ use Rattle.session.proofs.session.with_power.Goals as goal
 pub returns-in-Set : goal.returns-in-Set
 returns-in-Set g c = record {
   done = beside_done (meanings g.K.Backend.contents g.K.Backend.room g.K.Backend.chance g.K.Backend.tears) c.args.map.now c.args.line.now _ (g.B.Flash.device c.args.bench.now) (g.B.Flash.device c.set_setting.new.bench) _ _ c.in-Set.is c.set_setting.result c.set_setting.ensures.done;
+  left = c.set_setting.ensures.left;
   stays = c.set_setting.ensures.stays;
   handlers = c.requires.handlers;
   sound = λ none. c.set_setting.ensures.sound;
@@ -24,6 +26,7 @@ returns-in-Set g c = record {
 pub returns-in-Del : goal.returns-in-Del
 returns-in-Del g c = record {
   done = beside_done (meanings g.K.Backend.contents g.K.Backend.room g.K.Backend.chance g.K.Backend.tears) c.args.map.now c.args.line.now _ (g.B.Flash.device c.args.bench.now) (g.B.Flash.device c.delete_setting.new.bench) _ _ c.in-Del.is c.delete_setting.result c.delete_setting.ensures.done;
+  left = c.delete_setting.ensures.left;
   stays = c.delete_setting.ensures.stays;
   handlers = c.requires.handlers;
   sound = λ none. c.delete_setting.ensures.sound;
@@ -34,6 +37,7 @@ returns-in-Del g c = record {
 pub returns-in-Get : goal.returns-in-Get
 returns-in-Get g c = record {
   done = beside_if (meanings g.K.Backend.contents g.K.Backend.room g.K.Backend.chance g.K.Backend.tears) c.args.map.now c.args.line.now _ (g.B.Flash.device c.args.bench.now) (g.B.Flash.device c.args.bench.now) _ _ c.in-Get.is c.get_setting.result c.get_setting.ensures;
+  left = λ dark. absurd (false≢true (sym dark ∙ c.requires.here.powered));
   stays = record {
     mounted = c.requires.here.mounted;
     up = λ powered. c.requires.here.up;
@@ -48,6 +52,7 @@ returns-in-Get g c = record {
 pub returns-in-Direct : goal.returns-in-Direct
 returns-in-Direct g c = record {
   done = beside_if (meanings g.K.Backend.contents g.K.Backend.room g.K.Backend.chance g.K.Backend.tears) c.args.map.now c.args.line.now _ (g.B.Flash.device c.args.bench.now) (g.B.Flash.device c.args.bench.now) _ _ c.in-Direct.is c.report_settings.result c.report_settings.ensures;
+  left = λ dark. absurd (false≢true (sym dark ∙ c.requires.here.powered));
   stays = record {
     mounted = c.requires.here.mounted;
     up = λ powered. c.requires.here.up;
@@ -62,6 +67,7 @@ returns-in-Direct g c = record {
 pub returns-in-Names : goal.returns-in-Names
 returns-in-Names g c = record {
   done = beside_if (meanings g.K.Backend.contents g.K.Backend.room g.K.Backend.chance g.K.Backend.tears) c.args.map.now c.args.line.now _ (g.B.Flash.device c.args.bench.now) (g.B.Flash.device c.args.bench.now) _ _ c.in-Names.is c.report_all.result c.report_all.ensures;
+  left = λ dark. absurd (false≢true (sym dark ∙ c.requires.here.powered));
   stays = record {
     mounted = c.requires.here.mounted;
     up = λ powered. c.requires.here.up;

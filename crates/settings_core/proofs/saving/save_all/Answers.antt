@@ -1,4 +1,4 @@
-use Rattle.std.proofs.Common.{◌≡◌, ◌+◌, ◌<◌, ◌≤◌, List, Ok, Err, length, drop, option_map, refl, sym, subst, arith}
+use Rattle.std.proofs.Common.{◌≡◌, ◌+◌, ◌<◌, ◌≤◌, List, Ok, Err, length, drop, option_map, refl, sym, subst, arith, true≢false}
 use Rattle.std.proofs.lemmas.List.{length-map}
 use Rattle.flash_sim.specs.Device.{Device}
 use Rattle.flash_sim.specs.declared.flash.Bank.{Bank}
@@ -35,20 +35,20 @@ loop-i-preserved g c =
     subst (λ (l : List Command). CarriesOn {T = Unit {0}} g.K.Backend.mounted_on g.K.Backend.stands g.K.Backend.runs g.K.Backend.damage g.K.Backend.room g.K.Backend.contents g.K.Backend.chance g.K.Backend.tears (g.K.Backend.mounted_on c.args.backend.now)
     c.save_at.new.backend (g.F.Flash.device c.args.flash.now) (g.F.Flash.device c.save_at.new.flash) l c.args.pairs.now c.save_at.new.pairs (Ok tt))
     (handlers_more (option_map (λ name. name.now) c.args.subtree) handlers c.loop-i.i lt)
-    (carries_on c.loop-i.invariant c.in-Ok.ensures)
+    (carries_on c.loop-i.invariant c.in-Ok.ensures.carries)
 
-pub returns-in-Err : goal.returns-in-Err
-returns-in-Err g c =
+pub returns-in-Err-clause-carries : goal.returns-in-Err-clause-carries
+returns-in-Err-clause-carries g c =
     let handlers = registered (λ b. (goal.Handler-dyn g (b.vtable, b.value)).state b.value) c.args.registry.now in
     let key = option_map (λ name. name.now) c.args.subtree in
     let lt : c.loop-i.i < length handlers = subst (λ n. c.loop-i.i < n) c.len.ensures c.loop-i-test.true in
     subst (λ (l : List Command). CarriesOn {T = Unit {0}} g.K.Backend.mounted_on g.K.Backend.stands g.K.Backend.runs g.K.Backend.damage g.K.Backend.room g.K.Backend.contents g.K.Backend.chance g.K.Backend.tears (g.K.Backend.mounted_on c.args.backend.now)
     c.save_at.new.backend (g.F.Flash.device c.args.flash.now) (g.F.Flash.device c.save_at.new.flash) l c.args.pairs.now c.save_at.new.pairs (Err c.in-Err.fault))
     (handlers_rest key handlers c.loop-i.i lt)
-    (stops_more (puts_of (exported key (drop (c.loop-i.i + 1) handlers))) (carries_on c.loop-i.invariant c.in-Err.ensures))
+    (stops_more (puts_of (exported key (drop (c.loop-i.i + 1) handlers))) (carries_on c.loop-i.invariant c.in-Err.ensures.carries))
 
-pub returns : goal.returns
-returns g c =
+pub returns-clause-carries : goal.returns-clause-carries
+returns-clause-carries g c =
     let handlers = registered (λ b. (goal.Handler-dyn g (b.vtable, b.value)).state b.value) c.args.registry.now in
     let key = option_map (λ name. name.now) c.args.subtree in
     let past : length handlers ≤ c.loop-i.i = subst (λ n. n ≤ c.loop-i.i) c.len.ensures c.loop-i-test.false in
@@ -66,3 +66,9 @@ loop-i-smaller g c =
 
 pub overflow_add-i : goal.overflow_add-i
 overflow_add-i g c = omega (arith, c.loop-i-test.true, c.len.type_inv)
+
+pub returns-in-Err-clause-owes : goal.returns-in-Err-clause-owes
+returns-in-Err-clause-owes g c = c.in-Err.ensures.owes
+
+pub returns-clause-owes : goal.returns-clause-owes
+returns-clause-owes g c lost = absurd (true≢false (sym lost))

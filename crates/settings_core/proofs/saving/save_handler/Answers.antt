@@ -1,4 +1,4 @@
-use Rattle.std.proofs.Common.{◌+◌, List, Ok, Err, ap, sym, subst, ◌∙◌, refl, arith, drop}
+use Rattle.std.proofs.Common.{◌+◌, List, Ok, Err, ap, sym, subst, ◌∙◌, refl, arith, drop, true≢false}
 use Rattle.std.specs.Prelude.{option_map}
 use Rattle.flash_sim.specs.Device.{Device}
 use Rattle.flash_sim.specs.declared.flash.Bank.{Bank}
@@ -47,20 +47,26 @@ loop-rest-preserved g c =
     subst (λ (l : List Command). CarriesOn {T = Unit {0}} g.K.Backend.mounted_on g.K.Backend.stands g.K.Backend.runs g.K.Backend.damage g.K.Backend.room g.K.Backend.contents g.K.Backend.chance g.K.Backend.tears (g.K.Backend.mounted_on c.args.backend.now)
     c.save_pair.new.backend (g.F.Flash.device c.args.flash.now) (g.F.Flash.device c.save_pair.new.flash) l c.args.pairs.now c.save_pair.new.pairs (Ok tt))
     (puts_more c.args.subtree.now held c.loop-rest.i c.in-Some.rest.now c.in-Some.value.now (sym c.export_at.ensures.0 ∙ ap (option_map seen) c.in-Some.is))
-    (carries_on c.loop-rest.invariant c.in-Ok.ensures)
+    (carries_on c.loop-rest.invariant c.in-Ok.ensures.carries)
 
-pub returns-in-Err : goal.returns-in-Err
-returns-in-Err g c =
+pub returns-in-Err-clause-carries : goal.returns-in-Err-clause-carries
+returns-in-Err-clause-carries g c =
     let held = ((goal.Handler-dyn g c.args.handler.now).state c.args.handler.now.1).held in
     subst (λ (l : List Command). CarriesOn {T = Unit {0}} g.K.Backend.mounted_on g.K.Backend.stands g.K.Backend.runs g.K.Backend.damage g.K.Backend.room g.K.Backend.contents g.K.Backend.chance g.K.Backend.tears (g.K.Backend.mounted_on c.args.backend.now)
     c.save_pair.new.backend (g.F.Flash.device c.args.flash.now) (g.F.Flash.device c.save_pair.new.flash) l c.args.pairs.now c.save_pair.new.pairs (Err c.in-Err.refusal))
     (puts_rest c.args.subtree.now held c.loop-rest.i c.in-Some.rest.now c.in-Some.value.now (sym c.export_at.ensures.0 ∙ ap (option_map seen) c.in-Some.is))
-    (stops_more (puts_of (drop (c.loop-rest.i + 1) (pairs_of c.args.subtree.now held))) (carries_on c.loop-rest.invariant c.in-Err.ensures))
+    (stops_more (puts_of (drop (c.loop-rest.i + 1) (pairs_of c.args.subtree.now held))) (carries_on c.loop-rest.invariant c.in-Err.ensures.carries))
 
-pub returns : goal.returns
-returns g c =
+pub returns-clause-carries : goal.returns-clause-carries
+returns-clause-carries g c =
     let held = ((goal.Handler-dyn g c.args.handler.now).state c.args.handler.now.1).held in
     subst (λ (l : List Command). CarriesOn {T = Unit {0}} g.K.Backend.mounted_on g.K.Backend.stands g.K.Backend.runs g.K.Backend.damage g.K.Backend.room g.K.Backend.contents g.K.Backend.chance g.K.Backend.tears (g.K.Backend.mounted_on c.args.backend.now)
     c.loop-rest.backend (g.F.Flash.device c.args.flash.now) (g.F.Flash.device c.loop-rest.flash) l c.args.pairs.now c.loop-rest.pairs (Ok tt))
     (puts_all c.args.subtree.now held c.loop-rest.i (sym c.export_at.ensures.0 ∙ ap (option_map seen) c.in_default.is))
     c.loop-rest.invariant
+
+pub returns-in-Err-clause-owes : goal.returns-in-Err-clause-owes
+returns-in-Err-clause-owes g c = c.in-Err.ensures.owes
+
+pub returns-clause-owes : goal.returns-clause-owes
+returns-clause-owes g c lost = absurd (true≢false (sym lost))

@@ -7,7 +7,7 @@ use Rattle.backend_api.specs.Commands.Command.{Put}
 use Rattle.flash_map.specs.On.{on}
 use Rattle.settings_core.specs.Carrying.{due_units, CarryEndsOn, save_lost}
 use Rattle.settings_core.specs.declared.writing.SaveFault.{SaveFault}
-use Rattle.settings_core.proofs.CallLemmas.{spends_nothing}
+use Rattle.settings_core.proofs.CallLemmas.{leaves_boot, spends_nothing}
 use Rattle.settings_core.proofs.CarryLemmas.{idle_ends, set_done, set_refused, fault_lost}
 use Rattle.settings_core.proofs.UnitLemmas.{one_due}
 use Rattle.settings_core.proofs.writing.put.Goals as goal
@@ -27,6 +27,7 @@ returns-then-is_stored g c = record {
       let d = g.F.Flash.device c.args.flash.now in
       g.met.K.Backend.stands_reads c.args.backend.now (geometry_of d area) (sectors_of d area) c.requires.stands;
   stands = λ kept. c.requires.stands;
+  owes = λ lost. absurd (true≢false (sym lost));
   down = λ lost. absurd (true≢false (sym lost));
 }
 
@@ -41,9 +42,10 @@ returns-in-Ok g c = record {
   area = c.in-Ok.ensures.area;
   at_most = let area = g.K.Backend.mounted_on c.args.backend.now in
       let d = g.F.Flash.device c.args.flash.now in
-      one_due d (g.F.Flash.device c.set.new.flash) (geometry_of d area) (on g.K.Backend.contents d area) (Put c.args.name.now c.args.value.now) (sym c.is_stored.ensures ∙ c.if-is_stored.false) c.in-Ok.ensures.at_most;
+      one_due d (g.F.Flash.device c.set.new.flash) (geometry_of d area) (on g.K.Backend.contents d area) (Put c.args.name.now c.args.value.now) (sym c.is_stored.ensures ∙ c.if-is_stored.false) c.in-Ok.ensures.units.at_most;
   sound = c.in-Ok.ensures.sound;
   stands = c.in-Ok.ensures.stands;
+  owes = λ lost. absurd (true≢false (sym lost));
   down = λ lost. absurd (true≢false (sym lost));
 }
 
@@ -59,9 +61,13 @@ returns-in-Err g c = record {
   area = c.in-Err.ensures.area;
   at_most = let area = g.K.Backend.mounted_on c.args.backend.now in
       let d = g.F.Flash.device c.args.flash.now in
-      one_due d (g.F.Flash.device c.set.new.flash) (geometry_of d area) (on g.K.Backend.contents d area) (Put c.args.name.now c.args.value.now) (sym c.is_stored.ensures ∙ c.if-is_stored.false) c.in-Err.ensures.at_most;
+      one_due d (g.F.Flash.device c.set.new.flash) (geometry_of d area) (on g.K.Backend.contents d area) (Put c.args.name.now c.args.value.now) (sym c.is_stored.ensures ∙ c.if-is_stored.false) c.in-Err.ensures.units.at_most;
   sound = c.in-Err.ensures.sound;
   stands = λ kept. c.in-Err.ensures.stands (sym (ap (λ (f : SaveFault). save_lost {T = Bool} (Err f)) c.fault_of.ensures ∙ fault_lost Bool (Unit {0}) c.in-Err.fault) ∙ kept);
+  owes = λ lost.
+      let area = g.K.Backend.mounted_on c.args.backend.now in
+      leaves_boot g.K.Backend.owes g.K.Backend.boot_units (g.F.Flash.device c.args.flash.now) (g.F.Flash.device c.set.new.flash) area (g.K.Backend.mounted_on c.set.new.self) c.in-Err.ensures.touches.banks c.in-Err.ensures.area
+      (c.in-Err.ensures.units.owes (sym (ap (λ (f : SaveFault). save_lost {T = Bool} (Err f)) c.fault_of.ensures ∙ fault_lost Bool (Unit {0}) c.in-Err.fault) ∙ lost));
   down = λ lost. c.in-Err.ensures.down (sym (ap (λ (f : SaveFault). save_lost {T = Bool} (Err f)) c.fault_of.ensures ∙ fault_lost Bool (Unit {0}) c.in-Err.fault) ∙ lost);
 }
 

@@ -10,6 +10,7 @@ use Rattle.backend_api.specs.declared.backend.SetFault.{SetFault}
 use Rattle.backend_api.specs.declared.backend.SetFault.TheVariants.{NoSpace as SetNoSpace, TooManyNames as SetTooMany, PowerLost as SetLost}
 use Rattle.flash_map.specs.On.{on}
 use Rattle.settings_core.specs.Carrying.{is_idle}
+use Rattle.settings_core.proofs.CallLemmas.{leaves_boot}
 use Rattle.settings_core.proofs.CarryLemmas.{idle_ends, set_ends, set_full, set_cut, set_refused}
 use Rattle.settings_core.proofs.writing.store.Goals as goal
 
@@ -22,9 +23,10 @@ returns-in-Ok g c = record {
       (λ same. ap (λ (x : Device). on g.K.Backend.contents x area) same) c.in-Ok.ensures.ends;
   touches = c.in-Ok.ensures.touches;
   area = c.in-Ok.ensures.area;
-  at_most = c.in-Ok.ensures.at_most;
+  at_most = c.in-Ok.ensures.units.at_most;
   sound = c.in-Ok.ensures.sound;
   stands = c.in-Ok.ensures.stands;
+  owes = λ lost. absurd (true≢false (sym lost));
   down = λ lost. absurd (true≢false (sym lost));
 }
 
@@ -45,9 +47,10 @@ returns-then-is_stored g c = record {
       );
   touches = subst (λ lost. Touches (g.K.Backend.mounted_on c.args.backend.now ∷ []) (g.F.Flash.device c.args.flash.now) (g.F.Flash.device c.set.new.flash) lost) (ap (λ (f : SetFault). set_lost {T = Unit {0}} (Err f)) c.in-Err-TooManyNames.field-0-is) c.in-Err-TooManyNames.ensures.touches;
   area = c.in-Err-TooManyNames.ensures.area;
-  at_most = c.in-Err-TooManyNames.ensures.at_most;
+  at_most = c.in-Err-TooManyNames.ensures.units.at_most;
   sound = c.in-Err-TooManyNames.ensures.sound;
   stands = λ kept. c.in-Err-TooManyNames.ensures.stands (ap (λ (f : SetFault). set_lost {T = Unit {0}} (Err f)) c.in-Err-TooManyNames.field-0-is);
+  owes = λ lost. absurd (true≢false (sym lost));
   down = λ lost. absurd (true≢false (sym lost));
 }
 
@@ -68,9 +71,10 @@ returns-else-is_stored g c = record {
       );
   touches = subst (λ lost. Touches (g.K.Backend.mounted_on c.args.backend.now ∷ []) (g.F.Flash.device c.args.flash.now) (g.F.Flash.device c.set.new.flash) lost) (ap (λ (f : SetFault). set_lost {T = Unit {0}} (Err f)) c.in-Err-TooManyNames.field-0-is) c.in-Err-TooManyNames.ensures.touches;
   area = c.in-Err-TooManyNames.ensures.area;
-  at_most = c.in-Err-TooManyNames.ensures.at_most;
+  at_most = c.in-Err-TooManyNames.ensures.units.at_most;
   sound = c.in-Err-TooManyNames.ensures.sound;
   stands = λ kept. c.in-Err-TooManyNames.ensures.stands (ap (λ (f : SetFault). set_lost {T = Unit {0}} (Err f)) c.in-Err-TooManyNames.field-0-is);
+  owes = λ lost. absurd (true≢false (sym lost));
   down = λ lost. absurd (true≢false (sym lost));
 }
 
@@ -84,9 +88,10 @@ returns-in-Err-NoSpace g c = record {
       c.in-Err-NoSpace.need c.in-Err-NoSpace.live ends (λ same. ap (λ (x : Device). on g.K.Backend.contents x area) same);
   touches = subst (λ lost. Touches (g.K.Backend.mounted_on c.args.backend.now ∷ []) (g.F.Flash.device c.args.flash.now) (g.F.Flash.device c.set.new.flash) lost) (ap (λ (f : SetFault). set_lost {T = Unit {0}} (Err f)) c.in-Err-NoSpace.field-0-is) c.in-Err-NoSpace.ensures.touches;
   area = c.in-Err-NoSpace.ensures.area;
-  at_most = c.in-Err-NoSpace.ensures.at_most;
+  at_most = c.in-Err-NoSpace.ensures.units.at_most;
   sound = c.in-Err-NoSpace.ensures.sound;
   stands = λ kept. c.in-Err-NoSpace.ensures.stands (ap (λ (f : SetFault). set_lost {T = Unit {0}} (Err f)) c.in-Err-NoSpace.field-0-is);
+  owes = λ lost. absurd (true≢false (sym lost));
   down = λ lost. absurd (true≢false (sym lost));
 }
 
@@ -100,9 +105,13 @@ returns-in-Err-PowerLost g c = record {
       ends (λ on. c.in-Err-PowerLost.ensures.cut on (ap (λ (f : SetFault). set_lost {T = Unit {0}} (Err f)) c.in-Err-PowerLost.field-0-is)) (λ same. ap (λ (x : Device). on g.K.Backend.contents x area) same);
   touches = subst (λ lost. Touches (g.K.Backend.mounted_on c.args.backend.now ∷ []) (g.F.Flash.device c.args.flash.now) (g.F.Flash.device c.set.new.flash) lost) (ap (λ (f : SetFault). set_lost {T = Unit {0}} (Err f)) c.in-Err-PowerLost.field-0-is) c.in-Err-PowerLost.ensures.touches;
   area = c.in-Err-PowerLost.ensures.area;
-  at_most = c.in-Err-PowerLost.ensures.at_most;
+  at_most = c.in-Err-PowerLost.ensures.units.at_most;
   sound = c.in-Err-PowerLost.ensures.sound;
   stands = λ kept. absurd (true≢false kept);
+  owes = λ lost.
+      let area = g.K.Backend.mounted_on c.args.backend.now in
+      leaves_boot g.K.Backend.owes g.K.Backend.boot_units (g.F.Flash.device c.args.flash.now) (g.F.Flash.device c.set.new.flash) area (g.K.Backend.mounted_on c.set.new.self) c.in-Err-PowerLost.ensures.touches.banks c.in-Err-PowerLost.ensures.area
+      (c.in-Err-PowerLost.ensures.units.owes (ap (λ (f : SetFault). set_lost {T = Unit {0}} (Err f)) c.in-Err-PowerLost.field-0-is));
   down = λ lost. c.in-Err-PowerLost.ensures.down (ap (λ (f : SetFault). set_lost {T = Unit {0}} (Err f)) c.in-Err-PowerLost.field-0-is);
 }
 

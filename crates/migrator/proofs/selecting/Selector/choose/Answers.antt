@@ -1,3 +1,5 @@
+use Rattle.std.proofs.Common.{◌≤◌}
+use Rattle.fcb_ring.specs.Standing.{erases_on}
 use Rattle.migrator.proofs.Spent.{choice-full, choice-put}
 use Rattle.flash_sim.specs.Device.{Device}
 use Rattle.std.proofs.Common.{◌≡◌, [], ◌∷◌, true, Result, Err, sym, ap, subst, inl, ◌∙◌}
@@ -99,3 +101,15 @@ returns-in-Err-Full-clause-ends g c =
     (c.in-Err-Full.is ∙ ap (λ (x : AppendFault). Err x) c.in-Err-Full.field-0-is) (c.put_choice.ensures.ends c.args.map.now c.requires.store) in
     subst (λ (d : Device). ChooseEnds c.args.map.now d (g.F.Flash.device c.collect_and_put.new.flash) c.args.self.now.ring c.collect_and_put.new.ring c.args.index c.collect_and_put.result) full.2
     (subst (λ (r : Ring). ChooseEnds c.args.map.now (g.F.Flash.device c.put_choice.new.flash) (g.F.Flash.device c.collect_and_put.new.flash) r c.collect_and_put.new.ring c.args.index c.collect_and_put.result) full.3 c.collect_and_put.ensures.ends)
+
+pub returns-in-Ok-clause-left : goal.returns-in-Ok-clause-left
+returns-in-Ok-clause-left g c = c.put_choice.ensures.left
+
+pub returns-in-Err-PowerLost-clause-left : goal.returns-in-Err-PowerLost-clause-left
+returns-in-Err-PowerLost-clause-left g c = c.put_choice.ensures.left
+
+pub returns-in-Err-Full-clause-left : goal.returns-in-Err-Full-clause-left
+returns-in-Err-Full-clause-left g c =
+    let full = put-full c.args.map.now (g.F.Flash.device c.args.flash.now) (g.F.Flash.device c.put_choice.new.flash) c.args.self.now.ring c.put_choice.new.ring c.args.index c.put_choice.result
+    (c.in-Err-Full.is ∙ ap (λ (x : AppendFault). Err x) c.in-Err-Full.field-0-is) (c.put_choice.ensures.ends c.args.map.now c.requires.store) in
+    subst (λ (r : Ring). erases_on (g.F.Flash.device c.collect_and_put.new.flash) r.area ≤ 1) full.3 c.collect_and_put.ensures.left

@@ -1,3 +1,4 @@
+use Rattle.std.proofs.Common.{arith}
 use Rattle.std.proofs.Common.{◌≡◌, true, false, refl, rules}
 use Rattle.script_lines.specs.declared.line.Line.TheVariants.{Migrate}
 use Rattle.script_lines.specs.declared.answer.Answer.TheVariants.{Off}
@@ -67,3 +68,33 @@ returns-else-is_local-clause-moves g c =
     let local : is_local c.args.line.now ≡ false = search rules in
     none_left (λ b. (goal.Handler-dyn g (b.vtable, b.value)).state b.value) c.args.line.now c.migrate.result c.args.pool.now.items c.args.registry.now
     (moves_as (λ b. (goal.Handler-dyn g (b.vtable, b.value)).state b.value) c.args.pool.now.items c.args.registry.now c.args.registry.now c.args.line.now Migrate c.migrate.result (not_local c.args.line.now needs local) (λ answer. (refl, refl)))
+
+pub returns-then-not-needs_power-clause-boots : goal.returns-then-not-needs_power-clause-boots
+returns-then-not-needs_power-clause-boots g c = c.without_power.ensures.boots
+
+pub returns-then-not-needs_power-clause-left : goal.returns-then-not-needs_power-clause-left
+returns-then-not-needs_power-clause-left g c most limit owes = c.without_power.ensures.left most (omega arith) owes
+
+pub returns-then-not-is_on-clause-boots : goal.returns-then-not-is_on-clause-boots
+returns-then-not-is_on-clause-boots g c is =
+    let needs : needs_power c.args.line.now ≡ true = search rules in
+    absurd (mount_needs_none c.args.line.now needs is)
+
+pub returns-then-not-is_on-clause-left : goal.returns-then-not-is_on-clause-left
+returns-then-not-is_on-clause-left g c most limit owes = owes
+
+pub returns-then-is_local-clause-boots : goal.returns-then-is_local-clause-boots
+returns-then-is_local-clause-boots g c is =
+    let local : is_local c.args.line.now ≡ true = search rules in
+    absurd (mount_not_local c.args.line.now local is)
+
+pub returns-then-is_local-clause-left : goal.returns-then-is_local-clause-left
+returns-then-is_local-clause-left g c = c.on_active.ensures.left
+
+pub returns-else-is_local-clause-boots : goal.returns-else-is_local-clause-boots
+returns-else-is_local-clause-boots g c is =
+    let needs : needs_power c.args.line.now ≡ true = search rules in
+    absurd (mount_needs_none c.args.line.now needs is)
+
+pub returns-else-is_local-clause-left : goal.returns-else-is_local-clause-left
+returns-else-is_local-clause-left g c = c.migrate.ensures.left

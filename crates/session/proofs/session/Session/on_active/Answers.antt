@@ -1,3 +1,6 @@
+use Rattle.session.proofs.OwesLemmas.{local-owes, owes-same}
+use Rattle.session.proofs.ReadyLemmas.{ready_rests}
+use Rattle.session.specs.Owing.{map_boot}
 use Rattle.std.proofs.Common.{◌≡◌, ◌∙◌, ℕ, Bool, List, Option, Some, None, Err, true, refl, sym, subst}
 use Rattle.std.proofs.lemmas.Bool.{false≢true}
 use Rattle.std.proofs.lemmas.Option.{slice_get_within}
@@ -73,3 +76,22 @@ returns-in-Err-clause-stops g c = stops_unchanged (meanings g.K.Backend.contents
 
 pub returns-in-Ok-clause-moves : goal.returns-in-Ok-clause-moves
 returns-in-Ok-clause-moves g c = c.in-Ok.ensures.moves
+
+pub returns-in-Ok-clause-left : goal.returns-in-Ok-clause-left
+returns-in-Ok-clause-left g c =
+    let areas : List Area = c.args.map.now in
+    let d : Device = g.B.Flash.device c.args.bench.now in
+    let e : Device = g.B.Flash.device c.with_power.new.bench in
+    let selector = c.args.self.now.selector in
+    let active = c.args.self.now.active in
+    let was = ready_some g.K.Backend.mounted_on g.K.Backend.stands g.K.Backend.runs areas d selector active c.args.self.now.settings c.in-Some.settings c.in-Some.is c.requires.on c.requires.ready in
+    let outside = outside_local (meanings g.K.Backend.contents g.K.Backend.room g.K.Backend.chance g.K.Backend.tears) areas c.args.line.now c.in-Ok.answer d e _ _ _ _ c.requires.local c.in-Ok.ensures.done in
+    local-owes g.K.Backend.owes areas g.K.Backend.rests g.met.K.Backend.rests_owe g.K.Backend.boot_units g.K.Backend.serves d e c.area_at-area.result c.requires.map (g.met.B.Flash.is_lawful c.args.bench.now) (g.met.B.Flash.is_lawful c.with_power.new.bench)
+    c.in-Ok.ensures.done.done.keeps.banks outside (at_active areas d active c.area_at-area.result was.is_active c.area_at-area.ensures)
+    (ready_rests g.K.Backend.mounted_on g.K.Backend.stands g.K.Backend.runs g.K.Backend.rests g.met.K.Backend.stands_rests areas d selector active c.args.self.now.settings c.requires.ready c.requires.on) c.with_power.ensures.left
+    (ready_rests g.K.Backend.mounted_on g.K.Backend.stands g.K.Backend.runs g.K.Backend.rests g.met.K.Backend.stands_rests areas e selector active (Some c.with_power.new.settings) (returns-in-Ok-clause-ready g c))
+
+pub returns-in-Err-clause-left : goal.returns-in-Err-clause-left
+returns-in-Err-clause-left g c =
+    let d : Device = g.B.Flash.device c.args.bench.now in
+    owes-same g.K.Backend.owes c.args.map.now (map_boot g.K.Backend.boot_units d.banks c.args.map.now) d (g.B.Flash.device c.with_power.new.bench) c.in-Err.ensures.stops.same

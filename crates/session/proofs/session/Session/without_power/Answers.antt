@@ -1,3 +1,5 @@
+use Rattle.std.proofs.Common.{◌∙◌}
+use Rattle.session.proofs.OwesLemmas.{owes-planned}
 use Rattle.std.proofs.Common.{sym, subst}
 use Rattle.std.specs.Prelude.{IfOk}
 use Rattle.script_lines.specs.declared.line.Line.{Line}
@@ -35,3 +37,21 @@ returns-in-Uncut-clause-undamaged g c =
 pub returns-in-Uncut-clause-ready : goal.returns-in-Uncut-clause-ready
 returns-in-Uncut-clause-ready g c =
     ready_planned g.K.Backend.mounted_on g.K.Backend.stands g.K.Backend.runs g.K.Backend.damage c.args.map.now (g.B.Flash.device c.args.bench.now) (g.B.Flash.device c.drop_plan.new.bench).plan (g.B.Flash.device c.drop_plan.new.bench) c.args.self.now.selector c.args.self.now.active c.args.self.now.settings c.drop_plan.ensures.same c.requires.ready
+
+pub returns-in-Mount-clause-boots : goal.returns-in-Mount-clause-boots
+returns-in-Mount-clause-boots g c is = c.mount.ensures.boots
+
+pub returns-in-Mount-clause-left : goal.returns-in-Mount-clause-left
+returns-in-Mount-clause-left g c = c.mount.ensures.left
+
+pub returns-in-Cut-clause-boots : goal.returns-in-Cut-clause-boots
+returns-in-Cut-clause-boots g c is = absurd (cut_is_none c.in-Cut.units (sym c.in-Cut.is ∙ is))
+
+pub returns-in-Cut-clause-left : goal.returns-in-Cut-clause-left
+returns-in-Cut-clause-left g c = owes-planned g.K.Backend.owes c.args.map.now (g.B.Flash.device c.args.bench.now) (g.B.Flash.device c.plan_loss.new.bench) c.plan_loss.ensures.same
+
+pub returns-in-Uncut-clause-boots : goal.returns-in-Uncut-clause-boots
+returns-in-Uncut-clause-boots g c is = absurd (uncut_is_none (sym c.in-Uncut.is ∙ is))
+
+pub returns-in-Uncut-clause-left : goal.returns-in-Uncut-clause-left
+returns-in-Uncut-clause-left g c = owes-planned g.K.Backend.owes c.args.map.now (g.B.Flash.device c.args.bench.now) (g.B.Flash.device c.drop_plan.new.bench) c.drop_plan.ensures.same

@@ -14,6 +14,7 @@ returns-then-not-is_up g c = record {
       spends_nothing d (command_units (geometry_of d (g.K.Backend.mounted_on c.args.self.now.backend)));
   sound = λ up. absurd (true≢false (sym up ∙ sym c.is_up.ensures ∙ c.if-not-is_up.true));
   stands = c.requires.stands;
+  owes = λ lost. absurd (true≢false (sym lost));
   down = λ lost. absurd (true≢false (sym lost));
   up = λ kept. refl;
 }
@@ -32,6 +33,7 @@ returns-in-Ok g c = record {
   at_most = c.in-Ok.ensures.at_most;
   sound = λ up. c.in-Ok.ensures.sound;
   stands = λ up. c.in-Ok.ensures.stands refl;
+  owes = λ lost. absurd (true≢false (sym lost));
   down = λ lost. absurd (true≢false (sym lost));
   up = λ kept.
       let area = g.K.Backend.mounted_on c.remove.new.backend in
@@ -47,6 +49,7 @@ returns-in-Err g c = record {
   at_most = c.in-Err.ensures.at_most;
   sound = λ up. c.in-Err.ensures.sound;
   stands = λ up. absurd (true≢false (sym up ∙ c.in-Err.ensures.down refl));
+  owes = λ lost. c.in-Err.ensures.owes refl;
   down = λ lost. c.in-Err.ensures.down refl;
   up = λ kept. absurd (true≢false kept);
 }

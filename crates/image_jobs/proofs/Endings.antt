@@ -1,5 +1,5 @@
 -- How a job ends, from how its lines ended on a bench that was just loaded.
-use Rattle.std.proofs.Common.{◌≡◌, ◌⊎◌, ℕ, true, List, ◌∷◌, map, Option, Some, None, Err, inl, inr, refl, sym, ap, subst, ◌∙◌}
+use Rattle.std.proofs.Common.{◌≡◌, ◌⊎◌, ◌≤◌, ℕ, true, List, ◌∷◌, map, Option, Some, None, Err, inl, inr, refl, sym, ap, subst, ◌∙◌}
 use Rattle.std.proofs.lemmas.Option.{none-some}
 use Rattle.flash_sim.specs.Device.{Device}
 use Rattle.flash_sim.specs.declared.flash.Bank.{Bank}
@@ -15,9 +15,10 @@ use Rattle.image_file.specs.Format.{Plain, image_on, plain_area, version_of}
 use Rattle.session_table.specs.Bench.{area_at, state_of}
 use Rattle.session.specs.declared.fault.SessionFault.{SessionFault}
 use Rattle.session.specs.declared.fault.SessionFault.TheVariants.{Damaged as IsDamaged, NoMemory as WantsMemory}
+use Rattle.session.specs.Owing.{MountsWithin, OwesOnMap, map_boot}
 use Rattle.session.specs.OnMap.{IsAtRest, Ran, RunStops, damage_in, limit_of, moment}
 use Rattle.image_jobs.specs.declared.jobs.Job.{Job}
-use Rattle.image_jobs.specs.Images.{ReadsAs, begun, damage_of, left, settings_of}
+use Rattle.image_jobs.specs.Images.{OwesOf, ReadsAs, begun, damage_of, left, settings_of}
 use Rattle.image_jobs.specs.Inputs.{BeginsWith, GivesLines, counts_settings, out_of, reported_by}
 use Rattle.image_jobs.specs.declared.stops.Refusal.TheVariants.{BadSpec, NoFile, BadFile, NoLog, NoItems, NoMirror, BadArea, Unfit, BadScript}
 use Rattle.image_jobs.specs.declared.stops.Stop.{Stop}
@@ -25,7 +26,7 @@ use Rattle.image_jobs.specs.declared.stops.Stop.TheVariants.{Refused, HostFailed
 use Rattle.image_jobs.specs.Jobs.{File, FindsDamage, HasBegun, IsStop, JobEnds, JobDoes, SaysDamage, Sets, WritesLeft, closing, opening}
 use Rattle.image_jobs.specs.Reading.{MakesOr}
 use Rattle.image_jobs.specs.Stages.{Stage, Stores, stage}
-use Rattle.image_jobs.proofs.Held.{damage_same, reads_as}
+use Rattle.image_jobs.proofs.Held.{damage_same, owes_as, owes_there, reads_as}
 
 module _ (k : Stores) (kinds : List HandlerKind) (job : Job) (outside : Outside) (banks : List Bank) (bytes : List (List ℕ)) (areas : List Area) (lines : List Line)
     (bench bench' : Device) (registry registry' : List Registered) where
@@ -57,10 +58,11 @@ module _ (k : Stores) (kinds : List HandlerKind) (job : Job) (outside : Outside)
         → Ran k.meanings k.damage k.rests areas (Mount ∷ lines) answers (opening old image kinds) (closing new left_kinds)
         → (damage_in k.damage areas (begun image bench) ≡ None → damage_in k.damage areas bench' ≡ None)
         → (bench'.is_on ≡ true → IsAtRest k.rests areas bench')
+        → ((most : ℕ) → map_boot k.boot (begun image bench).banks areas ≤ most → OwesOnMap k.owes areas (begun image bench) most → OwesOnMap k.owes areas bench' most × MountsWithin most (Mount ∷ lines) answers)
         → text ≡ reported_by job.report lines answers (settings_of k areas (image_on areas bench'))
         → WritesLeft (out_of job.output) (image_on areas bench') file
         → JobDoes k kinds job outside old new text file
-    done answers left_kinds text file ran undamaged rests prints writes =
+    done answers left_kinds text file ran undamaged rests boots prints writes =
         let same : image_on areas bench' ≡ left image bench' = held_left answers left_kinds ran in
         record {
           image = image;
@@ -74,6 +76,9 @@ module _ (k : Stores) (kinds : List HandlerKind) (job : Job) (outside : Outside)
           leaves = subst (λ (i : Plain). ReadsAs k areas i (state_of k.meanings areas (closing new left_kinds))) same (reads_as (version_of areas) (map plain_area areas) areas bench' k registry' left_kinds);
           undamaged = λ none. subst (λ (i : Plain). damage_of k areas i ≡ None) same (stays_undamaged undamaged none);
           rests = rests;
+          boots = λ most limit owes.
+              let within = boots most limit (owes_there (version_of areas) (map plain_area areas) areas (begun image bench) k most owes) in
+              (subst (λ (i : Plain). OwesOf k areas i most) same (owes_as (version_of areas) (map plain_area areas) areas bench' k most within.0), within.1);
           banks = ran.whole.keeps.banks;
           loads = ran.whole.keeps.loads;
           prints = subst (λ (i : Plain). text ≡ reported_by job.report lines answers (settings_of k areas i)) same prints;
@@ -179,11 +184,14 @@ module _ (k : Stores) (kinds : List HandlerKind) (job : Job) (outside : Outside)
           → Ran k.meanings k.damage k.rests areas (Mount ∷ lines) answers (moment first registry kinds) (closing new left_kinds)
           → (damage_in k.damage areas first ≡ None → damage_in k.damage areas bench' ≡ None)
           → (bench'.is_on ≡ true → IsAtRest k.rests areas bench')
+          → ((most : ℕ) → map_boot k.boot first.banks areas ≤ most → OwesOnMap k.owes areas first most → OwesOnMap k.owes areas bench' most × MountsWithin most (Mount ∷ lines) answers)
           → text ≡ reported_by job.report lines answers (settings_of k areas (image_on areas bench'))
           → WritesLeft (out_of job.output) (image_on areas bench') file
           → JobDoes k kinds job outside old new text file
-      job_done answers left_kinds text file ran undamaged rests prints writes =
+      job_done answers left_kinds text file ran undamaged rests boots prints writes =
           done answers left_kinds text file
           (subst (λ (d : Device). Ran k.meanings k.damage k.rests areas (Mount ∷ lines) answers (moment d registry kinds) (closing new left_kinds)) loaded ran)
           (subst (λ (d : Device). damage_in k.damage areas d ≡ None → damage_in k.damage areas bench' ≡ None) loaded undamaged)
-          rests prints writes
+          rests
+          (subst (λ (d : Device). (most : ℕ) → map_boot k.boot d.banks areas ≤ most → OwesOnMap k.owes areas d most → OwesOnMap k.owes areas bench' most × MountsWithin most (Mount ∷ lines) answers) loaded boots)
+          prints writes

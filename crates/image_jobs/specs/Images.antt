@@ -10,6 +10,7 @@ use Rattle.migrator.specs.Active.{active_on}
 use Rattle.session_table.specs.Bench.{area_at}
 use Rattle.session_table.specs.State.{State}
 use Rattle.session.specs.OnMap.{damage_in}
+use Rattle.session.specs.Owing.{OwesOnMap, map_boot}
 use Rattle.image_jobs.specs.Stages.{Stores}
 
 -- the image with the bytes that a bench holds
@@ -52,6 +53,14 @@ settings_of k areas image = on k.meanings.contents (flash_of image) (area_at are
 -- the damage that a mount of the image finds first, with the place of its area
 abbrev pub damage_of : Stores → List Area → Plain → Option (ℕ × Damaged)
 damage_of k areas image = damage_in k.damage areas (flash_of image)
+
+-- a mount of the image spends at most so many units and erases
+abbrev pub OwesOf : Stores → List Area → Plain → ℕ → Type 0
+OwesOf k areas image most = OwesOnMap k.owes areas (flash_of image) most
+
+-- what a line that is cut on the image leaves at most to the next mount
+abbrev pub boot_of : Stores → List Area → Plain → ℕ
+boot_of k areas image = map_boot k.boot image.banks areas
 
 -- the image reads as the settings of a state, in the area that is active there
 pub record ReadsAs (k : Stores) (areas : List Area) (image : Plain) (state : State) : Type 0 where

@@ -1,5 +1,5 @@
 -- How a job changes files, print, flash and handlers.
-use Rattle.std.specs.Prelude.{◌≡◌, ◌⊎◌, ⊤, ℕ, true, Option, Some, None, Result, Ok, Err, List, [], ◌∷◌}
+use Rattle.std.specs.Prelude.{◌≡◌, ◌⊎◌, ◌≤◌, ⊤, ℕ, true, Option, Some, None, Result, Ok, Err, List, [], ◌∷◌}
 use Rattle.flash_sim.specs.Device.{counted}
 use Rattle.flash_map.specs.declared.area.Area.{Area}
 use Rattle.flash_map.specs.declared.faults.Damaged.{Damaged}
@@ -14,6 +14,7 @@ use Rattle.image_file.specs.Spec.{IsSpec}
 use Rattle.session_table.specs.Bench.{Moment, area_at, state_of}
 use Rattle.session.specs.declared.fault.SessionFault.{SessionFault}
 use Rattle.session.specs.declared.fault.SessionFault.TheVariants.{Damaged as IsDamaged, NoMemory as WantsMemory}
+use Rattle.session.specs.Owing.{MountsWithin}
 use Rattle.session.specs.OnMap.{Ran, RunStops, IsAtRest, limit_of, moment}
 use Rattle.image_jobs.specs.declared.outcome.Outcome.{Outcome}
 use Rattle.image_jobs.specs.declared.outcome.OutFile.{OutFile}
@@ -21,7 +22,7 @@ use Rattle.image_jobs.specs.declared.stops.Refusal.{Refusal}
 use Rattle.image_jobs.specs.declared.stops.Refusal.TheVariants.{BadSpec, NoFile, BadFile, NoLog, NoItems, NoMirror, BadArea, Unfit, BadScript}
 use Rattle.image_jobs.specs.declared.stops.Stop.{Stop}
 use Rattle.image_jobs.specs.declared.stops.Stop.TheVariants.{Refused, HostFailed, NoMemory}
-use Rattle.image_jobs.specs.Images.{HasAreas, ReadsAs, begun, damage_of, left, settings_of}
+use Rattle.image_jobs.specs.Images.{HasAreas, OwesOf, ReadsAs, begun, boot_of, damage_of, left, settings_of}
 use Rattle.image_jobs.specs.declared.jobs.Job.{Job}
 use Rattle.image_jobs.specs.Inputs.{BeginsWith, LacksStart, LacksSource, GivesLines, counts_settings, out_of, reported_by}
 use Rattle.image_jobs.specs.Stages.{Stage, Stores}
@@ -95,6 +96,10 @@ pub record JobDoes (k : Stores) (kinds : List HandlerKind) (job : Job) (host : O
   -- has nothing to do
   pub undamaged : damage_of k areas image ≡ None → damage_of k areas (left image new.bench) ≡ None
   pub rests : new.bench.is_on ≡ true → IsAtRest k.rests areas new.bench
+  -- If the image owes at most so many units and erases, and a cut line leaves no more, then no mount
+  -- reports more, and the image that is left owes no more.
+  pub boots : (most : ℕ) → boot_of k areas image ≤ most → OwesOf k areas image most
+      → OwesOf k areas (left image new.bench) most × MountsWithin most (Mount ∷ lines) answers
   pub banks : new.bench.banks ≡ image.banks
   pub loads : new.bench.loads ≡ counted old.bench.loads 1
   pub prints : text ≡ reported_by job.report lines answers (settings_of k areas (left image new.bench))

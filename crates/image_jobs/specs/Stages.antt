@@ -20,15 +20,23 @@ pub record Stage : Type 0 where
 abbrev pub stage : Device → List Registered → Stage
 stage bench registry = record { bench = bench; registry = registry }
 
--- What the bytes of areas mean to the stores on them, the damage that they show, and whether a
--- mount has nothing to do there.
+-- What the bytes of areas mean to the stores on them, the damage that they show, whether a mount has
+-- nothing to do there, what it spends at most, and what a command that was cut leaves to it.
 pub record Stores : Type 1 where
   pub meanings : Meanings
   pub damage : Area → Geometry → List (List ℕ) → Option Damaged
   pub rests : Area → Geometry → List (List ℕ) → Type 0
+  pub owes : Area → Geometry → List (List ℕ) → ℕ → Type 0
+  pub boot : Area → Geometry → ℕ
 
 abbrev pub stores : (Area → Geometry → List (List ℕ) → Map) → (Area → Geometry → Room)
     → (Area → Geometry → List (List ℕ) → Loss → Bool) → (Area → Geometry → Command → ℕ → Map → Map → Type 0)
-    → (Area → Geometry → List (List ℕ) → Option Damaged) → (Area → Geometry → List (List ℕ) → Type 0) → Stores
-stores contents room chance tears damage rests =
-    record { meanings = meanings contents room chance tears; damage = damage; rests = rests }
+    → (Area → Geometry → List (List ℕ) → Option Damaged) → (Area → Geometry → List (List ℕ) → Type 0)
+    → (Area → Geometry → List (List ℕ) → ℕ → Type 0) → (Area → Geometry → ℕ) → Stores
+stores contents room chance tears damage rests owes boot = record {
+  meanings = meanings contents room chance tears;
+  damage = damage;
+  rests = rests;
+  owes = owes;
+  boot = boot;
+}

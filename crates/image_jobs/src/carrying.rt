@@ -1,11 +1,12 @@
 // Lines on a bench that holds an image.
-ghost use Rattle.std.specs.Prelude.{◌≡◌, ℕ, ◌<◌, ◌∷◌, [], true, None, All, IfErr, IfOk, OnOk};
+ghost use Rattle.std.specs.Prelude.{◌≡◌, ℕ, ◌<◌, ◌≤◌, ◌∷◌, [], true, None, All, IfErr, IfOk, OnOk};
 ghost use Rattle.handlers.specs.Registry.{registered};
 ghost use Rattle.script_lines.specs.Answer.{CanReport};
 ghost use Rattle.script_lines.specs.declared.line.Line.TheVariants.{Mount};
 ghost use Rattle.session_table.specs.Bench.{area_at};
 ghost use Rattle.session.specs.declared.fault.SessionFault.TheVariants.{NoMemory as WantsMemory};
 ghost use Rattle.session.specs.OnMap.{IsAtRest, IsFresh, IsServed, IsServedMap, RunEnds, damage_in, kinds, limit_of, meanings, moment};
+ghost use Rattle.session.specs.Owing.{MountsWithin, OwesOnMap, map_boot};
 ghost use Rattle.session.specs.Texts.{AreLabelled};
 ghost use Rattle.image_jobs.specs.Jobs.{IsStop};
 
@@ -73,6 +74,11 @@ pub fn run<K: Backend, B: Bench, L: Ledger>(
         → IfErr result (λ fault. fault ≡ WantsMemory) }
     ensures rests { OnOk result
         ((B.device bench.new).is_on ≡ true → IsAtRest K.rests areas.now (B.device bench.new)) }
+    ensures boots { let d = B.device bench.old in let e = B.device bench.new in
+        let limit = map_boot K.boot_units d.banks areas.now in
+        (most : ℕ) → limit ≤ most → OwesOnMap K.owes areas.now d most
+        → OwesOnMap K.owes areas.now e most
+        × IfOk result (λ answers. MountsWithin most (Mount ∷ lines.now) answers) }
     ensures texts { AreLabelled areas.now → IfOk result (λ answers. All CanReport answers) }
 {
     let mut steps = Steps::<L>::new(blank);

@@ -203,7 +203,8 @@ pub fn report_text<'a, K: Backend, B: Bench>(
     requires serves { (areas : List area) (d : Device) → IsImage (image_on areas d)
         → IsServedMap K.serves areas d }
     requires image { IsImage (image_on areas.now (B.device bench.now)) }
-    ensures { let k = stores K.contents K.room K.chance K.tears K.damage K.rests in
+    ensures { let k =
+        stores K.contents K.room K.chance K.tears K.damage K.rests K.owes K.boot_units in
         let image = image_on areas.now (B.device bench.now) in
         MakesOr (λ text. text.items
         ≡ reported_by report lines.now answers.now (settings_of k areas.now image))

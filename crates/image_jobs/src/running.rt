@@ -46,7 +46,7 @@ fn run_on_image<'a, K: Backend, B: Bench>(
     requires registry { registered state registry.old ≡ [] }
     ensures { (outside : Outside) → BeginsWith job.now.start outside (plain image)
         → GivesLines job.now.source (limit_of image.map) outside lines.now
-        → let k = stores K.contents K.room K.chance K.tears K.damage K.rests in
+        → let k = stores K.contents K.room K.chance K.tears K.damage K.rests K.owes K.boot_units in
         JobEnds k (kinds state pool.items) job.now outside outside
         (stage (B.device bench.old) (registered state registry.old))
         (stage (B.device bench.new) (registered state registry.new)) result }
@@ -97,7 +97,8 @@ pub fn run_job<'a, K: Backend, H: Host, B: Bench>(
         → IsServedMap K.serves areas d }
     requires pool { All (IsFresh state) pool.items }
     requires registry { registered state registry.old ≡ [] }
-    ensures { let k = stores K.contents K.room K.chance K.tears K.damage K.rests in
+    ensures { let k =
+        stores K.contents K.room K.chance K.tears K.damage K.rests K.owes K.boot_units in
         JobEnds k (kinds state pool.items) job.now (H.outside host.old) (H.outside host.new)
         (stage (B.device bench.old) (registered state registry.old))
         (stage (B.device bench.new) (registered state registry.new)) result }

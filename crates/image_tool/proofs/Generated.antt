@@ -30,6 +30,9 @@ use Rattle.image_tool.specs.Complete.{IsCarriedOut}
 use Rattle.image_tool.specs.Tasks.{Causes, task_of}
 use Rattle.image_tool.specs.Tool.{TaskEnds, any_stores}
 use Rattle.image_tool.specs.Worlds.{World}
+use Rattle.any_backend.specs.ByRole.{any_owes, any_rests}
+use Rattle.any_backend.specs.Standing.{rests-owe}
+use Rattle.session.proofs.OwesLemmas.{rest-owes}
 use Rattle.image_tool.proofs.Blanks.{blanks_are_not_refused}
 
 -- ---- the image of a word
@@ -43,7 +46,7 @@ held_lawful image areas has is =
 pub specs_are_empty : SpecsAreEmpty
 specs_are_empty word image areas is has =
     let nothing : HoldsNothing areas (flash_of image) = holds_nothing areas (flash_of image) is.blank (held_lawful image areas has is.lawful) in
-    record { undamaged = nothing.undamaged; active = nothing.active; settings = nothing.settings }
+    record { undamaged = nothing.undamaged; active = nothing.active; settings = nothing.settings; owes = rest-owes any_owes areas any_rests rests-owe (flash_of image) 0 nothing.rests }
 
 -- ---- jobs
 

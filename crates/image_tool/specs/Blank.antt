@@ -14,7 +14,7 @@ use Rattle.migrator.specs.Areas.{first_store}
 use Rattle.image_jobs.specs.declared.jobs.Job.{Job}
 use Rattle.image_jobs.specs.declared.jobs.Start.TheVariants.{Blank}
 use Rattle.image_jobs.specs.declared.stops.Refusal.{Refusal}
-use Rattle.image_jobs.specs.Images.{HasAreas, active_of, damage_of, settings_of}
+use Rattle.image_jobs.specs.Images.{HasAreas, OwesOf, active_of, damage_of, settings_of}
 use Rattle.image_jobs.specs.Jobs.{LacksLines, Refuses}
 use Rattle.image_jobs.specs.Stages.{Stage}
 use Rattle.image_tool.specs.declared.status.Status.{Status}
@@ -22,11 +22,13 @@ use Rattle.image_tool.specs.Complete.{IsCarriedOut}
 use Rattle.image_tool.specs.Tool.{ToolEnds, any_stores}
 use Rattle.image_tool.specs.Worlds.{World}
 
--- The image shows no damage, its first store area is active, and it reads as no settings.
+-- The image shows no damage, its first store area is active, it reads as no settings, and a mount of it
+-- spends nothing.
 pub record IsEmptyImage (areas : List Area) (image : Plain) : Type 0 where
   pub undamaged : damage_of any_stores areas image ≡ None
   pub active : active_of areas image ≡ first_store areas
   pub settings : settings_of any_stores areas image ≡ empty
+  pub owes : OwesOf any_stores areas image 0
 
 -- this holds for the image of a lawful word
 abbrev pub SpecsAreEmpty : Type 0

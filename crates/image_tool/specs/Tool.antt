@@ -9,7 +9,7 @@ use Rattle.image_jobs.specs.declared.stops.Refusal.TheVariants.{BadSpec, NoFile,
 use Rattle.image_jobs.specs.Inputs.{out_of}
 use Rattle.image_jobs.specs.Jobs.{File}
 use Rattle.image_jobs.specs.Refusals.{line_of, usage_line}
-use Rattle.any_backend.specs.ByRole.{any_chance, any_contents, any_damage, any_rests, any_room, any_tears}
+use Rattle.any_backend.specs.ByRole.{any_boot, any_chance, any_contents, any_damage, any_owes, any_rests, any_room, any_tears}
 use Rattle.image_jobs.specs.Stages.{Stores, stores}
 use Rattle.image_tool.specs.declared.status.Status.{Status}
 use Rattle.image_tool.specs.declared.status.Status.TheVariants as status
@@ -21,7 +21,8 @@ use Rattle.image_tool.specs.Worlds.{World}
 
 -- the stores of the program: each area has the store of its role
 abbrev pub any_stores : Stores
-any_stores = stores any_contents any_room any_chance any_tears any_damage any_rests
+any_stores =
+    stores any_contents any_room any_chance any_tears any_damage any_rests any_owes any_boot
 
 abbrev pub status_of : Refusal → Status
 status_of BadSpec = status.Usage

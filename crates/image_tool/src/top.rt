@@ -40,7 +40,8 @@ fn prepare<'a, K: Backend, H: Host, B: Bench>(
         → IsServedMap K.serves areas d }
     requires pool { All (IsFresh state) pool.items }
     requires registry { registered state registry.old ≡ [] }
-    ensures { let k = stores K.contents K.room K.chance K.tears K.damage K.rests in
+    ensures { let k =
+        stores K.contents K.room K.chance K.tears K.damage K.rests K.owes K.boot_units in
         let old = world (H.outside host.old) (B.device bench.old) (registered state registry.old) in
         let new = world (H.outside host.new) (B.device bench.new) (registered state registry.new) in
         Prepares k (kinds state pool.items) task.now old new result }
@@ -69,7 +70,8 @@ fn carry_out<K: Backend, H: Host, B: Bench>(
         → IsServedMap K.serves areas d }
     requires pool { All (IsFresh state) pool.items }
     requires registry { registered state registry.old ≡ [] }
-    ensures ends { let k = stores K.contents K.room K.chance K.tears K.damage K.rests in
+    ensures ends { let k =
+        stores K.contents K.room K.chance K.tears K.damage K.rests K.owes K.boot_units in
         let old = world (H.outside host.old) (B.device bench.old) (registered state registry.old) in
         let new = world (H.outside host.new) (B.device bench.new) (registered state registry.new) in
         TaskEnds k (kinds state pool.items) task.now old new result }
@@ -104,7 +106,8 @@ fn serve<K: Backend, H: Host, B: Bench>(
         → IsServedMap K.serves areas d }
     requires pool { All (IsFresh state) pool.items }
     requires registry { registered state registry.old ≡ [] }
-    ensures ends { let k = stores K.contents K.room K.chance K.tears K.damage K.rests in
+    ensures ends { let k =
+        stores K.contents K.room K.chance K.tears K.damage K.rests K.owes K.boot_units in
         let said = map string_bytes words.now in
         let old = world (H.outside host.old) (B.device bench.old) (registered state registry.old) in
         let new = world (H.outside host.new) (B.device bench.new) (registered state registry.new) in

@@ -18,13 +18,13 @@ run-ran-requires-clause-map g c =
 
 pub returns-in-Ok : goal.returns-in-Ok
 returns-in-Ok g c =
-    let k = stores g.K.Backend.contents g.K.Backend.room g.K.Backend.chance g.K.Backend.tears g.K.Backend.damage g.K.Backend.rests in
+    let k = stores g.K.Backend.contents g.K.Backend.room g.K.Backend.chance g.K.Backend.tears g.K.Backend.damage g.K.Backend.rests g.K.Backend.owes g.K.Backend.boot_units in
     let bench = g.B.Flash.device c.args.bench.now in
     asked k c.args.areas.now bench c.as_slice.result.now (device_of c.in_ok-copy.copy) _ _ (c.as_slice.ensures.value ∙ c.in_ok-lines.ensures) c.in_ok-copy.ensures c.in-Ok.answers _ c.in-Ok.ensures.ends.1
 
 pub returns : goal.returns
 returns g c =
-    let k = stores g.K.Backend.contents g.K.Backend.room g.K.Backend.chance g.K.Backend.tears g.K.Backend.damage g.K.Backend.rests in
+    let k = stores g.K.Backend.contents g.K.Backend.room g.K.Backend.chance g.K.Backend.tears g.K.Backend.damage g.K.Backend.rests g.K.Backend.owes g.K.Backend.boot_units in
     let bench = g.B.Flash.device c.args.bench.now in
     not_asked k c.args.areas.now bench c.as_slice.result.now (device_of c.in_ok-copy.copy) _ _ (c.as_slice.ensures.value ∙ c.in_ok-lines.ensures) c.in_ok-copy.ensures
     (λ answers. last_pairs answers ≡ pairs_of (settings_of k c.args.areas.now (image_on c.args.areas.now bench))) _ c.in-Err.fault c.stop_of.result c.in-Err.ensures.ends c.stop_of.ensures

@@ -24,7 +24,7 @@ run-ran-requires-clause-map g c =
 
 pub returns-in-Err : goal.returns-in-Err
 returns-in-Err g c = λ outside begins gives.
-    let k = stores g.K.Backend.contents g.K.Backend.room g.K.Backend.chance g.K.Backend.tears g.K.Backend.damage g.K.Backend.rests in
+    let k = stores g.K.Backend.contents g.K.Backend.room g.K.Backend.chance g.K.Backend.tears g.K.Backend.damage g.K.Backend.rests g.K.Backend.owes g.K.Backend.boot_units in
     let bench = g.B.Flash.device c.args.bench.now in
     let first = g.B.Flash.device c.load.new.self in
     let bench' = g.B.Flash.device c.run-ran.new.bench in
@@ -44,7 +44,7 @@ report_text-requires-clause-image g c =
 
 pub returns-in-Err-report_text : goal.returns-in-Err-report_text
 returns-in-Err-report_text g c = λ outside begins gives.
-    let k = stores g.K.Backend.contents g.K.Backend.room g.K.Backend.chance g.K.Backend.tears g.K.Backend.damage g.K.Backend.rests in
+    let k = stores g.K.Backend.contents g.K.Backend.room g.K.Backend.chance g.K.Backend.tears g.K.Backend.damage g.K.Backend.rests g.K.Backend.owes g.K.Backend.boot_units in
     let bench = g.B.Flash.device c.args.bench.now in
     let first = g.B.Flash.device c.load.new.self in
     let bench' = g.B.Flash.device c.run-ran.new.bench in
@@ -59,7 +59,7 @@ file_left-requires g c =
 
 pub returns-in-Err-file_left : goal.returns-in-Err-file_left
 returns-in-Err-file_left g c = λ outside begins gives.
-    let k = stores g.K.Backend.contents g.K.Backend.room g.K.Backend.chance g.K.Backend.tears g.K.Backend.damage g.K.Backend.rests in
+    let k = stores g.K.Backend.contents g.K.Backend.room g.K.Backend.chance g.K.Backend.tears g.K.Backend.damage g.K.Backend.rests g.K.Backend.owes g.K.Backend.boot_units in
     let bench = g.B.Flash.device c.args.bench.now in
     let first = g.B.Flash.device c.load.new.self in
     let bench' = g.B.Flash.device c.run-ran.new.bench in
@@ -67,11 +67,11 @@ returns-in-Err-file_left g c = λ outside begins gives.
 
 pub returns : goal.returns
 returns g c = λ outside begins gives.
-    let k = stores g.K.Backend.contents g.K.Backend.room g.K.Backend.chance g.K.Backend.tears g.K.Backend.damage g.K.Backend.rests in
+    let k = stores g.K.Backend.contents g.K.Backend.room g.K.Backend.chance g.K.Backend.tears g.K.Backend.damage g.K.Backend.rests g.K.Backend.owes g.K.Backend.boot_units in
     let bench = g.B.Flash.device c.args.bench.now in
     let first = g.B.Flash.device c.load.new.self in
     let bench' = g.B.Flash.device c.run-ran.new.bench in (
       job_done k _ c.args.job.now outside c.args.image.banks.items (contents c.args.image.bytes.items) c.args.image.map c.args.lines.now bench bench' _ _ begins gives first c.in_ok-load.ensures.ok c.in-Ok.answers c.in-Ok.ensures.ends.0 c.in-Ok-report_text.text.items (file_of c.in-Ok-file_left.file)
-          c.in-Ok.ensures.ends.1 c.in-Ok.ensures.undamaged c.in-Ok.ensures.rests (c.in-Ok-report_text.ensures ∙ ap (λ (answers : List Answer). reported_by c.args.job.now.report c.args.lines.now answers (settings_of k c.args.image.map (image_on c.args.image.map bench'))) c.as_slice.ensures) c.in-Ok-file_left.ensures,
+          c.in-Ok.ensures.ends.1 c.in-Ok.ensures.undamaged c.in-Ok.ensures.rests (λ most limit owes. c.in-Ok.ensures.boots most limit owes) (c.in-Ok-report_text.ensures ∙ ap (λ (answers : List Answer). reported_by c.args.job.now.report c.args.lines.now answers (settings_of k c.args.image.map (image_on c.args.image.map bench'))) c.as_slice.ensures) c.in-Ok-file_left.ensures,
       refl,
     )

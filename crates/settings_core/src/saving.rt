@@ -110,7 +110,8 @@ fn save_all<K: Backend, F: Flash, L: Ledger>(
     requires stands { StandsOn K.mounted_on K.stands (F.device flash.old) backend.old }
     requires settings { AreLawful (value_limit (K.mounted_on backend.old))
         (registered state registry.now) }
-    ensures carries { CarriesOn K.mounted_on K.stands K.runs K.damage K.room K.contents K.chance K.tears
+    ensures carries { CarriesOn K.mounted_on K.stands K.runs K.damage K.room K.contents K.chance
+        K.tears
         (K.mounted_on backend.old) backend.new (F.device flash.old) (F.device flash.new)
         (puts_of
         (exported (option_map (λ name. name.now) subtree.entry) (registered state registry.now)))
@@ -143,7 +144,8 @@ fn save_at<K: Backend, F: Flash, L: Ledger>(
     requires settings { AreLawful (value_limit (K.mounted_on backend.old))
         (registered state registry.now) }
     requires within { i < length (registered state registry.now) }
-    ensures carries { CarriesOn K.mounted_on K.stands K.runs K.damage K.room K.contents K.chance K.tears
+    ensures carries { CarriesOn K.mounted_on K.stands K.runs K.damage K.room K.contents K.chance
+        K.tears
         (K.mounted_on backend.old) backend.new (F.device flash.old) (F.device flash.new)
         (puts_of
         (exported_of (option_map (λ name. name.now) subtree.entry)
@@ -183,7 +185,8 @@ fn save_handler<K: Backend, F: Flash, L: Ledger>(
     requires stands { StandsOn K.mounted_on K.stands (F.device flash.old) backend.old }
     requires settings { AreSettings (value_limit (K.mounted_on backend.old))
         (pairs_of subtree.now (state handler.now).held) }
-    ensures carries { CarriesOn K.mounted_on K.stands K.runs K.damage K.room K.contents K.chance K.tears
+    ensures carries { CarriesOn K.mounted_on K.stands K.runs K.damage K.room K.contents K.chance
+        K.tears
         (K.mounted_on backend.old) backend.new (F.device flash.old) (F.device flash.new)
         (puts_of (pairs_of subtree.now (state handler.now).held)) pairs.old pairs.new result }
     ensures owes { save_lost result ≡ true
@@ -213,7 +216,8 @@ fn save_pair<K: Backend, F: Flash, L: Ledger>(
     requires stands { StandsOn K.mounted_on K.stands (F.device flash.old) backend.old }
     requires name { IsName (joined_text subtree.now rest.now) }
     requires value { IsValue (value_limit (K.mounted_on backend.old)) value.now }
-    ensures carries { CarriesOn K.mounted_on K.stands K.runs K.damage K.room K.contents K.chance K.tears
+    ensures carries { CarriesOn K.mounted_on K.stands K.runs K.damage K.room K.contents K.chance
+        K.tears
         (K.mounted_on backend.old) backend.new (F.device flash.old) (F.device flash.new)
         (Put (joined_text subtree.now rest.now) value.now ∷ []) pairs.old pairs.new result }
     ensures owes { save_lost result ≡ true

@@ -3,6 +3,7 @@ mod PartLemmas
 mod KeptLemmas
 mod MountSteps
 mod PutSteps
+mod DueSteps
 mod GrownSteps
 mod PrefixLemmas
 mod EndLemmas

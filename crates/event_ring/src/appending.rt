@@ -1,7 +1,8 @@
 // Appending records.
-ghost use Rattle.std.specs.Prelude.{◌≡◌, ◌∷◌, [], true, false, length};
+ghost use Rattle.std.specs.Prelude.{◌≡◌, ◌≤◌, ◌∷◌, [], true, false, length};
 ghost use Rattle.flash_map.specs.Touches.{Touches};
 ghost use Rattle.fcb_ring.specs.Changing.{append_lost, is_scratch_left, stays_for};
+ghost use Rattle.fcb_ring.specs.Standing.{erases_on};
 ghost use Rattle.event_ring.specs.Appending.{is_too_long, lost_in, LogAppends};
 ghost use Rattle.event_ring.specs.Dropping.{PutEnds};
 ghost use Rattle.event_ring.specs.Room.{IsFilled};
@@ -40,6 +41,7 @@ fn put<F: Flash>(ring: &mut Ring, flash: &mut F, body: &[u8]) -> Result<(), Appe
     ensures area { ring.new.area ≡ ring.old.area }
     ensures ends { PutEnds (F.device flash.old) (F.device flash.new) ring.old ring.new body.now
         result }
+    ensures left { erases_on (F.device flash.new) ring.old.area ≤ 1 }
 {
     ring.append(flash, body, false)
 }
@@ -64,6 +66,7 @@ fn drop_and_put<F: Flash, L: Ledger>(
         result }
     ensures filled { let area = ring.old.area in
         IsFilled (F.device flash.old) area → IsFilled (F.device flash.new) area }
+    ensures left { erases_on (F.device flash.new) ring.old.area ≤ 1 }
 {
     let Ok(dropped) = drop_oldest(ring, flash, steps) else {
         return Err(LogFault::PowerLost);
@@ -92,7 +95,7 @@ impl EventLog {
     /// be dropped, the items are as before unless at least the units of the drop were spent.
     ///
     /// Whatever the result: if no sector but the newest had room for the longest record, no sector
-    /// but the newest has it.
+    /// but the newest has it. The next mount erases at most one sector.
     pub fn append<F: Flash, L: Ledger>(
         &mut self,
         flash: &mut F,
@@ -107,6 +110,7 @@ impl EventLog {
             self.new.ring body.now result }
         ensures filled { let area = self.old.ring.area in
             IsFilled (F.device flash.old) area → IsFilled (F.device flash.new) area }
+        ensures left { erases_on (F.device flash.new) self.old.ring.area ≤ 1 }
     {
         if is_too_long(self.ring.area(), body.len()) {
             return Err(LogFault::TooLong);

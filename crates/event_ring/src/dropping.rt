@@ -1,7 +1,8 @@
 // Dropping the records of the oldest sector.
-ghost use Rattle.std.specs.Prelude.{◌≡◌, ◌∷◌, [], true, is_err, length, IfOk, OnOk, OnErr};
+ghost use Rattle.std.specs.Prelude.{◌≡◌, ◌≤◌, ◌∷◌, [], true, is_err, length, IfOk, OnOk, OnErr};
 ghost use Rattle.flash_map.specs.Touches.{Touches};
 ghost use Rattle.fcb_ring.specs.Changing.{is_scratch_left, sector_list};
+ghost use Rattle.fcb_ring.specs.Standing.{erases_on};
 ghost use Rattle.event_ring.specs.Dropping.{Dropped, StopsDropping};
 ghost use Rattle.event_ring.specs.Standing.{IsOpen};
 
@@ -48,6 +49,7 @@ pub(crate) fn drop_oldest<F: Flash, L: Ledger>(
         (Dropped (F.device flash.old) (F.device flash.new) ring.old ring.new) }
     ensures stopped { OnErr result
         (StopsDropping (F.device flash.old) (F.device flash.new) ring.old ring.new) }
+    ensures left { erases_on (F.device flash.new) ring.old.area ≤ 1 }
 {
     let count = count_oldest(ring, flash, steps);
     ring.begin_collect(flash)?;

@@ -1,5 +1,5 @@
 // The log over one area.
-ghost use Rattle.std.specs.Prelude.{◌≡◌, ◌+◌, ◌∷◌, [], None, OnOk};
+ghost use Rattle.std.specs.Prelude.{◌≡◌, ◌+◌, ◌≤◌, ◌∷◌, [], None, OnOk};
 ghost use Rattle.std.specs.Option.{ForSome};
 ghost use Rattle.flash_map.specs.Faults.{mount_lost};
 ghost use Rattle.flash_map.specs.Touches.{Touches};
@@ -20,7 +20,8 @@ pub struct EventLog {
 }
 
 impl EventLog {
-    /// Mounts the log on its area. Its items stay, even if power is lost.
+    /// Mounts the log on its area. Its items stay, even if power is lost. No more erases are
+    /// due afterwards than before.
     ///
     /// # Errors
     /// `Damaged` exactly if the area has the damage of a ring: nothing changed. `PowerLost`. Never
@@ -40,6 +41,7 @@ impl EventLog {
             ring_damage d area ≡ None → IsFilled d area → IsFilled (F.device flash.new) area }
         ensures keeps { let d = F.device flash.old in
             ring_damage d area ≡ None → KeepsItems d (F.device flash.new) area }
+        ensures left { erases_on (F.device flash.new) area ≤ erases_on (F.device flash.old) area }
     {
         match Ring::mount(flash, area, 0, steps) {
             Ok(ring) => Ok(EventLog { ring }),

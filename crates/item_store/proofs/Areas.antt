@@ -34,7 +34,7 @@ use Rattle.item_laws.proofs.Undamaged.{form-of}
 use Rattle.item_store.specs.SectorFormat.{SectorFormat, IsSectorFormat}
 use Rattle.item_store.specs.Steps.{KeepsMarks, Adds, Marks}
 use Rattle.item_store.specs.Standing.{IsStoreArea, list_of, KeepsItems}
-use Rattle.item_store.specs.Collecting.{HasCopied, StopsCopying, CollectsAt}
+use Rattle.item_store.specs.Collecting.{HasCopied, StopsCopying, EmptiesVictim, CollectsAt}
 use Rattle.item_store.specs.Versions.{KeepsVersions}
 use Rattle.item_store.proofs.VersionLemmas.{versions-items, keeps_all, keeps_more}
 use Rattle.item_store.proofs.VersionSteps.{marked-versions, collects-versions}
@@ -253,26 +253,32 @@ module _ (k : SectorFormat) (law : IsSectorFormat k) where
         (keeps_more (area_pairs R old place) (area_pairs R new place) (area_pairs R last_sectors place) m.versions (keeps_all (area_pairs R new place) (area_pairs R last_sectors place) cut.1))
 
     -- the victim is emptied: the collection is whole
-    pub collected_at : (last_sectors : List (List ℕ)) → ChangesOnly new last_sectors (next old place) → k.reading.is_blank (sector_at last_sectors (next old place)) ≡ true → CollectsAt k old last_sectors place
-    collected_at last_sectors only unused =
-        let ring = form.ring in
+    -- its emptying may have been cut behind the last byte that it takes away
+    pub collects_cut : (last_sectors : List (List ℕ)) → ChangesOnly new last_sectors (next old place) → k.reading.is_blank (sector_at last_sectors (next old place)) ≡ true → Collects k.reading old place last_sectors
+    collects_cut last_sectors only unused =
         let blank = sector_at last_sectors (next old place) in
-        let m = one_marked in
         let all = collection R law.reads old place (sector_at mid place) (sector_at new place) (sector_at last_sectors (next old place)) form has.closed has.gc_done has.list marks.list marked_sound unused in
-        let same : last_sectors ≡ set (set old place (sector_at new place)) (next old place) (sector_at last_sectors (next old place)) = only ∙ ap (λ (s : List (List ℕ)). set s (next old place) (sector_at last_sectors (next old place))) m.only in
+        let same : last_sectors ≡ set (set old place (sector_at new place)) (next old place) (sector_at last_sectors (next old place)) = only ∙ ap (λ (s : List (List ℕ)). set s (next old place) (sector_at last_sectors (next old place))) one_marked.only in
+        subst (Collects R old place) (sym same) all
+
+    pub collected_at : (last_sectors : List (List ℕ)) → ChangesOnly new last_sectors (next old place) → k.reading.is_blank (sector_at last_sectors (next old place)) ≡ true → EmptiesVictim k old last_sectors place → CollectsAt k old last_sectors place
+    collected_at last_sectors only unused empties =
+        let ring = form.ring in
+        let m = one_marked in
         let other : place ≡ next old place → ⊥ = λ (e : place ≡ next old place). after-apart (length old) place ring.within ring.several (sym e) in
         let here : sector_at last_sectors place ≡ sector_at new place = ap (λ (s : List (List ℕ)). sector_at s place) only ∙ elsewhere new (next old place) (sector_at last_sectors (next old place)) place other in
         let room = m.room in
         let free : k.free (sector_at last_sectors place) ≡ k.free (sector_at new place) = ap k.free here in
         record {
-          collects = subst (Collects R old place) (sym same) all;
+          collects = collects_cut last_sectors only unused;
           list = ap R.pairs here ∙ m.list;
           gc_done = ap R.has_gc_done here ∙ m.gc_done;
+          empties = empties;
           long = ap length here ∙ m.long;
           room = omega arith;
           others = λ j apart off. only_else new last_sectors (next old place) j only off ∙ only_else old new place j m.only apart;
         }
 
-  -- a whole collection keeps the items
-  pub collects-keeps : (old new : List (List ℕ)) (place : ℕ) → Collecting k.reading old place → CollectsAt k old new place → KeepsItems k old new
-  collects-keeps old new place form at = keeps-by old new place place (inr (inl form)) (inl at.collects.form) (collects-versions R old new place law.reads form at.collects)
+  -- a collection keeps the items
+  pub collects-keeps : (old new : List (List ℕ)) (place : ℕ) → Collecting k.reading old place → Collects k.reading old place new → KeepsItems k old new
+  collects-keeps old new place form collects = keeps-by old new place place (inr (inl form)) (inl collects.form) (collects-versions R old new place law.reads form collects)

@@ -10,15 +10,16 @@ use Rattle.flash_map.specs.declared.area.Role.{Role}
 use Rattle.flash_map.specs.Area.{geometry_of, sector_at, sectors_of, ChangesOnly}
 use Rattle.item_laws.specs.Area.{next, open_sector, is_closed_at}
 use Rattle.item_laws.specs.Forms.{Collecting, to_copy}
+use Rattle.item_laws.specs.Rounds.{Collects}
 use Rattle.item_laws.proofs.Places.{after, after-apart}
 use Rattle.item_laws.proofs.Rings.{next-closed, open-not_closed}
 use Rattle.item_laws.proofs.RingSteps.{reads}
 use Rattle.item_store.specs.SectorFormat.{Range, LiesIn, SectorFormat, IsSectorFormat}
-use Rattle.item_store.specs.Steps.{Keeps, KeepsMarks, Marks, StopsClearing}
+use Rattle.item_store.specs.Steps.{Keeps, KeepsMarks, Marks, Clears, StopsClearing}
 use Rattle.item_store.specs.Spending.{both, copies, collect_with, victim_units, collect_units, ready_units, again_units}
 use Rattle.item_store.specs.Standing.{IsStoreArea, KeepsItems, SpendsIn, SpendsUpTo}
 use Rattle.item_store.specs.Collecting.{HasBegun, HasCopied, StopsCopying, CollectsAt, KeepsOrCollects}
-use Rattle.item_store.proofs.Areas.{keeps_then, same_geometry, size_there, large_there, stopped, has_stopped, stopped-keeps, victim_cut, collected_at, collects-keeps, only_else, only_length, only_then}
+use Rattle.item_store.proofs.Areas.{keeps_then, same_geometry, size_there, large_there, stopped, has_stopped, stopped-keeps, victim_cut, collects_cut, collected_at, collects-keeps, only_else, only_length, only_then}
 use Rattle.item_store.proofs.CollectSteps.{start_stops, start_form, start_none, start_copies, again_collects, mark_room, mark_cut, prepare_cut}
 use Rattle.item_store.proofs.ListSteps.{stopped-list, whole-list, again-list, cut-list}
 use Rattle.item_store.proofs.Ranges.{both-in, first-lost, then-lost, within-in, within-lost}
@@ -93,16 +94,34 @@ module _ (format_of : Geometry → SectorFormat) (role : Role) (a : Device) (are
       marks : Marks k (sector_at (sectors_of d area) place) (sector_at (sectors_of e area) place)
       marks = to_geometry (λ u. Marks (format_of u) (sector_at (sectors_of d area) place) (sector_at (sectors_of e area) place)) a d area banks marked
 
-      -- whole, or cut with nothing left in the victim
-      pub cleared : (z : Device) → ChangesOnly (sectors_of e area) (sectors_of z area) victim → (format_of (geometry_of e area)).is_clean (sector_at (sectors_of z area) victim) ≡ true → CollectsAt (format_of (geometry_of a area)) (sectors_of a area) (sectors_of z area) place
-      cleared z changes clean =
-          let here : ChangesOnly (sectors_of e area) (sectors_of z area) (next old place) = subst (λ (v : ℕ). ChangesOnly (sectors_of e area) (sectors_of z area) v) at changes in
-          let own : k.is_clean (sector_at (sectors_of z area) (next old place)) ≡ true =
-          subst (λ (v : ℕ). k.is_clean (sector_at (sectors_of z area) v) ≡ true) at (to_geometry (λ u. (format_of u).is_clean (sector_at (sectors_of z area) victim) ≡ true) a e area more_banks clean) in
-          collected_at k law old (sectors_of d area) (sectors_of e area) place form large same_long has only marks (sectors_of z area) here (law.clean (sector_at (sectors_of z area) (next old place)) own)
+      -- the victim's bytes are still those before the collection
+      victim_bytes : sector_at (sectors_of e area) (next old place) ≡ sector_at old (next old place)
+      victim_bytes = only_else old (sectors_of e area) place (next old place) (only_then old (sectors_of d area) (sectors_of e area) place has.only only) (after-apart (length old) place form.ring.within form.ring.several)
 
-      pub cleared_keeps : (z : Device) → ChangesOnly (sectors_of e area) (sectors_of z area) victim → (format_of (geometry_of e area)).is_clean (sector_at (sectors_of z area) victim) ≡ true → KeepsItems (format_of (geometry_of a area)) (sectors_of a area) (sectors_of z area)
-      cleared_keeps z changes clean = collects-keeps k law old (sectors_of z area) place form (cleared z changes clean)
+      module _ (z : Device) (changes : ChangesOnly (sectors_of e area) (sectors_of z area) victim) where
+        in_victim : ChangesOnly (sectors_of e area) (sectors_of z area) (next old place)
+        in_victim = subst (λ (v : ℕ). ChangesOnly (sectors_of e area) (sectors_of z area) v) at changes
+
+        -- nothing is left in the victim
+        left_clean : (format_of (geometry_of e area)).is_clean (sector_at (sectors_of z area) victim) ≡ true → k.reading.is_blank (sector_at (sectors_of z area) (next old place)) ≡ true
+        left_clean clean =
+            law.clean (sector_at (sectors_of z area) (next old place))
+            (subst (λ (v : ℕ). k.is_clean (sector_at (sectors_of z area) v) ≡ true) at (to_geometry (λ u. (format_of u).is_clean (sector_at (sectors_of z area) victim) ≡ true) a e area more_banks clean))
+
+        -- whole, or cut with nothing left in the victim
+        cleared_by : (format_of (geometry_of e area)).is_clean (sector_at (sectors_of z area) victim) ≡ true → Collects k.reading old place (sectors_of z area)
+        cleared_by clean = collects_cut k law old (sectors_of d area) (sectors_of e area) place form large same_long has only marks (sectors_of z area) in_victim (left_clean clean)
+
+        pub cleared_keeps : (format_of (geometry_of e area)).is_clean (sector_at (sectors_of z area) victim) ≡ true → KeepsItems (format_of (geometry_of a area)) (sectors_of a area) (sectors_of z area)
+        cleared_keeps clean = collects-keeps k law old (sectors_of z area) place form (cleared_by clean)
+
+        -- whole
+        pub cleared : Clears (format_of (geometry_of e area)) (sector_at (sectors_of e area) victim) (sector_at (sectors_of z area) victim) → CollectsAt (format_of (geometry_of a area)) (sectors_of a area) (sectors_of z area) place
+        cleared clears =
+            let there : Clears k (sector_at (sectors_of e area) (next old place)) (sector_at (sectors_of z area) (next old place)) =
+            subst (λ (v : ℕ). Clears k (sector_at (sectors_of e area) v) (sector_at (sectors_of z area) v)) at (to_geometry (λ u. Clears (format_of u) (sector_at (sectors_of e area) victim) (sector_at (sectors_of z area) victim)) a e area more_banks clears) in
+            collected_at k law old (sectors_of d area) (sectors_of e area) place form large same_long has only marks (sectors_of z area) in_victim (left_clean clears.clean)
+            (subst (λ (b : List ℕ). Clears k b (sector_at (sectors_of z area) (next old place))) victim_bytes there)
 
       cut_keeps : (z : Device) → ChangesOnly (sectors_of e area) (sectors_of z area) victim → KeepsMarks (format_of (geometry_of e area)) (sector_at (sectors_of e area) victim) (sector_at (sectors_of z area) victim)
           → KeepsItems (format_of (geometry_of a area)) (sectors_of a area) (sectors_of z area) × KeepsOrCollects (format_of (geometry_of a area)) (sectors_of a area) (sectors_of z area) place
@@ -118,7 +137,7 @@ module _ (format_of : Geometry → SectorFormat) (role : Role) (a : Device) (are
       clear_lost z changes stops = elim stops.either [ inl keeps ↦ (cut_keeps z changes keeps).0 | inr clean ↦ cleared_keeps z changes clean ]
 
       pub clear_lost_list : (z : Device) → ChangesOnly (sectors_of e area) (sectors_of z area) victim → StopsClearing (format_of (geometry_of e area)) (sector_at (sectors_of e area) victim) (sector_at (sectors_of z area) victim) → KeepsOrCollects (format_of (geometry_of a area)) (sectors_of a area) (sectors_of z area) place
-      clear_lost_list z changes stops = elim stops.either [ inl keeps ↦ (cut_keeps z changes keeps).1 | inr clean ↦ inr (whole-list k law old place form (sectors_of z area) (cleared z changes clean)) ]
+      clear_lost_list z changes stops = elim stops.either [ inl keeps ↦ (cut_keeps z changes keeps).1 | inr clean ↦ inr (whole-list k law old place form (sectors_of z area) (cleared_by z changes clean)) ]
 
       pub open_same : (z : Device) → ChangesOnly (sectors_of e area) (sectors_of z area) victim → sector_at (sectors_of z area) place ≡ sector_at (sectors_of e area) place
       open_same z changes = only_else (sectors_of e area) (sectors_of z area) victim place changes (λ (s : place ≡ victim). after-apart (length old) place form.ring.within form.ring.several (sym (s ∙ at)))
@@ -128,11 +147,8 @@ module _ (format_of : Geometry → SectorFormat) (role : Role) (a : Device) (are
           within-in d e (k.units.done (sector_at (sectors_of d area) place)) k.units.any_done done_in
           (to_geometry (λ u. SpendsIn d e ((format_of u).units.done (sector_at (sectors_of d area) place))) a d area banks mark)
 
-      -- the victim's bytes are still those before the collection
       victim_clear : k.units.clear (sector_at (sectors_of e area) victim) ≡ victim_units k old place
-      victim_clear =
-          let same : sector_at (sectors_of e area) (next old place) ≡ sector_at old (next old place) = only_else old (sectors_of e area) place (next old place) (only_then old (sectors_of d area) (sectors_of e area) place has.only only) (after-apart (length old) place form.ring.within form.ring.several) in
-          ap (λ (v : ℕ). k.units.clear (sector_at (sectors_of e area) v)) at ∙ ap k.units.clear same
+      victim_clear = ap (λ (v : ℕ). k.units.clear (sector_at (sectors_of e area) v)) at ∙ ap k.units.clear victim_bytes
 
       pub spends_all : (z : Device) → SpendsIn a d (copies (format_of (geometry_of a area)) (to_copy (format_of (geometry_of a area)).reading (sectors_of a area) place))
           → SpendsIn d e ((format_of (geometry_of d area)).units.done (sector_at (sectors_of d area) place)) → SpendsIn e z ((format_of (geometry_of e area)).units.clear (sector_at (sectors_of e area) victim)) → SpendsIn a z (collect_units (format_of (geometry_of a area)) (sectors_of a area) place)

@@ -11,12 +11,12 @@ use Rattle.item_laws.proofs.Collects.{put_victim, erase_victim}
 use Rattle.item_laws.proofs.Rings.{open-not_closed, next-closed}
 use Rattle.item_laws.proofs.Rounding.{collects_from}
 use Rattle.item_laws.proofs.Parts.{to_copy-kept}
-use Rattle.item_laws.proofs.Places.{after}
+use Rattle.item_laws.proofs.Places.{after, after-apart}
 use Rattle.item_store.specs.declared.entry.Redo.TheVariants.{Nothing, ClearNext, CollectAgain}
 use Rattle.item_store.specs.SectorFormat.{SectorFormat, IsSectorFormat}
 use Rattle.item_store.specs.Steps.{Keeps, KeepsMarks, Begins, Clears, StopsClearing}
 use Rattle.item_store.specs.Standing.{KeepsItems}
-use Rattle.item_store.specs.Collecting.{HasBegun, HasCopied, StopsCopying, CollectsAt, redo_of}
+use Rattle.item_store.specs.Collecting.{HasBegun, HasCopied, StopsCopying, EmptiesVictim, CollectsAt, redo_of}
 use Rattle.item_store.proofs.VersionLemmas.{keeps_all}
 use Rattle.item_store.proofs.Areas.{keeps-by, stopped, has_stopped, none_copied, marks_stopped, only_then, only_length, only_else, copied-le}
 
@@ -83,6 +83,12 @@ module _ (k : SectorFormat) (law : IsSectorFormat k) where
     pub copy_cut : (new : List (List ℕ)) → StopsCopying k start new place → StopsCopying k old new place
     copy_cut new stops = record { only = only_then old start new place begun.only stops.only; closed = stops.closed; gc_done = stops.gc_done }
 
+    -- the victim was as it is before the open sector was made ready
+    start_empties : (new : List (List ℕ)) → EmptiesVictim k start new place → EmptiesVictim k old new place
+    start_empties new empties =
+        let same : sector_at start (next old place) ≡ sector_at old (next old place) = only_else old start place (next old place) begun.only (after-apart (length old) place form.ring.within form.ring.several) in
+        subst (λ (b : List ℕ). Clears k b (sector_at new (next old place))) same (subst (λ (v : ℕ). Clears k (sector_at start v) (sector_at new v)) start_next empties)
+
     pub again_collects : (new : List (List ℕ)) → CollectsAt k start new place → CollectsAt k old new place
     again_collects new at =
         let all = collects_from R old place (sector_at start place) new form (law.reads.closed (sector_at start place) start_blank) (law.reads.gc_done (sector_at start place) start_blank) (subst (λ (s : List (List ℕ)). Collects R s place new) begun.only at.collects) in
@@ -93,6 +99,7 @@ module _ (k : SectorFormat) (law : IsSectorFormat k) where
           collects = all;
           list = at.list ∙ start_copies;
           gc_done = at.gc_done;
+          empties = start_empties new at.empties;
           long = at.long ∙ begun.long;
           room = omega arith;
           others = λ j apart off. at.others j apart (λ (e : j ≡ next start place). off (e ∙ start_next)) ∙ only_else old start place j begun.only apart;

@@ -17,10 +17,10 @@ use Rattle.item_store.specs.Seen.{behind}
 
 -- ---- places
 
-far : (count current place : ℕ) → current < place → places_after count current place ≡ range_with_len (place + 1) (count - (place + 1)) ++ range_with_len 0 (current + 1)
+pub far : (count current place : ℕ) → current < place → places_after count current place ≡ range_with_len (place + 1) (count - (place + 1)) ++ range_with_len 0 (current + 1)
 far count current place lt = ap (λ (t : Bool). cond t (range_with_len (place + 1) (count - (place + 1)) ++ range_with_len 0 (current + 1)) (range_with_len (place + 1) (current - place))) (lt-ltb current place lt)
 
-near : (count current place : ℕ) → place ≤ current → places_after count current place ≡ range_with_len (place + 1) (current - place)
+pub near : (count current place : ℕ) → place ≤ current → places_after count current place ≡ range_with_len (place + 1) (current - place)
 near count current place le = ap (λ (t : Bool). cond t (range_with_len (place + 1) (count - (place + 1)) ++ range_with_len 0 (current + 1)) (range_with_len (place + 1) (current - place))) (le-ltb current place le)
 
 -- behind the sector before a place stands what is at it and behind it

@@ -24,7 +24,7 @@ use Rattle.item_store.specs.declared.entry.Placed.{Placed}
 use Rattle.item_store.specs.declared.store.Store.{Store}
 use Rattle.item_store.specs.Asking.{NoneIsItem}
 use Rattle.item_store.specs.Cached.{latest_of, latest_on}
-use Rattle.item_store.specs.Holding.{Holds, NoneHolds, IsFirstHolder, NoneLater}
+use Rattle.item_store.specs.Holding.{Holds, NoneHolds, NoneHoldsIn, IsFirstHolder, NoneLater}
 use Rattle.item_store.specs.SectorFormat.{SectorFormat, IsSectorFormat, placed_at, slots}
 use Rattle.item_store.specs.Lasts.{in_range, IsOther, AreOthers, given_at}
 use Rattle.item_store.specs.Latest.{last_of_id}
@@ -54,6 +54,12 @@ before-next count place lt =
 -- only the oldest sector comes behind the open one
 next-apart : (count current place : ℕ) → current < count → place < count → (place ≡ current → ⊥) → after count place ≡ after count current → ⊥
 next-apart count current place low high apart same = apart (sym (before-next count place high) ∙ ap (before count) same ∙ before-next count current low)
+
+-- where no entry of a sector gives an id of the range the bytes, none is found
+pub no-holder : (k : SectorFormat) (b : List ℕ) (place : ℕ) (ids : IdRange) (wanted : List ℕ) (skipped : ℕ) (p : Placed) → IsFirstHolder k b place ids wanted (k.first + skipped) p → NoneHoldsIn k b ids wanted → ⊥
+no-holder k b place ids wanted skipped p holder none =
+    let from = holder.from in
+    none p.slot holder.entry (omega (arith, from)) holder.listed holder.read holder.holds
 
 -- fewer sectors stand behind the next one
 pub fewer-behind : (count current at next : ℕ) → current < count → at < count → (at ≡ current → ⊥) → next ≡ after count at → length (places_after count current next) < length (places_after count current at)

@@ -44,11 +44,6 @@ id-some id xs some = has-last id xs None ∙ or-none (has_id id xs) ∙ some
 other-id : (least most own id : ℕ) → in_range least most own ≡ false → in_range least most id ≡ true → eqb own id ≡ false
 other-id least most own id other here = ne_eqb own id (λ (e : own ≡ id). false≢true (sym other ∙ ap (in_range least most) e ∙ here))
 
--- what was read of a slot, by the number of the first slot as the code has it
-pub read-of : (k : SectorFormat) (b : List ℕ) (place n first : ℕ) (o x : Option Placed) → first ≡ k.first → o ≡ option_map (placed_at place) (k.in_slot b (first + n)) → o ≡ x
-    → x ≡ option_map (placed_at place) (k.in_slot b (k.first + n))
-read-of k b place n first o x is read same = sym same ∙ read ∙ ap (λ (j : ℕ). option_map (placed_at place) (k.in_slot b (j + n))) is
-
 -- ---- slots of other ids are passed over
 
 module _ {X : Type 0} (least most : ℕ) (f : List Placed → X) (same : (p : Placed) (later : List Placed) → in_range least most p.id ≡ false → f (p ∷ later) ≡ f later) where

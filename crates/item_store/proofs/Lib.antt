@@ -8,11 +8,13 @@ pub mod ClosingSteps
 pub mod CollectSteps
 pub mod CopyLoop
 pub mod CostSteps
+mod CountSteps
 mod EntrySteps
 mod FreeSteps
 mod KnownSlots
 mod Tops
 mod HoldingSteps
+mod HeldSteps
 mod LastIds
 mod LastTables
 mod LastsSlots
@@ -46,6 +48,7 @@ mod PassSteps
 pub mod VersionLemmas
 mod VersionSteps
 mod VersionWrites
+mod ViewSteps
 mod WriteSteps
 mod WrittenFacts
 mod WrittenSteps

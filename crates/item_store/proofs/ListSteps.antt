@@ -10,7 +10,7 @@ use Rattle.item_laws.specs.PairRounds.{joined, collect_oldest}
 use Rattle.item_laws.specs.Area.{next, area_pairs}
 use Rattle.item_laws.specs.Forms.{AtRest, Collecting, Collected, IsForm, pairs_at, rest, to_copy}
 use Rattle.item_laws.specs.Reading.{Reading}
-use Rattle.item_laws.specs.Rounds.{parts}
+use Rattle.item_laws.specs.Rounds.{parts, Collects}
 use Rattle.item_laws.proofs.Collects.{put_victim, erase_victim}
 use Rattle.item_laws.proofs.Lists.{rest-kept}
 use Rattle.item_laws.proofs.Places.{after}
@@ -20,7 +20,7 @@ use Rattle.item_laws.proofs.RingSteps.{reads}
 use Rattle.item_store.specs.SectorFormat.{SectorFormat, IsSectorFormat}
 use Rattle.item_store.specs.Steps.{KeepsMarks, Marks, Closes, StopsClearing}
 use Rattle.item_store.specs.Standing.{list_of}
-use Rattle.item_store.specs.Collecting.{HasBegun, HasCopied, StopsCopying, CollectsAt, collected_list, KeepsOrCollects, KeepsOrDoesPass, KeepsOrRedoes, redo_list}
+use Rattle.item_store.specs.Collecting.{HasBegun, HasCopied, StopsCopying, collected_list, KeepsOrCollects, KeepsOrDoesPass, KeepsOrRedoes, redo_list}
 use Rattle.item_store.proofs.Areas.{stopped, one_marked, cut_stands}
 use Rattle.item_store.proofs.CollectSteps.{redo-at_rest, redo-collecting, start_stops, start_copies}
 use Rattle.item_store.proofs.RoundSteps.{closed-form, closed-is, closed-list}
@@ -52,8 +52,8 @@ module _ (k : SectorFormat) (law : IsSectorFormat k) where
     stopped-list new stops = let step = stopped k law old new place form stops in same-list old new place place (inr (inl form)) (inr (inl step.0)) step.1
 
     -- whole
-    pub whole-list : (new : List (List ℕ)) → CollectsAt k old new place → list_of k new ≡ collected_list k old place
-    whole-list new at = list-open new place (inl at.collects.form) ∙ collects-list R old new place law.reads at.collects
+    pub whole-list : (new : List (List ℕ)) → Collects k.reading old place new → list_of k new ≡ collected_list k old place
+    whole-list new collects = list-open new place (inl collects.form) ∙ collects-list R old new place law.reads collects
 
     -- from the area in which the open sector was made ready
     module _ (start : List (List ℕ)) (begun : HasBegun k old start place) where

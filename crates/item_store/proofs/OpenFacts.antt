@@ -70,7 +70,7 @@ module _ (format_of : Geometry → SectorFormat) (a : Device) (area : Area) (pla
         ∙ ap (λ (t : Bool). cond t (ready_units k old place) none) is
 
     pub opened_by : (e : Device) → HasBegun (format_of (geometry_of a area)) (sectors_of a area) (sectors_of e area) place → HasOpened (format_of (geometry_of a area)) (sectors_of a area) (sectors_of e area) place
-    opened_by e begun = record { only = begun.only; clean = begun.clean; long = begun.long }
+    opened_by e begun = record { only = begun.only; clean = begun.clean; ready = λ _. begun.ready; long = begun.long }
 
     opened_put : (e : Device) → HasBegun (format_of (geometry_of a area)) (sectors_of a area) (sectors_of e area) place → HasNotPut (format_of (geometry_of a area)) (sectors_of a area) (sectors_of e area) place
     opened_put e begun = rest-blank k law old (sectors_of e area) place next_rests unused begun.only (law.clean (sector_at (sectors_of e area) place) begun.clean)
@@ -80,7 +80,7 @@ module _ (format_of : Geometry → SectorFormat) (a : Device) (area : Area) (pla
 
     -- where sectors are not made ready
     pub opened_idle : (format_of (geometry_of a area)).opens_ready ≡ false → HasOpened (format_of (geometry_of a area)) (sectors_of a area) (sectors_of a area) place
-    opened_idle idle = record { only = only_none old old place refl; clean = law.blank idle (sector_at old place) unused; long = refl }
+    opened_idle idle = record { only = only_none old old place refl; clean = law.blank idle (sector_at old place) unused; ready = λ opens. absurd (false≢true (sym idle ∙ opens)); long = refl }
 
     pub idle_keeps : KeepsItems (format_of (geometry_of a area)) (sectors_of a area) (sectors_of a area)
     idle_keeps = keeps_none k old (form_undamaged k law old place (inl next_rests)).1

@@ -1,9 +1,9 @@
 -- What a round makes of the entries of the list with their places, and the cache behind it.
-use Rattle.std.proofs.Common.{◌≡◌, ℕ, ◌%◌, Bool, true, cond, eqb, List, [], ◌∷◌, ◌++◌, length, map, Option, Some, None, refl, sym, ap, subst, ◌∙◌}
+use Rattle.std.proofs.Common.{◌≡◌, ℕ, ◌%◌, Bool, true, cond, eqb, List, [], ◌∷◌, ◌++◌, length, map, Option, Some, None, refl, sym, ap, subst, ◌∙◌, inl, inr}
 use Rattle.std.specs.Prelude.{IfSome}
 use Rattle.std.specs.List.{flat_map, All}
 use Rattle.std.specs.Option.{option_map, option_or}
-use Rattle.std.proofs.lemmas.Bool.{eq-eqb, ne_eqb}
+use Rattle.std.proofs.lemmas.Bool.{cases_eq, eq-eqb, ne_eqb}
 use Rattle.std.proofs.lemmas.List.{append-nil, length-map}
 use Rattle.std.proofs.lemmas.List.Concat.{flat_map-append, flat_map-cons}
 use Rattle.std.proofs.lemmas.List.Elements.{All-nil, All-cons, All-head, All-tail, All-append, All-weaker}
@@ -93,6 +93,16 @@ module _ (k : SectorFormat) (law : IsSectorFormat k) (size : ℕ) (old new : Lis
   abbrev kept : List Placed
   kept = flat_map before (rest (length old) opened)
 
+  -- between them each entry stays in its slot
+  stays : (j : ℕ) → (j ≡ opened → ⊥) → (j ≡ victim → ⊥) → behind j ≡ before j
+  stays j apart off =
+      elim (cases_eq j place) [
+        | inl e ↦
+            let closed = pass_done.does_pass.closes (λ (v : place ≡ next old (next old place)). off (e ∙ v)) in
+            ap behind e ∙ ap (map (placed_at place)) closed.same_entries ∙ ap before (sym e)
+        | inr other ↦ ap (λ (b : List ℕ). map (placed_at j) (entries k b)) (pass_done.does_pass.others j other apart off)
+      ]
+
   closing : IsSplit (length old) place
   closing = split (length old) place pass_done.rested.ring.within pass_done.rested.ring.several
 
@@ -126,7 +136,7 @@ module _ (k : SectorFormat) (law : IsSectorFormat k) (size : ℕ) (old new : Lis
       ∙ ap (λ (ps : List Placed). (ps ++ flat_map behind (rest (length old) opened)) ++ behind opened) erased
       ∙ ap (λ (ps : List Placed). ps ++ behind opened)
       (flat_map-agree behind before (rest (length old) opened)
-      (All-weaker (IsFar (length old) opened) (λ j. behind j ≡ before j) (λ j far. ap (map (placed_at j)) (pass_done.does_pass.others j far.apart far.not_after)) (rest (length old) opened) gc_pass.inside))
+      (All-weaker (IsFar (length old) opened) (λ j. behind j ≡ before j) (λ j far. stays j far.apart far.not_after) (rest (length old) opened) gc_pass.inside))
 
   -- A cache that forgets the victim, and in which the entries of the new open sector are noted, is that of the list.
   pub cache-pass_done : (cache noted : CacheState) (gone : ℕ) → gone ≡ next old (next old place) → IsCacheOf cache (all_placed (slots k) old)

@@ -17,13 +17,14 @@ use Rattle.item_laws.proofs.RingSteps.{reads}
 use Rattle.item_laws.proofs.Places.{after, after-within, after-apart, flat_map-agree}
 use Rattle.item_laws.proofs.Rings.{open-not_closed}
 use Rattle.item_laws.proofs.Rounding.{round_blank, round_collected}
-use Rattle.item_store.specs.SectorFormat.{Range, SectorFormat, IsSectorFormat, making_ready, entries, fits}
-use Rattle.item_store.specs.Steps.{Keeps, Closes, StopsClearing}
+use Rattle.item_store.specs.SectorFormat.{Range, SectorFormat, IsSectorFormat, making_ready, fits}
+use Rattle.item_store.specs.Steps.{Keeps, Closes, Clears, StopsClearing}
 use Rattle.item_store.specs.Spending.{none, both, copies, victim_units, collect_units, ready_units, again_with, again_units, open_units, has_victim, round_clear}
 use Rattle.item_store.specs.Standing.{KeepsItems}
-use Rattle.item_store.specs.Collecting.{HasOpened, CollectsAt, DoesPassAt}
+use Rattle.item_store.specs.Collecting.{HasOpened, EmptiesVictim, CollectsAt, DoesPassAt}
 use Rattle.item_store.proofs.VersionLemmas.{keeps_all}
 use Rattle.item_store.proofs.Areas.{keeps-by, keeps_list, only_length, only_else, copied-le}
+use Rattle.item_store.proofs.CollectSteps.{rest_closed}
 use Rattle.item_store.proofs.PutSteps.{HasNotPut, has_not_put}
 use Rattle.item_store.proofs.WrittenSteps.{closed-used}
 
@@ -76,6 +77,17 @@ module _ (k : SectorFormat) (law : IsSectorFormat k) where
         room = λ len some. fits-is b len (2 * k.slot) some two ∙ leb-same (k.cost len + 2 * k.slot) (k.free b) (used + k.cost len) (k.cap size) (λ le. omega arith) (λ le. omega arith);
         delete = le-leb (2 * k.slot) (k.free b) (omega arith);
       }
+
+  -- an open sector with gc-done takes entries
+  marked-ready : (sectors : List (List ℕ)) (place : ℕ) → AtRest k.reading sectors place → k.reading.has_gc_done (sector_at sectors place) ≡ true → 512 ≤ length (sector_at sectors place) → k.is_ready (sector_at sectors place) ≡ true
+  marked-ready sectors place form done large =
+      let b = sector_at sectors place in
+      law.used (sector_at sectors place) large (form.sound place form.ring.within)
+      (elim (cases_Bool (k.is_clean b)) [
+        | inl clean ↦ absurd (false≢true (sym (law.reads.gc_done b (law.clean b clean)) ∙ done))
+        | inr used ↦ used
+      ])
+      (open-not_closed R sectors place form.blanks form.ring)
 
   -- A step at rest that keeps the list.
   pub rest-keeps : (old new : List (List ℕ)) (place : ℕ) → AtRest k.reading old place → ChangesOnly old new place → Keeps k (sector_at old place) (sector_at new place) → HasNotPut k old new place
@@ -161,11 +173,11 @@ module _ (k : SectorFormat) (law : IsSectorFormat k) where
     pub opened-unused : k.reading.is_blank (sector_at mid (next old place)) ≡ true
     opened-unused = ap R.is_blank opened-same ∙ next_blank R old place form
 
-    closed-entries : (j : ℕ) → entries k (sector_at mid j) ≡ entries k (sector_at old j)
-    closed-entries j =
+    closed-length : (j : ℕ) → length (sector_at mid j) ≡ length (sector_at old j)
+    closed-length j =
         elim (cases_eq j place) [
-          | inl e ↦ ap (λ (i : ℕ). entries k (sector_at mid i)) e ∙ closes.same_entries ∙ ap (λ (i : ℕ). entries k (sector_at old i)) (sym e)
-          | inr apart ↦ ap (entries k) (only_else old mid place j only apart)
+          | inl e ↦ ap (λ (i : ℕ). length (sector_at mid i)) e ∙ closes.long ∙ ap (λ (i : ℕ). length (sector_at old i)) (sym e)
+          | inr apart ↦ ap length (only_else old mid place j only apart)
         ]
 
     long : length mid ≡ length old
@@ -188,6 +200,11 @@ module _ (k : SectorFormat) (law : IsSectorFormat k) where
         ]
 
     -- the round
+
+    empties-round : (new : List (List ℕ)) → EmptiesVictim k mid new (next old place) → EmptiesVictim k old new (next old place)
+    empties-round new empties =
+        let there : Clears k (sector_at mid (next old (next old place))) (sector_at new (next old (next old place))) = subst (λ (v : ℕ). Clears k (sector_at mid v) (sector_at new v)) same_next empties in
+        record { clean = there.clean; ready = there.ready; long = there.long ∙ closed-length (next old (next old place)) }
 
     -- with no victim
     module _ (new : List (List ℕ)) (rested : AtRest k.reading mid (next old place)) (opened : HasOpened k mid new (next old place)) where
@@ -230,6 +247,9 @@ module _ (k : SectorFormat) (law : IsSectorFormat k) where
             parts = parts-opened ∙ pass_done.parts;
           }
 
+      no_victim : {P : Type 0} → has_victim k old place ≡ true → P
+      no_victim has = absurd (false≢true (sym (rest_closed k law mid (next old place) rested) ∙ sym victim-is ∙ has))
+
       pub does_pass-opened : (size : ℕ) → 512 ≤ size → length (sector_at old (next old place)) ≡ size → DoesPassAt k size old new place
       does_pass-opened size large width =
           let here = opened.long ∙ ap length opened-same ∙ width in
@@ -237,9 +257,13 @@ module _ (k : SectorFormat) (law : IsSectorFormat k) where
           let no_copies : copies_cost k.cost (pairs_at R new (next old place)) ≡ 0 = ap (copies_cost k.cost) (law.reads.pairs (sector_at new (next old place)) new_blank) in
           record {
             round = round-opened;
+            gc_done = no_victim;
+            empties = no_victim;
+            ready = opened.ready;
             room = λ len some. room.room len some ∙ ap (λ (n : ℕ). leb (n + k.cost len) (k.cap size)) (sym no_copies);
             delete = room.delete;
-            others = λ j apart off. ap (entries k) (only_else mid new (next old place) j opened.only apart) ∙ closed-entries j;
+            closes = λ apart. subst (λ (b : List ℕ). Closes k (sector_at old place) b) (sym (only_else mid new (next old place) place opened.only (λ (e : place ≡ next old place). other (sym e)))) closes;
+            others = λ j off apart away. only_else mid new (next old place) j opened.only apart ∙ only_else old mid place j only off;
           }
 
     pub does_pass-collected : (size : ℕ) (new : List (List ℕ)) → 512 ≤ size → ((j : ℕ) → j < length old → length (sector_at mid j) ≡ size) → Collecting k.reading mid (next old place) → CollectsAt k mid new (next old place) → DoesPassAt k size old new place
@@ -257,9 +281,13 @@ module _ (k : SectorFormat) (law : IsSectorFormat k) where
         let pass_done = round_collected R law.reads old place (sector_at mid place) form closes.list sound new (subst (λ (s : List (List ℕ)). Collects R s (next old place) new) only all.collects) in
         record {
           round = pass_done;
+          gc_done = λ _. all.gc_done;
+          empties = λ _. empties-round new all.empties;
+          ready = λ _. marked-ready new (next old place) pass_done.form all.gc_done (subst (λ (n : ℕ). 512 ≤ n) (sym (all.long ∙ here_width)) large);
           room = λ len some. room.room len some ∙ ap (λ (n : ℕ). leb (n + k.cost len) (k.cap size)) (sym used);
           delete = room.delete;
-          others = λ j apart off. ap (entries k) (all.others j apart (λ (e : j ≡ next mid (next old place)). off (e ∙ same_next))) ∙ closed-entries j;
+          closes = λ apart. subst (λ (b : List ℕ). Closes k (sector_at old place) b) (sym (all.others place (λ (e : place ≡ next old place). other (sym e)) (λ (e : place ≡ next mid (next old place)). apart (e ∙ same_next)))) closes;
+          others = λ j off apart away. all.others j apart (λ (e : j ≡ next mid (next old place)). away (e ∙ same_next)) ∙ only_else old mid place j only off;
         }
 
     -- its units

@@ -10,10 +10,10 @@ use Rattle.item_laws.specs.Live as live
 use Rattle.item_store.specs.declared.entry.Placed.{Placed}
 use Rattle.item_store.specs.declared.entry.Redo.{Redo}
 use Rattle.item_store.specs.declared.entry.Redo.TheVariants.{Nothing, ClearNext, CollectAgain}
-use Rattle.item_store.specs.SectorFormat.{Range, SectorFormat, entries, slots, fits}
-use Rattle.item_store.specs.Spending.{none, again_units}
+use Rattle.item_store.specs.SectorFormat.{Range, SectorFormat, slots, fits}
+use Rattle.item_store.specs.Spending.{none, again_units, has_victim}
 use Rattle.item_store.specs.Standing.{list_of}
-use Rattle.item_store.specs.Steps.{Keeps, Adds, Closes}
+use Rattle.item_store.specs.Steps.{Keeps, Adds, Closes, Clears}
 use Rattle.std.specs.Prelude.{if◌then◌else◌}
 
 -- The open sector has no entry and all its room, and is ready for an entry. No other sector
@@ -24,10 +24,12 @@ pub record HasBegun (k : SectorFormat) (old new : List (List ℕ)) (place : ℕ)
   pub ready : k.is_ready (sector_at new place) ≡ true
   pub long : length (sector_at new place) ≡ length (sector_at old place)
 
--- The open sector has no entry and all its room. No other sector changed.
+-- The open sector has no entry and all its room, and is ready for an entry if sectors are made so
+-- as they open. No other sector changed.
 pub record HasOpened (k : SectorFormat) (old new : List (List ℕ)) (place : ℕ) : Type 0 where
   pub only : ChangesOnly old new place
   pub clean : k.is_clean (sector_at new place) ≡ true
+  pub ready : k.opens_ready ≡ true → k.is_ready (sector_at new place) ≡ true
   pub long : length (sector_at new place) ≡ length (sector_at old place)
 
 -- Into the open sector, which had no entry, these pairs were copied. No other sector changed.
@@ -56,16 +58,23 @@ CopiesOne k old new place (Some p) =
     ChangesOnly old new place
     × Adds k (sector_at old place) (sector_at new place) p.id (live.bytes_of (slots k) old p)
 
+-- the victim of a collection into this open sector has no entry and all its room, and can be opened
+abbrev pub EmptiesVictim : SectorFormat → List (List ℕ) → List (List ℕ) → ℕ → Type 0
+EmptiesVictim k old new place =
+    Clears k (sector_at old (next old place)) (sector_at new (next old place))
+
 -- what the copy of an entry spends, if there is one
 abbrev pub copy_units : SectorFormat → Option Placed → Range
 copy_units k None = none
 copy_units k (Some p) = k.units.any_copy p.len
 
--- a whole collection, and the room that it leaves in the open sector
+-- A whole collection, and the room that it leaves in the open sector. gc-done stands there, and the
+-- victim is emptied.
 pub record CollectsAt (k : SectorFormat) (old new : List (List ℕ)) (place : ℕ) : Type 0 where
   pub collects : Collects k.reading old place new
   pub list : k.reading.pairs (sector_at new place) ≡ to_copy k.reading old place
   pub gc_done : k.reading.has_gc_done (sector_at new place) ≡ true
+  pub empties : EmptiesVictim k old new place
   pub long : length (sector_at new place) ≡ length (sector_at old place)
   pub room : k.free (sector_at new place) + copies_cost k.cost (to_copy k.reading old place)
       ≡ k.cap (length (sector_at old place)) + 2 * k.slot
@@ -76,16 +85,22 @@ pub record CollectsAt (k : SectorFormat) (old new : List (List ℕ)) (place : �
 abbrev pub fits_beside : SectorFormat → ℕ → List (ℕ × List ℕ) → ℕ → Bool
 fits_beside k size pairs len = nat_le (copies_cost k.cost pairs + k.cost len) (k.cap size)
 
--- A whole round. Afterwards a value fits the open sector exactly if it fits beside the copies, and
--- a delete fits.
+-- A whole round. It closes the open sector, opens the next one, and empties the victim, if there is
+-- one; then gc-done stands in the new open sector. Afterwards a value fits that one exactly if it
+-- fits beside the copies, and a delete fits.
 pub record DoesPassAt (k : SectorFormat) (size : ℕ) (old new : List (List ℕ)) (place : ℕ) : Type 0 where
   pub round : IsRound k.reading old place new
+  pub gc_done : has_victim k old place ≡ true → k.reading.has_gc_done (sector_at new (next old place)) ≡ true
+  pub empties : has_victim k old place ≡ true → EmptiesVictim k old new (next old place)
+  pub ready : k.opens_ready ≡ true → k.is_ready (sector_at new (next old place)) ≡ true
   pub room : (len : ℕ) → 0 < len → fits k (sector_at new (next old place)) len
       ≡ fits_beside k size (pairs_at k.reading new (next old place)) len
   pub delete : fits k (sector_at new (next old place)) 0 ≡ true
-  -- the entries of all sectors but the new open one and the victim stay in their slots
-  pub others : (j : ℕ) → (j ≡ next old place → ⊥) → (j ≡ next old (next old place) → ⊥)
-      → entries k (sector_at new j) ≡ entries k (sector_at old j)
+  -- the sector that was open is closed, unless it is the victim
+  pub closes : (place ≡ next old (next old place) → ⊥) → Closes k (sector_at old place) (sector_at new place)
+  -- no byte changed but in that one, the new open one and the victim
+  pub others : (j : ℕ) → (j ≡ place → ⊥) → (j ≡ next old place → ⊥) → (j ≡ next old (next old place) → ⊥)
+      → sector_at new j ≡ sector_at old j
 
 -- ---- gc-done and the victim
 

@@ -7,7 +7,7 @@ use Rattle.flash_map.specs.Area.{sector_size, sectors_of}
 use Rattle.item_laws.specs.Area.{next}
 use Rattle.item_laws.specs.Forms.{AtRest, Collecting}
 use Rattle.item_store.specs.declared.entry.Placed.{Placed}
-use Rattle.item_store.specs.Collecting.{CollectsAt, CopiesOne, HasOpened, KeepsOrRedoes, KeepsOrDoesPass, DoesPassAt, copy_units, redo_list, redo_of, redo_units}
+use Rattle.item_store.specs.Collecting.{CollectsAt, CopiesOne, EmptiesVictim, HasOpened, KeepsOrRedoes, KeepsOrDoesPass, DoesPassAt, copy_units, redo_list, redo_of, redo_units}
 use Rattle.item_store.specs.SectorFormat.{SectorFormat}
 use Rattle.item_store.specs.Listed.{format_on, HasSlotOn}
 use Rattle.item_store.specs.OnSector.{ChangesOnlyOn, IsKeptAfter, IsSoundOn, KeepsMarksOn, sector_on}
@@ -36,7 +36,8 @@ pub record CopyEnds {T X E : Type 0} (format_of : Geometry → SectorFormat) (ke
   pub spends : OnOk result (SpendsIn old new (copy_units (format_on format_of old on) entry))
   pub spends_lost : OnErr result (SpendsUpTo old new (copy_units (format_on format_of old on) entry))
 
--- How the redo of a mount ends. On `Ok` the area is at rest. On `Err` it was not.
+-- How the redo of a mount ends. On `Ok` the area is at rest, and a victim is emptied. On `Err` it
+-- was not at rest.
 pub record RedoEnds {T X E : Type 0} (format_of : Geometry → SectorFormat) (keep : Geometry → List ℕ → T)
     (old new : Device) (on : Area) (place : ℕ) (held : T) (result : Result X E) : Type 0 where
   pub rested : OnOk result (AtRest (format_on format_of old on).reading (sectors_of new on) place)
@@ -48,6 +49,11 @@ pub record RedoEnds {T X E : Type 0} (format_of : Geometry → SectorFormat) (ke
   pub list_lost : OnErr result
       (KeepsOrRedoes (format_on format_of old on) (sectors_of old on) (sectors_of new on) place)
   pub busy : OnErr result (AtRest (format_on format_of old on).reading (sectors_of old on) place → ⊥)
+  pub empties :
+      let k = format_on format_of old on in
+      OnOk result
+      (¬ AtRest k.reading (sectors_of old on) place
+      → EmptiesVictim k (sectors_of old on) (sectors_of new on) place)
   pub collects :
       let k = format_on format_of old on in
       OnOk result

@@ -1,10 +1,13 @@
 -- The last entries of the ids in a range, given one after the other from the newest back.
-use Rattle.std.specs.Prelude.{◌≡◌, ◌⊎◌, ℕ, ◌+◌, ◌-◌, ◌*◌, ◌^◌, ◌<◌, ◌≤◌, Bool, true, false, ◌&&◌, List, [], length, map, ◌++◌, Option, Some, None, ◌==◌, nat_le, nat_lt, if◌then◌else◌}
+use Rattle.std.specs.Prelude.{◌≡◌, ◌⊎◌, ℕ, ◌+◌, ◌-◌, ◌*◌, ◌^◌, ◌<◌, ◌≤◌, Bool, true, false, ◌&&◌, List, [], length, map, ◌++◌, Option, Some, None, option_map, IfSome, sum_by, ◌==◌, nat_le, nat_lt, if◌then◌else◌}
 use Rattle.std.specs.List.{filter_map, list_any, range_with_len}
 use Rattle.flash_map.specs.Area.{sector_at}
 use Rattle.item_laws.specs.Area.{counts_at}
 use Rattle.item_laws.specs.Live.{last_placed}
+use Rattle.item_laws.specs.RoundParts.{places_before}
 use Rattle.item_store.specs.declared.entry.Entry.{Entry}
+use Rattle.item_store.specs.declared.entry.IdRange.{IdRange}
+use Rattle.item_store.specs.declared.entry.LookBack.{LookBack}
 use Rattle.item_store.specs.declared.entry.Placed.{Placed}
 use Rattle.item_store.specs.declared.lasts.Lasts.{Lasts}
 use Rattle.item_store.specs.SectorFormat.{SectorFormat, placed_at, slots}
@@ -25,6 +28,14 @@ IsOther least most (Some e) = in_range least most e.id ≡ false
 abbrev pub AreOthers : SectorFormat → List ℕ → ℕ → ℕ → ℕ → ℕ → Type 0
 AreOthers k b from to least most =
     (slot : ℕ) → k.first + from ≤ slot → slot < k.first + to → IsOther least most (k.in_slot b slot)
+
+-- the entry in the slot behind the first so many of a sector's list, and how many of these have to be
+-- read for the ids of a range
+pub record LooksBack (k : SectorFormat) (b : List ℕ) (place before : ℕ) (ids : IdRange) (look : LookBack)
+    : Type 0 where
+  pub entry : look.entry ≡ option_map (placed_at place) (k.in_slot b (k.first + before))
+  pub few : look.reach ≤ before
+  pub others : AreOthers k b look.reach before ids.least ids.most
 
 -- some entry has this id
 abbrev pub has_id : ℕ → List Placed → Bool
@@ -87,3 +98,39 @@ sectors_left count current place =
 -- At most so many slots are left to be read: no sector has more than 2 ^ 15.
 abbrev pub slots_left : ℕ → ℕ → Lasts → ℕ
 slots_left count current walk = sectors_left count current walk.place * 0x8001 + walk.left
+
+-- ---- what a walk views
+
+-- how many slots the lists of the sectors before a place have, in the round to the open one
+abbrev pub slots_before : SectorFormat → List (List ℕ) → ℕ → ℕ → ℕ
+slots_before k sectors current place =
+    sum_by (λ p. k.count (sector_at sectors p)) (places_before (length sectors) current place)
+
+-- how many slots all lists have
+abbrev pub slots_in_all : SectorFormat → List (List ℕ) → ℕ
+slots_in_all k sectors = sum_by (λ p. k.count (sector_at sectors p)) (range_with_len 0 (length sectors))
+
+-- What a walk may still view: each sector that it comes to, the entry in each slot, and the bytes of each
+-- entry that it gives, once each.
+abbrev pub views_left : SectorFormat → List (List ℕ) → ℕ → Lasts → ℕ
+views_left k sectors current walk =
+    sectors_left (length sectors) current walk.place
+    + 2 * (walk.left + slots_before k sectors current walk.place)
+
+-- A slot is read, in at most one step.
+pub record ReadsSlot (old new : Lasts) (before after : ℕ) : Type 0 where
+  pub fewer : new.left < old.left
+  pub steps : after ≤ before + 1
+
+-- The same for the slots up to one that gives an entry. A second step for each is kept for its bytes.
+pub record ReadsSlots (old new : Lasts) (before after : ℕ) (found : Option Placed) : Type 0 where
+  pub fewer : IfSome found (λ _. new.left < old.left)
+  pub steps : after + 2 * new.left ≤ before + 2 * old.left
+  pub spared : IfSome found (λ _. after + 2 * new.left < before + 2 * old.left)
+
+-- The walk takes no more steps than it may, and one less where it gives an entry: the one for its bytes.
+pub record WalksOn (k : SectorFormat) (sectors : List (List ℕ)) (current : ℕ) (old new : Lasts)
+    (before after : ℕ) (found : Option Placed) : Type 0 where
+  pub steps : after + views_left k sectors current new ≤ before + views_left k sectors current old
+  pub spared : IfSome found
+      (λ _. after + views_left k sectors current new < before + views_left k sectors current old)

@@ -1,16 +1,16 @@
 -- What is said of one sector of an area, on a device. `held` is what a store keeps of the sector.
-use Rattle.std.specs.Prelude.{◌≡◌, ◌⊎◌, ℕ, ◌+◌, ◌*◌, ◌<◌, ◌≤◌, true, false, List, length, Some, IsTrue, Result, OnOk, OnErr}
+use Rattle.std.specs.Prelude.{◌≡◌, ◌⊎◌, ℕ, ◌+◌, ◌*◌, ◌<◌, ◌≤◌, true, false, List, length, Option, Some, None, IsTrue, Result, OnOk, OnErr}
 use Rattle.std.specs.Option.{option_map}
 use Rattle.flash_sim.specs.Device.{Device}
 use Rattle.flash_map.specs.declared.area.Area.{Area}
 use Rattle.flash_map.specs.declared.area.Geometry.{Geometry}
 use Rattle.flash_map.specs.Area.{geometry_of, sector_at, sectors_of, ChangesOnly}
-use Rattle.item_laws.specs.Area.{next, is_closed_at, open_sector}
+use Rattle.item_laws.specs.Area.{next, is_closed_at, ignored_place, open_sector}
 use Rattle.item_laws.specs.Reading.{is_sound}
 use Rattle.item_laws.specs.Live as live
 use Rattle.item_store.specs.declared.entry.Placed.{Placed}
 use Rattle.item_store.specs.declared.open_area.OpenArea.{OpenArea}
-use Rattle.item_store.specs.SectorFormat.{SectorFormat, fits, placed_at, slots}
+use Rattle.item_store.specs.SectorFormat.{Range, SectorFormat, fits, placed_at, slots}
 use Rattle.item_store.specs.Listed.{format_on, HasSlotOn, KnowsSlots}
 use Rattle.flash_map.specs.declared.area.Role.{Role}
 use Rattle.item_store.specs.Standing.{IsStoreArea, SpendsIn, SpendsUpTo}
@@ -27,6 +27,15 @@ free_on format_of d area place = (format_on format_of d area).free (sector_on d 
 -- the bytes of an entry
 abbrev pub bytes_on : (Geometry → SectorFormat) → Device → Area → Placed → List ℕ
 bytes_on format_of d area p = live.bytes_of (slots (format_on format_of d area)) (sectors_of d area) p
+
+-- what a copy into it spends, of an entry with a value of this length
+abbrev pub copy_units_on : (Geometry → SectorFormat) → Device → Area → ℕ → ℕ → Range
+copy_units_on format_of d area place len =
+    (format_on format_of d area).units.copy (sector_on d area place) len
+
+-- what its emptying spends
+abbrev pub clear_units_on : (Geometry → SectorFormat) → Device → Area → ℕ → Range
+clear_units_on format_of d area place = (format_on format_of d area).units.clear (sector_on d area place)
 
 -- ---- what it is
 
@@ -48,6 +57,10 @@ IsSoundOn format_of d area place = is_sound (format_on format_of d area).reading
 abbrev pub IsOpenOn : (Geometry → SectorFormat) → Device → Area → ℕ → Type 0
 IsOpenOn format_of d area place = place ≡ open_sector (format_on format_of d area).reading (sectors_of d area)
 
+abbrev pub IsNotClosedOn : (Geometry → SectorFormat) → Device → Area → ℕ → Type 0
+IsNotClosedOn format_of d area place =
+    is_closed_at (format_on format_of d area).reading (sectors_of d area) place ≡ false
+
 -- whether the sector behind it is closed
 abbrev pub NextIsClosedOn : (Geometry → SectorFormat) → Device → Area → ℕ → Type 0
 NextIsClosedOn format_of d area place =
@@ -58,6 +71,13 @@ abbrev pub NextIsNotClosedOn : (Geometry → SectorFormat) → Device → Area �
 NextIsNotClosedOn format_of d area place =
     is_closed_at (format_on format_of d area).reading (sectors_of d area) (next (sectors_of d area) place)
     ≡ false
+
+-- The sector that does not count with this one open; none if the sector behind it is not closed.
+abbrev pub Ignores : SectorFormat → List (List ℕ) → ℕ → Option ℕ → Type 0
+Ignores k sectors current None = is_closed_at k.reading sectors (next sectors current) ≡ false
+Ignores k sectors current (Some ignored) =
+    (is_closed_at k.reading sectors (next sectors current) ≡ true)
+    × (ignored ≡ ignored_place k.reading sectors current)
 
 abbrev pub HasNoGcDoneOn : (Geometry → SectorFormat) → Device → Area → ℕ → Type 0
 HasNoGcDoneOn format_of d area place =

@@ -14,7 +14,7 @@ use Rattle.item_store.specs.declared.entry.Redo.TheVariants.{CollectAgain}
 use Rattle.item_store.specs.Cached.{IsCacheOn}
 use Rattle.item_store.specs.SectorFormat.{SectorFormat}
 use Rattle.item_store.specs.Room.{has_room}
-use Rattle.item_store.specs.Collecting.{redo_of, redo_list, redo_units, KeepsOrRedoes, MarksFirst}
+use Rattle.item_store.specs.Collecting.{EmptiesVictim, redo_of, redo_list, redo_units, KeepsOrRedoes, MarksFirst}
 use Rattle.item_store.specs.Standing.{IsStoreArea, list_at, KeepsItems, SpendsIn, SpendsUpTo}
 
 -- The store is up: the area is not damaged and at rest, and the store knows its open sector and
@@ -48,7 +48,8 @@ pub record StandsAt {T : Type 0} (role : Role) (format_of : Geometry → SectorF
 -- If the area is damaged, or memory runs out, nothing changed. Otherwise the items stay, whether
 -- power is lost or not. A mount spends what there is to redo: at rest nothing. The list is the one
 -- that the redo leaves; after a power loss, that one or the one before. A collection that was begun
--- again leaves room for a delete.
+-- again leaves room for a delete. If the area was not at rest, the sector behind the open one is
+-- emptied.
 abbrev pub MountEnds : {T : Type 0} → Role → (Geometry → SectorFormat) → (Geometry → List ℕ → T) → Device
     → Device
     → Area → Result (Store T) MountFault → Type 0
@@ -63,6 +64,8 @@ MountEnds role format_of kept old new area (Ok store) =
     × (AtRest k.reading (sectors_of old area) place → new ≡ old)
     × (list_at k new area ≡ redo_list k (sectors_of old area) place (redo_of k (sectors_of old area) place))
     × (redo_of k (sectors_of old area) place ≡ CollectAgain → has_room k (sectors_of new area) 0 ≡ true)
+    × (¬ AtRest k.reading (sectors_of old area) place
+    → EmptiesVictim k (sectors_of old area) (sectors_of new area) place)
 MountEnds role format_of kept old new area (Err (HasDamage damaged)) =
     ((format_of (geometry_of old area)).damage (sectors_of old area) ≡ Some damaged) × (new ≡ old)
 MountEnds role format_of kept old new area (Err MountLost) =

@@ -47,8 +47,8 @@ pub fn fill<T: SlotSectors, F: Flash, L: Ledger>(
 }
 
 /// Updates the cache after a round that opened this sector. It forgets the places in the next
-/// sector, the victim, and notes the entries of the open sector, which stand last. If the round had
-/// no victim, the next sector held no entry of the list.
+/// sector, the victim, and its top, and notes the entries of the open sector, which stand last. If
+/// the round had no victim, the next sector held no entry of the list.
 pub fn follow_round<T: SlotSectors, F: Flash, L: Ledger>(
     flash: &F,
     area: &Area,

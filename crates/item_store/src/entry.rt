@@ -1,4 +1,4 @@
-// Entries at their places, ranges and pairs of ids, and what a mount has to do.
+// Entries at their places, ranges and pairs of ids, looks at slots, and what a mount has to do.
 
 /// An entry of a sector's list. The format of the sector says where its bytes lie.
 #[derive(Clone, Copy, Debug, PartialEq, Eq)]
@@ -59,6 +59,15 @@ pub struct MayHave {
     pub lower: bool,
     /// Whether a slot may have the upper id.
     pub upper: bool,
+}
+
+/// What a slot holds, and how far to go back from it.
+#[derive(Clone, Copy)]
+pub struct LookBack {
+    /// The entry in the slot; `None` if it has none.
+    pub entry: Option<Placed>,
+    /// How many of the first slots before it have to be read.
+    pub reach: u32,
 }
 
 /// What a mount has to do before the area is at rest.

@@ -26,7 +26,8 @@ use std::sync::ledger::Ledger;
 impl<T: SlotSectors> Store<T> {
     /// Reads the area and completes what a power loss left undone. The items stay, even if power is
     /// lost again. An area at rest stays as it is. If anything changed, some sector is not blank
-    /// afterwards, even if power was lost. No byte of a collected sector goes before gc-done stands.
+    /// afterwards, even if power was lost. No byte of a collected sector goes before gc-done
+    /// stands, and in the end that sector is empty and ready for entries.
     ///
     /// # Errors
     /// `Damaged` and `NoMemory`: nothing changed. `PowerLost`, only if the area was not at rest.
@@ -132,7 +133,9 @@ impl<T: SlotSectors> Store<T> {
 
     /// Closes the open sector and collects the oldest one. If the open sector is clean, nothing
     /// changes. The items stay, even if power is lost. After a round, a value fits the open sector
-    /// exactly if it fits beside the items copied there, and a delete fits.
+    /// exactly if it fits beside the items copied there, and a delete fits. If a sector was
+    /// collected, gc-done stands in the open one, and the collected one is empty and ready for
+    /// entries.
     ///
     /// # Errors
     /// `PowerLost`, only if the open sector is not clean: the list is as before or as after the

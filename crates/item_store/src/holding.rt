@@ -1,11 +1,12 @@
 // Looking for an item by its bytes: ids and bytes are compared before CRCs.
-ghost use Rattle.std.specs.Prelude.{◌≡◌, ◌+◌, ◌<◌, ◌≤◌, ◌^◌, ◌||◌, true, false, Some, length, option_map};
+ghost use Rattle.std.specs.Prelude.{◌≡◌, ◌+◌, ◌<◌, ◌≤◌, ◌^◌, ◌||◌, true, false, Some, None, length, option_map};
 ghost use Rattle.std.specs.FinMap as map;
 ghost use Rattle.flash_map.specs.Area.{sectors_of};
 ghost use Rattle.item_laws.specs.Items.{value_of};
 ghost use Rattle.item_laws.specs.Live.{bytes_of, last_placed};
+ghost use Rattle.item_laws.specs.RoundParts.{places_after};
 ghost use Rattle.item_store.specs.Asking.{FindsHolderIn, IsHolderAt, IsHolderOf};
-ghost use Rattle.item_store.specs.Holding.{NoneLater, RulesOutBehind, RulesOutLater};
+ghost use Rattle.item_store.specs.Holding.{held_in, held_in_all, holder_views, search_views, NoneHoldsAt, NoneHoldsIn, NoneLater, RulesOutBehind, RulesOutLater, SearchesSector};
 ghost use Rattle.item_store.specs.Listed.{format_on, items_on, IsPlacedOn};
 ghost use Rattle.item_store.specs.OnSector.{sector_on, IsOpenAt};
 ghost use Rattle.item_store.specs.SectorFormat.{slots};
@@ -41,7 +42,7 @@ impl MayHave {
 }
 
 // Which of two ids the entries in the sectors behind a place, in the round to the open one, may
-// have.
+// have. It views each of these sectors at most once.
 fn may_have_behind<T: SlotSectors, F: Flash, L: Ledger>(
     flash: &F,
     on: &OpenArea<'_, T>,
@@ -51,9 +52,11 @@ fn may_have_behind<T: SlotSectors, F: Flash, L: Ledger>(
 ) -> MayHave
     requires on { IsOpenAt T.role T.format_of T.kept (F.device flash.now) on.now }
     requires inside { place < on.now.area.now.sectors }
-    ensures { let d = F.device flash.now in let area = on.now.area.now in
+    ensures rules { let d = F.device flash.now in let area = on.now.area.now in
         RulesOutBehind (format_on T.format_of d area) (sectors_of d area) on.now.current place
         ids.now result }
+    ensures steps { let behind = places_after on.now.area.now.sectors on.now.current place in
+        steps.new ≤ steps.old + length behind }
 {
     let mut may = MayHave {
         lower: false,
@@ -68,7 +71,8 @@ fn may_have_behind<T: SlotSectors, F: Flash, L: Ledger>(
 }
 
 impl<T: SlotSectors> Store<T> {
-    // Which of two ids the entries behind this one may have.
+    // Which of two ids the entries behind this one may have. It views each sector from that of the
+    // entry to the open one at most once.
     fn may_have_later<F: Flash, L: Ledger>(
         &self,
         flash: &F,
@@ -80,9 +84,12 @@ impl<T: SlotSectors> Store<T> {
         requires placed { IsPlacedOn T.format_of (F.device flash.now) self.now.area self.now.current
             holder.now }
         requires small { holder.now.slot < 2 ^ 16 }
-        ensures { let d = F.device flash.now in
+        ensures rules { let d = F.device flash.now in
             RulesOutLater (format_on T.format_of d self.now.area) (sectors_of d self.now.area)
             self.now.current holder.now ids.now result }
+        ensures steps { let count = self.now.area.sectors in
+            let behind = places_after count self.now.current holder.now.sector in
+            steps.new ≤ steps.old + 1 + length behind }
     {
         let tops = self.cache.tops();
         let on = OpenArea {
@@ -126,6 +133,7 @@ impl<T: SlotSectors> Store<T> {
         ensures not_it { result ≡ false
             → map.get (items_on T.format_of (F.device flash.now) self.now.area) holder.now.id
             ≡ Some bytes.now → ⊥ }
+        ensures steps { steps.new ≤ steps.old + self.now.area.sectors + 4 }
     {
         if !may_be_later {
             return true;
@@ -137,7 +145,8 @@ impl<T: SlotSectors> Store<T> {
     }
 
     // The item of an entry that holds the bytes, and the item a step above it; `None` if the item
-    // of the id does not have these bytes.
+    // of the id does not have these bytes. It views each sector from that of the entry to the open
+    // one at most once, and looks up its id. If the item has the bytes, it looks up the id above.
     fn holder_at<'a, F: Flash, L: Ledger>(
         &self,
         flash: &'a F,
@@ -156,8 +165,11 @@ impl<T: SlotSectors> Store<T> {
         requires small { holder.now.slot < 2 ^ 16 }
         requires step { 0 < step }
         requires top { holder.now.id + step < 2 ^ 32 }
-        ensures { IsHolderAt holder.now.id step
+        ensures holder { IsHolderAt holder.now.id step
             (items_on T.format_of (F.device flash.now) self.now.area) bytes.now result }
+        ensures none { result ≡ None → steps.new < steps.old + holder_views self.now.area.sectors }
+        ensures steps { let count = self.now.area.sectors in
+            steps.new < steps.old + holder_views count + (count + 4) }
     {
         let ids = IdPair {
             lower: holder.id,
@@ -175,7 +187,9 @@ impl<T: SlotSectors> Store<T> {
     }
 
     // An id of the range whose item has these bytes, by the entries of one sector that hold them,
-    // and the item a step above it. Of several in a row with one id, the first decides.
+    // and the item a step above it. Of several in a row with one id, the first decides. It views
+    // the sector at most once, and takes so many steps more for each entry that gives an id of the
+    // range these bytes. Only the last one can cost the look-up of the item above.
     fn holder_in<'a, F: Flash, L: Ledger>(
         &self,
         flash: &'a F,
@@ -190,9 +204,15 @@ impl<T: SlotSectors> Store<T> {
         requires some_bytes { 0 < length bytes.now }
         requires step { 0 < step }
         requires top { ids.now.most + step < 2 ^ 32 }
-        ensures { let d = F.device flash.now in
+        ensures holder { let d = F.device flash.now in
             FindsHolderIn (format_on T.format_of d self.now.area) (sector_on d self.now.area place)
             (items_on T.format_of d self.now.area) ids.now step bytes.now result }
+        ensures absent { let d = F.device flash.now in
+            NoneHoldsIn (format_on T.format_of d self.now.area) (sector_on d self.now.area place)
+            ids.now bytes.now → steps.new ≤ steps.old + 1 }
+        ensures present { let d = F.device flash.now in let b = sector_on d self.now.area place in
+            let held = held_in (format_on T.format_of d self.now.area) b ids.now bytes.now in
+            SearchesSector self.now.area.sectors held steps.old steps.new result }
     {
         let first = T::first_slot();
         let tops = self.cache.tops();
@@ -239,7 +259,10 @@ impl<T: SlotSectors> Store<T> {
     /// An id of the range whose item has these bytes, with the item `step` above it; any of them if
     /// several have, `None` if none has. It searches sector after sector, the newest first, and
     /// compares ids and bytes before CRCs. It then reads the ids behind an entry that holds the
-    /// bytes. An id that these may have is looked up as `get` does, and so is the item above.
+    /// bytes. An id that these may have is looked up as `get` does, and so is the item above. Where
+    /// no entry gives an id of the range these bytes, it takes at most one step for each sector.
+    /// Each entry that does may cost the search for it, one look at each sector, and a look-up of
+    /// its id. The item above costs one look-up in all.
     pub fn holder_of<'a, F: Flash, L: Ledger>(
         &self,
         flash: &'a F,
@@ -251,8 +274,16 @@ impl<T: SlotSectors> Store<T> {
         requires stands { StandsOn T.role T.format_of T.kept (F.device flash.now) self.now }
         requires step { 0 < step }
         requires top { ids.now.most + step < 2 ^ 32 }
-        ensures { IsHolderOf ids.now step (items_on T.format_of (F.device flash.now) self.now.area)
-            bytes.now result }
+        ensures holder { IsHolderOf ids.now step
+            (items_on T.format_of (F.device flash.now) self.now.area) bytes.now result }
+        ensures absent { let d = F.device flash.now in
+            NoneHoldsAt (format_on T.format_of d self.now.area) (sectors_of d self.now.area)
+            self.now.area.sectors ids.now bytes.now
+            → steps.new ≤ steps.old + self.now.area.sectors }
+        ensures present { let d = F.device flash.now in let sectors = sectors_of d self.now.area in
+            let k = format_on T.format_of d self.now.area in
+            let held = held_in_all k sectors ids.now bytes.now in
+            steps.new ≤ steps.old + search_views self.now.area.sectors held }
     {
         if bytes.is_empty() {
             return None;

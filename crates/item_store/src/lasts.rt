@@ -2,16 +2,15 @@
 ghost use Rattle.std.specs.Prelude.{◌≡◌, ◌⊎◌, ◌+◌, ◌-◌, ◌^◌, ◌<◌, ◌≤◌, ◌||◌, ◌&&◌, ◌==◌, ℕ, true, not, Some, None, IfSome};
 ghost use Rattle.flash_map.specs.Area.{sectors_of, sector_at};
 ghost use Rattle.item_laws.specs.Area.{counts_at, next, previous};
-ghost use Rattle.item_store.specs.OnSector.{sector_on, IsOpenOn, IsKeptAt, IsOpenAt};
+ghost use Rattle.item_store.specs.OnSector.{sector_on, IsOpenOn, IsKeptAt, IsOpenAt, NextIsNotClosedOn};
 ghost use Rattle.item_store.specs.declared.entry.Placed.{Placed as PlacedEntry};
-ghost use Rattle.item_store.specs.Lasts.{in_range, slots_left, AreOthers, IsAt, SameRange, GivesNext, WasGiven, IsLastIn};
+ghost use Rattle.item_store.specs.Lasts.{in_range, slots_left, AreOthers, IsAt, SameRange, GivesNext, WasGiven, IsLastIn, ReadsSlot, ReadsSlots, WalksOn};
 ghost use Rattle.item_store.specs.Listed.{format_on, IsPlacedOn};
 ghost use Rattle.item_store.specs.Seen.{has_bit};
 ghost use Rattle.item_store.specs.Standing.{IsStoreArea};
 
 use crate::bits::{has_bit, set_bit};
 use crate::entry::{IdRange, Placed};
-use crate::lookup::counts;
 use crate::open_area::{OpenArea, known_slots};
 use crate::sectors::SlotSectors;
 use flash_map::Area;
@@ -36,8 +35,9 @@ pub struct Lasts {
     pub(crate) seen: [u8; BYTES],
 }
 
-// How many of the first slots of a sector have to be read; none if it does not count.
-fn reach_counting<T: SlotSectors, F: Flash, L: Ledger>(
+// How many of the first slots of a sector have to be read, in a store at rest. This takes at most
+// one step.
+fn reach_at<T: SlotSectors, F: Flash, L: Ledger>(
     flash: &F,
     on: &OpenArea<'_, T>,
     place: u32,
@@ -46,31 +46,28 @@ fn reach_counting<T: SlotSectors, F: Flash, L: Ledger>(
     steps: &mut Steps<L>,
 ) -> u32
     requires on { IsKeptAt T.role T.format_of T.kept (F.device flash.now) on.now }
+    requires rested { let d = F.device flash.now in
+        NextIsNotClosedOn T.format_of d on.now.area.now on.now.current }
     requires inside { place < on.now.area.now.sectors }
     ensures few { let d = F.device flash.now in let area = on.now.area.now in
         result ≤ (format_on T.format_of d area).count (sector_on d area place) }
     ensures small { result ≤ 2 ^ 15 }
     ensures counts { let d = F.device flash.now in let area = on.now.area.now in
-        0 < result
-        → counts_at (format_on T.format_of d area).reading (sectors_of d area) on.now.current place
+        counts_at (format_on T.format_of d area).reading (sectors_of d area) on.now.current place
         ≡ true }
     ensures others { let d = F.device flash.now in let area = on.now.area.now in
         let k = format_on T.format_of d area in
         let b = sector_at (sectors_of d area) place in
-        counts_at k.reading (sectors_of d area) on.now.current place ≡ true
-        → AreOthers k b result (k.count b) least most }
+        AreOthers k b result (k.count b) least most }
+    ensures step { steps.new ≤ steps.old + 1 }
 {
-    if counts(flash, on, place, steps) {
-        let known = known_slots::<T>(on.tops, place);
-        let ids = IdRange { least, most };
-        T::reach(flash, on.area, place, known, &ids, steps)
-    } else {
-        0
-    }
+    let known = known_slots::<T>(on.tops, place);
+    let ids = IdRange { least, most };
+    T::reach(flash, on.area, place, known, &ids, steps)
 }
 
 impl Lasts {
-    /// A walk that stands before the newest entry.
+    /// A walk that stands before the newest entry. This takes at most one step.
     pub fn start<T: SlotSectors, F: Flash, L: Ledger>(
         flash: &F,
         on: &OpenArea<'_, T>,
@@ -79,6 +76,8 @@ impl Lasts {
         steps: &mut Steps<L>,
     ) -> Lasts
         requires on { IsOpenAt T.role T.format_of T.kept (F.device flash.now) on.now }
+        requires rested { let d = F.device flash.now in
+            NextIsNotClosedOn T.format_of d on.now.area.now on.now.current }
         requires range { most < least + MOST_IDS }
         ensures at { let d = F.device flash.now in let area = on.now.area.now in
             IsAt (format_on T.format_of d area) (sectors_of d area) on.now.current result }
@@ -88,12 +87,14 @@ impl Lasts {
             result p }
         ensures least { result.least ≡ least }
         ensures most { result.most ≡ most }
+        ensures newest { result.place ≡ on.now.current }
+        ensures step { steps.new ≤ steps.old + 1 }
     {
         Lasts {
             least,
             most,
             place: on.current,
-            left: reach_counting(flash, on, on.current, least, most, steps),
+            left: reach_at(flash, on, on.current, least, most, steps),
             seen: [0; BYTES],
         }
     }
@@ -122,8 +123,8 @@ impl Lasts {
         true
     }
 
-    // Reads the last of the slots that are left. Its entry is the next one if its id is in the
-    // range and was not noted before.
+    // Reads the last of the slots that are left, and how many are left then, in at most one step.
+    // Its entry is the next one if its id is in the range and was not noted before.
     fn look_at_slot<T: SlotSectors, F: Flash, L: Ledger>(
         &mut self,
         flash: &F,
@@ -140,7 +141,7 @@ impl Lasts {
             IsAt (format_on T.format_of d area.now) (sectors_of d area.now) current self.new }
         ensures range { SameRange self.old self.new }
         ensures place { self.new.place ≡ self.old.place }
-        ensures fewer { self.new.left < self.old.left }
+        ensures reads { ReadsSlot self.old self.new steps.old steps.new }
         ensures next { let d = F.device flash.now in let k = format_on T.format_of d area.now in
             let sectors = sectors_of d area.now in IfSome result (IsLastIn k sectors self.old) }
         ensures covered { let d = F.device flash.now in let k = format_on T.format_of d area.now in
@@ -148,11 +149,13 @@ impl Lasts {
             (p : PlacedEntry) → WasGiven k sectors current self.new p
             → (Some p ≡ result) ⊎ WasGiven k sectors current self.old p }
     {
-        let rest = self.left - 1;
-        let slot = T::first_slot() + rest;
-        let found = T::entry_in(flash, area, self.place, slot, steps);
-        self.left = T::reach_of(flash, area, self.place, rest, self.least, self.most, steps);
-        match found {
+        let ids = IdRange {
+            least: self.least,
+            most: self.most,
+        };
+        let look = T::look_back(flash, area, self.place, self.left - 1, &ids, steps);
+        self.left = look.reach;
+        match look.entry {
             Some(placed) => {
                 if self.is_new(placed.id) {
                     return Some(placed);
@@ -163,7 +166,8 @@ impl Lasts {
         }
     }
 
-    // The next one of the sector that is being read.
+    // The next one of the sector that is being read. This takes at most one step for each slot that
+    // it reads.
     fn next_here<T: SlotSectors, F: Flash, L: Ledger>(
         &mut self,
         flash: &F,
@@ -180,7 +184,7 @@ impl Lasts {
         ensures range { SameRange self.old self.new }
         ensures place { self.new.place ≡ self.old.place }
         ensures ends { result ≡ None → self.new.left ≡ 0 }
-        ensures fewer { IfSome result (λ _. self.new.left < self.old.left) }
+        ensures reads { ReadsSlots self.old self.new steps.old steps.new result }
         ensures next { let d = F.device flash.now in let k = format_on T.format_of d area.now in
             let sectors = sectors_of d area.now in IfSome result (IsLastIn k sectors self.old) }
         ensures covered { let d = F.device flash.now in let k = format_on T.format_of d area.now in
@@ -197,7 +201,7 @@ impl Lasts {
         None
     }
 
-    // Goes to the end of the sector before the one that was read.
+    // Goes to the end of the sector before the one that was read. This takes at most one step.
     fn step_back<T: SlotSectors, F: Flash, L: Ledger>(
         &mut self,
         flash: &F,
@@ -207,6 +211,8 @@ impl Lasts {
         requires on { IsOpenAt T.role T.format_of T.kept (F.device flash.now) on.now }
         requires at { let d = F.device flash.now in let area = on.now.area.now in
             IsAt (format_on T.format_of d area) (sectors_of d area) on.now.current self.old }
+        requires rested { let d = F.device flash.now in
+            NextIsNotClosedOn T.format_of d on.now.area.now on.now.current }
         requires none_left { self.old.left ≡ 0 }
         requires further { self.old.place
             ≡ next (sectors_of (F.device flash.now) on.now.area.now) on.now.current → ⊥ }
@@ -220,12 +226,14 @@ impl Lasts {
             let sectors = sectors_of d area in
             (p : PlacedEntry) → WasGiven k sectors on.now.current self.new p
             → WasGiven k sectors on.now.current self.old p }
+        ensures step { steps.new ≤ steps.old + 1 }
     {
         self.place = on.area.previous(self.place);
-        self.left = reach_counting(flash, on, self.place, self.least, self.most, steps);
+        self.left = reach_at(flash, on, self.place, self.least, self.most, steps);
     }
 
-    /// The last entry of the next id that the walk did not give yet; `None` at its end.
+    /// The last entry of the next id that the walk did not give yet; `None` at its end. It takes at
+    /// most one step for each sector that it comes to, and two for each slot that it reads.
     pub fn next<T: SlotSectors, F: Flash, L: Ledger>(
         &mut self,
         flash: &F,
@@ -233,6 +241,8 @@ impl Lasts {
         steps: &mut Steps<L>,
     ) -> Option<Placed>
         requires on { IsOpenAt T.role T.format_of T.kept (F.device flash.now) on.now }
+        requires rested { let d = F.device flash.now in
+            NextIsNotClosedOn T.format_of d on.now.area.now on.now.current }
         requires at { let d = F.device flash.now in let area = on.now.area.now in
             IsAt (format_on T.format_of d area) (sectors_of d area) on.now.current self.old }
         ensures at { let d = F.device flash.now in let area = on.now.area.now in
@@ -247,6 +257,9 @@ impl Lasts {
         ensures fewer { IfSome result
             (λ _. slots_left on.now.area.now.sectors on.now.current self.new
             < slots_left on.now.area.now.sectors on.now.current self.old) }
+        ensures views { let d = F.device flash.now in let area = on.now.area.now in
+            WalksOn (format_on T.format_of d area) (sectors_of d area) on.now.current self.old
+            self.new steps.old steps.new result }
     {
         let oldest = on.area.next(on.current);
         let mut found = self.next_here::<T, F, L>(flash, on.area, on.current, steps);

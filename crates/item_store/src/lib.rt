@@ -33,7 +33,7 @@ mod walking;
 #[tactic(auto, using(flash_map::proofs::Touches::then))]
 mod writing;
 
-pub use entry::{Entry, IdPair, IdRange, ListStart, MayHave, Placed, Redo};
+pub use entry::{Entry, IdPair, IdRange, ListStart, LookBack, MayHave, Placed, Redo};
 pub use free::MOST_CANDIDATES;
 pub use holding::Holder;
 pub use lasts::MOST_IDS;

@@ -34,7 +34,8 @@ fn is_between(id: u32, after: Option<u32>, least: Option<u32>) -> bool
 impl<T: SlotSectors> Store<T> {
     /// The bytes of an item; `None` if the id has no entry or its last entry is a delete. If no
     /// entry shares the id's cache slot, this takes no step. If the latest entry that shares it has
-    /// this id, it takes at most two. Otherwise it searches the list.
+    /// this id, it takes at most two. Otherwise it searches the list: it takes at most one step for
+    /// each sector, and four besides.
     pub fn get<'a, F: Flash, L: Ledger>(
         &self,
         flash: &'a F,
@@ -48,6 +49,7 @@ impl<T: SlotSectors> Store<T> {
             → steps.new ≡ steps.old }
         ensures few { IfSome (latest_on T.format_of (F.device flash.now) self.now.area id)
             (λ p. p.id ≡ id → steps.new ≤ steps.old + 2) }
+        ensures steps { steps.new ≤ steps.old + self.now.area.sectors + 4 }
     {
         let latest = self.latest(flash, id, steps)?;
         if latest.id == id {
@@ -102,6 +104,7 @@ impl<T: SlotSectors> Store<T> {
             let k = format_on T.format_of d self.now.area in
             AreOthers k (sector_on d self.now.area latest.now.sector) result
             (latest.now.slot - k.first) id id }
+        ensures step { steps.new ≤ steps.old + 1 }
     {
         let before = latest.slot - T::first_slot();
         T::reach_of(flash, &self.area, latest.sector, before, id, id, steps)
@@ -128,10 +131,11 @@ impl<T: SlotSectors> Store<T> {
             let k = format_on T.format_of d self.now.area in
             AreOthers k (sector_on d self.now.area latest.now.sector) reach
             (latest.now.slot - k.first) id id }
-        ensures { let d = F.device flash.now in let area = self.now.area in
+        ensures last { let d = F.device flash.now in let area = self.now.area in
             IfSome result
             (λ p. Some p
             ≡ last_placed (slots (format_on T.format_of d area)) (sectors_of d area) id) }
+        ensures step { steps.new ≤ steps.old + 1 }
     {
         let slot = T::first_slot() + (reach - 1);
         if let Some(placed) = T::entry_in(flash, &self.area, latest.sector, slot, steps) {
@@ -155,8 +159,9 @@ impl<T: SlotSectors> Store<T> {
         requires latest { Some latest.now
             ≡ latest_on T.format_of (F.device flash.now) self.now.area id }
         requires other { latest.now.id ≡ id → ⊥ }
-        ensures { let d = F.device flash.now in let area = self.now.area in
+        ensures last { let d = F.device flash.now in let area = self.now.area in
             result ≡ last_placed (slots (format_on T.format_of d area)) (sectors_of d area) id }
+        ensures steps { steps.new ≤ steps.old + self.now.area.sectors + 2 }
     {
         let tops = self.cache.tops();
         let on = OpenArea {
@@ -187,8 +192,9 @@ impl<T: SlotSectors> Store<T> {
         requires latest { Some latest.now
             ≡ latest_on T.format_of (F.device flash.now) self.now.area id }
         requires other { latest.now.id ≡ id → ⊥ }
-        ensures { option_map (λ bytes. bytes.now) result
+        ensures value { option_map (λ bytes. bytes.now) result
             ≡ map.get (items_on T.format_of (F.device flash.now) self.now.area) id }
+        ensures steps { steps.new ≤ steps.old + self.now.area.sectors + 3 }
     {
         let placed = self.last_entry(flash, latest, id, steps)?;
         self.bytes_at(flash, &placed, steps)

@@ -1,6 +1,5 @@
 // The trait of a sector format.
-ghost use Rattle.std.specs.Prelude.{◌≡◌, ℕ, ◌+◌, ◌*◌, ◌^◌, ◌<◌, ◌≤◌, ◌∷◌, [], ◌++◌, false, List, length, map, Some, None, is_err, Option, IfOk, IfErr, IfSome, IsTrue, OnOk, OnErr};
-ghost use Rattle.std.specs.Option.{option_map};
+ghost use Rattle.std.specs.Prelude.{◌≡◌, ℕ, ◌+◌, ◌*◌, ◌^◌, ◌<◌, ◌≤◌, ◌∷◌, [], ◌++◌, false, List, length, map, Some, None, is_err, Option, option_map, IfOk, IfErr, IfSome, IsTrue, OnOk, OnErr};
 ghost use Rattle.flash_map.specs.declared.area.Geometry.{Geometry as geometry_type};
 ghost use Rattle.flash_map.specs.declared.area.Role.{Role as role_type};
 ghost use Rattle.flash_map.specs.Area.{sectors_of, sector_at};
@@ -11,12 +10,12 @@ ghost use Rattle.item_laws.specs.Live.{last_in, bytes_of};
 ghost use Rattle.item_store.specs.SectorFormat.{SectorFormat, IsSectorFormat, placed_at, slots, fits};
 ghost use Rattle.item_store.specs.declared.entry.Placed.{Placed as PlacedEntry};
 ghost use Rattle.item_store.specs.Holding.{FindsBytes, RulesOut};
-ghost use Rattle.item_store.specs.Lasts.{AreOthers};
+ghost use Rattle.item_store.specs.Lasts.{AreOthers, LooksBack};
 ghost use Rattle.item_store.specs.Listed.{HasSlotOn, HasSlotsOn, IsListedOn, IsWithinOn, format_on};
-ghost use Rattle.item_store.specs.OnSector.{BeginEnds, CloseEnds, IsMarked, StopsMarking, IsOpenSector, IsCollecting, IsSource, PutEnds, sector_on, free_on, bytes_on, IsKeptOn, IsKeptAfter, IsSoundOn, IsOpenOn, NextIsNotClosedOn, FitsOn, HasCopyRoomOn, ChangesOnlyOn, KeepsMarksOn, AddsOn, ClearsOn, StopsClearingOn};
+ghost use Rattle.item_store.specs.OnSector.{BeginEnds, CloseEnds, IsMarked, StopsMarking, IsOpenSector, IsCollecting, IsSource, PutEnds, sector_on, free_on, bytes_on, copy_units_on, clear_units_on, IsKeptOn, IsKeptAfter, IsSoundOn, IsOpenOn, IsNotClosedOn, NextIsNotClosedOn, FitsOn, HasCopyRoomOn, ChangesOnlyOn, KeepsMarksOn, AddsOn, ClearsOn, StopsClearingOn};
 ghost use Rattle.item_store.specs.Standing.{IsStoreArea, SpendsIn, SpendsUpTo};
 
-use crate::entry::{IdPair, IdRange, ListStart, MayHave, Placed};
+use crate::entry::{IdPair, IdRange, ListStart, LookBack, MayHave, Placed};
 use crate::notes::Notes;
 use flash_map::{Area, Damaged, Geometry};
 use flash_sim::{Flash, PowerLost, Steps};
@@ -33,8 +32,6 @@ pub trait SlotSectors: Copy {
 
     /// What is kept of a sector with these bytes.
     ghost kept: { geometry_type → List ℕ → Self };
-
-    // ---- numbers
 
     /// The number of the first slot that may hold an entry.
     fn first_slot() -> u32
@@ -84,7 +81,7 @@ pub trait SlotSectors: Copy {
         ensures { let d = F.device flash.now in
             result ≡ (format_on format_of d area.now).is_clean (sector_on d area.now place) };
 
-    /// Whether a sector is closed.
+    /// Whether a sector is closed. This takes at most one step.
     fn is_closed<F: Flash, L: Ledger>(
         flash: &F,
         area: &Area,
@@ -93,9 +90,9 @@ pub trait SlotSectors: Copy {
     ) -> bool
         requires area { IsStoreArea role (F.device flash.now).banks area.now }
         requires inside { place < area.now.sectors }
-        ensures { let d = F.device flash.now in
-            result ≡ is_closed_at (format_on format_of d area.now).reading (sectors_of d area.now)
-            place };
+        ensures value { let d = F.device flash.now in let k = format_on format_of d area.now in
+            result ≡ is_closed_at k.reading (sectors_of d area.now) place }
+        ensures step { steps.new ≤ steps.old + 1 };
 
     /// What is kept of a sector, read from it.
     fn keep<F: Flash, L: Ledger>(flash: &F, area: &Area, place: u32, steps: &mut Steps<L>) -> Self
@@ -190,12 +187,12 @@ pub trait SlotSectors: Copy {
         requires area { IsStoreArea role (F.device flash.now).banks area.now }
         requires listed { IsListedOn format_of (F.device flash.now) area.now placed.now }
         requires within { IsWithinOn format_of (F.device flash.now) area.now placed.now.sector }
-        ensures bytes { let d = F.device flash.now in
-            result.now
+        ensures bytes { let d = F.device flash.now in result.now
             ≡ bytes_of (slots (format_on format_of d area.now)) (sectors_of d area.now) placed.now }
         ensures step { steps.new ≤ steps.old + 1 };
 
-    /// The last entry of an id in a sector. The first `known` slots of its list need no check.
+    /// The last entry of an id in a sector. The first `known` slots of its list need no check. This
+    /// takes at most one step.
     fn find_in<F: Flash, L: Ledger>(
         flash: &F,
         area: &Area,
@@ -207,13 +204,14 @@ pub trait SlotSectors: Copy {
         requires area { IsStoreArea role (F.device flash.now).banks area.now }
         requires inside { place < area.now.sectors }
         requires known { HasSlotsOn format_of (F.device flash.now) area.now place known }
-        ensures { let d = F.device flash.now in let k = format_on format_of d area.now in
-            result
-            ≡ option_map (placed_at place)
-            (last_in (slots k) place id ((slots k).entries (sector_on d area.now place))) };
+        ensures last { let d = F.device flash.now in let k = format_on format_of d area.now in
+            result ≡ option_map (placed_at place)
+            (last_in (slots k) place id ((slots k).entries (sector_on d area.now place))) }
+        ensures step { steps.new ≤ steps.old + 1 };
 
     /// How many slots of a sector's list have to be read for the ids of a range: the slots behind
-    /// them have no entry of these ids. The first `known` slots of the list need no check.
+    /// them have no entry of these ids. The first `known` slots of the list need no check. This
+    /// takes at most one step.
     fn reach<F: Flash, L: Ledger>(
         flash: &F,
         area: &Area,
@@ -229,9 +227,10 @@ pub trait SlotSectors: Copy {
         ensures small { result ≤ 2 ^ 15 }
         ensures others { let d = F.device flash.now in let k = format_on format_of d area.now in
             let b = sector_at (sectors_of d area.now) place in
-            AreOthers k b result (k.count b) ids.now.least ids.now.most };
+            AreOthers k b result (k.count b) ids.now.least ids.now.most }
+        ensures step { steps.new ≤ steps.old + 1 };
 
-    /// The same for the first so many slots of the list.
+    /// The same for the first so many slots of the list. This takes at most one step.
     fn reach_of<F: Flash, L: Ledger>(
         flash: &F,
         area: &Area,
@@ -247,11 +246,29 @@ pub trait SlotSectors: Copy {
         ensures few { result ≤ slots }
         ensures others { let d = F.device flash.now in
             AreOthers (format_on format_of d area.now) (sector_on d area.now place) result
-            slots least
-            most };
+            slots least most }
+        ensures step { steps.new ≤ steps.old + 1 };
+
+    /// The entry in the slot behind the first `before` ones of a sector's list, and how many of
+    /// these have to be read for the ids of a range. This takes at most one step.
+    fn look_back<F: Flash, L: Ledger>(
+        flash: &F,
+        area: &Area,
+        place: u32,
+        before: u32,
+        ids: &IdRange,
+        steps: &mut Steps<L>,
+    ) -> LookBack
+        requires area { IsStoreArea role (F.device flash.now).banks area.now }
+        requires inside { place < area.now.sectors }
+        requires listed { HasSlotsOn format_of (F.device flash.now) area.now place (before + 1) }
+        ensures look { let d = F.device flash.now in let k = format_on format_of d area.now in
+            LooksBack k (sector_on d area.now place) place before ids.now result }
+        ensures step { steps.new ≤ steps.old + 1 };
 
     /// The first entry behind the slots of a sector's list that are passed over that gives an id of
-    /// the range these bytes; `None` if there is none. It compares ids and bytes before CRCs.
+    /// the range these bytes; `None` if there is none. It compares ids and bytes before CRCs. This
+    /// takes at most one step.
     fn find_bytes<F: Flash, L: Ledger>(
         flash: &F,
         area: &Area,
@@ -270,9 +287,11 @@ pub trait SlotSectors: Copy {
         ensures found { let d = F.device flash.now in
             FindsBytes (format_on format_of d area.now) (sector_on d area.now place) place ids.now
             bytes.now start.now.skipped result }
-        ensures small { IfSome result (λ p. p.slot < 2 ^ 16) };
+        ensures small { IfSome result (λ p. p.slot < 2 ^ 16) }
+        ensures step { steps.new ≤ steps.old + 1 };
 
     /// Which of two ids the slots behind the first so many may have. It checks no CRC of theirs.
+    /// This takes at most one step.
     fn may_have<F: Flash, L: Ledger>(
         flash: &F,
         area: &Area,
@@ -283,11 +302,12 @@ pub trait SlotSectors: Copy {
     ) -> MayHave
         requires area { IsStoreArea role (F.device flash.now).banks area.now }
         requires inside { place < area.now.sectors }
-        ensures { let d = F.device flash.now in let k = format_on format_of d area.now in
-            let b = sector_on d area.now place in
-            RulesOut k b skipped ids.now result };
+        ensures rules { let d = F.device flash.now in let k = format_on format_of d area.now in
+            let b = sector_on d area.now place in RulesOut k b skipped ids.now result }
+        ensures step { steps.new ≤ steps.old + 1 };
 
     /// Notes the entries of a sector, in order. The first `known` slots of its list need no check.
+    /// This takes at most one step.
     fn note_sector<N: Notes, F: Flash, L: Ledger>(
         flash: &F,
         area: &Area,
@@ -299,12 +319,13 @@ pub trait SlotSectors: Copy {
         requires area { IsStoreArea role (F.device flash.now).banks area.now }
         requires inside { place < area.now.sectors }
         requires known { HasSlotsOn format_of (F.device flash.now) area.now place known }
-        ensures { let d = F.device flash.now in let k = format_on format_of d area.now in
+        ensures notes { let d = F.device flash.now in let k = format_on format_of d area.now in
             (start : N) (before : List PlacedEntry) → N.noted start k.ids notes.old before
             → N.noted start k.ids notes.new
-            (before ++ map (placed_at place) ((slots k).entries (sector_on d area.now place))) };
+            (before ++ map (placed_at place) ((slots k).entries (sector_on d area.now place))) }
+        ensures step { steps.new ≤ steps.old + 1 };
 
-    // ---- steps in the open sector
+    // ---- steps in sectors
 
     /// Makes the sector ready for entries. One that is ready stays as it is.
     ///
@@ -321,9 +342,7 @@ pub trait SlotSectors: Copy {
         requires inside { place < area.now.sectors }
         requires kept { IsKeptOn kept (F.device flash.old) area.now place self.old }
         requires sound { IsSoundOn format_of (F.device flash.old) area.now place }
-        requires opened { let d = F.device flash.old in
-            is_closed_at (format_on format_of d area.now).reading (sectors_of d area.now) place
-            ≡ false }
+        requires opened { IsNotClosedOn format_of (F.device flash.old) area.now place }
         ensures touches { Touches (area.now ∷ []) (F.device flash.old) (F.device flash.new)
             (is_err result) }
         ensures ends { let d = F.device flash.old in let e = F.device flash.new in
@@ -373,8 +392,7 @@ pub trait SlotSectors: Copy {
         ensures touches { Touches (area.now ∷ []) (F.device flash.old) (F.device flash.new)
             (is_err result) }
         ensures only { ChangesOnlyOn (F.device flash.old) (F.device flash.new) area.now place }
-        ensures adds { let d = F.device flash.old in let e = F.device flash.new in
-            OnOk result
+        ensures adds { let d = F.device flash.old in let e = F.device flash.new in OnOk result
             (AddsOn format_of d e area.now place from.now.id
             (bytes_on format_of d area.now from.now)) }
         ensures kept { OnOk result
@@ -382,15 +400,9 @@ pub trait SlotSectors: Copy {
         ensures lost { OnErr result
             (KeepsMarksOn format_of (F.device flash.old) (F.device flash.new) area.now place) }
         ensures spends { let d = F.device flash.old in let e = F.device flash.new in
-            OnOk result
-            (SpendsIn d e
-            ((format_on format_of d area.now).units.copy (sector_on d area.now place)
-            from.now.len)) }
+            OnOk result (SpendsIn d e (copy_units_on format_of d area.now place from.now.len)) }
         ensures spends_lost { let d = F.device flash.old in let e = F.device flash.new in
-            OnErr result
-            (SpendsUpTo d e
-            ((format_on format_of d area.now).units.copy (sector_on d area.now place)
-            from.now.len)) };
+            OnErr result (SpendsUpTo d e (copy_units_on format_of d area.now place from.now.len)) };
 
     /// Programs gc-done: the sector has all copies.
     ///
@@ -434,17 +446,13 @@ pub trait SlotSectors: Copy {
         requires opened { IsOpenOn format_of (F.device flash.old) area.now place }
         requires rested { NextIsNotClosedOn format_of (F.device flash.old) area.now place }
         requires sound { IsSoundOn format_of (F.device flash.old) area.now place }
-        requires not_closed { let d = F.device flash.old in
-            is_closed_at (format_on format_of d area.now).reading (sectors_of d area.now) place
-            ≡ false }
+        requires not_closed { IsNotClosedOn format_of (F.device flash.old) area.now place }
         requires used { let d = F.device flash.old in
             (format_on format_of d area.now).is_clean (sector_on d area.now place) ≡ false }
         ensures touches { Touches (area.now ∷ []) (F.device flash.old) (F.device flash.new)
             (is_err result) }
         ensures ends { let d = F.device flash.old in let e = F.device flash.new in
             CloseEnds format_of d e area.now place result };
-
-    // ---- a step in any sector
 
     /// Empties a sector.
     ///
@@ -467,15 +475,9 @@ pub trait SlotSectors: Copy {
         ensures lost { let d = F.device flash.old in let e = F.device flash.new in
             OnErr result (StopsClearingOn format_of d e area.now place) }
         ensures spends { let d = F.device flash.old in let e = F.device flash.new in
-            OnOk result
-            (SpendsIn d e ((format_on format_of d area.now).units.clear
-            (sector_on d area.now place))) }
+            OnOk result (SpendsIn d e (clear_units_on format_of d area.now place)) }
         ensures spends_lost { let d = F.device flash.old in let e = F.device flash.new in
-            OnErr result
-            (SpendsUpTo d e ((format_on format_of d area.now).units.clear
-            (sector_on d area.now place))) };
-
-    // ---- reading an area
+            OnErr result (SpendsUpTo d e (clear_units_on format_of d area.now place)) };
 
     /// Reads the area: which sector is open, or how the area is damaged.
     fn scan<F: Flash, L: Ledger>(
@@ -489,10 +491,8 @@ pub trait SlotSectors: Copy {
         ensures within { IfOk result (λ place. place < area.now.sectors) }
         ensures undamaged { let d = F.device flash.now in
             OnOk result ((format_on format_of d area.now).damage (sectors_of d area.now) ≡ None) }
-        ensures damaged { let d = F.device flash.now in
-            IfErr result
-            (λ damaged. (format_on format_of d area.now).damage (sectors_of d area.now)
-            ≡ Some damaged) };
+        ensures damaged { let d = F.device flash.now in IfErr result
+            (λ e. (format_on format_of d area.now).damage (sectors_of d area.now) ≡ Some e) };
 
     /// The format of each geometry obeys the laws of a sector format.
     ghost lawful: { (geometry : geometry_type) → IsUnit geometry.unit → IsSectorFormat (format_of geometry) };

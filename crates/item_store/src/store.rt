@@ -10,7 +10,7 @@ pub struct Store<T> {
     pub(crate) current: u32,
     // what is kept of it
     pub(crate) opened: T,
-    // where the latest entry of each cache slot's ids stands
+    // where the latest entry of each cache slot's ids stands, and the tops of the first sectors
     pub(crate) cache: Cache,
     // no call has returned `PowerLost`
     pub(crate) up: bool,

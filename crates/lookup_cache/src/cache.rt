@@ -48,7 +48,8 @@ impl Cache {
         })
     }
 
-    /// Notes that the latest entry of the id is in this slot of the sector.
+    /// Notes that the latest entry of the id is in this slot of the sector. It raises the sector's
+    /// top to the slot.
     pub fn note(&mut self, id: u32, sector: u32, slot: u32)
         ensures { self.new ≡ note_entry self.old id sector slot }
     {

@@ -1,8 +1,6 @@
 -- What collections, rounds and mounts of NVS spend, to the unit.
 use Rattle.std.proofs.Common.{◌≡◌, ℕ, ◌+◌, ◌*◌, ◌/◌, max, Bool, true, false, cond, eqb, List, refl, ap, ◌∙◌, arith}
 use Rattle.std.proofs.Math.Nat.{add-mul, div-eq_of_eq-mul_left}
-use Rattle.flash_sim.specs.Device.{Device, counted}
-use Rattle.flash_map.specs.Spending.{Spends}
 use Rattle.flash_map.specs.Units.{IsUnit}
 use Rattle.flash_map.proofs.Rounding.{padding}
 use Rattle.item_laws.specs.PairRounds.{copies_cost}
@@ -10,20 +8,11 @@ use Rattle.item_laws.specs.Area.{next, is_blank_at}
 use Rattle.item_laws.specs.Forms.{to_copy}
 use Rattle.item_store.specs.SectorFormat.{Range}
 use Rattle.item_store.specs.Spending.{none, both, collect_units, again_with, again_units, has_victim, round_units}
-use Rattle.item_store.specs.Standing.{SpendsIn}
 use Rattle.nvs_store.specs.Geometry.{slot_size, cost}
 use Rattle.nvs_store.specs.Scans.{reading}
 use Rattle.nvs_store.proofs.SlotReads.{slot_widths}
 use Rattle.nvs_format.specs.Formats.{just, format_in}
 use Rattle.nvs_format.proofs.FormatLemmas.{whole, copies_whole}
-
--- just so many
-pub spends-just : (old new : Device) (units : ℕ) → SpendsIn old new (just units) → Spends old new units
-spends-just old new units spent =
-    let low = spent.at_least in
-    let high = spent.at_most in
-    let same : spent.units ≡ units = omega arith in
-    spent.spent ∙ ap (counted old.spent) same
 
 abbrev up_to : ℕ → ℕ → Range
 up_to units lost = record { least = units; most = units; lost = lost }

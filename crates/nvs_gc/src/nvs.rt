@@ -1,5 +1,5 @@
 // The NVS store.
-ghost use Rattle.std.specs.Prelude.{◌≡◌, ℕ, ◌+◌, ◌^◌, ◌<◌, ◌≤◌, ◌∷◌, [], Some, None, true, false, length, is_err, is_some, IfSome, OnOk, OnErr, option_map};
+ghost use Rattle.std.specs.Prelude.{◌≡◌, ℕ, ◌+◌, ◌*◌, ◌^◌, ◌<◌, ◌≤◌, ◌∷◌, [], Some, None, true, false, length, is_err, is_some, IfSome, OnOk, OnErr, option_map};
 ghost use Rattle.std.specs.FinMap as map;
 ghost use Rattle.flash_sim.specs.Bank.{IsLawful};
 ghost use Rattle.flash_sim.specs.Device.{Device};
@@ -14,6 +14,8 @@ ghost use Rattle.item_store.specs.declared.free.TheConstants.{MOST_CANDIDATES};
 ghost use Rattle.item_store.specs.Asking.{IsHolderOf};
 ghost use Rattle.item_store.specs.Cached.{latest_on};
 ghost use Rattle.item_store.specs.Free.{IsLeastFree};
+ghost use Rattle.item_store.specs.Holding.{held_in_all, search_views};
+ghost use Rattle.item_store.specs.Lasts.{slots_in_all};
 ghost use Rattle.item_store.specs.Latest.{IsKnown, KnowsOn};
 ghost use Rattle.item_store.specs.Older.{IsNextOlder, newest_before};
 ghost use Rattle.nvs_gc.specs.Ends.{MountEnds, MarksFirst, RoundEnds, WriteEnds, DeleteEnds, KeepsWritten, SameOrWritten, sector_units};
@@ -108,7 +110,8 @@ impl Nvs {
 
     /// Closes the open sector and collects the oldest one, if that is not blank. If the open sector
     /// is blank, nothing changes. The items stay, even if power is lost. After a round, a value
-    /// fits the open sector exactly if it fits beside the items copied there, and a delete fits.
+    /// fits the open sector exactly if it fits beside the items copied there, and a delete fits. If
+    /// a sector was collected, gc-done stands in the open one, and the collected one is all FF.
     ///
     /// # Errors
     /// `PowerLost`, only if the open sector is not blank: the list is as before or as after the
@@ -139,7 +142,8 @@ impl Nvs {
 
     /// The bytes of an item; `None` if the id has no entry or its last entry is a delete. If no
     /// entry of the list shares the id's cache slot, this takes no step. If the latest entry that
-    /// shares it has this id, it takes at most two.
+    /// shares it has this id, it takes at most two. Otherwise it takes at most one step for each
+    /// sector, and four besides.
     pub fn get<'a, F: Flash, L: Ledger>(
         &self,
         flash: &'a F,
@@ -154,6 +158,7 @@ impl Nvs {
         ensures few { let d = F.device flash.now in
             IfSome (latest_on format_of d self.now.store.area id)
             (λ p. p.id ≡ id → steps.new ≤ steps.old + 2) }
+        ensures steps { steps.new ≤ steps.old + self.now.store.area.sectors + 4 }
     {
         self.store.get(flash, id as u32, steps)
     }
@@ -264,7 +269,10 @@ impl Nvs {
     }
 
     /// An id of the range whose item has these bytes, with the item `step` above it; any of them if
-    /// several have, `None` if none has. It compares ids and bytes before CRCs.
+    /// several have, `None` if none has. It compares ids and bytes before CRCs. It takes at most
+    /// one step for each sector. Each entry that gives an id of the range these bytes may cost one
+    /// step more, one for each sector, and a look-up of its id. The item above costs one look-up in
+    /// all.
     pub fn holder_of<'a, F: Flash, L: Ledger>(
         &self,
         flash: &'a F,
@@ -276,8 +284,11 @@ impl Nvs {
         requires stands { StandsOn (F.device flash.now) self.now }
         requires step { 0 < step }
         requires top { ids.now.most + step < 2 ^ 32 }
-        ensures { IsHolderOf ids.now step (items_on (F.device flash.now) self.now.store.area)
+        ensures holder { IsHolderOf ids.now step (items_on (F.device flash.now) self.now.store.area)
             bytes.now result }
+        ensures steps { let d = F.device flash.now in let area = self.now.store.area in
+            let held = held_in_all (format_on d area) (sectors_of d area) ids.now bytes.now in
+            steps.new ≤ steps.old + search_views area.sectors held }
     {
         self.store.holder_of(flash, ids, step, bytes, steps)
     }
@@ -301,7 +312,8 @@ impl Nvs {
 
     /// The least bytes of an item with an id from `least` to `most`: of those greater than `after`,
     /// or of all if `after` is not given; `None` if there are none. This takes one walk over the
-    /// list.
+    /// list: it takes at most one step for each sector, and two for each slot: for its entry and
+    /// for that entry's bytes.
     pub fn next_of<'a, F: Flash, L: Ledger>(
         &self,
         flash: &'a F,
@@ -311,8 +323,11 @@ impl Nvs {
         steps: &mut Steps<L>,
     ) -> Option<&'a [u8]>
         requires { StandsOn (F.device flash.now) self.now }
-        ensures { IsNextOf least most (items_on (F.device flash.now) self.now.store.area)
+        ensures next { IsNextOf least most (items_on (F.device flash.now) self.now.store.area)
             (option_map (λ other. other.now) after.entry) (option_map (λ bytes. bytes.now) result) }
+        ensures steps { let d = F.device flash.now in let area = self.now.store.area in
+            let slots = slots_in_all (format_on d area) (sectors_of d area) in
+            steps.new ≤ steps.old + area.sectors + 2 * slots }
     {
         self.store
             .next_of(flash, least as u32, most as u32, after, steps)

@@ -13,7 +13,7 @@ ghost use Rattle.item_store.specs.Standing.{IsStoreArea};
 use crate::entries::{bytes_in, last_of, named_id, note_entries, placed, reach_in};
 use flash_map::{Area, Damaged, Geometry, area_erase, geometry, sector_view};
 use flash_sim::{Flash, PowerLost, Steps};
-use item_store::{IdPair, IdRange, ListStart, MayHave, Notes, Placed, SlotSectors};
+use item_store::{IdPair, IdRange, ListStart, LookBack, MayHave, Notes, Placed, SlotSectors};
 use nvs_store::{
     Found, Redo, Scan, append, are_named, capacity, copy_entry, cost, counting_entry, find_holder,
     is_blank, is_closed, mount_scan, put_close, put_done, scan_sector, slot_size, used_count,
@@ -232,6 +232,26 @@ impl SlotSectors for NvsOpen {
             least,
             most,
         )
+    }
+
+    fn look_back<F: Flash, L: Ledger>(
+        flash: &F,
+        area: &Area,
+        place: u32,
+        before: u32,
+        ids: &IdRange,
+        steps: &mut Steps<L>,
+    ) -> LookBack {
+        let unit = geometry(flash, area).unit;
+        let bytes = sector_view(flash, area, place, steps);
+        let reach = reach_in(bytes, unit, before, ids.least, ids.most);
+        match counting_entry(bytes, unit, before + 1) {
+            Some(found) => LookBack {
+                entry: Some(placed(found.at(place))),
+                reach,
+            },
+            None => LookBack { entry: None, reach },
+        }
     }
 
     fn find_bytes<F: Flash, L: Ledger>(

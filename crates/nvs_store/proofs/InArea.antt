@@ -1,9 +1,8 @@
 -- Entries of the list are ordinary ones, and name bytes of the area.
-use Rattle.std.proofs.Common.{◌≡◌, ℕ, zero, suc, ◌+◌, ◌-◌, ◌<◌, ◌≤◌, Bool, true, not, cond, eqb, List, [], ◌∷◌, length, map, Option, Some, None, refl, sym, ap, subst, ◌∙◌, inl, inr, arith}
-use Rattle.std.specs.Prelude.{IfSome, fold}
+use Rattle.std.proofs.Common.{◌≡◌, ℕ, zero, suc, ◌+◌, ◌-◌, ◌<◌, ◌≤◌, Bool, true, not, cond, List, [], ◌∷◌, length, map, Some, None, refl, sym, ap, subst, ◌∙◌, inl, inr, arith}
+use Rattle.std.specs.Prelude.{IfSome}
 use Rattle.std.specs.List.{filter_map, flat_map, range_with_len, All}
-use Rattle.std.specs.Option.{option_and_then}
-use Rattle.std.proofs.lemmas.Bool.{false≢true, cases_Bool, and_parts, eq-eqb, ne_eqb, leb-true}
+use Rattle.std.proofs.lemmas.Bool.{false≢true, cases_Bool, and_parts, eq-eqb, leb-true}
 use Rattle.std.proofs.lemmas.List.Concat.{flat_map-cons}
 use Rattle.std.proofs.lemmas.List.Elements.{All-nil, All-cons, All-head, All-tail, All-append, All-map, All-weaker}
 use Rattle.flash_sim.specs.Bank.{IsLawful}
@@ -12,19 +11,16 @@ use Rattle.flash_map.specs.declared.area.Area.{Area}
 use Rattle.flash_map.specs.Area.{IsLawfulArea, sector_at, sector_size, sectors_of, unit_of}
 use Rattle.flash_map.proofs.Places.{length-sector}
 use Rattle.item_laws.proofs.SlotLemmas.{start-slot_at}
-use Rattle.item_laws.specs.Items.{last, value_of}
 use Rattle.item_laws.specs.Slots.{Slot}
 use Rattle.item_laws.specs.Area.{round, counts_at, open_sector}
 use Rattle.item_laws.proofs.Newest.{last-all}
 use Rattle.item_laws.proofs.Places.{All-range}
 use Rattle.item_laws.proofs.Stays.{open_within}
 use Rattle.nvs_store.specs.declared.scan.SlotEntry.{SlotEntry}
-use Rattle.nvs_store.specs.declared.scan.Found.{Found}
 use Rattle.nvs_store.specs.Geometry.{slot_size}
 use Rattle.nvs_store.specs.Sector.{counts, counting_entry, is_used, is_wanted, entries, slot_at, used_slots}
-use Rattle.nvs_store.specs.Scans.{reading, placed_at, placed_bytes, counted_in, all_placed, last_of, last_placed, list_of, IsInArea}
+use Rattle.nvs_store.specs.Scans.{reading, placed_at, counted_in, all_placed, last_placed, IsInArea}
 use Rattle.item_laws.proofs.SlotCounts.{slots_to_used}
-use Rattle.nvs_store.proofs.LastLemmas.{found-value}
 use Rattle.nvs_store.proofs.Marks.{counting_entry_counts}
 use Rattle.item_laws.proofs.AreaReads.{length-sectors}
 
@@ -118,18 +114,3 @@ listed-in d area lawful is_area some =
 
 pub last_placed-in : (d : Device) (area : Area) (id : ℕ) → IsLawful d.banks d.bytes → IsLawfulArea d.banks area → 0 < area.sectors → IfSome (last_placed (unit_of d area) (sectors_of d area) id) (IsInArea area.sectors (sector_size d area))
 last_placed-in d area id lawful is_area some = last-all (λ f. is_wanted (Some id) f.entry) (IsInArea area.sectors (sector_size d area)) (all_placed (unit_of d area) (sectors_of d area)) None tt (listed-in d area lawful is_area some)
-
--- ---- the reserved id
-
-none_reserved : (sectors size : ℕ) (fs : List Found) → All (IsInArea sectors size) fs → last_of 0xFFFF fs ≡ None
-none_reserved sectors size [] all = refl
-none_reserved sectors size (f ∷ fs) all =
-    ap (λ (t : Bool). fold (λ last g. cond (eqb g.entry.id 0xFFFF) (Some g) last) (cond t (Some f) None) fs) (ne_eqb f.entry.id 0xFFFF (All-head (IsInArea sectors size) f fs all).ordinary)
-    ∙ none_reserved sectors size fs (All-tail (IsInArea sectors size) f fs all)
-
--- No entry of the list has it, so that it has no value.
-pub reserved-absent : (d : Device) (area : Area) → IsLawful d.banks d.bytes → IsLawfulArea d.banks area → 0 < area.sectors → last (list_of (unit_of d area) (sectors_of d area)) 0xFFFF ≡ None
-reserved-absent d area lawful is_area some =
-    found-value (unit_of d area) (sectors_of d area) 0xFFFF
-    ∙ ap (λ (o : Option Found). option_and_then (λ f. value_of (placed_bytes (sectors_of d area) f)) o)
-    (none_reserved area.sectors (sector_size d area) (all_placed (unit_of d area) (sectors_of d area)) (listed-in d area lawful is_area some))

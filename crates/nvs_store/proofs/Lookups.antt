@@ -1,8 +1,8 @@
 -- What the code's functions on slots need.
-use Rattle.std.proofs.Common.{◌≡◌, ℕ, ◌+◌, ◌-◌, ◌*◌, ◌/◌, ◌<◌, ◌≤◌, max, min, Bool, true, cond, eqb, ltb, ◌||◌, List, [], ◌++◌, length, map, take, Option, Some, None, refl, sym, ap, subst, ◌∙◌, inl, inr, not, arith}
+use Rattle.std.proofs.Common.{◌≡◌, ℕ, ◌+◌, ◌-◌, ◌*◌, ◌/◌, ◌<◌, ◌≤◌, max, min, Bool, true, cond, eqb, ltb, ◌||◌, List, length, map, take, Some, None, sym, ap, subst, ◌∙◌, inl, inr, not, arith}
 use Rattle.std.specs.Prelude.{fold, sum_by}
 use Rattle.std.specs.Option.{option_and_then}
-use Rattle.std.specs.List.{filter_map, cons_option, list_any, suffix_len}
+use Rattle.std.specs.List.{filter_map, list_any, suffix_len}
 use Rattle.std.proofs.lemmas.Bool.{cases_lt, lt-ltb, le-ltb}
 use Rattle.std.proofs.lemmas.Nat.{le-div}
 use Rattle.std.proofs.lemmas.List.{length-take-le}
@@ -32,10 +32,6 @@ counting_entry-some unit b k e counted is test =
     ap (option_and_then (λ e. cond (counts unit (slot_at unit b k).start e) (Some (record { slot = (slot_at unit b k).index; entry = e })) None)) is
     ∙ ap (λ (t : Bool). cond t (Some (record { slot = k; entry = e })) None) test
 
--- the result of the code's read of a slot
-pub counting_read : (unit : ℕ) (b : List ℕ) (k : ℕ) (bytes : List ℕ) (o : Option Entry) → o ≡ decoded bytes → bytes ≡ (slot_at unit b k).bytes → decoded (slot_at unit b k).bytes ≡ o
-counting_read unit b k bytes o is same = sym (is ∙ ap decoded same)
-
 -- ---- the used slots
 
 -- a used slot and those above it stand in the sector
@@ -46,9 +42,6 @@ used_inside unit b k positive room le = counting.used_inside is_used 1 (slot_siz
 
 abbrev pub entries_to : ℕ → List ℕ → ℕ → List SlotEntry
 entries_to unit b n = walk.entries_to (counting_entry unit) 1 (slot_size unit) b n
-
-pub entries_to_more : (unit : ℕ) (b : List ℕ) (n : ℕ) → entries_to unit b (n + 1) ≡ entries_to unit b n ++ cons_option (counting_entry unit (slot_at unit b (n + 1))) []
-entries_to_more unit b n = walk.entries_more (counting_entry unit) 1 (slot_size unit) b n (n + 1) (n + 1) (counting_entry unit (slot_at unit b (n + 1))) (omega arith) refl refl
 
 -- ---- a loop's step
 

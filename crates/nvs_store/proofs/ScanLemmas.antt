@@ -1,5 +1,5 @@
 -- What a scan says, by its parts.
-use Rattle.std.proofs.Common.{◌≡◌, ℕ, ◌+◌, ◌-◌, ◌*◌, ◌≤◌, ◌<◌, Bool, true, eqb, List, [], length, get_or, map, max, replicate, refl, sym, ap, ◌∙◌, arith}
+use Rattle.std.proofs.Common.{◌≡◌, ℕ, ◌+◌, ◌-◌, ◌*◌, ◌≤◌, ◌<◌, Bool, true, eqb, List, [], length, get_or, map, max, replicate, refl, ap, ◌∙◌, arith}
 use Rattle.std.specs.Prelude.{fold, sum_by}
 use Rattle.std.specs.List.{filter_map}
 use Rattle.std.proofs.Math.Nat.{zero-mod}
@@ -10,10 +10,9 @@ use Rattle.flash_map.specs.Units.{IsUnit, padded, is_erased}
 use Rattle.item_laws.specs.Slots.{Slot}
 use Rattle.nvs_store.specs.declared.scan.SlotEntry.{SlotEntry}
 use Rattle.nvs_store.specs.declared.scan.Redo.TheVariants.{Nothing}
-use Rattle.nvs_store.specs.declared.scan.Scan.{Scan}
 use Rattle.nvs_store.specs.Geometry.{slot_size}
 use Rattle.flash_map.specs.Units.{written_end}
-use Rattle.nvs_store.specs.Sector.{counting_entry, entries, entry_end, low, data_end, has_gc_done, AddsPair}
+use Rattle.nvs_store.specs.Sector.{counting_entry, entries, entry_end, low, data_end, has_gc_done}
 use Rattle.nvs_store.specs.Scans.{sector_scan}
 use Rattle.flash_map.proofs.WrittenEnds.{written_end-le}
 use Rattle.nvs_store.proofs.Blank.{blank-used}
@@ -24,15 +23,6 @@ scan_is unit place b lowest end gc_done low-is end-is done-is =
     ap (λ (x : ℕ). record { current = place; low = x; data_end = end; gc_done = gc_done; redo = Nothing }) low-is
     ∙ ap (λ (x : ℕ). record { current = place; low = low unit b; data_end = x; gc_done = gc_done; redo = Nothing }) end-is
     ∙ ap (λ (x : Bool). record { current = place; low = low unit b; data_end = data_end unit b; gc_done = x; redo = Nothing }) done-is
-
--- a scan goes on with what was put
-pub scan_grown : (unit place : ℕ) (old new : List ℕ) (id : ℕ) (bytes : List ℕ) (scan : Scan) (size len : ℕ) → AddsPair unit old new id bytes → scan ≡ sector_scan unit place old → size ≡ slot_size unit → len ≡ padded unit (length bytes)
-    → record scan { low = scan.low - size; data_end = scan.data_end + len } ≡ sector_scan unit place new
-scan_grown unit place old new id bytes scan size len adds is size-is len-is =
-    let low-is : scan.low ≡ low unit old = ap (λ (s : Scan). s.low) is in
-    let end-is : scan.data_end ≡ data_end unit old = ap (λ (s : Scan). s.data_end) is in
-    ap (λ (s : Scan). record s { low = scan.low - size; data_end = scan.data_end + len }) is
-    ∙ scan_is unit place new (scan.low - size) (scan.data_end + len) (has_gc_done unit old) (omega (arith, adds.lower)) (omega (arith, adds.grown)) (sym adds.gc_done)
 
 -- ---- a blank sector
 

@@ -9,7 +9,6 @@ use Rattle.flash_map.specs.Lawful.{IsLawfulFor}
 use Rattle.flash_map.specs.Pieces.{LosesWithin}
 use Rattle.flash_map.specs.Spending.{Spends, SpendsAtMost}
 use Rattle.flash_map.specs.Units.{is_erased}
-use Rattle.item_laws.specs.Items.{Items, items_of}
 use Rattle.item_laws.specs.Area.{is_closed_at, counts_at, open_sector}
 use Rattle.nvs_store.specs.declared.scan.Found.{Found}
 use Rattle.nvs_store.specs.declared.scan.Redo.{Redo}
@@ -33,10 +32,6 @@ IsUndamaged d area = damage_on d area ≡ None
 -- the pairs of the area, from the oldest to the newest
 abbrev pub list_on : Device → Area → List (ℕ × List ℕ)
 list_on d area = list_of (unit_of d area) (sectors_of d area)
-
--- the map of ids to bytes that the area holds
-abbrev pub items_on : Device → Area → Items
-items_on d area = items_of (list_on d area)
 
 -- the entries of the list, with their places
 abbrev pub placed_on : Device → Area → List Found

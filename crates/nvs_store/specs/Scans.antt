@@ -124,9 +124,6 @@ all_placed unit sectors = live.all_placed (nvs unit) sectors
 abbrev pub last_wanted : Option ℕ → List Found → Option Found
 last_wanted wanted placed = fold (λ last p. if is_wanted wanted p.entry then Some p else last) None placed
 
-abbrev pub last_of : ℕ → List Found → Option Found
-last_of id placed = last_wanted (Some id) placed
-
 -- the last entry of an id; it may be a delete
 abbrev pub last_placed : ℕ → List (List ℕ) → ℕ → Option Found
 last_placed unit sectors id = live.last_placed (nvs unit) sectors id

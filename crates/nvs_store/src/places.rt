@@ -40,7 +40,8 @@ pub fn is_closed<F: Flash, L: Ledger>(
     requires lawful { IsLawfulFor (F.device flash.now).banks area.now }
     requires role { area.now.role ≡ Nvs }
     requires inside { place < area.now.sectors }
-    ensures { result ≡ is_closed_on (F.device flash.now) area.now place }
+    ensures value { result ≡ is_closed_on (F.device flash.now) area.now place }
+    ensures step { steps.new ≡ steps.old + 1 }
 {
     let unit = geometry(flash, area).unit;
     sector::is_closed(sector_view(flash, area, place, steps), unit)

@@ -8,7 +8,7 @@ use Rattle.flash_map.specs.Units.{is_erased}
 use Rattle.flash_map.proofs.CopyLemmas.{pieces_padded, viewed, viewed_lost}
 use Rattle.zms_cycle.specs.Bounds.{StepsAreBounded}
 use Rattle.zms_cycle.specs.Changes.{emptying, closing_most, next_cycle}
-use Rattle.zms_cycle.specs.OnArea.{ReadsGuard, ReadsNoList, copy_views}
+use Rattle.zms_cycle.specs.OnArea.{ReadsGuard, ViewsAtMostOnce, copy_views}
 use Rattle.zms_cycle.specs.Sector.{cycle_of, data_len}
 use Rattle.zms_cycle.proofs.AreaFacts.{never_erasing}
 use Rattle.zms_cycle.proofs.CloseCalls.{closing_some}
@@ -46,10 +46,10 @@ bounded = record {
 
 -- Nothing was read, or the slot of a guard.
 
-pub reads_none : (kind : Kind) (n : ℕ) → ReadsNoList kind n n
+pub reads_none : (kind : Kind) (n : ℕ) → ViewsAtMostOnce kind n n
 reads_none kind n = record { step = omega arith; no_step = λ erasing. refl }
 
-pub reads_guard : (kind mid : Kind) (n m : ℕ) → mid ≡ kind → ReadsGuard mid n m → ReadsNoList kind n m
+pub reads_guard : (kind mid : Kind) (n m : ℕ) → mid ≡ kind → ReadsGuard mid n m → ViewsAtMostOnce kind n m
 reads_guard Rewritable mid n m is reads =
     let one = reads.step is in
     record { step = omega arith; no_step = λ erasing. absurd (never_erasing refl erasing) }

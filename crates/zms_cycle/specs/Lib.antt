@@ -1,5 +1,6 @@
 pub mod Areas
 pub mod Bounds
+pub mod Calls
 pub mod Entries
 pub mod Holding
 pub mod Searches

@@ -115,24 +115,23 @@ pub record UnitEnds {X E : Type 0} (units : ℕ) (old new : Device) (on : Area) 
   pub in_pieces : OnErr result (LosesWithin SLOT old new)
   pub spends_lost : OnErr result (SpendsBetween old new 0 0)
 
--- A slot is read on a rewritable bank, and on no other.
+-- one view on a rewritable bank, and none on an erasing one
 pub record ReadsGuard (kind : Kind) (before after : ℕ) : Type 0 where
   pub step : kind ≡ Rewritable → after ≡ before + 1
   pub no_step : kind ≡ Erasing → after ≡ before
 
--- At most one slot is read, and that on a rewritable bank: the one that a guard looks at. So no list
--- is.
-pub record ReadsNoList (kind : Kind) (before after : ℕ) : Type 0 where
+-- at most one view on a rewritable bank, and none on an erasing one
+pub record ViewsAtMostOnce (kind : Kind) (before after : ℕ) : Type 0 where
   pub step : after ≤ before + 1
   pub no_step : kind ≡ Erasing → after ≡ before
 
--- the slots that a guard looks at
+-- how many slots a guard looks at
 abbrev pub guard_views : Kind → ℕ
 guard_views Rewritable = 1
 guard_views Erasing = 0
 
--- What the copy of an entry with a value of this length views: the entry, each piece of its value,
--- and the slot of its guard. No list is read.
+-- How many views the copy of an entry with a value of this length makes: one for the entry, one for
+-- each piece of its value, and those for the slot of its guard.
 abbrev pub copy_views : Kind → ℕ → ℕ
 copy_views kind len = 1 + pieces_of (data_len len) + guard_views kind
 

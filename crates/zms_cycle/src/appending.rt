@@ -1,14 +1,15 @@
 // Entries with their values.
-ghost use Rattle.std.specs.Prelude.{◌≡◌, ◌+◌, ◌-◌, ◌/◌, ◌^◌, ◌<◌, ◌≤◌, ◌∷◌, [], ◌++◌, nat_le, length, replicate, is_err, OnOk, OnErr, if◌then◌else◌};
+ghost use Rattle.std.specs.Prelude.{◌≡◌, ◌+◌, ◌-◌, ◌/◌, ◌^◌, ◌<◌, ◌≤◌, ◌∷◌, [], ◌++◌, nat_le, length, replicate, is_err, OnOk, if◌then◌else◌};
 ghost use Rattle.std.specs.Int.{w32, to_le_bytes};
 ghost use Rattle.flash_sim.specs.Device.{overwritten};
 ghost use Rattle.flash_map.specs.Area.{sector_bytes, OthersStay};
 ghost use Rattle.flash_map.specs.Units.{padded, padded_bytes};
 ghost use Rattle.flash_map.specs.Touches.{Touches};
 ghost use Rattle.flash_map.specs.declared.pieces.TheConstants.{PIECE};
-ghost use Rattle.zms_cycle.specs.Areas.{IsZmsSector, kind_on};
-ghost use Rattle.zms_cycle.specs.Changes.{with_value, MarksDone};
-ghost use Rattle.zms_cycle.specs.OnArea.{IsUsedOn, IsSoundOn, FitsOn, free_on, Makes, Adds, HasPlace, BytesEnd, EntryEnds, DoneEnds, ReadsGuard, ReadsNoList};
+ghost use Rattle.zms_cycle.specs.Calls.{TakesEntry, PutsEntry, TakesDone, PutsDone};
+ghost use Rattle.zms_cycle.specs.Areas.{IsZmsSector};
+ghost use Rattle.zms_cycle.specs.Changes.{with_value};
+ghost use Rattle.zms_cycle.specs.OnArea.{IsUsedOn, HasPlace, BytesEnd};
 ghost use Rattle.zms_cycle.specs.States.{IsOpenedOn};
 ghost use Rattle.zms_cycle.specs.Entries.{value_entry, done_entry};
 ghost use Rattle.zms_cycle.specs.Sector.{data_len, free};
@@ -133,20 +134,11 @@ pub fn put_entry_at<F: Flash, L: Ledger>(
     bytes: &[u8],
     steps: &mut Steps<L>,
 ) -> Result<(), PowerLost>
-    requires zms { IsZmsSector (F.device flash.old) area.now sector }
     requires opened { IsOpenedOn (F.device flash.old) area.now sector opened.now }
-    requires sound { IsSoundOn (F.device flash.old) area.now sector }
-    requires ordinary { id < 0xFFFFFFFF }
-    requires room { FitsOn (F.device flash.old) area.now sector (length bytes.now) }
+    requires takes { TakesEntry (F.device flash.old) area.now sector id (length bytes.now) }
 
-    ensures touches { Touches (area.now ∷ []) (F.device flash.old) (F.device flash.new)
-        (is_err result) }
-    ensures others { OthersStay (F.device flash.old) (F.device flash.new) area.now sector }
-    ensures ok { OnOk result
-        (Adds (F.device flash.old) (F.device flash.new) area.now sector id bytes.now) }
-    ensures ends { let d = F.device flash.old in let e = F.device flash.new in
-        EntryEnds PIECE (length bytes.now) d e area.now sector result }
-    ensures steps { ReadsNoList (kind_on (F.device flash.old) area.now) steps.old steps.new }
+    ensures { let d = F.device flash.old in let e = F.device flash.new in
+        PutsEntry d e area.now sector id bytes.now steps.old steps.new result }
 {
     let entry = value_entry(opened.cycle, id, bytes, opened.data_end);
     put_value(flash, area, sector, opened.data_end, bytes)?;
@@ -168,20 +160,11 @@ pub fn put_entry<F: Flash, L: Ledger>(
     bytes: &[u8],
     steps: &mut Steps<L>,
 ) -> Result<(), PowerLost>
-    requires zms { IsZmsSector (F.device flash.old) area.now sector }
     requires used { IsUsedOn (F.device flash.old) area.now sector }
-    requires sound { IsSoundOn (F.device flash.old) area.now sector }
-    requires ordinary { id < 0xFFFFFFFF }
-    requires room { FitsOn (F.device flash.old) area.now sector (length bytes.now) }
+    requires takes { TakesEntry (F.device flash.old) area.now sector id (length bytes.now) }
 
-    ensures touches { Touches (area.now ∷ []) (F.device flash.old) (F.device flash.new)
-        (is_err result) }
-    ensures others { OthersStay (F.device flash.old) (F.device flash.new) area.now sector }
-    ensures ok { OnOk result
-        (Adds (F.device flash.old) (F.device flash.new) area.now sector id bytes.now) }
-    ensures ends { let d = F.device flash.old in let e = F.device flash.new in
-        EntryEnds PIECE (length bytes.now) d e area.now sector result }
-    ensures steps { ReadsNoList (kind_on (F.device flash.old) area.now) (steps.old + 1) steps.new }
+    ensures { let d = F.device flash.old in let e = F.device flash.new in
+        PutsEntry d e area.now sector id bytes.now (steps.old + 1) steps.new result }
 {
     let opened = opened_sector(flash, area, sector, steps);
     put_entry_at(flash, area, sector, &opened, id, bytes, steps)
@@ -213,18 +196,11 @@ pub fn put_done_at<F: Flash, L: Ledger>(
     opened: &Opened,
     steps: &mut Steps<L>,
 ) -> Result<(), PowerLost>
-    requires zms { IsZmsSector (F.device flash.old) area.now sector }
     requires opened { IsOpenedOn (F.device flash.old) area.now sector opened.now }
-    requires sound { IsSoundOn (F.device flash.old) area.now sector }
-    requires room { 32 ≤ free_on (F.device flash.old) area.now sector }
+    requires takes { TakesDone (F.device flash.old) area.now sector }
 
-    ensures touches { Touches (area.now ∷ []) (F.device flash.old) (F.device flash.new)
-        (is_err result) }
-    ensures others { OthersStay (F.device flash.old) (F.device flash.new) area.now sector }
-    ensures ok { OnOk result
-        (Makes MarksDone (F.device flash.old) (F.device flash.new) area.now sector) }
-    ensures ends { DoneEnds (F.device flash.old) (F.device flash.new) area.now sector result }
-    ensures steps { ReadsGuard (kind_on (F.device flash.old) area.now) steps.old steps.new }
+    ensures { let d = F.device flash.old in let e = F.device flash.new in
+        PutsDone d e area.now sector steps.old steps.new result }
 {
     let entry = done_entry(opened.cycle, opened.data_end);
     put_slot(flash, area, sector, opened.slots + FIRST, &entry, steps)
@@ -242,18 +218,11 @@ pub fn put_done<F: Flash, L: Ledger>(
     sector: u32,
     steps: &mut Steps<L>,
 ) -> Result<(), PowerLost>
-    requires zms { IsZmsSector (F.device flash.old) area.now sector }
     requires used { IsUsedOn (F.device flash.old) area.now sector }
-    requires sound { IsSoundOn (F.device flash.old) area.now sector }
-    requires room { 32 ≤ free_on (F.device flash.old) area.now sector }
+    requires takes { TakesDone (F.device flash.old) area.now sector }
 
-    ensures touches { Touches (area.now ∷ []) (F.device flash.old) (F.device flash.new)
-        (is_err result) }
-    ensures others { OthersStay (F.device flash.old) (F.device flash.new) area.now sector }
-    ensures ok { OnOk result
-        (Makes MarksDone (F.device flash.old) (F.device flash.new) area.now sector) }
-    ensures ends { DoneEnds (F.device flash.old) (F.device flash.new) area.now sector result }
-    ensures steps { ReadsGuard (kind_on (F.device flash.old) area.now) (steps.old + 1) steps.new }
+    ensures { let d = F.device flash.old in let e = F.device flash.new in
+        PutsDone d e area.now sector (steps.old + 1) steps.new result }
 {
     let opened = opened_sector(flash, area, sector, steps);
     put_done_at(flash, area, sector, &opened, steps)

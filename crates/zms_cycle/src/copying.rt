@@ -6,12 +6,13 @@ ghost use Rattle.flash_map.specs.Copies.{source, pieces_of, TakesViews};
 ghost use Rattle.flash_map.specs.Touches.{Touches};
 ghost use Rattle.flash_map.specs.declared.copies.TheConstants.{COPY_PIECE};
 ghost use Rattle.flash_map.specs.Units.{padded, padded_bytes};
-ghost use Rattle.zms_cycle.specs.Areas.{IsZmsSector, HasSlot, kind_on};
+ghost use Rattle.zms_cycle.specs.Calls.{TakesCopy, CopiesEntry};
+ghost use Rattle.zms_cycle.specs.Areas.{IsZmsSector, HasSlot};
 ghost use Rattle.zms_cycle.specs.Changes.{with_value};
-ghost use Rattle.zms_cycle.specs.OnArea.{IsUsedOn, IsSoundOn, IsSource, HasPlace, BytesEnd, EntryEnds, entry_len_on, free_on, copy_views, Copies};
+ghost use Rattle.zms_cycle.specs.OnArea.{IsUsedOn, HasPlace, BytesEnd, Copies};
 ghost use Rattle.zms_cycle.specs.States.{IsOpenedOn};
 ghost use Rattle.zms_cycle.specs.Entries.{moved_entry};
-ghost use Rattle.zms_cycle.specs.Sector.{slot_of, entry_in, entry_len, value_of, data_len, cost, free};
+ghost use Rattle.zms_cycle.specs.Sector.{slot_of, entry_in, entry_len, value_of, data_len, free};
 
 use crate::appending::{long_tail, short_tail};
 use crate::guarding::{put_slot, slot_start};
@@ -146,24 +147,11 @@ pub fn copy_entry_at<F: Flash, L: Ledger>(
     from_slot: u32,
     steps: &mut Steps<L>,
 ) -> Result<(), PowerLost>
-    requires zms { IsZmsSector (F.device flash.old) area.now sector }
     requires opened { IsOpenedOn (F.device flash.old) area.now sector opened.now }
-    requires sound { IsSoundOn (F.device flash.old) area.now sector }
-    requires source { IsSource (F.device flash.old) area.now sector from_sector from_slot }
-    requires room { let d = F.device flash.old in
-        cost (entry_len_on d area.now from_sector from_slot) + 48 ≤ free_on d area.now sector }
+    requires takes { TakesCopy (F.device flash.old) area.now sector from_sector from_slot }
 
-    ensures touches { Touches (area.now ∷ []) (F.device flash.old) (F.device flash.new)
-        (is_err result) }
-    ensures others { OthersStay (F.device flash.old) (F.device flash.new) area.now sector }
-    ensures ok { OnOk result
-        (Copies (F.device flash.old) (F.device flash.new) area.now sector from_sector from_slot) }
-    ensures ends { let d = F.device flash.old in let e = F.device flash.new in
-        EntryEnds COPY_PIECE (entry_len_on d area.now from_sector from_slot) d e area.now sector
-        result }
-    ensures views { let d = F.device flash.old in
-        let len = entry_len_on d area.now from_sector from_slot in
-        TakesViews (copy_views (kind_on d area.now) len) steps.old steps.new result }
+    ensures { let d = F.device flash.old in let e = F.device flash.new in
+        CopiesEntry d e area.now sector from_sector from_slot steps.old steps.new result }
 {
     let from = ordinary_entry(flash, area, from_sector, from_slot, steps);
     let entry = moved_entry(opened.cycle, &from, opened.data_end);
@@ -195,24 +183,11 @@ pub fn copy_entry<F: Flash, L: Ledger>(
     from_slot: u32,
     steps: &mut Steps<L>,
 ) -> Result<(), PowerLost>
-    requires zms { IsZmsSector (F.device flash.old) area.now sector }
     requires used { IsUsedOn (F.device flash.old) area.now sector }
-    requires sound { IsSoundOn (F.device flash.old) area.now sector }
-    requires source { IsSource (F.device flash.old) area.now sector from_sector from_slot }
-    requires room { let d = F.device flash.old in
-        cost (entry_len_on d area.now from_sector from_slot) + 48 ≤ free_on d area.now sector }
+    requires takes { TakesCopy (F.device flash.old) area.now sector from_sector from_slot }
 
-    ensures touches { Touches (area.now ∷ []) (F.device flash.old) (F.device flash.new)
-        (is_err result) }
-    ensures others { OthersStay (F.device flash.old) (F.device flash.new) area.now sector }
-    ensures ok { OnOk result
-        (Copies (F.device flash.old) (F.device flash.new) area.now sector from_sector from_slot) }
-    ensures ends { let d = F.device flash.old in let e = F.device flash.new in
-        EntryEnds COPY_PIECE (entry_len_on d area.now from_sector from_slot) d e area.now sector
-        result }
-    ensures views { let d = F.device flash.old in
-        let len = entry_len_on d area.now from_sector from_slot in
-        TakesViews (copy_views (kind_on d area.now) len) (steps.old + 1) steps.new result }
+    ensures { let d = F.device flash.old in let e = F.device flash.new in
+        CopiesEntry d e area.now sector from_sector from_slot (steps.old + 1) steps.new result }
 {
     let opened = opened_sector(flash, area, sector, steps);
     copy_entry_at(flash, area, sector, &opened, from_sector, from_slot, steps)

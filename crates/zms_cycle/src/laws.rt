@@ -2,8 +2,8 @@
 
 ghost use Rattle.zms_cycle.specs.Bounds.{StepsAreBounded};
 
-/// Whatever the bytes of a sector: a guard spends at most 1 unit, an emptying 1 to 3, and a close 1
-/// to a sixteenth of the free bytes and 1.
+/// Whatever the bytes of a sector: a guard spends at most 1 unit, an emptying 1 to 3, and a close
+/// at most one unit more than are free.
 pub fn steps_are_bounded()
     ensures bounded { StepsAreBounded }
 {}

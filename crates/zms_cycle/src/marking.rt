@@ -1,15 +1,16 @@
 // Closing and emptying a sector.
-ghost use Rattle.std.specs.Prelude.{◌≡◌, ◌+◌, ◌-◌, ◌*◌, ◌/◌, ◌^◌, ◌<◌, ◌≤◌, ◌∷◌, [], min, length, is_err, Some, IsTrue, IsSome, OnOk, OnErr};
+ghost use Rattle.std.specs.Prelude.{◌≡◌, ◌+◌, ◌-◌, ◌*◌, ◌/◌, ◌<◌, ◌≤◌, ◌∷◌, [], length, is_err, Some, OnOk, OnErr};
 ghost use Rattle.flash_map.specs.Area.{sector_size, sectors_of, sector_bytes, OthersStay};
 ghost use Rattle.flash_map.specs.Spending.{SpendsBetween};
 ghost use Rattle.flash_map.specs.Touches.{Touches};
 ghost use Rattle.flash_sim.specs.declared.flash.Kind.TheVariants.{Erasing, Rewritable};
+ghost use Rattle.zms_cycle.specs.Calls.{TakesClose, ClosesSector};
 ghost use Rattle.zms_cycle.specs.Areas.{IsZmsSector, HasSlot, kind_on};
 ghost use Rattle.zms_cycle.specs.Changes.{with_slot, IsFilled, KeepsList, StopsGuarding, StopsEmptying, Closes, Empties, next_cycle};
 ghost use Rattle.zms_cycle.specs.Entries.{fill, empty_entry, close_entry};
-ghost use Rattle.zms_cycle.specs.OnArea.{IsUsedOn, IsSoundOn, IsClosableOn, free_on, Makes, Keeps, next_guard, emptying_units, first_guard_units, closing_units, CloseEnds};
+ghost use Rattle.zms_cycle.specs.OnArea.{IsUsedOn, IsSoundOn, Makes, Keeps, next_guard, emptying_units, first_guard_units, closing_units};
 ghost use Rattle.zms_cycle.specs.States.{IsOpenedOn};
-ghost use Rattle.zms_cycle.specs.Sector.{cycle_of, valid_slots, low, data_end, free, is_sound};
+ghost use Rattle.zms_cycle.specs.Sector.{cycle_of, valid_slots, low, data_end, free};
 
 use crate::guarding::{put_unit, slot_start};
 use crate::reading::{FIRST, Opened, SLOT, SPECIAL_ID, opened_sector, sector_cycle};
@@ -115,9 +116,9 @@ fn empty_by_erasing<F: Flash, L: Ledger>(
 
 /// Empties a sector by the empty entry of the next cycle. On a rewritable bank, slots 1 and 2 are
 /// guarded first, so that they are not valid under that cycle. On an erasing bank, the sector is
-/// erased first, unless it is all FF. The sector as it was says exactly what this spends: 1 to 3
-/// units, and fewer if it is cut. On a rewritable bank slot 3 stays, so the sector as it was says
-/// too what the guard of the first entry will take.
+/// erased first, unless it is all FF. It spends 1 to 3 units and erases, by the sector's old bytes;
+/// fewer if it is cut. On a rewritable bank slot 3 stays, so the old bytes also say what the guard
+/// of the first entry will take.
 ///
 /// # Errors
 /// `PowerLost`. On a rewritable bank the sector reads as before (its list, its gc-done, and whether
@@ -279,19 +280,11 @@ pub fn close_at<F: Flash, L: Ledger>(
     opened: &Opened,
     steps: &mut Steps<L>,
 ) -> Result<(), PowerLost>
-    requires zms { IsZmsSector (F.device flash.old) area.now sector }
     requires opened { IsOpenedOn (F.device flash.old) area.now sector opened.now }
-    requires sound { IsSoundOn (F.device flash.old) area.now sector }
-    requires closable { IsClosableOn (F.device flash.old) area.now sector }
+    requires takes { TakesClose (F.device flash.old) area.now sector }
 
-    ensures touches { Touches (area.now ∷ []) (F.device flash.old) (F.device flash.new)
-        (is_err result) }
-    ensures others { OthersStay (F.device flash.old) (F.device flash.new) area.now sector }
-    ensures ok { OnOk result
-        (Makes Closes (F.device flash.old) (F.device flash.new) area.now sector) }
-    ensures ends { CloseEnds (F.device flash.old) (F.device flash.new) area.now sector result }
-    ensures steps { let fill = closing_units (F.device flash.old) area.now sector - 1 in
-        steps.new ≤ steps.old + fill }
+    ensures { let d = F.device flash.old in let e = F.device flash.new in
+        ClosesSector d e area.now sector steps.old steps.new result }
 {
     let low = geometry(flash, area).sector - (opened.slots + FIRST) * SLOT;
     fill_free(flash, area, sector, opened, steps)?;
@@ -316,19 +309,11 @@ pub fn close<F: Flash, L: Ledger>(
     sector: u32,
     steps: &mut Steps<L>,
 ) -> Result<(), PowerLost>
-    requires zms { IsZmsSector (F.device flash.old) area.now sector }
     requires used { IsUsedOn (F.device flash.old) area.now sector }
-    requires sound { IsSoundOn (F.device flash.old) area.now sector }
-    requires closable { IsClosableOn (F.device flash.old) area.now sector }
+    requires takes { TakesClose (F.device flash.old) area.now sector }
 
-    ensures touches { Touches (area.now ∷ []) (F.device flash.old) (F.device flash.new)
-        (is_err result) }
-    ensures others { OthersStay (F.device flash.old) (F.device flash.new) area.now sector }
-    ensures ok { OnOk result
-        (Makes Closes (F.device flash.old) (F.device flash.new) area.now sector) }
-    ensures ends { CloseEnds (F.device flash.old) (F.device flash.new) area.now sector result }
-    ensures steps { let fill = closing_units (F.device flash.old) area.now sector - 1 in
-        steps.new ≤ steps.old + 1 + fill }
+    ensures { let d = F.device flash.old in let e = F.device flash.new in
+        ClosesSector d e area.now sector (steps.old + 1) steps.new result }
 {
     let opened = opened_sector(flash, area, sector, steps);
     close_at(flash, area, sector, &opened, steps)

@@ -1,3 +1,4 @@
+mod DeleteUnits
 mod Holding
 mod Numbers
 mod OpenLemmas

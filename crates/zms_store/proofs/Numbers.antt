@@ -1,5 +1,5 @@
 -- What the calls of a ZMS store spend, in numbers.
-use Rattle.std.proofs.Common.{◌≡◌, ℕ, ◌+◌, ◌-◌, ◌*◌, ◌/◌, ◌≤◌, max, Bool, true, false, cond, eqb, List, length, Option, Some, None, Result, Ok, Err, refl, sym, subst, ◌∙◌, inl, inr, arith}
+use Rattle.std.proofs.Common.{◌≡◌, ℕ, ◌+◌, ◌-◌, ◌*◌, ◌/◌, ◌%◌, ◌<◌, ◌≤◌, max, Bool, true, false, cond, eqb, List, length, Option, Some, None, Result, Ok, Err, refl, sym, subst, ◌∙◌, inl, inr, arith}
 use Rattle.std.specs.FinMap.{get}
 use Rattle.flash_sim.specs.Device.{Device}
 use Rattle.flash_sim.specs.declared.flash.PowerLost.{PowerLost as Lost}
@@ -23,27 +23,26 @@ use Rattle.item_store.specs.declared.entry.Redo.TheVariants.{Nothing, ClearNext,
 use Rattle.item_store.specs.declared.store.Store.{Store}
 use Rattle.item_store.specs.SectorFormat.{Range, SectorFormat}
 use Rattle.item_store.specs.Spending.{none, both, copies, victim_units, again_with, again_units, ready_units, round_clear, round_units, has_victim}
-use Rattle.item_store.specs.Standing.{SpendsIn, SpendsUpTo, items_at}
+use Rattle.item_store.specs.Standing.{SpendsIn, SpendsUpTo}
 use Rattle.item_store.specs.Stands as stands
 use Rattle.item_store.specs.Closing as closing
-use Rattle.item_store.specs.Room.{has_room_at}
 use Rattle.item_store.specs.Writing as writing
 use Rattle.flash_sim.specs.declared.flash.Kind.{Kind as BankKind}
 use Rattle.flash_sim.specs.declared.flash.Kind.TheVariants.{Erasing, Rewritable}
 use Rattle.zms_cycle.specs.Changes.{closing_most}
-use Rattle.zms_cycle.specs.Sector.{cost, data_len, free}
+use Rattle.zms_cycle.specs.Sector.{capacity, cost, free}
 use Rattle.zms_format.specs.Area.{is_clean}
 use Rattle.std.proofs.Math.Nat.{mul-le-mul_left}
 use Rattle.zms_format.specs.Formats.{format_of, units_of, round_limit, ready_limit}
 use Rattle.zms_format.proofs.FormatLemmas.{zms_is_format, copies_most, begin_lost, emptied_within, emptying_three, guard_one}
 use Rattle.zms_store.specs.declared.sectors.ZmsOpen.{ZmsOpen}
-use Rattle.zms_store.specs.Spending.{most_round, most_mount, WriteSpends, DeleteSpends}
+use Rattle.zms_store.specs.Spending.{most_round, most_mount, WriteSpends}
 use Rattle.zms_store.specs.Standing.{format_on, kept}
 
 -- a step, cut or not, spends at most so much
-record Within (r : Range) (n : ℕ) : Type 0 where
-  most : r.most ≤ n
-  lost : r.lost ≤ n
+pub record Within (r : Range) (n : ℕ) : Type 0 where
+  pub most : r.most ≤ n
+  pub lost : r.lost ≤ n
 
 largest : (a b n : ℕ) → a ≤ n → b ≤ n → max a b ≤ n
 largest a b n one other = omega arith
@@ -75,7 +74,7 @@ between_in r n spends w = between_within spends 0 n (omega arith) w.most
 between_up : {old new : Device} (r : Range) (n : ℕ) → SpendsUpTo old new r → Within r n → SpendsBetween old new 0 n
 between_up r n spends w = between_within spends 0 n (omega arith) w.lost
 
-between_same : (old new : Device) (n : ℕ) → new ≡ old → SpendsBetween old new 0 n
+pub between_same : (old new : Device) (n : ℕ) → new ≡ old → SpendsBetween old new 0 n
 between_same old new n same = subst (λ (d : Device). SpendsBetween old d 0 n) (sym same) (between_within (between_none old) 0 n (omega arith) (omega arith))
 
 -- the limits of both kinds of bank
@@ -83,7 +82,7 @@ round_nine : (bank : BankKind) (size : ℕ) → round_limit bank size ≤ 3 * (s
 round_nine Rewritable size = omega arith
 round_nine Erasing size = omega arith
 
-ready_four : (bank : BankKind) → ready_limit bank ≤ 4
+pub ready_four : (bank : BankKind) → ready_limit bank ≤ 4
 ready_four Rewritable = omega arith
 ready_four Erasing = omega arith
 
@@ -141,17 +140,27 @@ module _ (u : Geometry) (sectors : List (List ℕ)) where
       let last : ℕ = next sectors (next sectors place) in
       either_within (eqb last place) k.units.clear_closed (k.units.clear (sector_at sectors last)) 3 closed_within (cleared_within last)
 
-  round_within : (place : ℕ) → Within (round_units k sectors place) ((free u.kind (sector_at sectors place) + 2 * copied (next sectors place)) / 16 + 9)
-  round_within place =
-      let after : ℕ = next sectors place in
+  -- a round, if so many units close the sector
+  round_by : (place n : ℕ) → free u.kind (sector_at sectors place) / 16 + 1 ≤ n → Within (round_units k sectors place) (n + (3 + (copy_units (next sectors place) + (2 + 3))))
+  round_by place n fits =
       let close = closing_room u.kind (free u.kind (sector_at sectors place)) in
       let ready = more_within (ready_units k sectors (next sectors place)) 3 (3 + (copy_units (next sectors place) + (2 + 3))) (ready_within (next sectors place)) (omega arith) in
+      both_within (k.units.close (sector_at sectors place)) _ n (3 + (copy_units (next sectors place) + (2 + 3)))
+      (more_within (k.units.close (sector_at sectors place)) (free u.kind (sector_at sectors place) / 16 + 1) n (record { most = close; lost = close }) fits)
+      (either_within (has_victim k sectors place) (again_with k sectors (next sectors place) (round_clear k sectors place)) _ (3 + (copy_units (next sectors place) + (2 + 3))) (with_within (next sectors place) (round_clear k sectors place) (last_within place))
+      (either_within k.opens_ready (ready_units k sectors (next sectors place)) none (3 + (copy_units (next sectors place) + (2 + 3))) ready (none_within (3 + (copy_units (next sectors place) + (2 + 3))))))
+
+  round_within : (place : ℕ) → Within (round_units k sectors place) ((free u.kind (sector_at sectors place) + 2 * copied (next sectors place)) / 16 + 9)
+  round_within place =
       let fewer = copies_most u.kind (to_copy k.reading sectors (next sectors place)) in
       more_within (round_units k sectors place) (free u.kind (sector_at sectors place) / 16 + 1 + (3 + (copy_units (next sectors place) + (2 + 3)))) ((free u.kind (sector_at sectors place) + 2 * copied (next sectors place)) / 16 + 9)
-      (both_within (k.units.close (sector_at sectors place)) _ (free u.kind (sector_at sectors place) / 16 + 1) (3 + (copy_units (next sectors place) + (2 + 3))) (record { most = close; lost = close })
-      (either_within (has_victim k sectors place) (again_with k sectors (next sectors place) (round_clear k sectors place)) _ (3 + (copy_units (next sectors place) + (2 + 3))) (with_within (next sectors place) (round_clear k sectors place) (last_within place))
-      (either_within k.opens_ready (ready_units k sectors (next sectors place)) none (3 + (copy_units (next sectors place) + (2 + 3))) ready (none_within (3 + (copy_units (next sectors place) + (2 + 3)))))))
-      (omega arith)
+      (round_by place (free u.kind (sector_at sectors place) / 16 + 1) (omega arith)) (omega arith)
+
+  -- one that begins with fewer than two slots free, in a sector of this size
+  pub refill_within : (place size : ℕ) → 512 ≤ size → size % 64 ≡ 0 → free u.kind (sector_at sectors place) < 32 → copies_cost cost (to_copy k.reading sectors (next sectors place)) ≤ capacity size → Within (round_units k sectors place) (2 * (size / 16))
+  refill_within place size large whole short small =
+      let fewer = copies_most u.kind (to_copy k.reading sectors (next sectors place)) in
+      more_within (round_units k sectors place) (2 + (3 + (copy_units (next sectors place) + (2 + 3)))) (2 * (size / 16)) (round_by place 2 (omega arith)) (omega arith)
 
   redo_within : (place : ℕ) (redo : Redo) → Within (collecting.redo_units k sectors place redo) (2 * copied place / 16 + 8)
   redo_within place Nothing = none_within (2 * copied place / 16 + 8)
@@ -161,7 +170,7 @@ module _ (u : Geometry) (sectors : List (List ℕ)) where
       more_within (again_units k sectors place) (3 + (copy_units place + (2 + 3))) (2 * copied place / 16 + 8) (again_within place) (omega arith)
 
   -- an entry, which may have to make its sector ready first
-  entry_within : (b : List ℕ) (len : ℕ) → Within (both (k.units.begin b) (k.units.put b len)) (cost len / 16 + 4)
+  pub entry_within : (b : List ℕ) (len : ℕ) → Within (both (k.units.begin b) (k.units.put b len)) (cost len / 16 + 4)
   entry_within b len =
       let is = zms_is_format u in
       let begins = is.units.begins b in
@@ -190,7 +199,7 @@ mount_spends old new area (Err MountLost) ends =
     between_up (collecting.redo_units (format_on old area) (sectors_of old area) place (redo_of (format_on old area) (sectors_of old area) place)) (most_mount old area) ends.2 (redo_within (geometry_of old area) (sectors_of old area) place (redo_of (format_on old area) (sectors_of old area) place))
 mount_spends old new area (Err NoMemory) ends = between_same old new (most_mount old area) ends
 
--- ---- writes and deletes
+-- ---- writes
 
 pub write_spends : {T : Type 0} (old new : Device) (area : Area) (id : ℕ) (bytes : List ℕ) (result : Result T WriteFault) → writing.WriteEnds (format_on old area) old new area id bytes result → WriteSpends old new area id bytes result
 write_spends old new area id bytes (Ok done) ends = record {
@@ -215,34 +224,3 @@ write_spends old new area id bytes (Err PowerLost) ends = record {
   fitting = λ room. let four = ready_four (geometry_of old area).kind in between_within (ends.fitting room) 0 (cost (length bytes) / 16 + 4) (omega arith) (omega arith);
   at_most = between_within ends.at_most 0 _ (omega arith) (write_most (geometry_of old area).kind (sector_size old area) (area.sectors - 1) (length bytes));
 }
-
-delete_cost : cost 0 / 16 + 4 ≡ 5
-unfolding data_len
-delete_cost = refl
-
-pub delete_spends : {T : Type 0} (old new : Device) (area : Area) (id : ℕ) (result : Result T Lost) → writing.DeleteEnds (format_on old area) old new area id result → DeleteSpends old new area id
-delete_spends old new area id (Ok done) ends =
-    let five = delete_cost in
-    record {
-      absent = λ none. between_same old new 0 (ends.absent none);
-      fitting = λ room. by_item room (get (items_at (format_on old area) old area) id) refl;
-      at_most = between_within ends.at_most 0 _ (omega arith) (let all = write_most (geometry_of old area).kind (sector_size old area) 1 0 in omega arith);
-    }
-  where
-    by_item : has_room_at (format_on old area) old area 0 ≡ true → (o : Option (List ℕ)) → get (items_at (format_on old area) old area) id ≡ o → SpendsBetween old new 0 5
-    by_item room None is = between_same old new 5 (ends.absent is)
-    by_item room (Some bytes) is =
-        let b : List ℕ = writing.open_at (format_on old area) old area in
-        let five = delete_cost in
-        let most = (entry_within (geometry_of old area) (sectors_of old area) b 0).most in
-        between_within (ends.fitting (λ none. some_none bytes (sym is ∙ none)) room) 0 5 (omega arith) (omega arith)
-      where
-        some_none : (x : List ℕ) → Some x ≡ None → ⊥
-        some_none x h = cc
-delete_spends old new area id (Err fault) ends =
-    let five = delete_cost in
-    record {
-      absent = λ none. absurd (ends.present none);
-      fitting = λ room. let four = ready_four (geometry_of old area).kind in between_within (ends.fitting room) 0 5 (omega arith) (omega arith);
-      at_most = between_within ends.at_most 0 _ (omega arith) (let all = write_most (geometry_of old area).kind (sector_size old area) 1 0 in omega arith);
-    }

@@ -1,7 +1,7 @@
 -- What is kept of the open sector of a ZMS area, and what each step in it makes of that.
-use Rattle.std.proofs.Common.{◌≡◌, ℕ, ◌+◌, ◌-◌, ◌^◌, ◌<◌, ◌≤◌, min, Bool, true, false, leb, List, length, Option, Some, None, refl, sym, ap, ◌∙◌, inl, inr, arith}
+use Rattle.std.proofs.Common.{◌≡◌, ℕ, ◌+◌, ◌-◌, ◌^◌, ◌<◌, ◌≤◌, min, ◌&&◌, Bool, true, false, leb, List, length, Option, Some, None, refl, sym, ap, ◌∙◌, inl, inr, arith}
 use Rattle.std.specs.Prelude.{is_some, IsSome}
-use Rattle.std.proofs.lemmas.Bool.{cases_Bool, leb-true}
+use Rattle.std.proofs.lemmas.Bool.{and_parts, cases_Bool, leb-true}
 use Rattle.flash_sim.specs.declared.flash.Kind.{Kind as BankKind}
 use Rattle.flash_map.specs.declared.area.Geometry.{Geometry}
 use Rattle.item_laws.specs.Slots.{Slot}
@@ -9,12 +9,17 @@ use Rattle.zms_cycle.specs.Changes.{AddsPair, MarksDone, Empties, next_cycle}
 use Rattle.zms_cycle.specs.States.{state_of, IsOpened}
 use Rattle.zms_cycle.specs.declared.reading.Opened.{Opened}
 use Rattle.zms_cycle.specs.declared.reading.SectorState.TheVariants.{Blank, Used}
-use Rattle.zms_cycle.specs.Sector.{cycle_of, valid_slots, has_gc_done, data_len, cost, data_end, free}
+use Rattle.zms_cycle.specs.Sector.{cycle_of, valid_slots, has_gc_done, data_len, cost, data_end, free, is_sound}
 use Rattle.zms_cycle.proofs.Frames.{pad, data_len-long}
 use Rattle.zms_format.specs.declared.sector.Marks.{Marks}
+use Rattle.zms_format.specs.Area.{may_close}
 use Rattle.zms_format.proofs.Sectors.{few_slots, blank_is, used_is, marks_blank}
 use Rattle.zms_format.proofs.StepLemmas.{one_slot}
 use Rattle.zms_store.specs.declared.sectors.ZmsOpen.{ZmsOpen}
+
+-- a sector that takes entries is sound
+pub ready_sound : (kind : BankKind) (b : List ℕ) → (is_some (cycle_of b) && (is_sound b && may_close kind b)) ≡ true → is_sound b ≡ true
+ready_sound kind b ready = (and_parts (is_sound b) (may_close kind b) (and_parts (is_some (cycle_of b)) (is_sound b && may_close kind b) ready).1).0
 
 -- what is kept of a sector
 abbrev pub open_of : BankKind → List ℕ → ZmsOpen

@@ -1,9 +1,11 @@
 -- What the calls of a ZMS store spend, in numbers: units of sixteen bytes, and erases.
 use Rattle.std.specs.Prelude.{◌≡◌, ℕ, ◌+◌, ◌-◌, ◌*◌, ◌/◌, true, List, length, Result, Ok, Err}
 use Rattle.flash_sim.specs.Device.{Device}
+use Rattle.flash_sim.specs.declared.flash.Kind.{Kind as BankKind}
+use Rattle.flash_sim.specs.declared.flash.Kind.TheVariants.{Erasing, Rewritable}
 use Rattle.flash_map.specs.declared.area.Area.{Area}
 use Rattle.flash_map.specs.declared.faults.WriteFault.{WriteFault}
-use Rattle.flash_map.specs.Area.{sector_at, sector_size, sectors_of}
+use Rattle.flash_map.specs.Area.{geometry_of, sector_at, sector_size, sectors_of}
 use Rattle.flash_map.specs.Spending.{SpendsBetween}
 use Rattle.item_laws.specs.Area.{next, open_sector}
 use Rattle.item_laws.specs.Forms.{to_copy}
@@ -74,8 +76,14 @@ WriteSpends old new area id bytes (Err _) = StopsSpending old new area bytes
 
 -- ---- deleting
 
+-- A delete that needs a round, at most, by the kind of the bank and the units of a sector. Before that
+-- round fewer than two slots were free, so on a rewritable bank its close takes at most two units.
+abbrev pub most_delete : BankKind → ℕ → ℕ
+most_delete Rewritable units = 2 * units + 5
+most_delete Erasing units = units + 4
+
 -- A delete, cut or not. One of an absent item costs nothing.
 pub record DeleteSpends (old new : Device) (area : Area) (id : ℕ) : Type 0 where
   pub absent : writing.IsAbsent (format_on old area) old area id → SpendsBetween old new 0 0
   pub fitting : HasRoom old area 0 → SpendsBetween old new 0 5
-  pub at_most : SpendsBetween old new 0 (3 * sector_units old area + 14)
+  pub at_most : SpendsBetween old new 0 (most_delete (geometry_of old area).kind (sector_units old area))

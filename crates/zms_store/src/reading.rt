@@ -1,5 +1,5 @@
 // Reading items.
-ghost use Rattle.std.specs.Prelude.{◌≡◌, ◌+◌, ◌^◌, ◌<◌, ◌≤◌, false, None, is_some, IfSome, option_map};
+ghost use Rattle.std.specs.Prelude.{◌≡◌, ◌+◌, ◌*◌, ◌^◌, ◌<◌, ◌≤◌, false, None, is_some, IfSome, option_map};
 ghost use Rattle.std.specs.FinMap as map;
 ghost use Rattle.flash_sim.specs.Bank.{IsLawful};
 ghost use Rattle.flash_sim.specs.Device.{Device};
@@ -11,6 +11,8 @@ ghost use Rattle.item_store.specs.declared.free.TheConstants.{MOST_CANDIDATES};
 ghost use Rattle.item_store.specs.Asking.{IsHolderOf};
 ghost use Rattle.item_store.specs.Cached.{latest_on};
 ghost use Rattle.item_store.specs.Free.{IsLeastFree};
+ghost use Rattle.item_store.specs.Holding.{held_in_all, search_views};
+ghost use Rattle.item_store.specs.Lasts.{slots_in_all};
 ghost use Rattle.item_store.specs.Latest.{IsKnown, KnowsOn};
 ghost use Rattle.item_store.specs.Listed.{IsListedOn};
 ghost use Rattle.item_store.specs.Older.{IsNextOlder, newest_before};
@@ -52,7 +54,8 @@ fn entry_at<F: Flash, L: Ledger>(
 impl Zms {
     /// The bytes of an item; `None` if the id has no entry or its last entry is a delete. If no
     /// entry of the list shares the id's cache slot, this takes no step. If the latest entry that
-    /// shares it has this id, it takes at most two.
+    /// shares it has this id, it takes at most two. Otherwise it takes at most one step for each
+    /// sector, and four besides.
     pub fn get<'a, F: Flash, L: Ledger>(
         &self,
         flash: &'a F,
@@ -67,6 +70,7 @@ impl Zms {
         ensures few { let d = F.device flash.now in
             IfSome (latest_on format_of d self.now.store.area id)
             (λ p. p.id ≡ id → steps.new ≤ steps.old + 2) }
+        ensures steps { steps.new ≤ steps.old + self.now.store.area.sectors + 4 }
     {
         self.store.get(flash, id, steps)
     }
@@ -152,7 +156,10 @@ impl Zms {
     }
 
     /// An id of the range whose item has these bytes, with the item `step` above it; any of them if
-    /// several have, `None` if none has. It compares ids and bytes before CRCs.
+    /// several have, `None` if none has. It compares ids and bytes before CRCs. It takes at most
+    /// one step for each sector. Each entry that gives an id of the range these bytes may cost one
+    /// step more, one for each sector, and a look-up of its id. The item above costs one look-up in
+    /// all.
     pub fn holder_of<'a, F: Flash, L: Ledger>(
         &self,
         flash: &'a F,
@@ -164,8 +171,11 @@ impl Zms {
         requires stands { StandsOn (F.device flash.now) self.now }
         requires step { 0 < step }
         requires top { ids.now.most + step < 2 ^ 32 }
-        ensures { IsHolderOf ids.now step (items_on (F.device flash.now) self.now.store.area)
+        ensures holder { IsHolderOf ids.now step (items_on (F.device flash.now) self.now.store.area)
             bytes.now result }
+        ensures steps { let d = F.device flash.now in let area = self.now.store.area in
+            let held = held_in_all (format_on d area) (sectors_of d area) ids.now bytes.now in
+            steps.new ≤ steps.old + search_views area.sectors held }
     {
         self.store.holder_of(flash, ids, step, bytes, steps)
     }
@@ -189,7 +199,8 @@ impl Zms {
 
     /// The least bytes of an item with an id from `least` to `most`: of those greater than `after`,
     /// or of all if `after` is not given; `None` if there are none. The range has at most
-    /// `MOST_IDS` ids. This takes one walk over the list.
+    /// `MOST_IDS` ids. This takes one walk over the list: it takes at most one step for each
+    /// sector, and two for each slot: for its entry and for that entry's bytes.
     pub fn next_of<'a, F: Flash, L: Ledger>(
         &self,
         flash: &'a F,
@@ -200,8 +211,11 @@ impl Zms {
     ) -> Option<&'a [u8]>
         requires stands { StandsOn (F.device flash.now) self.now }
         requires range { most < least + MOST_IDS }
-        ensures { IsNextOf least most (items_on (F.device flash.now) self.now.store.area)
+        ensures next { IsNextOf least most (items_on (F.device flash.now) self.now.store.area)
             (option_map (λ other. other.now) after.entry) (option_map (λ bytes. bytes.now) result) }
+        ensures steps { let d = F.device flash.now in let area = self.now.store.area in
+            let slots = slots_in_all (format_on d area) (sectors_of d area) in
+            steps.new ≤ steps.old + area.sectors + 2 * slots }
     {
         self.store.next_of(flash, least, most, after, steps)
     }

@@ -8,7 +8,7 @@ ghost use Rattle.zms_format.proofs.FormatLemmas.{zms_is_format};
 use crate::entries::{named_id, note_entries, placed, value_in};
 use flash_map::{Area, Damaged, Geometry, geometry, sector_view};
 use flash_sim::{Flash, Kind, PowerLost, Steps};
-use item_store::{IdPair, IdRange, ListStart, MayHave, Notes, Placed, SlotSectors};
+use item_store::{IdPair, IdRange, ListStart, LookBack, MayHave, Notes, Placed, SlotSectors};
 use std::sync::ledger::Ledger;
 use zms_cycle::{
     FIRST, Opened, SLOT, SectorState, capacity, close_at, copy_entry_at, cost, empty_sector,
@@ -241,6 +241,25 @@ impl SlotSectors for ZmsOpen {
         steps: &mut Steps<L>,
     ) -> u32 {
         reach_within(sector_view(flash, area, place, steps), slots, least, most)
+    }
+
+    fn look_back<F: Flash, L: Ledger>(
+        flash: &F,
+        area: &Area,
+        place: u32,
+        before: u32,
+        ids: &IdRange,
+        steps: &mut Steps<L>,
+    ) -> LookBack {
+        let bytes = sector_view(flash, area, place, steps);
+        let reach = reach_within(bytes, before, ids.least, ids.most);
+        match listed_entry(bytes, before + FIRST) {
+            Some(found) => LookBack {
+                entry: Some(placed(found, place)),
+                reach,
+            },
+            None => LookBack { entry: None, reach },
+        }
     }
 
     fn find_bytes<F: Flash, L: Ledger>(

@@ -27,9 +27,9 @@ impl Zms {
     /// sector, which takes one to three units by its bytes (two on an erasing bank), or a whole
     /// garbage collection. The items stay, and so do the newest versions of each, even if power is
     /// lost again. It spends at most twice the units of a sector (once on an erasing bank), and at
-    /// most twice those of what it copies and 8 more. An area at rest stays as it is. If anything
+    /// most 8 more than twice the units that it copies. An area at rest stays as it is. If anything
     /// changed, a sector is in use afterwards, even if power was lost. No byte of the collected
-    /// sector changes before gc-done stands.
+    /// sector changes before gc-done stands, and in the end that sector has an empty entry.
     ///
     /// # Errors
     /// `Damaged` and `NoMemory`: nothing changed. `PowerLost`, only if the area was not at rest.
@@ -82,9 +82,10 @@ impl Zms {
     /// Closes the open sector and collects the oldest one, if that is in use. If it is not, on an
     /// erasing bank the next sector is made ready. The items stay, even if power is lost. After a
     /// round, a value fits the open sector exactly if it fits beside the items copied there, and a
-    /// delete fits. It spends at most the units that were free, twice those of what it copies, and
-    /// 9. If the open sector is clean, nothing changes: on a rewritable bank it is clean if its
-    /// slot 2 is not valid, on an erasing bank if it is blank or fresh.
+    /// delete fits. If a sector was collected, gc-done stands in the open one, and the collected
+    /// one has an empty entry. It spends at most the units that were free, twice those of what it
+    /// copies, and 9. If the open sector is clean, nothing changes: on a rewritable bank it is
+    /// clean if its slot 2 is not valid, on an erasing bank if it is blank or fresh.
     ///
     /// # Errors
     /// `PowerLost`, only if the open sector is not clean: the list is as before or as after the

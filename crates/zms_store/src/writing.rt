@@ -84,7 +84,8 @@ impl Zms {
 
     /// Deletes an item. If the id has none, nothing is programmed; the reserved id FFFFFFFF never
     /// has one. A delete always finds room. It spends at most 5 units if it fits the open sector,
-    /// and otherwise at most three times the units of a sector and 14.
+    /// and otherwise at most twice the units of a sector and 5. On an erasing bank it spends at
+    /// most the units of a sector and 4.
     ///
     /// # Errors
     /// `PowerLost`: the items are as before or without this one, and the store is down.

@@ -1,4 +1,6 @@
-use Rattle.std.proofs.Common.{Err, ap, ◌∙◌}
+use Rattle.std.proofs.Common.{Err, ap, subst, ◌≤◌, ◌∙◌}
+use Rattle.flash_map.specs.declared.area.Area.{Area}
+use Rattle.fcb_ring.specs.Standing.{erases_on}
 use Rattle.fcb_ring.specs.declared.writing.AppendFault.{AppendFault}
 use Rattle.event_ring.proofs.LogSteps.{adds-then, lost-then, fits-then, short-then, filled-then, drop-lost, put-ok, put-lost, put-full}
 use Rattle.event_ring.proofs.appending.drop_and_put.Goals as goal
@@ -59,3 +61,9 @@ returns-in-Err-PowerLost-clause-filled g c =
     let lost = put-lost m e c.drop_oldest.new.ring c.put.new.ring c.args.body.now c.put.result (c.in-Err-PowerLost.is ∙ ap (λ (x : AppendFault). Err x) c.in-Err-PowerLost.field-0-is) c.put.ensures.ends in
     filled-then (g.F.Flash.device c.args.flash.now) c.args.ring.now c.args.body.now (g.met.F.Flash.is_lawful c.args.flash.now) c.requires.mounted c.requires.no_room c.requires.left
     m c.drop_oldest.new.ring (g.met.F.Flash.is_lawful c.drop_oldest.new.flash) c.in-Ok.ensures.touches.banks c.in-Ok.ensures.area c.in-Ok.ensures.dropped c.requires.short e lost.filled
+
+pub returns-in-Ok-put-clause-left : goal.returns-in-Ok-put-clause-left
+returns-in-Ok-put-clause-left g c = subst (λ (x : Area). erases_on (g.F.Flash.device c.put.new.flash) x ≤ 1) c.in-Ok.ensures.area c.put.ensures.left
+
+pub returns-in-Err-PowerLost-clause-left : goal.returns-in-Err-PowerLost-clause-left
+returns-in-Err-PowerLost-clause-left g c = subst (λ (x : Area). erases_on (g.F.Flash.device c.put.new.flash) x ≤ 1) c.in-Ok.ensures.area c.put.ensures.left

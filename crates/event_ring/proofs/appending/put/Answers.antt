@@ -1,9 +1,10 @@
-use Rattle.std.proofs.Common.{ℕ, true, subst}
+use Rattle.std.proofs.Common.{ℕ, true, false, subst}
 use Rattle.std.specs.Prelude.{OnOk}
 use Rattle.flash_map.specs.Area.{OthersStay}
-use Rattle.fcb_ring.specs.Changing.{AppendEnds, stays_for, place_for}
+use Rattle.fcb_ring.specs.Changing.{AppendEnds, kept_room, stays_for, place_for}
 use Rattle.fcb_ring.specs.Gains.{GainsRecord, CutRing}
 use Rattle.event_ring.proofs.EndLemmas.{one-program, put-ends}
+use Rattle.event_ring.proofs.DueSteps.{put-left}
 use Rattle.event_ring.proofs.appending.put.Goals as goal
 
 pub append-requires-clause-short : goal.append-requires-clause-short
@@ -22,3 +23,9 @@ returns-clause-ends g c =
     (subst (λ (k : ℕ). AppendEnds d e ring c.append.new.self c.args.body.now k c.append.result) none c.append.ensures.ends)
     (subst (λ (k : ℕ). OnOk c.append.result (GainsRecord d e ring.area (place_for d ring c.args.body.now k) c.args.body.now true)) none c.append.ensures.gains)
     (λ lost on. subst (λ (k : ℕ). CutRing (stays_for d ring c.args.body.now k) d e ring c.args.body.now) none (c.append.ensures.torn lost on))
+
+pub returns-clause-left : goal.returns-clause-left
+returns-clause-left g c =
+    let d = g.F.Flash.device c.args.flash.now in
+    let ring = c.args.ring.now in
+    put-left d (g.F.Flash.device c.append.new.flash) ring (place_for d ring c.args.body.now (kept_room ring false)) c.requires.mounted c.append.ensures.touches.banks c.append.ensures.others

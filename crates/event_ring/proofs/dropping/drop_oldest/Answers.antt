@@ -1,10 +1,12 @@
-use Rattle.std.proofs.Common.{[], ◌∷◌, true, false, subst}
+use Rattle.std.proofs.Common.{[], ◌∷◌, true, false, subst, ◌∙◌}
 use Rattle.flash_map.specs.Touches.{Touches}
 use Rattle.flash_map.specs.declared.area.Area.{Area}
 use Rattle.flash_map.proofs.PieceLemmas.{on_err}
 use Rattle.flash_map.proofs.Touches.{then}
 use Rattle.fcb_ring.proofs.AppendLemmas.{is_err_by}
+use Rattle.fcb_ring.specs.Changing.{next_place}
 use Rattle.event_ring.proofs.DropSteps.{dropped-all, dropped-not, opened-not}
+use Rattle.event_ring.proofs.DueSteps.{drop-left, open-left, put-left}
 use Rattle.event_ring.proofs.dropping.drop_oldest.Goals as goal
 
 pub returns-clause-touches : goal.returns-clause-touches
@@ -44,3 +46,20 @@ returns-in_err-begin_collect-clause-stopped g c =
     on_err c.from_residual.result
     (opened-not (g.F.Flash.device c.args.flash.now) (g.F.Flash.device c.begin_collect.new.flash) c.args.ring.now c.begin_collect.new.self (g.met.F.Flash.is_lawful c.args.flash.now) (g.met.F.Flash.is_lawful c.begin_collect.new.flash) c.requires.mounted
     c.in_err-begin_collect.ensures.stopped c.in_err-begin_collect.ensures.form)
+
+pub returns-clause-left : goal.returns-clause-left
+returns-clause-left g c =
+    let ended = c.in_ok-end_collect.ensures.ended in
+    let begun = c.in_ok-begin_collect.ensures.begun in
+    open-left (g.F.Flash.device c.end_collect.new.flash) c.end_collect.new.self c.args.ring.now.area 1 (ended.area ∙ begun.area)
+    (record { stands = ended.stands; ready = ended.ready; reserve = ended.reserve ∙ begun.reserve ∙ c.requires.mounted.reserve })
+
+pub returns-in_err-end_collect-clause-left : goal.returns-in_err-end_collect-clause-left
+returns-in_err-end_collect-clause-left g c =
+    drop-left (g.F.Flash.device c.args.flash.now) (g.F.Flash.device c.begin_collect.new.flash) (g.F.Flash.device c.end_collect.new.flash) c.args.ring.now c.begin_collect.new.self c.requires.mounted
+    c.in_ok-begin_collect.ensures.begun c.in_err-end_collect.ensures.touches.banks c.in_err-end_collect.ensures.stopped.same
+
+pub returns-in_err-begin_collect-clause-left : goal.returns-in_err-begin_collect-clause-left
+returns-in_err-begin_collect-clause-left g c =
+    let stopped = c.in_err-begin_collect.ensures.stopped in
+    put-left (g.F.Flash.device c.args.flash.now) (g.F.Flash.device c.begin_collect.new.flash) c.args.ring.now (next_place c.args.ring.now) c.requires.mounted stopped.banks stopped.others

@@ -39,4 +39,4 @@ returns g c =
     cache-pass_done k law size old new place pass_done c.args.cache.now c.note_sector.new.notes c.next-victim.result gone is
     (λ (so_far : List Placed) (forgot : IsCacheOf (forget_entries c.args.cache.now c.next-victim.result) so_far).
     subst (λ (j : ℕ). IsCacheOf c.note_sector.new.notes (so_far ++ map (placed_at j) (entries k (sector_at new j)))) at
-    (c.note_sector.ensures c.forget_sector.new.self so_far (subst (λ (cache : CacheState). IsCacheOf cache so_far) (sym c.forget_sector.ensures) forgot)))
+    (c.note_sector.ensures.notes c.forget_sector.new.self so_far (subst (λ (cache : CacheState). IsCacheOf cache so_far) (sym c.forget_sector.ensures) forgot)))

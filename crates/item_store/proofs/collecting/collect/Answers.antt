@@ -133,7 +133,7 @@ returns-clause-collects g c =
     let marked = c.in_ok-mark_done.ensures in
     let z : Device = g.F.Flash.device c.clear.new.flash in
     let at : c.next-victim.result ≡ next (sectors_of a area) place = c.next-victim.ensures.value ∙ next_there a area place in
-    on_ok_weaker c.clear.result (λ clears. cleared g.T.SlotSectors.format_of g.T.SlotSectors.role a area place law (g.met.F.Flash.is_lawful c.args.flash.now) c.requires.area c.requires.collecting d did.touches.banks did.copies e both.banks marked.only marked.ok.marks c.next-victim.result at z c.clear.ensures.only clears.clean) c.clear.ensures.clears
+    on_ok_weaker c.clear.result (λ clears. cleared g.T.SlotSectors.format_of g.T.SlotSectors.role a area place law (g.met.F.Flash.is_lawful c.args.flash.now) c.requires.area c.requires.collecting d did.touches.banks did.copies e both.banks marked.only marked.ok.marks c.next-victim.result at z c.clear.ensures.only clears) c.clear.ensures.clears
 
 pub returns-clause-items : goal.returns-clause-items
 returns-clause-items g c =

@@ -79,6 +79,15 @@ returns-in-Nothing-clause-ends g c = record {
       ap (redo_list (g.T.SlotSectors.format_of (geometry_of a area)) (sectors_of a area) place) (sym what);
   list_lost = tt;
   busy = tt;
+  empties =
+      let a : Device = g.F.Flash.device c.args.flash.now in
+      let area : Area = c.args.area.now in
+      let place : ℕ = c.args.current in
+      let law : IsSectorFormat (g.T.SlotSectors.format_of (geometry_of a area)) = g.met.T.SlotSectors.lawful (geometry_of a area) (unit_is a area (g.met.F.Flash.is_lawful c.args.flash.now) c.requires.area.lawful) in
+      let count = length-sectors a area in
+      let form : IsForm (g.T.SlotSectors.format_of (geometry_of a area)).reading (sectors_of a area) place = form_here (g.T.SlotSectors.format_of (geometry_of a area)) law (sectors_of a area) place (omega (arith, c.requires.area.lawful.several)) c.requires.undamaged c.requires.current in
+      let what = sym c.what_to_redo.ensures ∙ c.in-Nothing.is in
+      λ busy. absurd (busy (rest_from (g.T.SlotSectors.format_of (geometry_of a area)) law (sectors_of a area) place form what));
   collects =
       let a : Device = g.F.Flash.device c.args.flash.now in
       let area : Area = c.args.area.now in
@@ -160,6 +169,13 @@ returns-in-ClearNext-clause-ends g c = record {
       let form : IsForm (g.T.SlotSectors.format_of (geometry_of a area)).reading (sectors_of a area) place = form_here (g.T.SlotSectors.format_of (geometry_of a area)) law (sectors_of a area) place (omega (arith, c.requires.area.lawful.several)) c.requires.undamaged c.requires.current in
       let what = sym c.what_to_redo.ensures ∙ c.in-ClearNext.is in
       on_err c.clear.result (λ rest. not_next (sym (redo-at_rest (g.T.SlotSectors.format_of (geometry_of a area)) law (sectors_of a area) place rest) ∙ what));
+  empties =
+      let a : Device = g.F.Flash.device c.args.flash.now in
+      let area : Area = c.args.area.now in
+      let place : ℕ = c.args.current in
+      let d : Device = g.F.Flash.device c.clear.new.flash in
+      let at : c.next.result ≡ next (sectors_of a area) place = c.next.ensures.value ∙ next_there a area place in
+      on_ok_weaker c.clear.result (λ clears busy. subst (λ (v : ℕ). Clears (g.T.SlotSectors.format_of (geometry_of a area)) (sector_at (sectors_of a area) v) (sector_at (sectors_of d area) v)) at clears) c.clear.ensures.clears;
   collects =
       let a : Device = g.F.Flash.device c.args.flash.now in
       let area : Area = c.args.area.now in
@@ -263,7 +279,7 @@ returns-in-CollectAgain-clause-ends g c = record {
       let what = sym c.what_to_redo.ensures ∙ c.in-CollectAgain.is in
       let d : Device = g.F.Flash.device c.collect_again.new.flash in
       subst (λ (what : Redo). OnOk c.collect_again.result (list_of (g.T.SlotSectors.format_of (geometry_of a area)) (sectors_of d area) ≡ redo_list (g.T.SlotSectors.format_of (geometry_of a area)) (sectors_of a area) place what)) (sym what)
-      (on_ok_weaker c.collect_again.result (λ at. whole-list (g.T.SlotSectors.format_of (geometry_of a area)) law (sectors_of a area) place (collecting_from (g.T.SlotSectors.format_of (geometry_of a area)) law (sectors_of a area) place form what) (sectors_of d area) at) c.collect_again.ensures.collects);
+      (on_ok_weaker c.collect_again.result (λ at. whole-list (g.T.SlotSectors.format_of (geometry_of a area)) law (sectors_of a area) place (collecting_from (g.T.SlotSectors.format_of (geometry_of a area)) law (sectors_of a area) place form what) (sectors_of d area) at.collects) c.collect_again.ensures.collects);
   list_lost =
       let a : Device = g.F.Flash.device c.args.flash.now in
       let area : Area = c.args.area.now in
@@ -283,6 +299,7 @@ returns-in-CollectAgain-clause-ends g c = record {
       let form : IsForm (g.T.SlotSectors.format_of (geometry_of a area)).reading (sectors_of a area) place = form_here (g.T.SlotSectors.format_of (geometry_of a area)) law (sectors_of a area) place (omega (arith, c.requires.area.lawful.several)) c.requires.undamaged c.requires.current in
       let what = sym c.what_to_redo.ensures ∙ c.in-CollectAgain.is in
       on_err c.collect_again.result (λ rest. not_again (sym (redo-at_rest (g.T.SlotSectors.format_of (geometry_of a area)) law (sectors_of a area) place rest) ∙ what));
+  empties = on_ok_weaker c.collect_again.result (λ at busy. at.empties) c.collect_again.ensures.collects;
   collects = on_ok_weaker c.collect_again.result (λ at collecting. at) c.collect_again.ensures.collects;
   kept = c.collect_again.ensures.kept;
   spends =

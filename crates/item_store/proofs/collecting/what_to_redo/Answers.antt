@@ -14,7 +14,7 @@ returns-then-has_gc_done g c =
     let k : SectorFormat = g.T.SlotSectors.format_of (geometry_of d c.args.area.now) in
     let sectors : List (List ℕ) = sectors_of d c.args.area.now in
     let after : c.next.result ≡ next sectors c.args.current = c.next.ensures.value ∙ next_there d c.args.area.now c.args.current in
-    let shut : is_closed_at k.reading sectors (next sectors c.args.current) ≡ true = ap (is_closed_at k.reading sectors) (sym after) ∙ sym c.is_closed.ensures ∙ c.if-is_closed.true in
+    let shut : is_closed_at k.reading sectors (next sectors c.args.current) ≡ true = ap (is_closed_at k.reading sectors) (sym after) ∙ sym c.is_closed.ensures.value ∙ c.if-is_closed.true in
     let done = c.has_gc_done.ensures (geometry_of d c.args.area.now) (sector_at sectors c.args.current) c.requires.kept in
     sym (redo_is k (g.met.T.SlotSectors.lawful (geometry_of d c.args.area.now) (unit_is d c.args.area.now (g.met.F.Flash.is_lawful c.args.flash.now) c.requires.area.lawful)) sectors c.args.current true true shut (sym done ∙ c.if-has_gc_done.true))
 
@@ -24,7 +24,7 @@ returns-else-has_gc_done g c =
     let k : SectorFormat = g.T.SlotSectors.format_of (geometry_of d c.args.area.now) in
     let sectors : List (List ℕ) = sectors_of d c.args.area.now in
     let after : c.next.result ≡ next sectors c.args.current = c.next.ensures.value ∙ next_there d c.args.area.now c.args.current in
-    let shut : is_closed_at k.reading sectors (next sectors c.args.current) ≡ true = ap (is_closed_at k.reading sectors) (sym after) ∙ sym c.is_closed.ensures ∙ c.if-is_closed.true in
+    let shut : is_closed_at k.reading sectors (next sectors c.args.current) ≡ true = ap (is_closed_at k.reading sectors) (sym after) ∙ sym c.is_closed.ensures.value ∙ c.if-is_closed.true in
     let done = c.has_gc_done.ensures (geometry_of d c.args.area.now) (sector_at sectors c.args.current) c.requires.kept in
     sym (redo_is k (g.met.T.SlotSectors.lawful (geometry_of d c.args.area.now) (unit_is d c.args.area.now (g.met.F.Flash.is_lawful c.args.flash.now) c.requires.area.lawful)) sectors c.args.current true false shut (sym done ∙ c.if-has_gc_done.false))
 
@@ -34,4 +34,4 @@ returns-else-is_closed g c =
     let k : SectorFormat = g.T.SlotSectors.format_of (geometry_of d c.args.area.now) in
     let sectors : List (List ℕ) = sectors_of d c.args.area.now in
     let after : c.next.result ≡ next sectors c.args.current = c.next.ensures.value ∙ next_there d c.args.area.now c.args.current in
-    sym (redo_is k (g.met.T.SlotSectors.lawful (geometry_of d c.args.area.now) (unit_is d c.args.area.now (g.met.F.Flash.is_lawful c.args.flash.now) c.requires.area.lawful)) sectors c.args.current false (k.reading.has_gc_done (sector_at sectors c.args.current)) (ap (is_closed_at k.reading sectors) (sym after) ∙ sym c.is_closed.ensures ∙ c.if-is_closed.false) refl)
+    sym (redo_is k (g.met.T.SlotSectors.lawful (geometry_of d c.args.area.now) (unit_is d c.args.area.now (g.met.F.Flash.is_lawful c.args.flash.now) c.requires.area.lawful)) sectors c.args.current false (k.reading.has_gc_done (sector_at sectors c.args.current)) (ap (is_closed_at k.reading sectors) (sym after) ∙ sym c.is_closed.ensures.value ∙ c.if-is_closed.false) refl)

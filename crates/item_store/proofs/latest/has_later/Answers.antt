@@ -21,7 +21,7 @@ returns-in-Some g c =
     let area : Area = c.args.on.now.area.now in
     let k : SectorFormat = g.T.SlotSectors.format_of (geometry_of d area) in
     let sectors : List (List ℕ) = sectors_of d area in
-    λ later at seen. ap (λ (t : Bool). not t) c.share_place.ensures ∙ later_by k sectors c.args.placed.now later at c.in-Some.last (sym c.find.ensures ∙ c.in-Some.is)
+    λ later at seen. ap (λ (t : Bool). not t) c.share_place.ensures ∙ later_by k sectors c.args.placed.now later at c.in-Some.last (sym c.find.ensures.last ∙ c.in-Some.is)
 
 pub returns-in-None : goal.returns-in-None
 returns-in-None g c =
@@ -29,4 +29,4 @@ returns-in-None g c =
     let area : Area = c.args.on.now.area.now in
     let k : SectorFormat = g.T.SlotSectors.format_of (geometry_of d area) in
     let sectors : List (List ℕ) = sectors_of d area in
-    λ later at seen. absurd (never_none k sectors c.args.placed.now later at (sym c.find.ensures ∙ c.in-None.is))
+    λ later at seen. absurd (never_none k sectors c.args.placed.now later at (sym c.find.ensures.last ∙ c.in-None.is))

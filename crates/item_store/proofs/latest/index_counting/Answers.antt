@@ -17,7 +17,7 @@ counts-requires g c =
 
 pub index_sector-requires-clause-counts : goal.index_sector-requires-clause-counts
 index_sector-requires-clause-counts g c =
-    sym c.counts.ensures ∙ c.if-counts.true
+    sym c.counts.ensures.value ∙ c.if-counts.true
 
 pub returns-then-counts : goal.returns-then-counts
 returns-then-counts g c =
@@ -31,4 +31,4 @@ returns-else-counts g c =
     let k : SectorFormat = g.T.SlotSectors.format_of (geometry_of d area) in
     let sectors : List (List ℕ) = sectors_of d area in
     subst (λ (t : Bool). Covers k.ids c.args.last.now c.args.seen.now (cond t (map (placed_at c.args.place) ((slots k).entries (sector_at sectors c.args.place))) [] ++ behind k sectors c.args.on.now.current c.args.place))
-    (sym (sym c.counts.ensures ∙ c.if-counts.false)) c.requires.covers
+    (sym (sym c.counts.ensures.value ∙ c.if-counts.false)) c.requires.covers

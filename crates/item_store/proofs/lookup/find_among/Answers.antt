@@ -16,16 +16,17 @@ loop-place-init g c =
     record {
       low = omega arith;
       high = omega arith;
+      steps = omega arith;
       none = ap (λ (n : ℕ). last_of (slots k) c.args.id (among (slots k) (sectors_of d c.args.on.now.area.now) c.args.on.now.current c.args.end n)) none;
     }
 
-pub returns-then-is_some : goal.returns-then-is_some
-returns-then-is_some g c =
+pub returns-then-is_some-clause-last : goal.returns-then-is_some-clause-last
+returns-then-is_some-clause-last g c =
     let d : Device = g.F.Flash.device c.args.flash.now in
     let k : SectorFormat = g.T.SlotSectors.format_of (geometry_of d c.args.on.now.area.now) in
     let kept = c.loop-place.invariant in
     let here : last_of (slots k) c.args.id (among (slots k) (sectors_of d c.args.on.now.area.now) c.args.on.now.current (c.loop-place.place - 1) (c.args.end - (c.loop-place.place - 1))) ≡ c.find_at-found.result =
-    last-step (slots k) (sectors_of d c.args.on.now.area.now) c.args.on.now.current c.args.id c.loop-place.place c.args.end c.find_at-found.result (omega arith) kept.high kept.none c.find_at-found.ensures in
+    last-step (slots k) (sectors_of d c.args.on.now.area.now) c.args.on.now.current c.args.id c.loop-place.place c.args.end c.find_at-found.result (omega arith) kept.high kept.none c.find_at-found.ensures.last in
     sym here ∙ last-suffix (slots k) (sectors_of d c.args.on.now.area.now) c.args.on.now.current c.args.id c.args.first (c.loop-place.place - 1) c.args.end (omega arith) (omega (arith, kept.high))
     (ap (λ (o : Option Placed). is_some o) here ∙ sym c.is_some.ensures ∙ c.if-is_some.true)
 
@@ -37,14 +38,25 @@ loop-place-preserved g c =
     record {
       low = omega arith;
       high = omega (arith, kept.high);
-      none = last-step (slots k) (sectors_of d c.args.on.now.area.now) c.args.on.now.current c.args.id c.loop-place.place c.args.end c.find_at-found.result (omega arith) kept.high kept.none c.find_at-found.ensures
+      steps = omega (arith, kept.high, kept.steps, c.find_at-found.ensures.step);
+      none = last-step (slots k) (sectors_of d c.args.on.now.area.now) c.args.on.now.current c.args.id c.loop-place.place c.args.end c.find_at-found.result (omega arith) kept.high kept.none c.find_at-found.ensures.last
           ∙ none_by c.find_at-found.result (sym c.is_some.ensures ∙ c.if-is_some.false);
     }
 
-pub returns : goal.returns
-returns g c =
+pub returns-clause-last : goal.returns-clause-last
+returns-clause-last g c =
     let d : Device = g.F.Flash.device c.args.flash.now in
     let k : SectorFormat = g.T.SlotSectors.format_of (geometry_of d c.args.on.now.area.now) in
     let kept = c.loop-place.invariant in
     let at : c.args.first ≡ c.loop-place.place = omega (arith, kept.low) in
     sym (ap (λ (p : ℕ). last_of (slots k) c.args.id (among (slots k) (sectors_of d c.args.on.now.area.now) c.args.on.now.current p (c.args.end - p))) at ∙ kept.none)
+
+pub returns-then-is_some-clause-steps : goal.returns-then-is_some-clause-steps
+returns-then-is_some-clause-steps g c =
+    let kept = c.loop-place.invariant in
+    omega (arith, kept.low, kept.high, kept.steps, c.find_at-found.ensures.step)
+
+pub returns-clause-steps : goal.returns-clause-steps
+returns-clause-steps g c =
+    let kept = c.loop-place.invariant in
+    omega (arith, kept.low, kept.high, kept.steps)

@@ -19,7 +19,7 @@ returns-then-counts g c =
     let area : Area = c.args.on.now.area.now in
     let k : SectorFormat = g.T.SlotSectors.format_of (geometry_of d area) in
     let sectors : List (List ℕ) = sectors_of d area in
-    λ start before seen. seen_counted k (g.N.Notes.noted start k.ids c.note_sector.new.notes) before sectors c.args.on.now.current c.args.place (sym c.counts.ensures ∙ c.if-counts.true) (c.note_sector.ensures start before seen)
+    λ start before seen. seen_counted k (g.N.Notes.noted start k.ids c.note_sector.new.notes) before sectors c.args.on.now.current c.args.place (sym c.counts.ensures.value ∙ c.if-counts.true) (c.note_sector.ensures.notes start before seen)
 
 pub returns-else-counts : goal.returns-else-counts
 returns-else-counts g c =
@@ -27,4 +27,4 @@ returns-else-counts g c =
     let area : Area = c.args.on.now.area.now in
     let k : SectorFormat = g.T.SlotSectors.format_of (geometry_of d area) in
     let sectors : List (List ℕ) = sectors_of d area in
-    λ start before seen. seen_passed k (g.N.Notes.noted start k.ids c.args.notes.now) before sectors c.args.on.now.current c.args.place (sym c.counts.ensures ∙ c.if-counts.false) seen
+    λ start before seen. seen_passed k (g.N.Notes.noted start k.ids c.args.notes.now) before sectors c.args.on.now.current c.args.place (sym c.counts.ensures.value ∙ c.if-counts.false) seen

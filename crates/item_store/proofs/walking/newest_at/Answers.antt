@@ -16,7 +16,7 @@ returns-then-counts-clause-last g c =
     let k : SectorFormat = g.T.SlotSectors.format_of (geometry_of d area) in
     let sectors : List (List ℕ) = sectors_of d area in
     let law : IsSectorFormat (g.T.SlotSectors.format_of (geometry_of d area)) = g.met.T.SlotSectors.lawful (geometry_of d area) (unit_is d area (g.met.F.Flash.is_lawful c.args.flash.now) c.requires.on.area.lawful) in
-    c.newest_in.ensures.last ∙ ap (last_or None) (within_counted k law sectors c.args.on.now.current c.args.place c.args.limit (sym c.counts.ensures ∙ c.if-counts.true))
+    c.newest_in.ensures.last ∙ ap (last_or None) (within_counted k law sectors c.args.on.now.current c.args.place c.args.limit (sym c.counts.ensures.value ∙ c.if-counts.true))
 
 pub returns-then-counts-clause-placed : goal.returns-then-counts-clause-placed
 returns-then-counts-clause-placed g c =
@@ -25,7 +25,7 @@ returns-then-counts-clause-placed g c =
     let k : SectorFormat = g.T.SlotSectors.format_of (geometry_of d area) in
     let sectors : List (List ℕ) = sectors_of d area in
     let law : IsSectorFormat (g.T.SlotSectors.format_of (geometry_of d area)) = g.met.T.SlotSectors.lawful (geometry_of d area) (unit_is d area (g.met.F.Flash.is_lawful c.args.flash.now) c.requires.on.area.lawful) in
-    placed_by k law sectors c.args.on.now.current c.args.place c.newest_in.result (sym c.counts.ensures ∙ c.if-counts.true) c.newest_in.ensures.listed c.newest_in.ensures.sector
+    placed_by k law sectors c.args.on.now.current c.args.place c.newest_in.result (sym c.counts.ensures.value ∙ c.if-counts.true) c.newest_in.ensures.listed c.newest_in.ensures.sector
 
 pub returns-else-counts-clause-last : goal.returns-else-counts-clause-last
 returns-else-counts-clause-last g c =
@@ -34,4 +34,4 @@ returns-else-counts-clause-last g c =
     let k : SectorFormat = g.T.SlotSectors.format_of (geometry_of d area) in
     let sectors : List (List ℕ) = sectors_of d area in
     let law : IsSectorFormat (g.T.SlotSectors.format_of (geometry_of d area)) = g.met.T.SlotSectors.lawful (geometry_of d area) (unit_is d area (g.met.F.Flash.is_lawful c.args.flash.now) c.requires.on.area.lawful) in
-    sym (ap (last_or None) (within_passed k law sectors c.args.on.now.current c.args.place c.args.limit (sym c.counts.ensures ∙ c.if-counts.false)))
+    sym (ap (last_or None) (within_passed k law sectors c.args.on.now.current c.args.place c.args.limit (sym c.counts.ensures.value ∙ c.if-counts.false)))

@@ -14,7 +14,7 @@ returns-then-has_gc_done g c =
     let d : Device = g.F.Flash.device c.args.flash.now in
     let unit : ℕ = unit_of d c.args.area.now in
     let sectors : List (List ℕ) = sectors_of d c.args.area.now in
-    let shut : is_closed_at (reading unit) sectors (next sectors c.args.current) ≡ true = ap (is_closed_at (reading unit) sectors) (sym (c.next.ensures.value ∙ next_there d c.args.area.now c.args.current)) ∙ sym c.is_closed.ensures ∙ c.if-is_closed.true in
+    let shut : is_closed_at (reading unit) sectors (next sectors c.args.current) ≡ true = ap (is_closed_at (reading unit) sectors) (sym (c.next.ensures.value ∙ next_there d c.args.area.now c.args.current)) ∙ sym c.is_closed.ensures.value ∙ c.if-is_closed.true in
     sym (redo_is unit sectors c.args.current true true shut (sym c.has_gc_done.ensures ∙ c.if-has_gc_done.true))
 
 pub returns-else-has_gc_done : goal.returns-else-has_gc_done
@@ -22,7 +22,7 @@ returns-else-has_gc_done g c =
     let d : Device = g.F.Flash.device c.args.flash.now in
     let unit : ℕ = unit_of d c.args.area.now in
     let sectors : List (List ℕ) = sectors_of d c.args.area.now in
-    let shut : is_closed_at (reading unit) sectors (next sectors c.args.current) ≡ true = ap (is_closed_at (reading unit) sectors) (sym (c.next.ensures.value ∙ next_there d c.args.area.now c.args.current)) ∙ sym c.is_closed.ensures ∙ c.if-is_closed.true in
+    let shut : is_closed_at (reading unit) sectors (next sectors c.args.current) ≡ true = ap (is_closed_at (reading unit) sectors) (sym (c.next.ensures.value ∙ next_there d c.args.area.now c.args.current)) ∙ sym c.is_closed.ensures.value ∙ c.if-is_closed.true in
     sym (redo_is unit sectors c.args.current true false shut (sym c.has_gc_done.ensures ∙ c.if-has_gc_done.false))
 
 pub returns-else-is_closed : goal.returns-else-is_closed
@@ -30,5 +30,5 @@ returns-else-is_closed g c =
     let d : Device = g.F.Flash.device c.args.flash.now in
     let unit : ℕ = unit_of d c.args.area.now in
     let sectors : List (List ℕ) = sectors_of d c.args.area.now in
-    let free : is_closed_at (reading unit) sectors (next sectors c.args.current) ≡ false = ap (is_closed_at (reading unit) sectors) (sym (c.next.ensures.value ∙ next_there d c.args.area.now c.args.current)) ∙ sym c.is_closed.ensures ∙ c.if-is_closed.false in
+    let free : is_closed_at (reading unit) sectors (next sectors c.args.current) ≡ false = ap (is_closed_at (reading unit) sectors) (sym (c.next.ensures.value ∙ next_there d c.args.area.now c.args.current)) ∙ sym c.is_closed.ensures.value ∙ c.if-is_closed.false in
     sym (redo_is unit sectors c.args.current false (has_gc_done unit (sector_at sectors c.args.current)) free refl)

@@ -16,4 +16,4 @@ returns-then-not-is_closed g c =
     let sectors : List (List ℕ) = sectors_of d c.args.area.now in
     let here : is_closed_at (reading unit) sectors c.args.place ≡ false =
     ap (is_closed unit) (sym c.sector_view-bytes.ensures.bytes) ∙ ap (λ (x : Geometry). is_closed x.unit c.sector_view-bytes.result.now) (sym c.geometry-unit.ensures) ∙ sym c.is_closed-in-Opening.ensures ∙ c.if-not-is_closed.true in
-    opening_is unit sectors c.args.place c.previous.result c.args.lookup c.is_closed-then-not-is_closed.result c.in-Opening.is here (c.previous.ensures.value ∙ previous_there d c.args.area.now c.args.place) c.is_closed-then-not-is_closed.ensures
+    opening_is unit sectors c.args.place c.previous.result c.args.lookup c.is_closed-then-not-is_closed.result c.in-Opening.is here (c.previous.ensures.value ∙ previous_there d c.args.area.now c.args.place) c.is_closed-then-not-is_closed.ensures.value

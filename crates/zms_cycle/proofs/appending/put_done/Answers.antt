@@ -1,8 +1,11 @@
 use Rattle.std.proofs.Common.{ℕ, subst}
-use Rattle.zms_cycle.specs.Areas.{kind_on}
-use Rattle.zms_cycle.specs.OnArea.{ReadsGuard}
+use Rattle.zms_cycle.specs.Calls.{PutsDone}
 use Rattle.zms_cycle.proofs.appending.put_done.Goals as goal
 
-pub returns-clause-steps : goal.returns-clause-steps
-returns-clause-steps g c =
-    subst (λ (n : ℕ). ReadsGuard (kind_on (g.F.Flash.device c.args.flash.now) c.args.area.now) n c.put_done_at.new.steps) c.opened_sector-opened.ensures.step c.put_done_at.ensures.steps
+pub opened_sector-opened-requires-clause-zms : goal.opened_sector-opened-requires-clause-zms
+opened_sector-opened-requires-clause-zms g c = c.requires.takes.zms
+
+pub returns : goal.returns
+returns g c =
+    subst (λ (n : ℕ). PutsDone (g.F.Flash.device c.args.flash.now) (g.F.Flash.device c.put_done_at.new.flash) c.args.area.now c.args.sector n c.put_done_at.new.steps c.put_done_at.result)
+    c.opened_sector-opened.ensures.step c.put_done_at.ensures

@@ -1,6 +1,7 @@
-use Rattle.std.proofs.Common.{Err, ap, length, ◌∙◌}
+use Rattle.std.proofs.Common.{Err, ap, length, refl, ◌∙◌}
 use Rattle.fcb_ring.specs.declared.writing.AppendFault.{AppendFault}
 use Rattle.event_ring.proofs.LogSteps.{short-by, put-alone, lost-alone, full-ends, full-filled, put-ok, put-lost, put-full}
+use Rattle.event_ring.proofs.DueSteps.{open-left}
 use Rattle.event_ring.proofs.event_log.EventLog.append.Goals as goal
 
 pub returns-in-Ok-clause-ends : goal.returns-in-Ok-clause-ends
@@ -45,3 +46,6 @@ returns-in-Err-PowerLost-clause-filled g c =
     let d = g.F.Flash.device c.args.flash.now in
     let e = g.F.Flash.device c.put.new.flash in
     (put-lost d e c.args.self.now.ring c.put.new.ring c.args.body.now c.put.result (c.in-Err-PowerLost.is ∙ ap (λ (x : AppendFault). Err x) c.in-Err-PowerLost.field-0-is) c.put.ensures.ends).filled
+
+pub returns-then-is_too_long-clause-left : goal.returns-then-is_too_long-clause-left
+returns-then-is_too_long-clause-left g c = open-left (g.F.Flash.device c.args.flash.now) c.args.self.now.ring c.args.self.now.ring.area 1 refl c.requires

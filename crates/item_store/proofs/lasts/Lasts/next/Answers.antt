@@ -13,6 +13,7 @@ use Rattle.item_store.specs.Lasts.{sectors_left, slots_left}
 use Rattle.item_store.proofs.Areas.{unit_is, open_inside}
 use Rattle.item_store.proofs.CostSteps.{left, fewer_left}
 use Rattle.item_store.proofs.LastsWalk.{all-covered, last-same, covered-more, knows-next, last-stands, here-fewer, here-most, back-most, fewer-then, most-then}
+use Rattle.item_store.proofs.ViewSteps.{here-walks, walks-then, back-walks}
 use Rattle.item_store.proofs.lasts.Lasts.next.Goals as goal
 
 pub next-oldest-requires : goal.next-oldest-requires
@@ -24,7 +25,10 @@ next-oldest-requires g c =
 
 pub loop-found-init : goal.loop-found-init
 loop-found-init g c =
+    let d : Device = g.F.Flash.device c.args.flash.now in
     let area : Area = c.args.on.now.area.now in
+    let k : SectorFormat = g.T.SlotSectors.format_of (geometry_of d area) in
+    let sectors : List (List ℕ) = sectors_of d area in
     let here = c.next_here-found.ensures in
     record {
       at = here.at;
@@ -32,8 +36,9 @@ loop-found-init g c =
       ends = here.ends;
       next = here.next;
       covered = here.covered;
-      fewer = here-fewer area.sectors c.args.on.now.current c.args.self.now c.next_here-found.new.self c.next_here-found.result here.place here.fewer;
-      most = here-most area.sectors c.args.on.now.current c.args.self.now c.next_here-found.new.self c.next_here-found.result here.place here.ends here.fewer;
+      fewer = here-fewer area.sectors c.args.on.now.current c.args.self.now c.next_here-found.new.self c.next_here-found.result here.place here.reads.fewer;
+      views = here-walks k sectors c.args.on.now.current c.args.self.now c.next_here-found.new.self c.args.steps.now c.next_here-found.new.steps c.next_here-found.result here.place here.reads;
+      most = here-most area.sectors c.args.on.now.current c.args.self.now c.next_here-found.new.self c.next_here-found.result here.place here.ends here.reads.fewer;
     }
 
 pub step_back-requires-clause-none_left : goal.step_back-requires-clause-none_left
@@ -82,6 +87,9 @@ loop-found-preserved g c =
     let so_far : slots_left area.sectors c.args.on.now.current c.step_back.new.self ≤ slots_left area.sectors c.args.on.now.current c.args.self.now =
     most-then (slots_left area.sectors c.args.on.now.current c.step_back.new.self) (slots_left area.sectors c.args.on.now.current c.loop-found.self) (slots_left area.sectors c.args.on.now.current c.args.self.now)
     (back-most area.sectors c.args.on.now.current c.loop-found.self c.step_back.new.self less mid.at.few) now.most in
+    let back_views =
+    back-walks k sectors c.args.on.now.current c.loop-found.self c.step_back.new.self c.loop-found.steps c.step_back.new.steps low c.loop-found.invariant.at.inside (λ e. apart (e ∙ ap (λ (n : ℕ). after n c.args.on.now.current) long)) c.step_back.ensures.place
+    (subst (λ (n : ℕ). sectors_left n c.args.on.now.current c.step_back.new.self.place < sectors_left n c.args.on.now.current c.loop-found.self.place) (sym long) less) mid.at.left mid.step in
     record {
       at = here.at;
       range = (here.range.0 ∙ mid.range.0 ∙ now.range.0, here.range.1 ∙ mid.range.1 ∙ now.range.1);
@@ -89,9 +97,12 @@ loop-found-preserved g c =
       next = last-same k sectors c.args.on.now.current c.args.self.now c.step_back.new.self (mid.range.0 ∙ now.range.0, mid.range.1 ∙ now.range.1) c.next_here-found-in-loop-found.result here.next;
       covered = covered-more k sectors c.args.on.now.current c.args.self.now c.loop-found.self c.step_back.new.self c.next_here-found-in-loop-found.new.self c.loop-found.found c.next_here-found-in-loop-found.result none now.covered mid.covered here.covered;
       fewer = fewer-then (slots_left area.sectors c.args.on.now.current c.next_here-found-in-loop-found.new.self) (slots_left area.sectors c.args.on.now.current c.step_back.new.self) (slots_left area.sectors c.args.on.now.current c.args.self.now) c.next_here-found-in-loop-found.result
-          (here-fewer area.sectors c.args.on.now.current c.step_back.new.self c.next_here-found-in-loop-found.new.self c.next_here-found-in-loop-found.result here.place here.fewer) so_far;
+          (here-fewer area.sectors c.args.on.now.current c.step_back.new.self c.next_here-found-in-loop-found.new.self c.next_here-found-in-loop-found.result here.place here.reads.fewer) so_far;
+      views = walks-then k sectors c.args.on.now.current c.args.self.now c.step_back.new.self c.next_here-found-in-loop-found.new.self c.args.steps.now c.step_back.new.steps c.next_here-found-in-loop-found.new.steps c.next_here-found-in-loop-found.result
+          (omega (arith, back_views, now.views.steps))
+          (here-walks k sectors c.args.on.now.current c.step_back.new.self c.next_here-found-in-loop-found.new.self c.step_back.new.steps c.next_here-found-in-loop-found.new.steps c.next_here-found-in-loop-found.result here.place here.reads);
       most = most-then (slots_left area.sectors c.args.on.now.current c.next_here-found-in-loop-found.new.self) (slots_left area.sectors c.args.on.now.current c.step_back.new.self) (slots_left area.sectors c.args.on.now.current c.args.self.now)
-          (here-most area.sectors c.args.on.now.current c.step_back.new.self c.next_here-found-in-loop-found.new.self c.next_here-found-in-loop-found.result here.place here.ends here.fewer) so_far;
+          (here-most area.sectors c.args.on.now.current c.step_back.new.self c.next_here-found-in-loop-found.new.self c.next_here-found-in-loop-found.result here.place here.ends here.reads.fewer) so_far;
     }
 
 pub returns-else-self-oldest-clause-at : goal.returns-else-self-oldest-clause-at
@@ -167,3 +178,11 @@ returns-after-loop-found-clause-next g c =
 pub returns-after-loop-found-clause-fewer : goal.returns-after-loop-found-clause-fewer
 returns-after-loop-found-clause-fewer g c =
     c.loop-found.invariant.fewer
+
+pub returns-else-self-oldest-clause-views : goal.returns-else-self-oldest-clause-views
+returns-else-self-oldest-clause-views g c =
+    c.loop-found.invariant.views
+
+pub returns-after-loop-found-clause-views : goal.returns-after-loop-found-clause-views
+returns-after-loop-found-clause-views g c =
+    c.loop-found.invariant.views

@@ -3,12 +3,13 @@ use Rattle.flash_sim.specs.Device.{Device}
 use Rattle.flash_map.specs.declared.area.Area.{Area}
 use Rattle.flash_map.specs.Area.{geometry_of, sectors_of}
 use Rattle.item_store.specs.SectorFormat.{SectorFormat}
-use Rattle.item_store.proofs.LastsSlots.{covered-before, some-fewer}
+use Rattle.item_store.proofs.LastsSlots.{covered-before}
 use Rattle.item_store.proofs.LastsWalk.{last-same}
+use Rattle.item_store.proofs.ViewSteps.{slot-read}
 use Rattle.item_store.proofs.lasts.Lasts.next_here.Goals as goal
 
 pub loop-self-init : goal.loop-self-init
-loop-self-init g c = record { at = c.requires.at; range = (refl, refl); place = refl; fewer = omega arith; covered = λ p covered. covered }
+loop-self-init g c = record { at = c.requires.at; range = (refl, refl); place = refl; fewer = omega arith; steps = omega arith; covered = λ p covered. covered }
 
 pub loop-self-preserved : goal.loop-self-preserved
 loop-self-preserved g c =
@@ -22,13 +23,19 @@ loop-self-preserved g c =
       at = step.at;
       range = (step.range.0 ∙ now.range.0, step.range.1 ∙ now.range.1);
       place = step.place ∙ now.place;
-      fewer = omega (arith, step.fewer, now.fewer);
+      fewer = omega (arith, step.reads.fewer, now.fewer);
+      steps = omega (arith, step.reads.fewer, step.reads.steps, now.steps);
       covered = λ p covered. now.covered p (covered-before k sectors c.args.current c.loop-self.self p c.look_at_slot-found.result c.is_some.result c.is_some.ensures c.if-is_some.false (step.covered p covered));
     }
 
-pub returns-then-is_some-clause-fewer : goal.returns-then-is_some-clause-fewer
-returns-then-is_some-clause-fewer g c =
-    some-fewer c.look_at_slot-found.result c.look_at_slot-found.new.self.left c.args.self.now.left (omega (arith, c.look_at_slot-found.ensures.fewer, c.loop-self.invariant.fewer))
+pub returns-then-is_some-clause-reads : goal.returns-then-is_some-clause-reads
+returns-then-is_some-clause-reads g c =
+    let now = c.loop-self.invariant in
+    let slot = c.look_at_slot-found.ensures.reads in
+    slot-read c.args.self.now c.loop-self.self c.look_at_slot-found.new.self c.args.steps.now c.loop-self.steps c.look_at_slot-found.new.steps c.look_at_slot-found.result now.fewer now.steps slot
+
+pub returns-clause-reads : goal.returns-clause-reads
+returns-clause-reads g c = record { fewer = tt; steps = c.loop-self.invariant.steps; spared = tt }
 
 pub returns-then-is_some-clause-next : goal.returns-then-is_some-clause-next
 returns-then-is_some-clause-next g c =

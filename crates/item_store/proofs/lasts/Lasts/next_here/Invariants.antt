@@ -1,4 +1,4 @@
-use Rattle.std.proofs.Common.{◌≡◌, ◌≤◌}
+use Rattle.std.proofs.Common.{◌≡◌, ◌+◌, ◌*◌, ◌≤◌}
 use Rattle.flash_map.specs.Area.{sectors_of}
 use Rattle.item_store.specs.declared.entry.Placed.{Placed}
 use Rattle.item_store.specs.Lasts.{IsAt, SameRange, WasGiven}
@@ -11,6 +11,7 @@ invariant-loop-self g l = record {
   range : SameRange l.fn.self l.self;
   place : l.self.place ≡ l.fn.self.place;
   fewer : l.self.left ≤ l.fn.self.left;
+  steps : l.steps + 2 * l.self.left ≤ l.initial.steps + 2 * l.fn.self.left;
   covered : let k = format_on g.T.SlotSectors.format_of (g.F.Flash.device l.flash) l.area in let sectors = sectors_of (g.F.Flash.device l.flash) l.area in
       (p : Placed) → WasGiven k sectors l.current l.self p → WasGiven k sectors l.current l.fn.self p;
 }

@@ -14,8 +14,8 @@ previous-self-requires g c =
     let long = length-sectors (g.F.Flash.device c.args.flash.now) c.args.on.now.area.now in
     omega (arith, c.requires.at.inside)
 
-pub reach_counting-self-requires-clause-on : goal.reach_counting-self-requires-clause-on
-reach_counting-self-requires-clause-on g c =
+pub reach_at-self-requires-clause-on : goal.reach_at-self-requires-clause-on
+reach_at-self-requires-clause-on g c =
     let d : Device = g.F.Flash.device c.args.flash.now in
     let area : Area = c.args.on.now.area.now in
     let k : SectorFormat = g.T.SlotSectors.format_of (geometry_of d area) in
@@ -31,8 +31,8 @@ returns-clause-at g c =
     let within = open_inside k d area c.args.on.now.current c.requires.on.area.lawful c.requires.on.current in
     let low : c.args.on.now.current < length sectors = omega arith in
     let back : c.previous-self.result ≡ before (length sectors) c.args.self.now.place = c.previous-self.ensures.value ∙ previous_there d area c.args.self.now.place in
-    let reach = c.reach_counting-self.ensures in
-    back-at k sectors c.args.on.now.current low c.args.self.now c.requires.at c.requires.none_left c.requires.further c.previous-self.result c.reach_counting-self.result back reach.few reach.small reach.others reach.counts
+    let reach = c.reach_at-self.ensures in
+    back-at k sectors c.args.on.now.current low c.args.self.now c.requires.at c.requires.none_left c.requires.further c.previous-self.result c.reach_at-self.result back reach.few reach.small (λ _. reach.others) (λ _. reach.counts)
 
 pub returns-clause-place : goal.returns-clause-place
 returns-clause-place g c =
@@ -48,5 +48,5 @@ returns-clause-covered g c =
     let within = open_inside k d area c.args.on.now.current c.requires.on.area.lawful c.requires.on.current in
     let low : c.args.on.now.current < length sectors = omega arith in
     let back : c.previous-self.result ≡ before (length sectors) c.args.self.now.place = c.previous-self.ensures.value ∙ previous_there d area c.args.self.now.place in
-    let reach = c.reach_counting-self.ensures in
-    back-covered k sectors c.args.on.now.current low c.args.self.now c.requires.at c.requires.none_left c.requires.further c.previous-self.result c.reach_counting-self.result back reach.few reach.small reach.others
+    let reach = c.reach_at-self.ensures in
+    back-covered k sectors c.args.on.now.current low c.args.self.now c.requires.at c.requires.none_left c.requires.further c.previous-self.result c.reach_at-self.result back reach.few reach.small (λ _. reach.others)

@@ -78,7 +78,7 @@ returns-then-latest-id-clause-few g c =
     subst (λ (o : Option Placed). IfSome o (λ p. p.id ≡ c.args.id → c.bytes_at.new.steps ≤ c.args.steps.now + 2)) c.in_ok-latest.ensures.entry (λ _. omega arith)
 
 pub returns-clause-value : goal.returns-clause-value
-returns-clause-value g c = c.search.ensures
+returns-clause-value g c = c.search.ensures.value
 
 pub returns-clause-none : goal.returns-clause-none
 returns-clause-none g c =
@@ -104,3 +104,12 @@ search-requires-clause-other g c = c.if-latest-id.false
 pub search-requires-clause-latest : goal.search-requires-clause-latest
 search-requires-clause-latest g c =
     c.in_ok-latest.ensures.entry
+
+pub returns-in_err-latest-clause-steps : goal.returns-in_err-latest-clause-steps
+returns-in_err-latest-clause-steps g c = omega (arith, c.in_err-latest.ensures.step)
+
+pub returns-then-latest-id-clause-steps : goal.returns-then-latest-id-clause-steps
+returns-then-latest-id-clause-steps g c = omega (arith, c.in_ok-latest.ensures.step, c.bytes_at.ensures.step)
+
+pub returns-clause-steps : goal.returns-clause-steps
+returns-clause-steps g c = omega (arith, c.in_ok-latest.ensures.step, c.search.ensures.steps)

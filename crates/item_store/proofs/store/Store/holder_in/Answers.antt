@@ -1,4 +1,4 @@
-use Rattle.std.proofs.Common.{◌≡◌, ℕ, ◌+◌, ◌-◌, ◌^◌, ◌<◌, List, Option, Some, None, sym, ap, subst, ◌∙◌, arith}
+use Rattle.std.proofs.Common.{◌≡◌, ℕ, ◌+◌, ◌-◌, ◌*◌, ◌^◌, ◌<◌, ◌≤◌, List, Option, Some, None, refl, sym, ap, subst, ◌∙◌, arith}
 use Rattle.std.specs.Prelude.{IfSome}
 use Rattle.std.specs.FinMap.{get}
 use Rattle.flash_sim.specs.Device.{Device}
@@ -8,11 +8,12 @@ use Rattle.flash_map.proofs.MapLemmas.{not_some}
 use Rattle.item_laws.specs.Items.{Items}
 use Rattle.item_store.specs.declared.entry.Placed.{Placed}
 use Rattle.item_store.specs.Asking.{IsHolderAt}
-use Rattle.item_store.specs.Holding.{IsFirstHolder, FindsBytes}
+use Rattle.item_store.specs.Holding.{held_from, held_in, holder_views, IsFirstHolder, FindsBytes}
 use Rattle.item_store.specs.Listed.{items_on}
 use Rattle.item_store.specs.SectorFormat.{SectorFormat, IsSectorFormat}
 use Rattle.item_store.proofs.Areas.{unit_is}
-use Rattle.item_store.proofs.HoldingSteps.{is-kept, none-step, none-end, holder-placed}
+use Rattle.item_store.proofs.HeldSteps.{held-all, held-less, one-less, one-found, none-less, same-most, equal-most, rest-within, some-within, found-searches}
+use Rattle.item_store.proofs.HoldingSteps.{is-kept, none-step, none-end, no-holder, holder-placed}
 use Rattle.item_store.proofs.KnownSlots.{known_in, known_on}
 use Rattle.item_store.proofs.ReadFacts.{within_on}
 use Rattle.item_store.proofs.store.Store.holder_in.Given.{Over}
@@ -20,7 +21,14 @@ use Rattle.item_store.proofs.store.Store.holder_in.Goals.{then-ne+else-is_some, 
 use Rattle.item_store.proofs.store.Store.holder_in.Goals as goal
 
 pub loop-holder-init : goal.loop-holder-init
-loop-holder-init g c = record { listed = omega arith; none = λ slot e from to read holds has. absurd (omega arith); dead = tt }
+loop-holder-init g c =
+    let d : Device = g.F.Flash.device c.args.flash.now in
+    let area : Area = c.args.self.now.area in
+    let k : SectorFormat = g.T.SlotSectors.format_of (geometry_of d area) in
+    let b : List ℕ = sector_at (sectors_of d area) c.args.place in
+    let all : held_from k b c.args.ids.now c.args.bytes.now (k.first + 0) (k.count b - 0) * holder_views area.sectors ≡ held_in k b c.args.ids.now c.args.bytes.now * holder_views area.sectors =
+    ap (λ (n : ℕ). n * holder_views area.sectors) (held-all k c.args.ids.now c.args.bytes.now b) in
+    record { listed = omega arith; none = λ slot e from to read holds has. absurd (omega arith); few = λ absent. refl; held = same-most c.args.steps.now (held_from k b c.args.ids.now c.args.bytes.now (k.first + 0) (k.count b - 0) * holder_views area.sectors) (held_in k b c.args.ids.now c.args.bytes.now * holder_views area.sectors) all; part = equal-most (held_from k b c.args.ids.now c.args.bytes.now (k.first + 0) (k.count b - 0)) (held_in k b c.args.ids.now c.args.bytes.now) (held-all k c.args.ids.now c.args.bytes.now b); dead = tt }
 
 pub find_bytes-requires-clause-listed : goal.find_bytes-requires-clause-listed
 find_bytes-requires-clause-listed g c = c.loop-holder.invariant.listed
@@ -60,12 +68,22 @@ known : (g : Over) (c : goal.Joined-ne g) → let d = g.F.Flash.device c.args.fl
 known g c = elim c.if-ne.branch [
   | then-ne+else-is_some w ↦
       let none : w.holder_at-found.result ≡ None = not_some w.holder_at-found.result (sym w.is_some.ensures ∙ w.if-is_some.false) in
-      (w.dead-is, subst (IsHolderAt c.in-Some.holder.id c.args.step (items_on g.T.SlotSectors.format_of (g.F.Flash.device c.args.flash.now) c.args.self.now.area) c.args.bytes.now) none w.holder_at-found.ensures)
+      (w.dead-is, subst (IsHolderAt c.in-Some.holder.id c.args.step (items_on g.T.SlotSectors.format_of (g.F.Flash.device c.args.flash.now) c.args.self.now.area) c.args.bytes.now) none w.holder_at-found.ensures.holder)
   | else-ne w ↦
       let d : Device = g.F.Flash.device c.args.flash.now in
       let items : Items = items_on g.T.SlotSectors.format_of d c.args.self.now.area in
       let same : c.loop-holder.dead ≡ Some c.in-Some.holder.id = is-kept c.loop-holder.dead c.in-Some.holder.id (sym c.ne.ensures ∙ w.if-ne.false) in
       (w.dead-is ∙ same, subst (λ (o : Option ℕ). IfSome o (λ id. get items id ≡ Some c.args.bytes.now → ⊥)) same c.loop-holder.invariant.dead)
+]
+
+-- what was viewed of it
+viewed : (g : Over) (c : goal.Joined-ne g) → c.if-ne.steps ≤ c.loop-holder.steps + holder_views c.args.self.now.area.sectors
+viewed g c = elim c.if-ne.branch [
+  | then-ne+else-is_some w ↦
+      let none : w.holder_at-found.result ≡ None = not_some w.holder_at-found.result (sym w.is_some.ensures ∙ w.if-is_some.false) in
+      let few = w.holder_at-found.ensures.none none in
+      omega (arith, w.steps-is, c.find_bytes.ensures.step, few)
+  | else-ne w ↦ omega (arith, w.steps-is, c.find_bytes.ensures.step)
 ]
 
 pub overflow_add-skipped : goal.overflow_add-skipped
@@ -102,11 +120,33 @@ loop-holder-preserved g c =
     record {
       listed = omega (arith, from, listed, up);
       none = none-step k b items c.args.ids.now c.args.bytes.now c.args.place c.loop-holder.skipped c.loop-holder.invariant.none c.in-Some.holder (c.in-Some.holder.slot - c.first_slot-first.result + 1) holder up all.1;
+      few = λ absent. absurd (no-holder k b c.args.place c.args.ids.now c.args.bytes.now c.loop-holder.skipped c.in-Some.holder holder absent);
+      held = one-less (holder_views area.sectors) c.args.steps.now (held_in k b c.args.ids.now c.args.bytes.now) c.loop-holder.steps (held_from k b c.args.ids.now c.args.bytes.now (k.first + c.loop-holder.skipped) (k.count b - c.loop-holder.skipped)) c.if-ne.steps
+          (held_from k b c.args.ids.now c.args.bytes.now (k.first + (c.in-Some.holder.slot - c.first_slot-first.result + 1)) (k.count b - (c.in-Some.holder.slot - c.first_slot-first.result + 1)))
+          c.loop-holder.invariant.held (held-less k c.args.ids.now c.args.bytes.now b c.args.place c.loop-holder.skipped (c.in-Some.holder.slot - c.first_slot-first.result + 1) c.in-Some.holder holder up) (viewed g c);
+      part = rest-within (held_from k b c.args.ids.now c.args.bytes.now (k.first + (c.in-Some.holder.slot - c.first_slot-first.result + 1)) (k.count b - (c.in-Some.holder.slot - c.first_slot-first.result + 1)))
+          (held_from k b c.args.ids.now c.args.bytes.now (k.first + c.loop-holder.skipped) (k.count b - c.loop-holder.skipped)) (held_in k b c.args.ids.now c.args.bytes.now)
+          (held-less k c.args.ids.now c.args.bytes.now b c.args.place c.loop-holder.skipped (c.in-Some.holder.slot - c.first_slot-first.result + 1) c.in-Some.holder holder up) c.loop-holder.invariant.part;
       dead = subst (λ (o : Option ℕ). IfSome o (λ id. get items id ≡ Some c.args.bytes.now → ⊥)) (sym all.0) all.1;
     }
 
-pub returns : goal.returns
-returns g c =
+pub returns-then-is_some-clause-absent : goal.returns-then-is_some-clause-absent
+returns-then-is_some-clause-absent g c =
+    let d : Device = g.F.Flash.device c.args.flash.now in
+    let area : Area = c.args.self.now.area in
+    let k : SectorFormat = g.T.SlotSectors.format_of (geometry_of d area) in
+    let b : List ℕ = sector_at (sectors_of d area) c.args.place in
+    let holder : IsFirstHolder k b c.args.place c.args.ids.now c.args.bytes.now (k.first + c.loop-holder.skipped) c.in-Some.holder =
+    subst (FindsBytes k b c.args.place c.args.ids.now c.args.bytes.now c.loop-holder.skipped) c.in-Some.is c.find_bytes.ensures.found in
+    λ absent. absurd (no-holder k b c.args.place c.args.ids.now c.args.bytes.now c.loop-holder.skipped c.in-Some.holder holder absent)
+
+pub returns-clause-absent : goal.returns-clause-absent
+returns-clause-absent g c = λ absent.
+    let same = c.loop-holder.invariant.few absent in
+    omega (arith, same, c.find_bytes.ensures.step)
+
+pub returns-clause-holder : goal.returns-clause-holder
+returns-clause-holder g c =
     let d : Device = g.F.Flash.device c.args.flash.now in
     let area : Area = c.args.self.now.area in
     let k : SectorFormat = g.T.SlotSectors.format_of (geometry_of d area) in
@@ -115,3 +155,30 @@ returns g c =
     let items : Items = items_on g.T.SlotSectors.format_of d area in
     none-end k b items c.args.ids.now c.args.bytes.now c.args.place c.loop-holder.skipped c.loop-holder.invariant.none
     (subst (FindsBytes k b c.args.place c.args.ids.now c.args.bytes.now c.loop-holder.skipped) c.in_default.is c.find_bytes.ensures.found)
+
+pub returns-then-is_some-clause-present : goal.returns-then-is_some-clause-present
+returns-then-is_some-clause-present g c =
+    let d : Device = g.F.Flash.device c.args.flash.now in
+    let area : Area = c.args.self.now.area in
+    let k : SectorFormat = g.T.SlotSectors.format_of (geometry_of d area) in
+    let b : List ℕ = sector_at (sectors_of d area) c.args.place in
+    let holder : IsFirstHolder k b c.args.place c.args.ids.now c.args.bytes.now (k.first + c.loop-holder.skipped) c.in-Some.holder =
+    subst (FindsBytes k b c.args.place c.args.ids.now c.args.bytes.now c.loop-holder.skipped) c.in-Some.is c.find_bytes.ensures.found in
+    let less =
+    held-less k c.args.ids.now c.args.bytes.now b c.args.place c.loop-holder.skipped (c.in-Some.holder.slot - k.first + 1) c.in-Some.holder holder refl in
+    found-searches area.sectors (held_in k b c.args.ids.now c.args.bytes.now) c.args.steps.now c.holder_at-found.new.steps c.holder_at-found.result (sym c.is_some.ensures ∙ c.if-is_some.true)
+    (some-within (held_from k b c.args.ids.now c.args.bytes.now (k.first + (c.in-Some.holder.slot - k.first + 1)) (k.count b - (c.in-Some.holder.slot - k.first + 1)))
+    (held_from k b c.args.ids.now c.args.bytes.now (k.first + c.loop-holder.skipped) (k.count b - c.loop-holder.skipped)) (held_in k b c.args.ids.now c.args.bytes.now) less c.loop-holder.invariant.part)
+    (one-found (holder_views area.sectors) (area.sectors + 4) c.args.steps.now (held_in k b c.args.ids.now c.args.bytes.now) c.loop-holder.steps (held_from k b c.args.ids.now c.args.bytes.now (k.first + c.loop-holder.skipped) (k.count b - c.loop-holder.skipped)) c.holder_at-found.new.steps
+    (held_from k b c.args.ids.now c.args.bytes.now (k.first + (c.in-Some.holder.slot - k.first + 1)) (k.count b - (c.in-Some.holder.slot - k.first + 1)))
+    c.loop-holder.invariant.held less
+    (omega (arith, c.find_bytes.ensures.step, c.holder_at-found.ensures.steps)))
+
+pub returns-clause-present : goal.returns-clause-present
+returns-clause-present g c =
+    let d : Device = g.F.Flash.device c.args.flash.now in
+    let area : Area = c.args.self.now.area in
+    let k : SectorFormat = g.T.SlotSectors.format_of (geometry_of d area) in
+    let b : List ℕ = sector_at (sectors_of d area) c.args.place in
+    none-less (holder_views area.sectors) c.args.steps.now (held_in k b c.args.ids.now c.args.bytes.now) c.loop-holder.steps (held_from k b c.args.ids.now c.args.bytes.now (k.first + c.loop-holder.skipped) (k.count b - c.loop-holder.skipped)) c.find_bytes.new.steps
+    c.loop-holder.invariant.held c.find_bytes.ensures.step

@@ -28,8 +28,8 @@ entry_in-requires-clause-listed g c =
     let first : c.first_slot.result ≡ (g.T.SlotSectors.format_of (geometry_of d area)).first = c.first_slot.ensures.value (geometry_of d area) in
     (omega (arith, few, first, c.requires.some_left), omega (arith, from, listed, few, first, c.requires.some_left))
 
-pub returns-then-placed-id : goal.returns-then-placed-id
-returns-then-placed-id g c =
+pub returns-then-placed-id-clause-last : goal.returns-then-placed-id-clause-last
+returns-then-placed-id-clause-last g c =
     let d : Device = g.F.Flash.device c.args.flash.now in
     let area : Area = c.args.self.now.area in
     let law : IsSectorFormat (g.T.SlotSectors.format_of (geometry_of d area)) = g.met.T.SlotSectors.lawful (geometry_of d area) (unit_is d area (g.met.F.Flash.is_lawful c.args.flash.now) c.requires.stands.area.lawful) in

@@ -12,8 +12,8 @@ use Rattle.item_store.proofs.SearchSteps.{search-enough, search-before}
 use Rattle.item_store.proofs.KnownSlots.{known_on}
 use Rattle.item_store.proofs.store.Store.last_entry.Goals as goal
 
-pub returns-in-Some : goal.returns-in-Some
-returns-in-Some g c = c.in-Some.ensures
+pub returns-in-Some-clause-last : goal.returns-in-Some-clause-last
+returns-in-Some-clause-last g c = c.in-Some.ensures.last
 
 pub find_before-requires-clause-on : goal.find_before-requires-clause-on
 find_before-requires-clause-on g c =
@@ -48,8 +48,8 @@ find_up_to-requires-clause-inside g c =
 pub last_before-requires-clause-some_left : goal.last_before-requires-clause-some_left
 last_before-requires-clause-some_left g c = omega (arith, c.if-reach-eq0.false)
 
-pub returns-then-reach-eq0 : goal.returns-then-reach-eq0
-returns-then-reach-eq0 g c =
+pub returns-then-reach-eq0-clause-last : goal.returns-then-reach-eq0-clause-last
+returns-then-reach-eq0-clause-last g c =
     let d : Device = g.F.Flash.device c.args.flash.now in
     let area : Area = c.args.self.now.area in
     let law : IsSectorFormat (g.T.SlotSectors.format_of (geometry_of d area)) = g.met.T.SlotSectors.lawful (geometry_of d area) (unit_is d area (g.met.F.Flash.is_lawful c.args.flash.now) c.requires.stands.area.lawful) in
@@ -57,15 +57,24 @@ returns-then-reach-eq0 g c =
     let low = current_on g.T.SlotSectors.role g.T.SlotSectors.format_of g.T.SlotSectors.kept d c.args.self.now law (g.met.F.Flash.is_lawful c.args.flash.now) c.requires.stands in
     let none = none-here g.T.SlotSectors.role g.T.SlotSectors.format_of g.T.SlotSectors.kept d c.args.self.now law (g.met.F.Flash.is_lawful c.args.flash.now) c.requires.stands c.args.latest.now placed c.args.id (sym c.requires.latest) c.requires.other
     (subst (λ (n : ℕ). AreOthers (g.T.SlotSectors.format_of (geometry_of d area)) (sector_at (sectors_of d area) c.args.latest.now.sector) n (c.args.latest.now.slot - (g.T.SlotSectors.format_of (geometry_of d area)).first) c.args.id c.args.id) c.if-reach-eq0.true c.reach_before-reach.ensures.others) in
-    c.find_before.ensures
+    c.find_before.ensures.last
     ∙ search-before (g.T.SlotSectors.format_of (geometry_of d area)) (sectors_of d area) c.args.self.now.current c.args.latest.now.sector c.requires.stands.current (omega (arith, length-sectors d area, low)) placed.listed.within law c.args.id c.args.latest.now (sym c.requires.latest) refl none
 
-pub returns : goal.returns
-returns g c =
+pub returns-clause-last : goal.returns-clause-last
+returns-clause-last g c =
     let d : Device = g.F.Flash.device c.args.flash.now in
     let area : Area = c.args.self.now.area in
     let law : IsSectorFormat (g.T.SlotSectors.format_of (geometry_of d area)) = g.met.T.SlotSectors.lawful (geometry_of d area) (unit_is d area (g.met.F.Flash.is_lawful c.args.flash.now) c.requires.stands.area.lawful) in
     let placed = placed-latest g.T.SlotSectors.role g.T.SlotSectors.format_of g.T.SlotSectors.kept d c.args.self.now law (g.met.F.Flash.is_lawful c.args.flash.now) c.requires.stands c.args.id c.args.latest.now c.requires.latest in
     let low = current_on g.T.SlotSectors.role g.T.SlotSectors.format_of g.T.SlotSectors.kept d c.args.self.now law (g.met.F.Flash.is_lawful c.args.flash.now) c.requires.stands in
-    c.find_up_to.ensures
+    c.find_up_to.ensures.last
     ∙ search-enough (g.T.SlotSectors.format_of (geometry_of d area)) (sectors_of d area) c.args.self.now.current c.args.latest.now.sector c.requires.stands.current (omega (arith, length-sectors d area, low)) placed.listed.within law c.args.id c.args.latest.now (sym c.requires.latest) refl
+
+pub returns-then-reach-eq0-clause-steps : goal.returns-then-reach-eq0-clause-steps
+returns-then-reach-eq0-clause-steps g c = omega (arith, c.reach_before-reach.ensures.step, c.find_before.ensures.steps)
+
+pub returns-in-Some-clause-steps : goal.returns-in-Some-clause-steps
+returns-in-Some-clause-steps g c = omega (arith, c.reach_before-reach.ensures.step, c.last_before.ensures.step)
+
+pub returns-clause-steps : goal.returns-clause-steps
+returns-clause-steps g c = omega (arith, c.reach_before-reach.ensures.step, c.last_before.ensures.step, c.find_up_to.ensures.steps)

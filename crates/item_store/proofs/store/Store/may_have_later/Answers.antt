@@ -31,8 +31,8 @@ may_have_behind-requires-clause-on g c =
     let law : IsSectorFormat (g.T.SlotSectors.format_of (geometry_of d area)) = g.met.T.SlotSectors.lawful (geometry_of d area) (unit_is d area (g.met.F.Flash.is_lawful c.args.flash.now) c.requires.stands.area.lawful) in
     record { area = c.requires.stands.area; kept = c.requires.stands.opened; current = c.requires.stands.current; known = known_on g.T.SlotSectors.role g.T.SlotSectors.format_of g.T.SlotSectors.kept d c.args.self.now law (g.met.F.Flash.is_lawful c.args.flash.now) c.requires.stands c.tops-tops.result.now c.tops-tops.ensures }
 
-pub returns : goal.returns
-returns g c =
+pub returns-clause-rules : goal.returns-clause-rules
+returns-clause-rules g c =
     let d : Device = g.F.Flash.device c.args.flash.now in
     let area : Area = c.args.self.now.area in
     let k : SectorFormat = g.T.SlotSectors.format_of (geometry_of d area) in
@@ -44,8 +44,11 @@ returns g c =
     record {
       lower = λ none.
           let both = or-rules-out c.may_have-here.result.lower c.may_have_behind.result.lower c.or.result.lower c.or.ensures.lower none in
-          none-later k sectors c.args.self.now.current c.args.ids.now.lower low c.args.holder.now (c.args.holder.now.slot - c.first_slot.result + 1) c.requires.placed.listed up (c.may_have-here.ensures.lower both.0) (c.may_have_behind.ensures.lower both.1);
+          none-later k sectors c.args.self.now.current c.args.ids.now.lower low c.args.holder.now (c.args.holder.now.slot - c.first_slot.result + 1) c.requires.placed.listed up (c.may_have-here.ensures.rules.lower both.0) (c.may_have_behind.ensures.rules.lower both.1);
       upper = λ none.
           let both = or-rules-out c.may_have-here.result.upper c.may_have_behind.result.upper c.or.result.upper c.or.ensures.upper none in
-          none-later k sectors c.args.self.now.current c.args.ids.now.upper low c.args.holder.now (c.args.holder.now.slot - c.first_slot.result + 1) c.requires.placed.listed up (c.may_have-here.ensures.upper both.0) (c.may_have_behind.ensures.upper both.1);
+          none-later k sectors c.args.self.now.current c.args.ids.now.upper low c.args.holder.now (c.args.holder.now.slot - c.first_slot.result + 1) c.requires.placed.listed up (c.may_have-here.ensures.rules.upper both.0) (c.may_have_behind.ensures.rules.upper both.1);
     }
+
+pub returns-clause-steps : goal.returns-clause-steps
+returns-clause-steps g c = omega (arith, c.may_have-here.ensures.step, c.may_have_behind.ensures.steps)

@@ -4,7 +4,7 @@ use Rattle.flash_map.specs.declared.area.Area.{Area}
 use Rattle.flash_map.specs.Area.{geometry_of, sector_size, sectors_of}
 use Rattle.item_laws.specs.Forms.{AtRest}
 use Rattle.item_store.specs.SectorFormat.{SectorFormat, IsSectorFormat}
-use Rattle.item_store.specs.Collecting.{redo_of, redo_list, redo_units, KeepsOrRedoes, MarksFirst}
+use Rattle.item_store.specs.Collecting.{EmptiesVictim, redo_of, redo_list, redo_units, KeepsOrRedoes, MarksFirst}
 use Rattle.item_store.specs.Standing.{list_of, SpendsIn, SpendsUpTo}
 use Rattle.item_store.specs.declared.entry.Redo.TheVariants.{CollectAgain}
 use Rattle.item_store.proofs.Areas.{unit_is, form_undamaged}
@@ -33,6 +33,7 @@ returns-in-Ok-redo-clause-ends g c =
       subst (λ (p : ℕ). list_of k (sectors_of d area) ≡ redo_list k (sectors_of a area) p (redo_of k (sectors_of a area) p)) found.opened did.ends.list,
       λ again. mount-room k law g.T.SlotSectors.role a area (g.met.F.Flash.is_lawful c.args.flash.now) c.requires.area found.undamaged c.in-Ok.current found.opened (sectors_of d area)
           (subst (λ (p : ℕ). redo_of k (sectors_of a area) p ≡ CollectAgain) (sym found.opened) again) did.ends.collects (form_undamaged k law (sectors_of d area) c.in-Ok.current (inl did.ends.rested)).0,
+      subst (λ (p : ℕ). ¬ AtRest (g.T.SlotSectors.format_of (geometry_of a area)).reading (sectors_of a area) p → EmptiesVictim (g.T.SlotSectors.format_of (geometry_of a area)) (sectors_of a area) (sectors_of d area) p) found.opened did.ends.empties,
     )
 
 pub returns-in-Err-redo-clause-ends : goal.returns-in-Err-redo-clause-ends

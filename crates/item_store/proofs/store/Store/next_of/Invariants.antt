@@ -1,7 +1,7 @@
-use Rattle.std.proofs.Common.{◌≡◌}
+use Rattle.std.proofs.Common.{◌≡◌, ◌+◌, ◌*◌, ◌≤◌, length}
 use Rattle.std.specs.Option.{option_map}
 use Rattle.flash_map.specs.Area.{sectors_of}
-use Rattle.item_store.specs.Lasts.{slots_left, IsAt}
+use Rattle.item_store.specs.Lasts.{slots_left, slots_in_all, views_left, IsAt}
 use Rattle.item_store.specs.Listed.{format_on, items_on}
 use Rattle.item_store.proofs.AskingSteps.{IsLeastTo, KnownBytes}
 use Rattle.item_store.proofs.store.Store.next_of.Given as goal
@@ -9,6 +9,8 @@ use Rattle.item_store.proofs.store.Store.next_of.Given as goal
 abbrev pub invariant-loop-placed : goal.invariant-loop-placed
 invariant-loop-placed g l = record {
   at : IsAt (format_on g.T.SlotSectors.format_of (g.F.Flash.device l.flash) l.self.area) (sectors_of (g.F.Flash.device l.flash) l.self.area) l.self.current l.lasts;
+  views : let k = format_on g.T.SlotSectors.format_of (g.F.Flash.device l.flash) l.self.area in let sectors = sectors_of (g.F.Flash.device l.flash) l.self.area in
+      l.steps + views_left k sectors l.self.current l.lasts ≤ l.fn.steps + length sectors + 2 * slots_in_all k sectors;
   from : l.lasts.least ≡ l.least;
   to : l.lasts.most ≡ l.most;
   so_far : IsLeastTo l.least l.most (items_on g.T.SlotSectors.format_of (g.F.Flash.device l.flash) l.self.area) (option_map (λ other. other.now) l.after)

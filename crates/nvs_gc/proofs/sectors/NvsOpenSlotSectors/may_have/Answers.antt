@@ -6,8 +6,8 @@ use Rattle.nvs_store.specs.Holding.{HasNamed}
 use Rattle.nvs_format.proofs.HolderLemmas.{none_named}
 use Rattle.nvs_gc.proofs.sectors.NvsOpenSlotSectors.may_have.Goals as goal
 
-pub returns : goal.returns
-returns g c =
+pub returns-clause-rules : goal.returns-clause-rules
+returns-clause-rules g c =
     let d : Device = g.F.Flash.device c.args.flash.now in
     let unit : ℕ = unit_of d c.args.area.now in
     let b : List ℕ = sector_at (sectors_of d c.args.area.now) c.args.place in

@@ -6,8 +6,8 @@ use Rattle.item_store.specs.SectorFormat.{placed_at, slots}
 use Rattle.nvs_format.specs.Formats.{format_in}
 use Rattle.nvs_gc.proofs.sectors.NvsOpenSlotSectors.note_sector.Goals as goal
 
-pub returns : goal.returns
-returns g c =
+pub returns-clause-notes : goal.returns-clause-notes
+returns-clause-notes g c =
     let d : Device = g.F.Flash.device c.args.flash.now in
     let unit : ℕ = unit_of d c.args.area.now in
     λ start before noted.

@@ -27,23 +27,6 @@ close_at-requires-clause-opened g c =
     let u : Geometry = geometry_of a area in
     kept_opened u (sector_at (sectors_of a area) c.args.place) c.args.self.now c.requires.kept c.opened.result c.opened.ensures.cycle c.opened.ensures.slots c.opened.ensures.data_end
 
-pub close_at-requires-clause-closable : goal.close_at-requires-clause-closable
-close_at-requires-clause-closable g c =
-    let a : Device = g.F.Flash.device c.args.flash.now in
-    let area : Area = c.args.area.now in
-    let u : Geometry = geometry_of a area in
-    let wide = large_there zms_role a area (g.met.F.Flash.is_lawful c.args.flash.now) c.requires.area c.args.place c.requires.inside in
-    open_closable u.kind (sector_at (sectors_of a area) c.args.place) wide c.requires.sound c.requires.not_closed c.requires.used
-
-pub close_at-requires-clause-sound : goal.close_at-requires-clause-sound
-close_at-requires-clause-sound g c =
-    let a : Device = g.F.Flash.device c.args.flash.now in
-    let area : Area = c.args.area.now in
-    let u : Geometry = geometry_of a area in
-    let b : List ℕ = sector_at (sectors_of a area) c.args.place in
-    let wide = large_there zms_role a area (g.met.F.Flash.is_lawful c.args.flash.now) c.requires.area c.args.place c.requires.inside in
-    (roomy_of u.kind (sector_at (sectors_of a area) c.args.place) (omega arith) c.requires.sound).sound
-
 pub returns-clause-ends : goal.returns-clause-ends
 returns-clause-ends g c = record {
   only = search rules;
@@ -71,4 +54,22 @@ returns-clause-ends g c = record {
       close_cut _ u.kind (sector_at (sectors_of a area) c.args.place) (sector_at (sectors_of e area) c.args.place) c.close_at.result c.requires.used c.close_at.ensures.ends.idle_lost;
   spends = c.close_at.ensures.ends.spends;
   spends_lost = c.close_at.ensures.ends.spends_lost;
+}
+
+pub close_at-requires-clause-takes : goal.close_at-requires-clause-takes
+close_at-requires-clause-takes g c = record {
+  zms = record { lawful = c.requires.area.lawful; role = c.requires.area.role_is; has_sector = c.requires.inside };
+  sound =
+      let a : Device = g.F.Flash.device c.args.flash.now in
+      let area : Area = c.args.area.now in
+      let u : Geometry = geometry_of a area in
+      let b : List ℕ = sector_at (sectors_of a area) c.args.place in
+      let wide = large_there zms_role a area (g.met.F.Flash.is_lawful c.args.flash.now) c.requires.area c.args.place c.requires.inside in
+      (roomy_of u.kind (sector_at (sectors_of a area) c.args.place) (omega arith) c.requires.sound).sound;
+  closable =
+      let a : Device = g.F.Flash.device c.args.flash.now in
+      let area : Area = c.args.area.now in
+      let u : Geometry = geometry_of a area in
+      let wide = large_there zms_role a area (g.met.F.Flash.is_lawful c.args.flash.now) c.requires.area c.args.place c.requires.inside in
+      open_closable u.kind (sector_at (sectors_of a area) c.args.place) wide c.requires.sound c.requires.not_closed c.requires.used;
 }

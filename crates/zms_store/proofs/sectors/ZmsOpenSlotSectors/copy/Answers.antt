@@ -15,23 +15,36 @@ use Rattle.zms_format.proofs.Roomy.{roomy_of}
 use Rattle.zms_format.specs.Formats.{entry_units}
 use Rattle.zms_format.proofs.StepLemmas.{is_there, ready_may, ready_cycle, ready_spends, adds_copy, copied_len}
 use Rattle.flash_map.specs.declared.area.Role.TheVariants.{Zms as zms_role}
-use Rattle.zms_store.proofs.OpenLemmas.{kept_some, kept_opened, cost_above, kept_few, end_room, kept_added}
+use Rattle.zms_store.proofs.OpenLemmas.{ready_sound, kept_some, kept_opened, cost_above, kept_few, end_room, kept_added}
 use Rattle.zms_store.proofs.sectors.ZmsOpenSlotSectors.copy.Goals as goal
 
-pub copy_entry_at-requires-clause-source : goal.copy_entry_at-requires-clause-source
-copy_entry_at-requires-clause-source g c = record {
-  from_zms = search rules;
-  from_sound =
+pub copy_entry_at-requires-clause-takes : goal.copy_entry_at-requires-clause-takes
+copy_entry_at-requires-clause-takes g c = record {
+  zms = record { lawful = c.requires.here.area.lawful; role = c.requires.here.area.role_is; has_sector = c.requires.here.inside };
+  sound =
       let a : Device = g.F.Flash.device c.args.flash.now in
       let area : Area = c.args.area.now in
-      let u : Geometry = geometry_of a area in
-      let b : List ℕ = sector_at (sectors_of a area) c.args.place in
-      let wide = large_there zms_role a area (g.met.F.Flash.is_lawful c.args.flash.now) c.requires.here.area c.args.place c.requires.here.inside in
-      let there = large_there zms_role a area (g.met.F.Flash.is_lawful c.args.flash.now) c.requires.here.area c.args.from.now.sector c.requires.source.has_source in (roomy_of u.kind (sector_at (sectors_of a area) c.args.from.now.sector) (omega arith) c.requires.source.source).sound;
-  other = search rules;
-  from = search rules;
-  listed = search rules;
-  some = search rules;
+      ready_sound (geometry_of a area).kind (sector_at (sectors_of a area) c.args.place) c.requires.here.ready;
+  source = record {
+    from_zms = search rules;
+    from_sound =
+        let a : Device = g.F.Flash.device c.args.flash.now in
+        let area : Area = c.args.area.now in
+        let u : Geometry = geometry_of a area in
+        let b : List ℕ = sector_at (sectors_of a area) c.args.place in
+        let wide = large_there zms_role a area (g.met.F.Flash.is_lawful c.args.flash.now) c.requires.here.area c.args.place c.requires.here.inside in
+        let there = large_there zms_role a area (g.met.F.Flash.is_lawful c.args.flash.now) c.requires.here.area c.args.from.now.sector c.requires.source.has_source in (roomy_of u.kind (sector_at (sectors_of a area) c.args.from.now.sector) (omega arith) c.requires.source.source).sound;
+    other = search rules;
+    from = search rules;
+    listed = search rules;
+    some = search rules;
+  };
+  room =
+      let a : Device = g.F.Flash.device c.args.flash.now in
+      let area : Area = c.args.area.now in
+      let there = is_there (sector_at (sectors_of a area) c.args.from.now.sector) c.args.from.now c.requires.source.there in
+      let len : entry_len (sector_at (sectors_of a area) c.args.from.now.sector) c.args.from.now.slot ≡ c.args.from.now.len = ap (λ (o : Option SlotEntry). option_map_or (λ f. f.entry.len) o 0) there.read ∙ sym there.len in
+      subst (λ (n : ℕ). cost n + 48 ≤ free (geometry_of a area).kind (sector_at (sectors_of a area) c.args.place)) (sym len) c.requires.room;
 }
 
 pub returns-clause-adds : goal.returns-clause-adds

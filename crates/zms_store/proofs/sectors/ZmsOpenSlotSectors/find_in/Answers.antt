@@ -13,8 +13,8 @@ use Rattle.zms_store.proofs.sectors.ZmsOpenSlotSectors.find_in.Goals as goal
 pub find_in-requires-clause-known : goal.find_in-requires-clause-known
 find_in-requires-clause-known g c = subst (λ (b : List ℕ). c.args.known ≤ length (valid_slots b)) (sym c.sector_view.ensures.bytes) c.requires.known
 
-pub returns-in-Some : goal.returns-in-Some
-returns-in-Some g c =
+pub returns-in-Some-clause-last : goal.returns-in-Some-clause-last
+returns-in-Some-clause-last g c =
     let a : Device = g.F.Flash.device c.args.flash.now in
     let area : Area = c.args.area.now in
     let u : Geometry = geometry_of a area in
@@ -22,8 +22,8 @@ returns-in-Some g c =
     let found = c.find_in.ensures.last ∙ ap (λ (b : List ℕ). option_map (zms_placed_at c.args.place) (last_in c.args.id (entries b))) bytes in
     (rw c.from.ensures (ap (option_map placed_of) (sym c.in-Some.is ∙ found) ∙ last_same u (sector_at (sectors_of a area) c.args.place) c.args.place c.args.id))
 
-pub returns-in-None : goal.returns-in-None
-returns-in-None g c =
+pub returns-in-None-clause-last : goal.returns-in-None-clause-last
+returns-in-None-clause-last g c =
     let a : Device = g.F.Flash.device c.args.flash.now in
     let area : Area = c.args.area.now in
     let u : Geometry = geometry_of a area in

@@ -6,7 +6,7 @@ use Rattle.flash_map.specs.Area.{geometry_of, sectors_of, sector_at, sector_size
 use Rattle.item_store.proofs.Areas.{large_there, size_there}
 use Rattle.zms_format.proofs.StepLemmas.{ready_may, ready_cycle, ready_spends, marks}
 use Rattle.flash_map.specs.declared.area.Role.TheVariants.{Zms as zms_role}
-use Rattle.zms_store.proofs.OpenLemmas.{kept_some, kept_opened, kept_few, kept_marked}
+use Rattle.zms_store.proofs.OpenLemmas.{ready_sound, kept_some, kept_opened, kept_few, kept_marked}
 use Rattle.zms_store.proofs.sectors.ZmsOpenSlotSectors.mark_done.Goals as goal
 
 pub returns-clause-ok : goal.returns-clause-ok
@@ -56,3 +56,13 @@ put_done_at-requires-clause-opened g c =
     let area : Area = c.args.area.now in
     let u : Geometry = geometry_of a area in
     kept_opened u (sector_at (sectors_of a area) c.args.place) c.args.self.now c.requires.here.kept c.opened-opened.result c.opened-opened.ensures.cycle c.opened-opened.ensures.slots c.opened-opened.ensures.data_end
+
+pub put_done_at-requires-clause-takes : goal.put_done_at-requires-clause-takes
+put_done_at-requires-clause-takes g c = record {
+  zms = record { lawful = c.requires.here.area.lawful; role = c.requires.here.area.role_is; has_sector = c.requires.here.inside };
+  sound =
+      let a : Device = g.F.Flash.device c.args.flash.now in
+      let area : Area = c.args.area.now in
+      ready_sound (geometry_of a area).kind (sector_at (sectors_of a area) c.args.place) c.requires.here.ready;
+  room = c.requires.room;
+}

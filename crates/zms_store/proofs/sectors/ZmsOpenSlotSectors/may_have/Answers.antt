@@ -5,8 +5,8 @@ use Rattle.zms_cycle.specs.Holding.{NoneNames}
 use Rattle.zms_format.proofs.PassedSlots.{unnamed_other}
 use Rattle.zms_store.proofs.sectors.ZmsOpenSlotSectors.may_have.Goals as goal
 
-pub returns : goal.returns
-returns g c =
+pub returns-clause-rules : goal.returns-clause-rules
+returns-clause-rules g c =
     let d : Device = g.F.Flash.device c.args.flash.now in
     let b : List ℕ = sector_at (sectors_of d c.args.area.now) c.args.place in
     let skipped : ℕ = c.args.skipped in

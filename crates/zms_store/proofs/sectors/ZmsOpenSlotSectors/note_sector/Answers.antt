@@ -10,8 +10,8 @@ use Rattle.zms_store.proofs.sectors.ZmsOpenSlotSectors.note_sector.Goals as goal
 pub note_entries-requires-clause-known : goal.note_entries-requires-clause-known
 note_entries-requires-clause-known g c = subst (λ (b : List ℕ). c.args.known ≤ length (valid_slots b)) (sym c.sector_view.ensures.bytes) c.requires.known
 
-pub returns : goal.returns
-returns g c = λ start before noted.
+pub returns-clause-notes : goal.returns-clause-notes
+returns-clause-notes g c = λ start before noted.
     let d : Device = g.F.Flash.device c.args.flash.now in
     let geometry : Geometry = geometry_of d c.args.area.now in
     subst (λ (b : List ℕ). g.N.Notes.noted start (format_of geometry).ids c.note_entries.new.notes (before ++ map (placed_at c.args.place) ((slots (format_of geometry)).entries b))) c.sector_view.ensures.bytes

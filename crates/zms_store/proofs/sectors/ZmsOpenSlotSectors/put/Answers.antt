@@ -9,7 +9,7 @@ use Rattle.zms_format.proofs.StepLemmas.{ready_may, ready_cycle, ready_spends, k
 use Rattle.flash_map.specs.declared.area.Role.TheVariants.{Zms as zms_role}
 use Rattle.zms_cycle.specs.Changes.{left_over}
 use Rattle.zms_cycle.specs.Sector.{data_len, cost, free}
-use Rattle.zms_store.proofs.OpenLemmas.{kept_some, kept_opened, cost_above, kept_few, end_room, kept_added}
+use Rattle.zms_store.proofs.OpenLemmas.{ready_sound, kept_some, kept_opened, cost_above, kept_few, end_room, kept_added}
 use Rattle.zms_store.proofs.RoomLemmas.{put_room}
 use Rattle.zms_store.proofs.sectors.ZmsOpenSlotSectors.put.Goals as goal
 
@@ -133,3 +133,14 @@ put_entry_at-requires-clause-opened g c =
     let area : Area = c.args.area.now in
     let u : Geometry = geometry_of a area in
     kept_opened u (sector_at (sectors_of a area) c.args.place) c.args.self.now c.requires.here.kept c.opened-opened.result c.opened-opened.ensures.cycle c.opened-opened.ensures.slots c.opened-opened.ensures.data_end
+
+pub put_entry_at-requires-clause-takes : goal.put_entry_at-requires-clause-takes
+put_entry_at-requires-clause-takes g c = record {
+  zms = record { lawful = c.requires.here.area.lawful; role = c.requires.here.area.role_is; has_sector = c.requires.here.inside };
+  sound =
+      let a : Device = g.F.Flash.device c.args.flash.now in
+      let area : Area = c.args.area.now in
+      ready_sound (geometry_of a area).kind (sector_at (sectors_of a area) c.args.place) c.requires.here.ready;
+  ordinary = c.requires.ordinary;
+  room = c.requires.fits;
+}

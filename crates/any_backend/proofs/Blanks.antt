@@ -35,7 +35,7 @@ use Rattle.fcb_ring.specs.SectorStates.{state_of}
 use Rattle.fcb_ring.specs.Standing.{erases_due}
 use Rattle.fcb_ring.proofs.PlaceLemmas.{find_nothing}
 use Rattle.fcb_ring.proofs.StandLemmas.{blank-free, blank-untorn}
-use Rattle.record_settings.specs.Numbers.{cap}
+use Rattle.record_settings.specs.Room.{cap}
 use Rattle.record_settings.specs.Settings.{settings_of}
 use Rattle.record_settings.proofs.BodyLemmas.{settings-none}
 use Rattle.named_items.specs.Numbering.{Numbering}

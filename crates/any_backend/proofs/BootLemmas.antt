@@ -16,6 +16,7 @@ use Rattle.zms_cycle.specs.Sector.{data_len}
 use Rattle.zms_format.specs.Formats.{units_of}
 use Rattle.backend_nvs.specs.Standing.{boot_units as nvs_boot}
 use Rattle.backend_zms.specs.Standing.{boot_units as zms_boot}
+use Rattle.zms_store.specs.Spending.{most_delete}
 use Rattle.any_backend.specs.Boot.{NvsBoots, ErasingZmsBoots, RewritableZmsBoots, FcbBoots, BootsWithinMounts}
 use Rattle.any_backend.specs.ByRole.{any_boot, boot_as}
 
@@ -49,13 +50,13 @@ nvs-boots area geometry role = ap (λ (r : Role). boot_as r area geometry) role 
 -- ---- ZMS
 
 abbrev zms_of : BankKind → ℕ → ℕ
-zms_of kind size = (units_of kind).any_clear.lost + ((units_of kind).round size + (units_of kind).entry 0)
+zms_of kind size = (units_of kind).any_clear.lost + most_delete kind (size / 16)
 
 erasing-number : (size : ℕ) → zms_of Erasing size ≡ size / 16 + 6
 unfolding data_len
 erasing-number size = omega arith
 
-rewritable-number : (size : ℕ) → zms_of Rewritable size ≡ 3 * (size / 16) + 17
+rewritable-number : (size : ℕ) → zms_of Rewritable size ≡ 2 * (size / 16) + 8
 unfolding data_len
 rewritable-number size = omega arith
 

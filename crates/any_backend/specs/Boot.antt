@@ -9,7 +9,7 @@ use Rattle.flash_map.specs.Units.{padded}
 use Rattle.flash_map.specs.declared.area.Area.{Area}
 use Rattle.flash_map.specs.declared.area.Geometry.{Geometry}
 use Rattle.flash_map.specs.declared.area.Role.TheVariants.{Nvs, Zms, Fcb}
-use Rattle.backend_api.specs.Room.{mount_units}
+use Rattle.backend_api.specs.Room.{foreign_units}
 
 -- NVS: the units of a sector, two erases, and the units of a slot, which is eight bytes, padded
 abbrev pub NvsBoots : (Area → Geometry → ℕ) → Type 0
@@ -24,11 +24,11 @@ ErasingZmsBoots boot_units =
     (area : Area) (geometry : Geometry) → area.role ≡ Zms → geometry.kind ≡ Erasing
     → boot_units area geometry ≡ geometry.sector / 16 + 6
 
--- ZMS on a rewritable bank: three times the units of a sector, and 17
+-- ZMS on a rewritable bank: twice the units of a sector, and eight
 abbrev pub RewritableZmsBoots : (Area → Geometry → ℕ) → Type 0
 RewritableZmsBoots boot_units =
     (area : Area) (geometry : Geometry) → area.role ≡ Zms → geometry.kind ≡ Rewritable
-    → boot_units area geometry ≡ 3 * (geometry.sector / 16) + 17
+    → boot_units area geometry ≡ 2 * (geometry.sector / 16) + 8
 
 -- FCB: one erase
 abbrev pub FcbBoots : (Area → Geometry → ℕ) → Type 0
@@ -37,4 +37,4 @@ FcbBoots boot_units = (area : Area) (geometry : Geometry) → area.role ≡ Fcb 
 -- in a lawful area it is at most what any mount may spend
 abbrev pub BootsWithinMounts : (Area → Geometry → ℕ) → Type 0
 BootsWithinMounts boot_units = (d : Device) (area : Area) → IsLawfulFor d.banks area
-    → boot_units area (geometry_of d area) ≤ mount_units (geometry_of d area)
+    → boot_units area (geometry_of d area) ≤ foreign_units (geometry_of d area)

@@ -15,7 +15,7 @@ use Rattle.fcb_ring.specs.Standing.{erases_due}
 use Rattle.backend_api.specs.Commands.{Command}
 use Rattle.backend_api.specs.Map.{Map}
 use Rattle.backend_api.specs.Room.{Room}
-use Rattle.record_settings.specs.Numbers.{room}
+use Rattle.record_settings.specs.Room.{room}
 use Rattle.named_items.specs.NvsStore.{nvs_damage, nvs_items, nvs_price, nvs_cap}
 use Rattle.named_items.specs.ZmsStore.{zms_damage, zms_price, zms_cap}
 use Rattle.backend_nvs.specs.IdLayout.{settings_of as nvs_settings, nvs_room}

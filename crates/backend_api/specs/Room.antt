@@ -31,8 +31,8 @@ command_units geometry = 12 * geometry.sectors * (geometry.sector / geometry.uni
 abbrev pub removal_units : Geometry → ℕ
 removal_units geometry = 6 * (geometry.sector / geometry.unit + 3)
 
--- The most units and erases of a mount: it completes what a cut command left, and deletes the
--- orphans, of which an area has at most one for every 8 bytes.
-abbrev pub mount_units : Geometry → ℕ
-mount_units geometry =
+-- The most units and erases of a mount of a foreign image, whatever its bytes: it completes what a
+-- cut command left, and deletes the orphans, of which an area has at most one for every 8 bytes.
+abbrev pub foreign_units : Geometry → ℕ
+foreign_units geometry =
     command_units geometry + geometry.sectors * (geometry.sector / 8) * removal_units geometry

@@ -22,7 +22,7 @@ ghost use Rattle.backend_api.specs.Ends.{MountEnds, set_lost, SetEndsOn, DeleteE
 ghost use Rattle.backend_api.specs.Listing.{pairs_in};
 ghost use Rattle.backend_api.specs.Map.{Map, IsSettings, next_name};
 ghost use Rattle.flash_map.specs.On.{on, HoldsOn, StandsOn};
-ghost use Rattle.backend_api.specs.Room.{Room, command_units, mount_units};
+ghost use Rattle.backend_api.specs.Room.{Room, command_units, foreign_units};
 ghost use Rattle.backend_api.specs.Written.{StaysWritten};
 
 use flash_map::{Area, MountFault};
@@ -85,7 +85,7 @@ pub trait Backend: Drop {
     ghost runs: { Self → Bool };
 
     /// Mounts a backend on an area. The map stays, even if power is lost. Whatever the result, it
-    /// spends at most `mount_units` units and erases, at most what the area owes, and none if the
+    /// spends at most `foreign_units` units and erases, at most what the area owes, and none if the
     /// area is at rest. The area owes no more afterwards. An NVS or ZMS area is all FF afterwards
     /// only if it was all FF before; of an FCB area a mount may erase all that it holds.
     ///
@@ -114,7 +114,7 @@ pub trait Backend: Drop {
         ensures written { let d = F.device flash.old in
             (area.role ≡ FcbRole → ⊥) → StaysWritten d (F.device flash.new) area }
         ensures units { let d = F.device flash.old in
-            MountUnits owes (mount_units (geometry_of d area)) d (F.device flash.new) area }
+            MountUnits owes (foreign_units (geometry_of d area)) d (F.device flash.new) area }
         ensures on { IfOk result (λ state. mounted_on state ≡ area) }
         ensures stands { IfOk result
             (λ state. StandsOn mounted_on stands (F.device flash.new) state) };

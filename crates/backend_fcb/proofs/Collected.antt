@@ -25,7 +25,7 @@ use Rattle.fcb_ring.proofs.PlaceLemmas.{All-range, range-append, flat_map-agree}
 use Rattle.fcb_ring.proofs.RingLemmas.{turned-zero}
 use Rattle.backend_fcb.specs.Changing.{Copies, CopiesLive, Collects, StopsCopying, parts_on, collect_units}
 use Rattle.record_settings.specs.Live.{live_bodies}
-use Rattle.record_settings.specs.Numbers.{cap, reserve, put_cost}
+use Rattle.record_settings.specs.Room.{cap, reserve, put_cost}
 use Rattle.item_laws.specs.PairRounds.{joined}
 use Rattle.item_laws.proofs.NoRoom.{joined-push}
 use Rattle.record_settings.specs.Rounds.{bodies_cost}

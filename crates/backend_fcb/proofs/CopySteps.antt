@@ -38,7 +38,7 @@ use Rattle.backend_fcb.specs.Changing.{Copies, StopsCopying, CopiesLive}
 use Rattle.backend_fcb.specs.Compaction.{is_within, AreWithin, AreKeptWithin, AreShort, IsKept, bodies_at, FindsLive, FindsLiveFrom}
 use Rattle.backend_fcb.specs.declared.compaction.Kept.{Kept}
 use Rattle.record_settings.specs.Live.{is_live_by, is_live, live_bodies}
-use Rattle.record_settings.specs.Numbers.{cap, put_cost}
+use Rattle.record_settings.specs.Room.{cap, put_cost}
 use Rattle.backend_fcb.specs.Reading.{puts_cost}
 use Rattle.record_settings.specs.Rounds.{bodies_cost}
 use Rattle.record_settings.specs.Settings.{setting_of, longest}

@@ -21,7 +21,7 @@ use Rattle.fcb_ring.proofs.ReadLemmas.{there}
 use Rattle.record_settings.specs.Live.{is_live, live_bodies}
 use Rattle.backend_fcb.specs.Compaction.{bodies_at, FindsLive, FindsLiveFrom}
 use Rattle.backend_fcb.specs.declared.compaction.Kept.{Kept}
-use Rattle.record_settings.specs.Numbers.{put_cost}
+use Rattle.record_settings.specs.Room.{put_cost}
 use Rattle.backend_fcb.specs.Reading.{puts_cost}
 use Rattle.record_settings.specs.Rounds.{bodies_cost}
 use Rattle.record_settings.proofs.CopyCost.{put-live}

@@ -15,7 +15,7 @@ use Rattle.fcb_ring.specs.declared.sector.SectorState.{SectorState}
 use Rattle.fcb_ring.specs.Changing.{Begun, StopsErasing, newest_place, next_place}
 use Rattle.fcb_ring.specs.Entries.{states}
 use Rattle.fcb_ring.specs.Rings.{no_state, state_at, turned, is_full, IsRing}
-use Rattle.fcb_ring.specs.SectorStates.{is_torn, state_of, mended_up_to}
+use Rattle.fcb_ring.specs.SectorStates.{is_torn, mended_up_to}
 use Rattle.fcb_ring.specs.Standing.{Stands, StandsOn, FitsStage, uncounted, states_on, erases_due, erases_on}
 use Rattle.fcb_ring.proofs.AppendLemmas.{unit-after}
 use Rattle.fcb_ring.proofs.AreaLemmas.{state-at, length-states}

@@ -33,7 +33,7 @@ use Rattle.backend_api.proofs.MapLemmas.{insert-stored, remove-absent}
 use Rattle.backend_fcb.specs.declared.backend.FcbBackend.{FcbBackend}
 use Rattle.backend_fcb.specs.Changing.{HasNoPlace, parts_on, collect_units}
 use Rattle.record_settings.specs.Last.{last_value, stored}
-use Rattle.record_settings.specs.Numbers.{cap, reserve, room, pair_cost, put_cost, cost_by}
+use Rattle.record_settings.specs.Room.{cap, reserve, room, pair_cost, put_cost, cost_by}
 use Rattle.backend_fcb.specs.Reading.{first_overfull}
 use Rattle.item_laws.specs.PairRounds.{joined}
 use Rattle.record_settings.specs.Rounds.{FindsNoRoom}

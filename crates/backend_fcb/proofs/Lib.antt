@@ -19,7 +19,6 @@ mod RingLists
 mod SectorLists
 mod TableLaws
 mod Tearing
-mod TestBanks
 mod TryLemmas
 pub mod WalkLemmas
 mod DueLemmas

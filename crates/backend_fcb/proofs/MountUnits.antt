@@ -12,7 +12,7 @@ use Rattle.fcb_ring.specs.declared.sector.SectorState.{SectorState}
 use Rattle.fcb_ring.specs.Rings.{is_full}
 use Rattle.fcb_ring.specs.Standing.{erases_on, states_on}
 use Rattle.fcb_ring.proofs.AreaLemmas.{length-states, count-sectors}
-use Rattle.backend_api.specs.Room.{mount_units}
+use Rattle.backend_api.specs.Room.{foreign_units}
 
 one-more : (t : Bool) → cond t 1 0 ≤ 1
 one-more true = omega arith
@@ -30,12 +30,12 @@ module _ (d : Device) (area : Area) (lawful : IsLawfulFor d.banks area) where
       let newest = one-more (is_full (states_on d area)) in
       omega arith
 
-  pub erases-within : erases_on d area ≤ mount_units (geometry_of d area)
+  pub erases-within : erases_on d area ≤ foreign_units (geometry_of d area)
   erases-within =
       let le = erases-le in
       let several = lawful.several in
       let all = sectors-within area.sectors (sector_size d area / unit_of d area) (omega arith) in
       omega arith
 
-  pub mount-most : (e : Device) → SpendsAtMost d e (erases_on d area) → SpendsAtMost d e (mount_units (geometry_of d area))
-  mount-most e spent = most_weaker d e (erases_on d area) (mount_units (geometry_of d area)) erases-within spent
+  pub mount-most : (e : Device) → SpendsAtMost d e (erases_on d area) → SpendsAtMost d e (foreign_units (geometry_of d area))
+  mount-most e spent = most_weaker d e (erases_on d area) (foreign_units (geometry_of d area)) erases-within spent

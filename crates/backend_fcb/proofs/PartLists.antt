@@ -12,7 +12,7 @@ use Rattle.fcb_ring.specs.Standing.{StandsOn, entries_on, uncounted}
 use Rattle.fcb_ring.proofs.PlaceLemmas.{All-map}
 use Rattle.fcb_ring.proofs.RingLemmas.{by_distance, turned-within}
 use Rattle.backend_fcb.specs.Changing.{parts_on}
-use Rattle.record_settings.specs.Numbers.{cap, put_cost}
+use Rattle.record_settings.specs.Room.{cap, put_cost}
 use Rattle.backend_fcb.specs.Reading.{puts_cost}
 use Rattle.item_laws.specs.PairRounds.{joined}
 use Rattle.backend_fcb.specs.Standing.{bodies_on}

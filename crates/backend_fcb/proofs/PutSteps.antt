@@ -21,7 +21,7 @@ use Rattle.fcb_ring.proofs.AppendLemmas.{unit-after, size-after, ready-used}
 use Rattle.backend_api.specs.Map.{Map}
 use Rattle.backend_fcb.specs.Changing.{Collects, HasNoPlace, IsFull, SpendsCost, SpendsUpToCost, StopsDown, PutEnds, TryEnds, parts_on, collect_units}
 use Rattle.record_settings.specs.Live.{live_bodies}
-use Rattle.record_settings.specs.Numbers.{cap, put_cost}
+use Rattle.record_settings.specs.Room.{cap, put_cost}
 use Rattle.item_laws.specs.PairRounds.{joined}
 use Rattle.record_settings.specs.Rounds.{bodies_cost, FindsNoRoom}
 use Rattle.record_settings.specs.Settings.{setting_of, with_setting}

@@ -21,7 +21,7 @@ use Rattle.fcb_ring.proofs.AppendLemmas.{unit-after, size-after}
 use Rattle.fcb_ring.proofs.AreaLemmas.{HasSize, has_size, count-sectors, area_after}
 use Rattle.fcb_ring.proofs.CostLemmas.{list_cost}
 use Rattle.fcb_ring.proofs.PlaceLemmas.{find_first, find_nothing, found_none}
-use Rattle.record_settings.specs.Numbers.{cap, cost_by, put_cost}
+use Rattle.record_settings.specs.Room.{cap, cost_by, put_cost}
 use Rattle.backend_fcb.specs.Reading.{puts_cost, first_overfull, damage_of}
 use Rattle.record_settings.specs.Settings.{setting_of}
 use Rattle.backend_fcb.specs.Standing.{damage_on}

@@ -14,7 +14,7 @@ use Rattle.fcb_ring.proofs.AppendLemmas.{unit-after}
 use Rattle.fcb_ring.proofs.ChanceLemmas.{chance-full}
 use Rattle.backend_api.specs.Commands.{Command, applied, CutMap, StopsAt}
 use Rattle.backend_api.specs.Map.{Map}
-use Rattle.record_settings.specs.Numbers.{cost_by, put_cost}
+use Rattle.record_settings.specs.Room.{cost_by, put_cost}
 use Rattle.record_settings.specs.Settings.{setting_of, with_setting}
 use Rattle.record_settings.specs.Torn.{torn_body, IsTornOf}
 use Rattle.record_settings.proofs.TornLemmas.{torn-long, torn-setting}

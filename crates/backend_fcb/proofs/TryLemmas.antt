@@ -27,7 +27,7 @@ use Rattle.fcb_ring.proofs.AreaLemmas.{has_size, area_after}
 use Rattle.fcb_ring.proofs.ChanceLemmas.{header-chance, record-chance}
 use Rattle.fcb_ring.proofs.ImageLemmas.{spelled-is}
 use Rattle.backend_fcb.specs.Changing.{TryEnds, IsFull, collect_units}
-use Rattle.record_settings.specs.Numbers.{cap, reserve, put_cost}
+use Rattle.record_settings.specs.Room.{cap, reserve, put_cost}
 use Rattle.backend_fcb.specs.Reading.{puts_cost}
 use Rattle.record_settings.specs.Settings.{setting_of, longest, with_setting, settings_of}
 use Rattle.backend_fcb.specs.Standing.{damage_on, settings_on, IsReady}

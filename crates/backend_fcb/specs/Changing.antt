@@ -19,7 +19,7 @@ use Rattle.fcb_ring.specs.declared.writing.AppendFault.TheVariants.{Full, TooLon
 use Rattle.backend_api.specs.Ends.{SpendsSome}
 use Rattle.backend_fcb.specs.Compaction.{AreKeptWithin, AreShort, IsKept, bodies_at}
 use Rattle.record_settings.specs.Live.{live_bodies}
-use Rattle.record_settings.specs.Numbers.{cap}
+use Rattle.record_settings.specs.Room.{cap}
 use Rattle.item_laws.specs.PairRounds.{joined}
 use Rattle.record_settings.specs.Rounds.{bodies_cost, FindsNoRoom}
 use Rattle.record_settings.specs.Settings.{setting_of, with_setting}

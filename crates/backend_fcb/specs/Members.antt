@@ -10,7 +10,7 @@ use Rattle.fcb_ring.specs.Standing.{is_up, erases_due}
 use Rattle.backend_api.specs.Commands.{Command}
 use Rattle.backend_api.specs.Map.{Map}
 use Rattle.backend_api.specs.Room.{Room}
-use Rattle.record_settings.specs.Numbers.{room}
+use Rattle.record_settings.specs.Room.{room}
 use Rattle.backend_fcb.specs.declared.backend.FcbBackend.{FcbBackend}
 use Rattle.backend_fcb.specs.Reading.{damage_of, settings_in}
 use Rattle.backend_fcb.specs.Standing.{Stands}

@@ -9,7 +9,7 @@ use Rattle.fcb_ring.specs.declared.record.RecordAt.{RecordAt}
 use Rattle.fcb_ring.specs.Entries.{states, entries, bodies}
 use Rattle.fcb_ring.specs.Rings.{first_damage}
 use Rattle.backend_api.specs.Map.{Map}
-use Rattle.record_settings.specs.Numbers.{cap, put_cost}
+use Rattle.record_settings.specs.Room.{cap, put_cost}
 use Rattle.record_settings.specs.Settings.{settings_of}
 
 -- what the records of one sector that put a value cost

@@ -5,14 +5,13 @@ use Rattle.flash_map.specs.Area.{value_limit, unit_of, sectors_of}
 use Rattle.flash_map.specs.declared.area.Area.{Area}
 use Rattle.flash_map.specs.declared.area.Role.TheVariants.{Fcb as FcbRole}
 use Rattle.flash_map.specs.declared.faults.Damaged.{Damaged}
-use Rattle.flash_map.specs.Lawful.{IsLawfulFor}
 use Rattle.fcb_ring.specs.declared.ring.Ring.{Ring}
 use Rattle.fcb_ring.specs.declared.ring.Stage.TheVariants.{Ready}
 use Rattle.fcb_ring.specs.Entries.{bodies}
 use Rattle.fcb_ring.specs.Standing.{Stands as RingStands, StandsOn as RingStandsOn, entries_on}
 use Rattle.backend_api.specs.Map.{Map}
 use Rattle.backend_fcb.specs.declared.backend.FcbBackend.{FcbBackend}
-use Rattle.record_settings.specs.Numbers.{reserve}
+use Rattle.record_settings.specs.Room.{reserve}
 use Rattle.backend_fcb.specs.Reading.{damage_of, settings_in}
 
 -- The ring is ready for the next record, keeps the reserve, and the area shows no damage.
@@ -22,11 +21,6 @@ pub record Stands (backend : FcbBackend) (unit : ℕ) (sectors : List (List ℕ)
   pub ready : backend.ring.stage ≡ Ready
   pub reserve : backend.ring.reserve ≡ reserve unit
   pub undamaged : damage_of (value_limit backend.ring.area) unit sectors ≡ None
-
--- the backend stands on this device
-pub record StandsOn (d : Device) (backend : FcbBackend) : Type 0 where
-  pub lawful : IsLawfulFor d.banks backend.ring.area
-  pub stands : Stands backend (unit_of d backend.ring.area) (sectors_of d backend.ring.area)
 
 abbrev pub damage_on : Device → Area → Option Damaged
 damage_on d area = damage_of (value_limit area) (unit_of d area) (sectors_of d area)

@@ -16,7 +16,7 @@ ghost use Rattle.backend_api.specs.Commands.{StopsOn};
 ghost use Rattle.backend_api.specs.Commands.Command.{Put, Del};
 ghost use Rattle.backend_api.specs.Ends.{set_lost, MountEnds, SetEndsOn, DeleteEndsOn};
 ghost use Rattle.backend_api.specs.Map.{IsStored, IsValue};
-ghost use Rattle.backend_api.specs.Room.{mount_units};
+ghost use Rattle.backend_api.specs.Room.{foreign_units};
 ghost use Rattle.backend_api.specs.Written.{StaysWritten};
 ghost use Rattle.backend_fcb.specs.Exact.{SpendsFor, SpendsErases};
 ghost use Rattle.backend_fcb.specs.Leaving.{Leaves};
@@ -178,7 +178,7 @@ impl Backend for FcbBackend {
         ensures written { let d = F.device flash.old in
             (area.role ≡ FcbRole → ⊥) → StaysWritten d (F.device flash.new) area }
         ensures units { let d = F.device flash.old in
-            MountUnits OwesBy (mount_units (geometry_of d area)) d (F.device flash.new) area }
+            MountUnits OwesBy (foreign_units (geometry_of d area)) d (F.device flash.new) area }
         ensures on { IfOk result (λ state. area_of state ≡ area) }
         ensures stands { IfOk result
             (λ state. StandsOn area_of StandsBy (F.device flash.new) state) }

@@ -4,7 +4,7 @@ ghost use Rattle.flash_sim.specs.declared.flash.TheConstants.{PROGRAM_LIMIT};
 ghost use Rattle.flash_map.specs.Area.{value_limit, unit_of, sector_size};
 ghost use Rattle.fcb_ring.specs.Standing.{StandsOn as RingStandsOn};
 ghost use Rattle.record_settings.specs.Last.{last_value as last_value_of};
-ghost use Rattle.record_settings.specs.Numbers.{put_cost, room};
+ghost use Rattle.record_settings.specs.Room.{put_cost, room};
 ghost use Rattle.backend_fcb.specs.Standing.{bodies_on, settings_on};
 ghost use Rattle.backend_fcb.specs.Compaction.{IsKept, bodies_at};
 ghost use Rattle.backend_fcb.specs.declared.compaction.TheConstants.{TABLE};

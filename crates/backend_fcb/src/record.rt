@@ -5,7 +5,7 @@ ghost use Rattle.flash_map.specs.Area.{value_limit};
 ghost use Rattle.flash_map.specs.Units.{IsUnit};
 ghost use Rattle.flash_map.specs.declared.area.TheConstants.{LONG_VALUE_LIMIT};
 ghost use Rattle.setting_name.specs.Name.{IsName};
-ghost use Rattle.record_settings.specs.Numbers.{reserve, cap, put_cost};
+ghost use Rattle.record_settings.specs.Room.{reserve, cap, put_cost};
 ghost use Rattle.record_settings.specs.Settings.{setting_of, body_of};
 ghost use Rattle.backend_fcb.specs.Parts.{if_named};
 ghost use Rattle.backend_fcb.specs.declared.record.TheConstants.{BODY};

@@ -5,7 +5,7 @@ ghost use Rattle.flash_map.specs.Spending.{SpendsAtMost};
 ghost use Rattle.flash_map.specs.Touches.{Touches};
 ghost use Rattle.fcb_ring.specs.Changing.{append_lost, kept_room};
 ghost use Rattle.backend_fcb.specs.Changing.{PutEnds, TryEnds, collect_units};
-ghost use Rattle.record_settings.specs.Numbers.{put_cost};
+ghost use Rattle.record_settings.specs.Room.{put_cost};
 ghost use Rattle.record_settings.specs.Settings.{longest};
 ghost use Rattle.backend_fcb.specs.Standing.{IsReady};
 

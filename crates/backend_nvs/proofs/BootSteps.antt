@@ -1,18 +1,16 @@
 -- What a mount spends, and what a command that was cut leaves to it.
-use Rattle.std.proofs.Common.{◌≡◌, ℕ, ◌+◌, ◌≤◌, List, None, Result, sym, ap, subst, ◌∙◌, inl, inr, arith}
-use Rattle.std.specs.FinMap.{len}
+use Rattle.std.proofs.Common.{◌≡◌, ℕ, None, Result, sym, ap, subst, ◌∙◌, inl, inr, arith}
 use Rattle.flash_sim.specs.Device.{Device, counted}
 use Rattle.flash_map.specs.declared.area.Area.{Area}
 use Rattle.flash_map.specs.declared.area.Geometry.{Geometry}
 use Rattle.flash_map.specs.declared.faults.MountFault.{MountFault}
-use Rattle.flash_map.specs.Area.{geometry_of, sectors_of}
+use Rattle.flash_map.specs.Area.{geometry_of}
 use Rattle.flash_map.specs.On.{on, HoldsOn}
 use Rattle.flash_map.specs.Spending.{SpendsAtMost}
-use Rattle.item_laws.specs.Items.{Items}
 use Rattle.backend_api.specs.Boot as api
 use Rattle.backend_api.specs.Ends.{MountEnds}
 use Rattle.named_items.specs.Pairs.{HasNoOrphans}
-use Rattle.named_items.specs.Orphans.{KeepsSettings, OrphansIn, HasOrphans, SpendsBooting, Owing}
+use Rattle.named_items.specs.Orphans.{KeepsSettings, HasOrphans, SpendsBooting, Owing}
 use Rattle.named_items.specs.NvsStore.{nvs_damage, nvs_items, nvs_rests, nvs_redo, nvs_clear, nvs_entry, nvs_removal, nvs-lean}
 use Rattle.named_items.proofs.OrphanUnits.{mount-leaves, owing-spent, owing-left, cut-owing}
 use Rattle.named_items.proofs.SpendSteps.{geometry-stays}

@@ -27,15 +27,15 @@ none_some x e = cc
 
 -- ---- how many names
 
--- any name may stand at each place that the count allows
+-- any name may stand at each id that the count allows
 pub count-candidates : (limit : ℕ) (items : Items) (name : List ℕ) (count : ℕ) → count ≡ count_in (nvs_numbering limit) items → CandidatesAre (nvs_numbering limit) items name 0x8001 count
 count-candidates limit items name count is = record {
   low = omega arith;
   high = omega arith;
-  candidate = λ place from to. refl;
-  only = λ place inside candidate.
-      let from : 0x8001 ≤ place = inside.from in
-      let to : place < 0x8001 + count_in (nvs_numbering limit) items = inside.to in
+  candidate = λ id from to. refl;
+  only = λ id inside candidate.
+      let from : 0x8001 ≤ id = inside.from in
+      let to : id < 0x8001 + count_in (nvs_numbering limit) items = inside.to in
       (from, omega arith);
 }
 
@@ -65,13 +65,13 @@ module _ (limit : ℕ) (items : Items) (clean : HasNoOrphans (nvs_numbering limi
   most : count_in (nvs_numbering limit) items ≤ 511
   most = count-few (get items 0x8000)
 
-  -- a place is free
-  pub free-few : (place : ℕ) → IsInside (nvs_numbering limit) items place → IsFree items place (place + 0x4000) → len (settings_in (nvs_numbering limit) items) < 511
-  free-few place inside free =
+  -- an id is free
+  pub free-few : (candidate : ℕ) → IsInside (nvs_numbering limit) items candidate → IsFree items candidate (candidate + 0x4000) → len (settings_in (nvs_numbering limit) items) < 511
+  free-few candidate inside free =
       let e = clean-len n laws items clean in
-      let from : 0x8001 ≤ place = inside.from in
-      let to : place < 0x8001 + count_in n items = inside.to in
-      let less = on-free (pair_at n items) 0x8001 (count_in n items) place from to (no-name n place (get items place) (get items (place + 0x4000)) free.0) in
+      let from : 0x8001 ≤ candidate = inside.from in
+      let to : candidate < 0x8001 + count_in n items = inside.to in
+      let less = on-free (pair_at n items) 0x8001 (count_in n items) candidate from to (no-name n candidate (get items candidate) (get items (candidate + 0x4000)) free.0) in
       let all = most in
       omega arith
 
@@ -113,7 +113,7 @@ module _ (limit : ℕ) (items : Items) (clean : HasNoOrphans (nvs_numbering limi
         | inr kept ↦ elim kept [
           | inl count ↦ count.counts
           | inr part ↦
-              let f : 0x8001 ≤ part.place = part.at.inside.from in
+              let f : 0x8001 ≤ part.candidate = part.at.inside.from in
               elim part.is [ inl e ↦ absurd (omega arith) | inr e ↦ absurd (omega arith) ]
         ]
       ]
@@ -148,8 +148,8 @@ module _ (limit : ℕ) (items : Items) (clean : HasNoOrphans (nvs_numbering limi
       | inr kept ↦ elim kept [
         | inl is ↦ let e : id ≡ 0x8000 = is.is in absurd (omega arith)
         | inr part ↦
-            let f : 0x8001 ≤ part.place = part.at.inside.from in
-            let t : part.place < 0x8001 + count_in n items = part.at.inside.to in
+            let f : 0x8001 ≤ part.candidate = part.at.inside.from in
+            let t : part.candidate < 0x8001 + count_in n items = part.at.inside.to in
             elim part.is [ inl e ↦ absurd (omega arith) | inr e ↦ absurd (omega arith) ]
       ]
     ]
@@ -160,9 +160,9 @@ module _ (limit : ℕ) (items : Items) (clean : HasNoOrphans (nvs_numbering limi
       | inr kept ↦ elim kept [
         | inl is ↦ let e : id ≡ 0x8000 = is.is in absurd (omega arith)
         | inr part ↦
-            let f : 0x8001 ≤ part.place = part.at.inside.from in
-            let t : part.place < 0x8001 + count_in n items = part.at.inside.to in
-            elim part.is [ inl e ↦ absurd (omega arith) | inr e ↦ let v : id ≡ part.place + 0x4000 = e in absurd (omega arith) ]
+            let f : 0x8001 ≤ part.candidate = part.at.inside.from in
+            let t : part.candidate < 0x8001 + count_in n items = part.at.inside.to in
+            elim part.is [ inl e ↦ absurd (omega arith) | inr e ↦ let v : id ≡ part.candidate + 0x4000 = e in absurd (omega arith) ]
       ]
     ]
 

@@ -1,4 +1,3 @@
 mod BootSteps
 mod CountSteps
 mod FormatSteps
-mod TestBanks

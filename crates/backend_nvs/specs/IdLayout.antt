@@ -41,7 +41,7 @@ nvs_numbering limit = record {
   count_bytes = count_bytes;
   first = FIRST;
   step = STEP;
-  is_candidate = λ place name. true;
+  is_candidate = λ id name. true;
   longest = limit;
 }
 

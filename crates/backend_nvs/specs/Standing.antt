@@ -3,7 +3,7 @@ use Rattle.std.specs.Prelude.{◌≡◌, ◌⊎◌, ℕ, ◌+◌, ◌≤◌, Lis
 use Rattle.std.proofs.Common.{inl, inr, arith}
 use Rattle.flash_sim.specs.Bank.{IsLawful}
 use Rattle.flash_sim.specs.Device.{Device}
-use Rattle.flash_map.specs.Area.{value_limit, geometry_of, sectors_of}
+use Rattle.flash_map.specs.Area.{value_limit}
 use Rattle.flash_map.specs.On.{on}
 use Rattle.flash_map.specs.Lawful.{IsLawfulFor}
 use Rattle.flash_map.specs.declared.area.Area.{Area}
@@ -40,11 +40,6 @@ pub reads_settings : (d : Device) (area : Area) → IsLawful d.banks d.bytes →
     → IsSettings (value_limit area) (settings_of area (on nvs_items d area))
 reads_settings d area lawful for role undamaged =
     settings-lawful (numbering_of area) (nvs-numbering (value_limit area)) (omega arith) (on nvs_items d area)
-
--- the backend stands on this device
-pub record StandsOn (d : Device) (backend : NvsBackend) : Type 0 where
-  pub lawful : IsLawfulFor d.banks backend.store.store.area
-  pub stands : Stands backend (geometry_of d backend.store.store.area) (sectors_of d backend.store.store.area)
 
 -- ---- what a mount spends
 

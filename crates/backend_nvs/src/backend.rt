@@ -11,7 +11,7 @@ ghost use Rattle.backend_api.specs.Boot.{MountUnits, CommandUnits};
 ghost use Rattle.backend_api.specs.Commands.{StopsOn};
 ghost use Rattle.backend_api.specs.Commands.Command.{Put, Del};
 ghost use Rattle.backend_api.specs.Ends.{set_lost, MountEnds, SetEndsOn, DeleteEndsOn};
-ghost use Rattle.backend_api.specs.Room.{command_units, mount_units};
+ghost use Rattle.backend_api.specs.Room.{command_units, foreign_units};
 ghost use Rattle.backend_api.specs.Written.{StaysWritten};
 ghost use Rattle.named_items.specs.Leaving.{SetLeavesItems, DeleteLeavesItems};
 ghost use Rattle.named_items.specs.Orphans.{MountLeavesItems};
@@ -108,7 +108,7 @@ impl Backend for NvsBackend {
         ensures written { let d = F.device flash.old in
             (area.role ≡ FcbRole → ⊥) → StaysWritten d (F.device flash.new) area }
         ensures units { let d = F.device flash.old in
-            MountUnits Owes (mount_units (geometry_of d area)) d (F.device flash.new) area }
+            MountUnits Owes (foreign_units (geometry_of d area)) d (F.device flash.new) area }
         ensures on { IfOk result (λ state. area_of state ≡ area) }
         ensures stands { IfOk result
             (λ state. StandsOn area_of Stands (F.device flash.new) state) }

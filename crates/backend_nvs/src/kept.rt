@@ -7,7 +7,7 @@ ghost use Rattle.named_items.specs.Looking.{HasIds};
 ghost use Rattle.backend_nvs.specs.IdLayout.{is_count, numbering_of};
 ghost use Rattle.backend_nvs.specs.declared.lookup.TheConstants.{TOP};
 
-use crate::lookup::{COUNT, FIRST, STEP, place_of};
+use crate::lookup::{COUNT, FIRST, STEP, id_of};
 use flash_sim::{Flash, Steps};
 use named_items::ItemStore;
 use setting_name::Name;
@@ -18,7 +18,7 @@ fn stands_at<S: ItemStore, F: Flash, L: Ledger>(
     store: &S,
     flash: &F,
     index: &S::Index,
-    place: u32,
+    id: u32,
     steps: &mut Steps<L>,
 ) -> bool
     requires ids { HasIds TOP S.is_id }
@@ -26,24 +26,24 @@ fn stands_at<S: ItemStore, F: Flash, L: Ledger>(
     requires stands { StandsOn S.mounted_on S.stands (F.device flash.now) store.now }
     requires describes { HoldsOn (S.describes index.now) (F.device flash.now)
         (S.mounted_on store.now) }
-    requires known { place < TOP }
+    requires known { id < TOP }
     ensures yes_it { let area = S.mounted_on store.now in
         result ≡ true
         → (name : List ℕ)
-        × IsAt (numbering_of area) (on S.contents (F.device flash.now) area) name place }
+        × IsAt (numbering_of area) (on S.contents (F.device flash.now) area) name id }
     ensures not_it { let area = S.mounted_on store.now in
         result ≡ false → (name : List ℕ)
-        → IsAt (numbering_of area) (on S.contents (F.device flash.now) area) name place → ⊥ }
+        → IsAt (numbering_of area) (on S.contents (F.device flash.now) area) name id → ⊥ }
 {
-    let name = match store.get_by(flash, index, place, steps) {
+    let name = match store.get_by(flash, index, id, steps) {
         Some(bytes) => match Name::read(bytes) {
             Ok(name) => name,
             Err(_) => return false,
         },
         None => return false,
     };
-    match place_of(store, flash, index, &name, steps) {
-        Some(found) => found == place,
+    match id_of(store, flash, index, &name, steps) {
+        Some(found) => found == id,
         None => false,
     }
 }
@@ -81,6 +81,6 @@ pub(crate) fn is_kept<S: ItemStore, F: Flash, L: Ledger>(
     if id == COUNT {
         return is_count(store.get_by(flash, index, COUNT, steps));
     }
-    let place = if id < FIRST + STEP { id } else { id - STEP };
-    stands_at(store, flash, index, place, steps)
+    let candidate = if id < FIRST + STEP { id } else { id - STEP };
+    stands_at(store, flash, index, candidate, steps)
 }

@@ -87,7 +87,7 @@ fn is_here<S: ItemStore, F: Flash, L: Ledger>(
     flash: &F,
     index: &S::Index,
     name: &Name,
-    place: u32,
+    id: u32,
     steps: &mut Steps<L>,
 ) -> bool
     requires ids { HasIds TOP S.is_id }
@@ -95,17 +95,17 @@ fn is_here<S: ItemStore, F: Flash, L: Ledger>(
     requires stands { StandsOn S.mounted_on S.stands (F.device flash.now) store.now }
     requires describes { HoldsOn (S.describes index.now) (F.device flash.now)
         (S.mounted_on store.now) }
-    requires low { place < FIRST + LIMIT }
+    requires low { id < FIRST + LIMIT }
     ensures { let area = S.mounted_on store.now in
         let items = on S.contents (F.device flash.now) area in
-        MatchBool result (HasName (pair_at (numbering_of area) items place) name.now)
-        (¬ HasName (pair_at (numbering_of area) items place) name.now) }
+        MatchBool result (HasName (pair_at (numbering_of area) items id) name.now)
+        (¬ HasName (pair_at (numbering_of area) items id) name.now) }
 {
-    is_at(store, flash, index, name, place, place + STEP, steps)
+    is_at(store, flash, index, name, id, id + STEP, steps)
 }
 
 // The id of the name's setting in effect, if there is one.
-pub(crate) fn place_of<S: ItemStore, F: Flash, L: Ledger>(
+pub(crate) fn id_of<S: ItemStore, F: Flash, L: Ledger>(
     store: &S,
     flash: &F,
     index: &S::Index,
@@ -121,9 +121,9 @@ pub(crate) fn place_of<S: ItemStore, F: Flash, L: Ledger>(
         IsIdOfName (numbering_of area) (on S.contents (F.device flash.now) area) name.now result }
 {
     let count = read_count_by(store, flash, index, steps);
-    for place in FIRST..FIRST + count {
-        if is_here(store, flash, index, name, place, steps) {
-            return Some(place);
+    for id in FIRST..FIRST + count {
+        if is_here(store, flash, index, name, id, steps) {
+            return Some(id);
         }
     }
     None

@@ -69,14 +69,14 @@ impl IdLayout for NvsIdLayout {
         FIRST + lookup::read_count_by(store, flash, index, steps)
     }
 
-    fn place_of<S: ItemStore, F: Flash, L: Ledger>(
+    fn id_of<S: ItemStore, F: Flash, L: Ledger>(
         store: &S,
         flash: &F,
         index: &S::Index,
         name: &Name,
         steps: &mut Steps<L>,
     ) -> Option<u32> {
-        lookup::place_of(store, flash, index, name, steps)
+        lookup::id_of(store, flash, index, name, steps)
     }
 
     fn is_kept<S: ItemStore, F: Flash, L: Ledger>(

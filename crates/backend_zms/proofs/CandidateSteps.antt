@@ -16,8 +16,8 @@ use Rattle.named_items.specs.Looking.{StandsHere}
 use Rattle.named_items.proofs.LookupSteps.{at-lawful, here-has}
 use Rattle.named_items.proofs.OrphanSteps.{named-at}
 use Rattle.backend_zms.specs.Hash.{first_of}
-use Rattle.backend_zms.specs.IdLayout.{places, zms_numbering, zms-numbering}
-use Rattle.backend_zms.proofs.GroupLemmas.{all-places, group-candidates}
+use Rattle.backend_zms.specs.IdLayout.{name_ids, zms_numbering, zms-numbering}
+use Rattle.backend_zms.proofs.GroupLemmas.{all-ids, group-candidates}
 
 some_none : (x : List ℕ) → Some x ≡ None → ⊥
 some_none x e = cc
@@ -31,38 +31,38 @@ module _ (limit : ℕ) (items : Items) where
     candidates = subst (λ (k : ℕ). CandidatesAre n items name k 16) (sym is) (group-candidates limit items name)
 
     -- the least id with the name
-    pub found-at : (place : ℕ) → from ≤ place → place < from + 16 → IsName name → StandsHere limit items place (place + 0x40000000) name → ((k : ℕ) → from ≤ k → k < place → ¬ HasName (pair_at n items k) name) → IsAt n items name place
-    found-at place low high named here none =
-        least-candidate n items name from 16 candidates place low high (here-has n place name (get items place) (get items (place + 0x40000000)) here named (candidates.candidate place low high)) none
+    pub found-at : (candidate : ℕ) → from ≤ candidate → candidate < from + 16 → IsName name → StandsHere limit items candidate (candidate + 0x40000000) name → ((k : ℕ) → from ≤ k → k < candidate → ¬ HasName (pair_at n items k) name) → IsAt n items name candidate
+    found-at candidate low high named here none =
+        least-candidate n items name from 16 candidates candidate low high (here-has n candidate name (get items candidate) (get items (candidate + 0x40000000)) here named (candidates.candidate candidate low high)) none
 
     -- no id of the group has an item
     pub empty-group : ((k : ℕ) → from ≤ k → k < from + 16 → get items k ≡ None) → IsIdOfName n items name None
     empty-group none =
-        nowhere-candidate n items name from 16 candidates (λ place low high has.
-        let made = pair-made n place name (get items place) (get items (place + 0x40000000)) has in
-        some_none name (sym made.is_name ∙ none place low high))
+        nowhere-candidate n items name from 16 candidates (λ candidate low high has.
+        let made = pair-made n candidate name (get items candidate) (get items (candidate + 0x40000000)) has in
+        some_none name (sym made.is_name ∙ none candidate low high))
 
   -- names stand below the values
-  place-low : (name : List ℕ) (place : ℕ) → IsAt n items name place → place < 0x80010000
-  place-low name place at =
-      let to : place < 0x80000000 + places = at.inside.to in
-      let all = all-places in
+  id-low : (name : List ℕ) (candidate : ℕ) → IsAt n items name candidate → candidate < 0x80010000
+  id-low name candidate at =
+      let to : candidate < 0x80000000 + name_ids = at.inside.to in
+      let all = all-ids in
       omega arith
 
-  -- an item is kept where the name at its place is one of a setting
-  pub not-kept : (id place : ℕ) → ((id < 0xC0000000) × (place ≡ id)) ⊎ ((0xC0000000 ≤ id) × (place ≡ id - 0x40000000)) → ((name : List ℕ) → ¬ IsAt n items name place) → IsKept n items id → ⊥
-  not-kept id place is none kept =
+  -- an item is kept where the name at its candidate id is one of a setting
+  pub not-kept : (id candidate : ℕ) → ((id < 0xC0000000) × (candidate ≡ id)) ⊎ ((0xC0000000 ≤ id) × (candidate ≡ id - 0x40000000)) → ((name : List ℕ) → ¬ IsAt n items name candidate) → IsKept n items id → ⊥
+  not-kept id candidate is none kept =
       elim kept [
         | inl count ↦ false≢true count.counts
         | inr part ↦
-            let low : part.place < 0x80010000 = place-low part.name part.place part.at in
-            let from : 0x80000000 ≤ part.place = part.at.inside.from in
-            let same : part.place ≡ place = at-place part.place part.is from low in
+            let low : part.candidate < 0x80010000 = id-low part.name part.candidate part.at in
+            let from : 0x80000000 ≤ part.candidate = part.at.inside.from in
+            let same : part.candidate ≡ candidate = at-id part.candidate part.is from low in
             none part.name (subst (λ (k : ℕ). IsAt n items part.name k) same part.at)
       ]
     where
-      at-place : (own : ℕ) → (id ≡ own) ⊎ (id ≡ own + 0x40000000) → 0x80000000 ≤ own → own < 0x80010000 → own ≡ place
-      at-place own part from low =
+      at-id : (own : ℕ) → (id ≡ own) ⊎ (id ≡ own + 0x40000000) → 0x80000000 ≤ own → own < 0x80010000 → own ≡ candidate
+      at-id own part from low =
           elim is [
             | inl x ↦ let a = x.0 in let b = x.1 in elim part [ inl e ↦ omega arith | inr e ↦ absurd (omega arith) ]
             | inr x ↦ let a = x.0 in let b = x.1 in elim part [ inl e ↦ absurd (omega arith) | inr e ↦ omega arith ]
@@ -82,7 +82,7 @@ module _ (limit : ℕ) (items : Items) where
         | inr kept ↦ elim kept [
           | inl count ↦ absurd (false≢true count.counts)
           | inr part ↦
-              let low : 0x80000000 ≤ part.place = part.at.inside.from in
+              let low : 0x80000000 ≤ part.candidate = part.at.inside.from in
               elim part.is [ inl e ↦ absurd (omega arith) | inr e ↦ absurd (omega arith) ]
         ]
       ]

@@ -12,7 +12,7 @@ use Rattle.named_items.proofs.CandidateLemmas.{candidates-full, candidates-few, 
 use Rattle.named_items.proofs.NameLemmas.{get-nowhere}
 use Rattle.named_items.proofs.RangePairs.{pairs_on}
 use Rattle.backend_zms.specs.Hash.{fnv, group_of, first_of}
-use Rattle.backend_zms.specs.IdLayout.{places, is_place_of, zms_numbering, zms-numbering, too_many}
+use Rattle.backend_zms.specs.IdLayout.{name_ids, is_candidate_of, zms_numbering, zms-numbering, too_many}
 
 -- ---- groups
 
@@ -26,30 +26,30 @@ group-low name =
     let is = group-is name in
     omega arith
 
-pub all-places : places ≡ 65536
-unfolding places
-all-places = refl
+pub all-ids : name_ids ≡ 65536
+unfolding name_ids
+all-ids = refl
 
-between-true : (a b place : ℕ) → a ≤ place → place < b → nat_le a place && nat_lt place b ≡ true
-between-true a b place low high = grind (arith, nat_tests)
+between-true : (a b id : ℕ) → a ≤ id → id < b → nat_le a id && nat_lt id b ≡ true
+between-true a b id low high = grind (arith, nat_tests)
 
-between-low : (a b place : ℕ) → nat_le a place && nat_lt place b ≡ true → a ≤ place
-between-low a b place is = grind (arith, nat_tests)
+between-low : (a b id : ℕ) → nat_le a id && nat_lt id b ≡ true → a ≤ id
+between-low a b id is = grind (arith, nat_tests)
 
-between-high : (a b place : ℕ) → nat_le a place && nat_lt place b ≡ true → place < b
-between-high a b place is = grind (arith, nat_tests)
+between-high : (a b id : ℕ) → nat_le a id && nat_lt id b ≡ true → id < b
+between-high a b id is = grind (arith, nat_tests)
 
 -- two groups that share an id are one
-one-group : (name other : List ℕ) (place : ℕ) → first_of name ≤ place → place < first_of name + 16 → is_place_of place other ≡ true → group_of other ≡ group_of name
-one-group name other place low high is =
+one-group : (name other : List ℕ) (id : ℕ) → first_of name ≤ id → id < first_of name + 16 → is_candidate_of id other ≡ true → group_of other ≡ group_of name
+one-group name other id low high is =
     let a = group-is name in
     let b = group-is other in
-    let from : first_of other ≤ place = between-low (first_of other) (first_of other + 16) place is in
-    let to : place < first_of other + 16 = between-high (first_of other) (first_of other + 16) place is in
-    multiples (fnv name / 16 % 4096) (fnv other / 16 % 4096) (group_of name) (group_of other) place a b low high from to
+    let from : first_of other ≤ id = between-low (first_of other) (first_of other + 16) id is in
+    let to : id < first_of other + 16 = between-high (first_of other) (first_of other + 16) id is in
+    multiples (fnv name / 16 % 4096) (fnv other / 16 % 4096) (group_of name) (group_of other) id a b low high from to
   where
-    multiples : (x y g h place : ℕ) → g ≡ x * 16 → h ≡ y * 16 → 0x80000000 + g ≤ place → place < 0x80000000 + g + 16 → 0x80000000 + h ≤ place → place < 0x80000000 + h + 16 → h ≡ g
-    multiples x y g h place a b p q r s = omega arith
+    multiples : (x y g h id : ℕ) → g ≡ x * 16 → h ≡ y * 16 → 0x80000000 + g ≤ id → id < 0x80000000 + g + 16 → 0x80000000 + h ≤ id → id < 0x80000000 + h + 16 → h ≡ g
+    multiples x y g h id a b p q r s = omega arith
 
 same-group : (g h : ℕ) → g ≡ h → (g == h) ≡ true
 same-group g h e = grind (arith, nat_tests)
@@ -57,18 +57,18 @@ same-group g h e = grind (arith, nat_tests)
 other-group : (g h : ℕ) → ¬ (g ≡ h) → (g == h) ≡ false
 other-group g h e = grind (arith, nat_tests)
 
--- ---- the places of a name
+-- ---- the candidate ids of a name
 
 module _ (limit : ℕ) (items : Items) (name : List ℕ) where
   pub group-candidates : CandidatesAre (zms_numbering limit) items name (first_of name) 16
   group-candidates =
       let low = group-low name in
-      let all = all-places in
+      let all = all-ids in
       record {
         low = omega arith;
         high = omega arith;
-        candidate = λ place a b. between-true (first_of name) (first_of name + 16) place a b;
-        only = λ place inside is. (between-low (first_of name) (first_of name + 16) place is, between-high (first_of name) (first_of name + 16) place is);
+        candidate = λ id a b. between-true (first_of name) (first_of name + 16) id a b;
+        only = λ id inside is. (between-low (first_of name) (first_of name + 16) id is, between-high (first_of name) (first_of name + 16) id is);
       }
 
   module _ (clean : HasNoOrphans (zms_numbering limit) items) where
@@ -80,16 +80,16 @@ module _ (limit : ℕ) (items : Items) (name : List ℕ) where
 
     names-in-group : names ≡ length (pairs_on (pair_at (zms_numbering limit) items) (first_of name) 16)
     names-in-group = candidates-count (zms_numbering limit) items name (first_of name) 16 group-candidates (zms-numbering limit) clean same
-        (λ other place a b candidate. same-group (group_of other) (group_of name) (one-group name other place a b candidate))
-        (λ other place out candidate. other-group (group_of other) (group_of name) (λ e. apart other place out candidate e))
+        (λ other id a b candidate. same-group (group_of other) (group_of name) (one-group name other id a b candidate))
+        (λ other id out candidate. other-group (group_of other) (group_of name) (λ e. apart other id out candidate e))
       where
-        apart : (other : List ℕ) (place : ℕ) → (place < first_of name) ⊎ (first_of name + 16 ≤ place) → is_place_of place other ≡ true → group_of other ≡ group_of name → ⊥
-        apart other place out candidate e =
-            let from : first_of other ≤ place = between-low (first_of other) (first_of other + 16) place candidate in
-            let to : place < first_of other + 16 = between-high (first_of other) (first_of other + 16) place candidate in
+        apart : (other : List ℕ) (id : ℕ) → (id < first_of name) ⊎ (first_of name + 16 ≤ id) → is_candidate_of id other ≡ true → group_of other ≡ group_of name → ⊥
+        apart other id out candidate e =
+            let from : first_of other ≤ id = between-low (first_of other) (first_of other + 16) id candidate in
+            let to : id < first_of other + 16 = between-high (first_of other) (first_of other + 16) id candidate in
             elim out [ inl less ↦ omega arith | inr more ↦ omega arith ]
 
-    -- a new name of a group without a bare place is one too many
+    -- a new name of a group without a free id is one too many
     pub group-full : IsIdOfName (zms_numbering limit) items name None → IsFreeCandidate (zms_numbering limit) items name None → too_many (settings_in (zms_numbering limit) items) name ≡ true
     group-full absent none =
         let many : names ≡ 16 = names-in-group ∙ candidates-full (zms_numbering limit) items name (first_of name) 16 group-candidates (zms-numbering limit) clean none in
@@ -99,7 +99,7 @@ module _ (limit : ℕ) (items : Items) (name : List ℕ) where
         enough : (k : ℕ) → k ≡ 16 → nat_le 16 k ≡ true
         enough k is = grind (arith, nat_tests)
 
-    -- and one of a group with a bare place is not
+    -- and one of a group with a free id is not
     pub group-free : (free : ℕ) → IsFreeCandidate (zms_numbering limit) items name (Some free) → too_many (settings_in (zms_numbering limit) items) name ≡ false
     group-free free is =
         let few : names < 16 = subst (λ (k : ℕ). k < 16) (sym names-in-group) (candidates-few (zms_numbering limit) items name (first_of name) 16 group-candidates (zms-numbering limit) clean free is) in

@@ -16,35 +16,35 @@ use Rattle.backend_zms.specs.declared.hash.TheConstants.{FIRST, STEP, GROUP_BITS
 use Rattle.backend_zms.specs.Hash.{group_of, first_of}
 
 -- how many ids are for names
-unfoldable pub places : ℕ
-places = GROUP_BITS + GROUP_SIZE
+unfoldable pub name_ids : ℕ
+name_ids = GROUP_BITS + GROUP_SIZE
 
--- the place is one of those of the name's group
-abbrev pub is_place_of : ℕ → List ℕ → Bool
-is_place_of place name = nat_le (first_of name) place && nat_lt place (first_of name + GROUP_SIZE)
+-- the id is one of those of the name's group
+abbrev pub is_candidate_of : ℕ → List ℕ → Bool
+is_candidate_of id name = nat_le (first_of name) id && nat_lt id (first_of name + GROUP_SIZE)
 
--- No item is a count: names may stand at all places.
+-- No item is a count: names may stand at all of these ids.
 abbrev pub zms_numbering : ℕ → Numbering
 zms_numbering limit = record {
   count_id = 0;
-  count_of = λ count. places;
+  count_of = λ count. name_ids;
   is_count = λ count. false;
   count_bytes = λ count. [];
   first = FIRST;
   step = STEP;
-  is_candidate = is_place_of;
+  is_candidate = is_candidate_of;
   longest = limit;
 }
 
-places-few : places ≤ STEP
-unfolding places
-places-few = lit≤ tt
+name_ids-few : name_ids ≤ STEP
+unfolding name_ids
+name_ids-few = lit≤ tt
 
 pub zms-numbering : (limit : ℕ) → IsNumbering (zms_numbering limit)
 zms-numbering limit = record {
   below = lit< tt;
   apart = lit< tt;
-  few = λ count. places-few;
+  few = λ count. name_ids-few;
   none = refl;
   other = λ count none. refl;
 }
@@ -56,8 +56,8 @@ numbering_of area = zms_numbering (value_limit area)
 abbrev pub top : ℕ
 top = 0xFFFFFFFF
 
-pub zms-within : FIRST + places + STEP ≤ top
-unfolding places
+pub zms-within : FIRST + name_ids + STEP ≤ top
+unfolding name_ids
 zms-within = lit≤ tt
 
 pub no-count : (price : ℕ → ℕ) (count : Option (List ℕ)) → false ≡ true → item_cost price count ≤ 0

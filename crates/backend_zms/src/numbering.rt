@@ -78,14 +78,14 @@ impl IdLayout for ZmsIdLayout {
         FIRST + GROUP_BITS + GROUP_SIZE
     }
 
-    fn place_of<S: ItemStore, F: Flash, L: Ledger>(
+    fn id_of<S: ItemStore, F: Flash, L: Ledger>(
         store: &S,
         flash: &F,
         index: &S::Index,
         name: &Name,
         steps: &mut Steps<L>,
     ) -> Option<u32> {
-        place_of(store, flash, index, name, steps)
+        id_of(store, flash, index, name, steps)
     }
 
     fn is_kept<S: ItemStore, F: Flash, L: Ledger>(
@@ -95,8 +95,8 @@ impl IdLayout for ZmsIdLayout {
         id: u32,
         steps: &mut Steps<L>,
     ) -> bool {
-        let place = if id < FIRST + STEP { id } else { id - STEP };
-        stands_at(store, flash, index, place, steps)
+        let candidate = if id < FIRST + STEP { id } else { id - STEP };
+        stands_at(store, flash, index, candidate, steps)
     }
 
     fn settings_cost<S: ItemStore, F: Flash, L: Ledger>(
@@ -137,7 +137,7 @@ fn group_of(name: &Name) -> IdRange
 
 // The id of the name's setting in effect, if it has a value: the least of its group that has the
 // name and a value.
-fn place_of<S: ItemStore, F: Flash, L: Ledger>(
+fn id_of<S: ItemStore, F: Flash, L: Ledger>(
     store: &S,
     flash: &F,
     index: &S::Index,
@@ -149,14 +149,14 @@ fn place_of<S: ItemStore, F: Flash, L: Ledger>(
     requires stands { StandsOn S.mounted_on S.stands (F.device flash.now) store.now }
     requires describes { HoldsOn (S.describes index.now) (F.device flash.now)
         (S.mounted_on store.now) }
-    ensures place { let area = S.mounted_on store.now in
+    ensures id { let area = S.mounted_on store.now in
         IsIdOfName (numbering_of area) (on S.contents (F.device flash.now) area) name.now result }
-    ensures below { IfSome result (λ place. place < FIRST + GROUP_BITS + GROUP_SIZE) }
+    ensures below { IfSome result (λ id. id < FIRST + GROUP_BITS + GROUP_SIZE) }
 {
     let first = first_of(name.bytes());
-    for place in first..first + GROUP_SIZE {
-        if is_at(store, flash, index, name, place, place + STEP, steps) {
-            return Some(place);
+    for id in first..first + GROUP_SIZE {
+        if is_at(store, flash, index, name, id, id + STEP, steps) {
+            return Some(id);
         }
     }
     None
@@ -172,8 +172,8 @@ fn may_stand<S: ItemStore>(store: &S, name: &Name) -> bool
         → IsIdOfName (numbering_of area) (on S.contents d area) name.now None }
 {
     let from = first_of(name.bytes());
-    for place in from..from + GROUP_SIZE {
-        if store.may_hold(place) {
+    for id in from..from + GROUP_SIZE {
+        if store.may_hold(id) {
             return true;
         }
     }
@@ -202,7 +202,7 @@ fn stands_at<S: ItemStore, F: Flash, L: Ledger>(
         result ≡ false → (name : List ℕ) → ¬ IsAt (numbering_of area) items name id }
 {
     match name_in(store, flash, index, id, steps) {
-        Some(name) => match place_of(store, flash, index, &name, steps) {
+        Some(name) => match id_of(store, flash, index, &name, steps) {
             Some(found) => found == id,
             None => false,
         },

@@ -1,4 +1,4 @@
--- A name stands only at a place of its own: look-ups over these places alone, and how many of them have a name.
+-- A name stands only at a candidate id of its own: look-ups over these ids alone, and how many of them have a name.
 use Rattle.std.proofs.Common.{◌≡◌, ◌⊎◌, ℕ, zero, suc, ◌+◌, ◌-◌, ◌<◌, ◌≤◌, Bool, true, false, cond, ◌&&◌, List, [], ◌∷◌, length, Option, Some, None, refl, sym, ap, subst, ◌∙◌, inl, inr, arith}
 use Rattle.std.specs.Prelude.{sum_by, count_by, map, nat_le}
 use Rattle.std.specs.List.{cons_option, filter_map, range_with_len}
@@ -20,7 +20,7 @@ use Rattle.named_items.proofs.CostLemmas.{map-sum, clean-distinct}
 use Rattle.named_items.proofs.NameLemmas.{on-full, on-free, used-name, used-value}
 use Rattle.named_items.specs.Ends.{IsFree}
 
--- ---- sums over a range of places
+-- ---- sums over a range of ids
 
 abbrev weigh : (List ℕ → Bool) → Pair → ℕ
 weigh same pair = cond (same pair.0) 1 0
@@ -59,7 +59,7 @@ module _ (w : Pair → ℕ) (f : ℕ → Option Pair) where
 
   part-sum : (a x y : ℕ) → sum_by w (pairs_on f a (x + y)) ≡ sum_by w (pairs_on f a x) + sum_by w (pairs_on f (a + x) y)
   part-sum a x y =
-      ap (λ (places : List ℕ). sum_by w (filter_map f places)) (range-append a x y)
+      ap (λ (name_ids : List ℕ). sum_by w (filter_map f name_ids)) (range-append a x y)
       ∙ ap (sum_by w) (filter_map-append f (range_with_len a x) (range_with_len (a + x) y))
       ∙ sum_by-append w (pairs_on f a x) (pairs_on f (a + x) y)
 
@@ -83,62 +83,62 @@ module _ (w : Pair → ℕ) (f : ℕ → Option Pair) where
 -- ---- where a name stands
 
 module _ (n : Numbering) (items : Items) where
-  -- a setting stands at a place of its name
-  pub at-candidate : (name : List ℕ) (place : ℕ) → HasName (pair_at n items place) name → n.is_candidate place name ≡ true
-  at-candidate name place has =
-      let made = pair-made n place name (maps.get items place) (maps.get items (place + n.step)) has in
-      let last = and_parts (is_name name && n.is_candidate place name && nat_le 1 (length made.value)) (nat_le (length made.value) n.longest) made.passes in
-      let third = and_parts (is_name name && n.is_candidate place name) (nat_le 1 (length made.value)) last.0 in
-      let second = and_parts (is_name name) (n.is_candidate place name) third.0 in
+  -- a setting stands at a candidate id of its name
+  pub at-candidate : (name : List ℕ) (id : ℕ) → HasName (pair_at n items id) name → n.is_candidate id name ≡ true
+  at-candidate name id has =
+      let made = pair-made n id name (maps.get items id) (maps.get items (id + n.step)) has in
+      let last = and_parts (is_name name && n.is_candidate id name && nat_le 1 (length made.value)) (nat_le (length made.value) n.longest) made.passes in
+      let third = and_parts (is_name name && n.is_candidate id name) (nat_le 1 (length made.value)) last.0 in
+      let second = and_parts (is_name name) (n.is_candidate id name) third.0 in
       second.1
 
   module _ (name : List ℕ) (from count : ℕ) (candidates : CandidatesAre n items name from count) where
-    pub candidate-inside : (place : ℕ) → from ≤ place → place < from + count → IsInside n items place
-    candidate-inside place a b =
+    pub candidate-inside : (id : ℕ) → from ≤ id → id < from + count → IsInside n items id
+    candidate-inside id a b =
         let low : n.first ≤ from = candidates.low in
         let high : from + count ≤ n.first + count_in n items = candidates.high in
         record { from = omega arith; to = omega arith }
 
-    pub candidate-here : (place : ℕ) → from ≤ place → place < from + count → IsCandidate n items name place
-    candidate-here place a b = record { inside = candidate-inside place a b; candidate = candidates.candidate place a b }
+    pub candidate-here : (id : ℕ) → from ≤ id → id < from + count → IsCandidate n items name id
+    candidate-here id a b = record { inside = candidate-inside id a b; candidate = candidates.candidate id a b }
 
-    -- none of its places has the name
-    pub nowhere-candidate : ((place : ℕ) → from ≤ place → place < from + count → ¬ HasName (pair_at n items place) name) → IsIdOfName n items name None
+    -- none of its candidate ids has the name
+    pub nowhere-candidate : ((id : ℕ) → from ≤ id → id < from + count → ¬ HasName (pair_at n items id) name) → IsIdOfName n items name None
     nowhere-candidate none other inside has =
         let its = candidates.only other inside (at-candidate name other has) in
         none other its.0 its.1 has
 
     -- the least of them that has it
-    pub least-candidate : (place : ℕ) → from ≤ place → place < from + count → HasName (pair_at n items place) name → ((other : ℕ) → from ≤ other → other < place → ¬ HasName (pair_at n items other) name) → IsIdOfName n items name (Some place)
-    least-candidate place a b has none =
-        let inside = candidate-inside place a b in
+    pub least-candidate : (id : ℕ) → from ≤ id → id < from + count → HasName (pair_at n items id) name → ((other : ℕ) → from ≤ other → other < id → ¬ HasName (pair_at n items other) name) → IsIdOfName n items name (Some id)
+    least-candidate id a b has none =
+        let inside = candidate-inside id a b in
         record {
           inside = inside;
           here = has;
           lowest = λ other low less is.
-              let to : place < n.first + count_in n items = inside.to in
+              let to : id < n.first + count_in n items = inside.to in
               let its = candidates.only other (record { from = low; to = omega arith }) (at-candidate name other is) in
               none other its.0 less is;
         }
 
-    -- ---- bare places
+    -- ---- free ids
 
-    -- the least free id of the range that they are is the least free place
+    -- the least free id of the range that they are is the least free candidate
     pub least-free : (ids : IdRange) → ids.least ≡ from → ids.most + 1 ≡ from + count → (o : Option ℕ) → IsLeastFree ids n.step items o → IsFreeCandidate n items name o
-    least-free ids least most None none = λ place here bare.
-        let its = candidates.only place here.inside here.candidate in
-        let low : from ≤ place = its.0 in
-        let high : place < from + count = its.1 in
-        none place (omega arith) (omega arith) (record { lower = bare.0; upper = bare.1 })
+    least-free ids least most None none = λ id here bare.
+        let its = candidates.only id here.inside here.candidate in
+        let low : from ≤ id = its.0 in
+        let high : id < from + count = its.1 in
+        none id (omega arith) (omega arith) (record { lower = bare.0; upper = bare.1 })
     least-free ids least most (Some free) is =
         let low : ids.least ≤ free = is.0 in
         let high : free ≤ ids.most = is.1 in (
           candidate-here free (omega arith) (omega arith),
           (is.2.lower, is.2.upper),
-          λ place here less bare.
-              let its = candidates.only place here.inside here.candidate in
-              let from_low : from ≤ place = its.0 in
-              is.3 place (omega arith) less (record { lower = bare.0; upper = bare.1 }),
+          λ id here less bare.
+              let its = candidates.only id here.inside here.candidate in
+              let from_low : from ≤ id = its.0 in
+              is.3 id (omega arith) less (record { lower = bare.0; upper = bare.1 }),
         )
 
     -- ---- how many of them have a setting
@@ -147,19 +147,19 @@ module _ (n : Numbering) (items : Items) where
       abbrev on_candidates : List Pair
       on_candidates = pairs_on (pair_at n items) from count
 
-      -- where no place is bare, all
+      -- where no id is free, all
       pub candidates-full : IsFreeCandidate n items name None → length on_candidates ≡ count
-      candidates-full none = on-full (pair_at n items) from count (λ place a b gone.
-          let inside = candidate-inside place a b in
-          by place inside gone (maps.get items place) refl (maps.get items (place + n.step)) refl (none place (candidate-here place a b)))
+      candidates-full none = on-full (pair_at n items) from count (λ id a b gone.
+          let inside = candidate-inside id a b in
+          by id inside gone (maps.get items id) refl (maps.get items (id + n.step)) refl (none id (candidate-here id a b)))
         where
           some_none : (x : List ℕ) → Some x ≡ None → ⊥
           some_none x e = cc
 
-          by : (place : ℕ) → IsInside n items place → pair_at n items place ≡ None → (o : Option (List ℕ)) → maps.get items place ≡ o → (p : Option (List ℕ)) → maps.get items (place + n.step) ≡ p → ¬ IsFree items place (place + n.step) → ⊥
-          by place inside gone (Some x) is p it bare = used-name n laws items clean place inside (λ e. some_none x (sym is ∙ e)) gone
-          by place inside gone None is (Some v) it bare = used-value n laws items clean place inside (λ e. some_none v (sym it ∙ e)) gone
-          by place inside gone None is None it bare = bare (is, it)
+          by : (id : ℕ) → IsInside n items id → pair_at n items id ≡ None → (o : Option (List ℕ)) → maps.get items id ≡ o → (p : Option (List ℕ)) → maps.get items (id + n.step) ≡ p → ¬ IsFree items id (id + n.step) → ⊥
+          by id inside gone (Some x) is p it bare = used-name n laws items clean id inside (λ e. some_none x (sym is ∙ e)) gone
+          by id inside gone None is (Some v) it bare = used-value n laws items clean id inside (λ e. some_none v (sym it ∙ e)) gone
+          by id inside gone None is None it bare = bare (is, it)
 
       -- else fewer
       pub candidates-few : (free : ℕ) → IsFreeCandidate n items name (Some free) → length on_candidates < count
@@ -167,10 +167,10 @@ module _ (n : Numbering) (items : Items) where
           let its = candidates.only free is.0.inside is.0.candidate in
           on-free (pair_at n items) from count free its.0 its.1 (no-name n free (maps.get items free) (maps.get items (free + n.step)) is.1.0)
 
-      -- the names of the map that share the places are as many
+      -- the names of the map that share the candidate ids are as many
       pub candidates-count : (same : List ℕ → Bool)
-          → ((other : List ℕ) (place : ℕ) → from ≤ place → place < from + count → n.is_candidate place other ≡ true → same other ≡ true)
-          → ((other : List ℕ) (place : ℕ) → (place < from) ⊎ (from + count ≤ place) → n.is_candidate place other ≡ true → same other ≡ false)
+          → ((other : List ℕ) (id : ℕ) → from ≤ id → id < from + count → n.is_candidate id other ≡ true → same other ≡ true)
+          → ((other : List ℕ) (id : ℕ) → (id < from) ⊎ (from + count ≤ id) → n.is_candidate id other ≡ true → same other ≡ false)
           → count_by same (maps.keys (settings_in n items)) ≡ length on_candidates
       candidates-count same shares parts =
           keys-sum same (maps.entries (settings_in n items))

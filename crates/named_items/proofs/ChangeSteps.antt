@@ -18,10 +18,10 @@ use Rattle.named_items.specs.Numbering.{Numbering, IsNumbering}
 use Rattle.named_items.specs.PairRoom.{pair_room, IsCountCost}
 use Rattle.named_items.specs.Pairs.{count_in, is_pair, pair_at, settings_in, IsAt, HasNoOrphans}
 use Rattle.named_items.proofs.CostLemmas.{get-put, get-put_other, put-again}
-use Rattle.named_items.proofs.PairLemmas.{Makes, pair-made, made-pair, one-name, place-put}
+use Rattle.named_items.proofs.PairLemmas.{Makes, pair-made, made-pair, one-name, id-put}
 use Rattle.named_items.proofs.NameLemmas.{get-at, at-value}
 use Rattle.named_items.proofs.RoomLemmas.{refused-room, stored-numbering, items-within}
-use Rattle.named_items.proofs.OrphanLemmas.{one-place, put-clean}
+use Rattle.named_items.proofs.OrphanLemmas.{one-id, put-clean}
 use Rattle.named_items.specs.Putting.{room_in, IsPut}
 use Rattle.named_items.proofs.SpendSteps.{geometry-stays}
 use Rattle.named_items.specs.Orphans.{HasOrphans}
@@ -53,49 +53,49 @@ module _ (numbering : Area → Numbering) (counted : (ℕ → ℕ) → ℕ) (too
 
 module _ (n : Numbering) (laws : IsNumbering n) (counted : (ℕ → ℕ) → ℕ) (too_many : Map → List ℕ → Bool) (counts : (price : ℕ → ℕ) → IsCountCost n price (counted price))
     (stored-few : (settings : Map) (name : List ℕ) → contains_key settings name ≡ true → too_many settings name ≡ false)
-    (items : Items) (clean : HasNoOrphans n items) (name value : List ℕ) (place second : ℕ) (at : IsAt n items name place) (passes : is_pair n place name value ≡ true) (is_second : second ≡ place + n.step) where
+    (items : Items) (clean : HasNoOrphans n items) (name value : List ℕ) (candidate second : ℕ) (at : IsAt n items name candidate) (passes : is_pair n candidate name value ≡ true) (is_second : second ≡ candidate + n.step) where
   abbrev new : Items
-  new = insert items (place + n.step) value
+  new = insert items (candidate + n.step) value
 
-  apart : place ≡ place + n.step → ⊥
+  apart : candidate ≡ candidate + n.step → ⊥
   apart e =
-      let high : place < n.first + count_in n items = at.inside.to in
-      let low : n.first ≤ place = at.inside.from in
+      let high : candidate < n.first + count_in n items = at.inside.to in
+      let low : n.first ≤ candidate = at.inside.from in
       let few : count_in n items ≤ n.step = laws.few (get items n.count_id) in
       absurd (omega arith)
 
-  made : Makes n place name (get items place) (get items (place + n.step))
-  made = pair-made n place name (get items place) (get items (place + n.step)) at.here
+  made : Makes n candidate name (get items candidate) (get items (candidate + n.step))
+  made = pair-made n candidate name (get items candidate) (get items (candidate + n.step)) at.here
 
-  new-pair : pair_at n (insert items (place + n.step) value) place ≡ Some (name, value)
+  new-pair : pair_at n (insert items (candidate + n.step) value) candidate ≡ Some (name, value)
   new-pair =
-      made-pair n place name value (get new place) (get new (place + n.step))
-      (get-put_other items (place + n.step) value place (λ (e : place ≡ place + n.step). apart e) ∙ made.is_name) (get-put items (place + n.step) value) passes
+      made-pair n candidate name value (get new candidate) (get new (candidate + n.step))
+      (get-put_other items (candidate + n.step) value candidate (λ (e : candidate ≡ candidate + n.step). apart e) ∙ made.is_name) (get-put items (candidate + n.step) value) passes
 
-  pub change-sets : settings_in n (insert items (place + n.step) value) ≡ insert (settings_in n items) name value
+  pub change-sets : settings_in n (insert items (candidate + n.step) value) ≡ insert (settings_in n items) name value
   change-sets =
-      place-put n items new (place + n.step) (λ other off. get-put_other items (place + n.step) value other off) laws place at.inside (inr refl) name value new-pair
-      (λ x has. one-name (pair_at n items place) x name has at.here) at.lowest
+      id-put n items new (candidate + n.step) (λ other off. get-put_other items (candidate + n.step) value other off) laws candidate at.inside (inr refl) name value new-pair
+      (λ x has. one-name (pair_at n items candidate) x name has at.here) at.lowest
 
   pub change-clean : HasNoOrphans n (insert items second value)
   change-clean = subst (λ (id : ℕ). HasNoOrphans n (insert items id value)) (sym is_second)
-      (put-clean n laws items new place at.inside (λ id a b. get-put_other items (place + n.step) value id b) name value new-pair
-      (λ other within has. one-place n laws items clean name other place within at.inside has at.here) clean)
+      (put-clean n laws items new candidate at.inside (λ id a b. get-put_other items (candidate + n.step) value id b) name value new-pair
+      (λ other within has. one-id n laws items clean name other candidate within at.inside has at.here) clean)
 
-  holds-at : IsStored (settings_in n items) name value → stored.Holds items (place + n.step) value
+  holds-at : IsStored (settings_in n items) name value → stored.Holds items (candidate + n.step) value
   holds-at is =
-      let v = at-value n items name place at in
-      let same : v.0 ≡ value = some_same v.0 value (sym (get-at n items name v.0 place at v.1) ∙ is) in
+      let v = at-value n items name candidate at in
+      let same : v.0 ≡ value = some_same v.0 value (sym (get-at n items name v.0 candidate at v.1) ∙ is) in
       v.1 ∙ ap (λ (x : List ℕ). Some x) same
 
   pub stored-holds : IsStored (settings_in n items) name value → stored.Holds items second value
   stored-holds is = subst (λ (id : ℕ). stored.Holds items id value) (sym is_second) (holds-at is)
 
   abbrev old : List ℕ
-  old = (at-value n items name place at).0
+  old = (at-value n items name candidate at).0
 
   has-old : get (settings_in n items) name ≡ Some old
-  has-old = get-at n items name old place at (at-value n items name place at).1
+  has-old = get-at n items name old candidate at (at-value n items name candidate at).1
 
   contains : contains_key (settings_in n items) name ≡ true
   contains = ap is_some has-old

@@ -18,7 +18,7 @@ use Rattle.named_items.specs.Cost.{item_cost, pair_cost, settings_cost}
 use Rattle.named_items.specs.Pairs.{count_in, pair_of, pair_at, settings_in, HasName, HasNoOrphans}
 use Rattle.named_items.proofs.RangePairs.{Pair, pairs_on, map_on, on-agree, on-more, on-none}
 use Rattle.named_items.proofs.PairLemmas.{pair-made, made-pair, has-pair, settings-on}
-use Rattle.named_items.proofs.OrphanLemmas.{one-place}
+use Rattle.named_items.proofs.OrphanLemmas.{one-id}
 
 some_none : {A : Type 0} (x : A) → Some x ≡ None → ⊥
 some_none x e = cc
@@ -108,9 +108,9 @@ module _ (price : ℕ → ℕ) where
       ap (items_cost price) is ∙ ap (sum_by (λ (item : ℕ × List ℕ). price (length item.1))) (no_entries (map.entries map.empty) empty)
 
   module _ (n : Numbering) (laws : IsNumbering n) where
-    -- each item but the one that may be a count is the name or the value of a pair below this place
+    -- each item but the one that may be a count is the name or the value of a pair below this id
     abbrev Covers : Items → ℕ → Type 0
-    Covers items c = (id : ℕ) → ¬ (id ≡ n.count_id) → (map.get items id ≡ None) ⊎ ((place : ℕ) × (n.first ≤ place) × (place < n.first + c) × ¬ (pair_at n items place ≡ None) × ((id ≡ place) ⊎ (id ≡ place + n.step)))
+    Covers items c = (id : ℕ) → ¬ (id ≡ n.count_id) → (map.get items id ≡ None) ⊎ ((candidate : ℕ) × (n.first ≤ candidate) × (candidate < n.first + c) × ¬ (pair_at n items candidate ≡ None) × ((id ≡ candidate) ⊎ (id ≡ candidate + n.step)))
 
     -- such items cost what the count and the pairs do
     abbrev Bounds : ℕ → Type 0
@@ -218,7 +218,7 @@ module _ (price : ℕ → ℕ) where
 abbrev names_map : List Pair → Map
 names_map pairs = map.from_entries pairs
 
--- no two places have one name
+-- no two ids have one name
 abbrev pub Distinct : (ℕ → Option Pair) → ℕ → ℕ → Type 0
 Distinct f a m = (name : List ℕ) (i j : ℕ) → a ≤ i → i < a + m → a ≤ j → j < a + m → HasName (f i) name → HasName (f j) name → i ≡ j
 
@@ -248,7 +248,7 @@ map-sum g f a (suc m) distinct = by (map-sum g f (a + 1) m (λ name i j p q r s 
 
 module _ (n : Numbering) (laws : IsNumbering n) (items : Items) (clean : HasNoOrphans n items) where
   pub clean-distinct : Distinct (pair_at n items) n.first (count_in n items)
-  clean-distinct name i j p q r s x y = one-place n laws items clean name i j (record { from = p; to = q }) (record { from = r; to = s }) x y
+  clean-distinct name i j p q r s x y = one-id n laws items clean name i j (record { from = p; to = q }) (record { from = r; to = s }) x y
 
   -- Where there are no orphans, the items cost what the settings and the count do.
   pub clean-cost : (price : ℕ → ℕ) → items_cost price items ≡ item_cost price (map.get items n.count_id) + settings_cost price (settings_in n items)
@@ -258,7 +258,7 @@ module _ (n : Numbering) (laws : IsNumbering n) (items : Items) (clean : HasNoOr
         | inl none ↦ inl none
         | inr kept ↦ elim kept [
           | inl count ↦ absurd (apart count.is)
-          | inr part ↦ inr (part.place, part.at.inside.from, part.at.inside.to, (λ (none : pair_at n items part.place ≡ None). let h : ⊥ = subst (λ (o : Option Pair). HasName o part.name) none part.at.here in h), part.is)
+          | inr part ↦ inr (part.candidate, part.at.inside.from, part.at.inside.to, (λ (none : pair_at n items part.candidate ≡ None). let h : ⊥ = subst (λ (o : Option Pair). HasName o part.name) none part.at.here in h), part.is)
         ]
       ]) in
       let all : settings_cost price (settings_in n items) ≡ sum_by (pair_cost price) (pairs_on (pair_at n items) n.first (count_in n items)) =

@@ -16,7 +16,7 @@ some_none x e = cc
 -- no items are no settings
 pub no-settings : (n : Numbering) (items : Items) → items ≡ maps.empty → settings_in n items ≡ maps.empty
 no-settings n items none = same_settings (settings_in n items) maps.empty (λ q.
-    get-nowhere n items q (λ place inside has.
-    let made = pair-made n place q (maps.get items place) (maps.get items (place + n.step)) has in
-    some_none q (sym made.is_name ∙ ap (λ (m : Items). maps.get m place) none ∙ maps.get-empty nat_cmp place))
+    get-nowhere n items q (λ id inside has.
+    let made = pair-made n id q (maps.get items id) (maps.get items (id + n.step)) has in
+    some_none q (sym made.is_name ∙ ap (λ (m : Items). maps.get m id) none ∙ maps.get-empty nat_cmp id))
     ∙ sym (maps.get-empty (slice_cmp nat_cmp) q))

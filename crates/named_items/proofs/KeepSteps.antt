@@ -35,13 +35,13 @@ pub is-gone : (o : Option (Bor (List ℕ))) (item : Option (List ℕ)) → optio
 is-gone None item e none = sym e
 is-gone (Some bytes) item e none = absurd (false≢true (sym none))
 
--- each place of a name is an id for names
-pub for-name : (n : Numbering) (top : ℕ) (ids : IdRange) → AreOfNames n top ids → (place : ℕ) → IsCandidateId ids place → IsForName n place
-for-name n top ids of_names place one =
+-- each id at which a name stands is an id for names
+pub for-name : (n : Numbering) (top : ℕ) (ids : IdRange) → AreOfNames n top ids → (id : ℕ) → IsCandidateId ids id → IsForName n id
+for-name n top ids of_names id one =
     let low : n.first ≤ ids.least = of_names.from in
     let high : ids.most < n.first + n.step = of_names.to in
-    let from : ids.least ≤ place = one.from in
-    let to : place ≤ ids.most = one.to in
+    let from : ids.least ≤ id = one.from in
+    let to : id ≤ ids.most = one.to in
     record { from = omega arith; to = omega arith }
 
 module _ (n : Numbering) (items : Items) where
@@ -76,7 +76,7 @@ module _ (n : Numbering) (items : Items) where
 
   pub held-kept : (words : List ℕ) (name : List ℕ) (id : ℕ) → SawBelow n items words id → ¬ Saw words name → IsHeld n items name id → IsKept n items id
   held-kept words name id saw new held =
-      inr (record { name = name; place = id; at = record { inside = held.inside; here = held.here; lowest = new-lowest words name id saw new held.inside }; is = inl refl })
+      inr (record { name = name; candidate = id; at = record { inside = held.inside; here = held.here; lowest = new-lowest words name id saw new held.inside }; is = inl refl })
 
   module _ (laws : IsNumbering n) where
     -- at an id for names, only a name is kept
@@ -89,13 +89,13 @@ module _ (n : Numbering) (items : Items) where
     kept-part id for (inr part) = elim part.is [
       | inl e ↦ (
         part.name,
-        subst (λ (k : ℕ). get items k ≡ Some part.name) (sym e) (named-at n items part.name part.place part.at),
-        at-lawful n items part.name part.place part.at,
+        subst (λ (k : ℕ). get items k ≡ Some part.name) (sym e) (named-at n items part.name part.candidate part.at),
+        at-lawful n items part.name part.candidate part.at,
         subst (λ (k : ℕ). IsHeld n items part.name k) (sym e) (record { inside = part.at.inside; here = part.at.here }),
       )
       | inr e ↦
           let to : id < n.first + n.step = for.to in
-          let from : n.first ≤ part.place = part.at.inside.from in
+          let from : n.first ≤ part.candidate = part.at.inside.from in
           absurd (omega arith)
     ]
 
@@ -109,75 +109,75 @@ module _ (n : Numbering) (items : Items) where
 
     -- ---- a value
 
-    module _ (top : ℕ) (ids : IdRange) (of_names : AreOfNames n top ids) (all : HasAllCandidates n ids) (place : ℕ) (one : IsCandidateId ids place) where
+    module _ (top : ℕ) (ids : IdRange) (of_names : AreOfNames n top ids) (all : HasAllCandidates n ids) (candidate : ℕ) (one : IsCandidateId ids candidate) where
       -- the name's item is still there, so it is kept
-      pub value-kept : IsCleanBelow n items (place + n.step) → ¬ (get items place ≡ None) → IsKept n items (place + n.step)
+      pub value-kept : IsCleanBelow n items (candidate + n.step) → ¬ (get items candidate ≡ None) → IsKept n items (candidate + n.step)
       value-kept clean some =
-          let for : IsForName n place = for-name n top ids of_names place one in
-          let from : n.first ≤ place = for.from in
-          let to : place < n.first + n.step = for.to in
-          let less : place < place + n.step = omega arith in
-          elim (clean place less) [
+          let for : IsForName n candidate = for-name n top ids of_names candidate one in
+          let from : n.first ≤ candidate = for.from in
+          let to : candidate < n.first + n.step = for.to in
+          let less : candidate < candidate + n.step = omega arith in
+          elim (clean candidate less) [
             | inl none ↦ absurd (some none)
             | inr (inl count) ↦
                 let below : n.count_id < n.first = laws.below in
-                let is : place ≡ n.count_id = count.is in
+                let is : candidate ≡ n.count_id = count.is in
                 absurd (omega arith)
             | inr (inr part) ↦
-                let low : n.first ≤ part.place = part.at.inside.from in
+                let low : n.first ≤ part.candidate = part.at.inside.from in
                 elim part.is [
-                  | inl e ↦ inr (record { name = part.name; place = part.place; at = part.at; is = inr (ap (λ (k : ℕ). k + n.step) e) })
+                  | inl e ↦ inr (record { name = part.name; candidate = part.candidate; at = part.at; is = inr (ap (λ (k : ℕ). k + n.step) e) })
                   | inr e ↦ absurd (omega arith)
                 ]
           ]
 
-      pub value-gone : ¬ IsCandidateId ids (place + n.step) → get items place ≡ None → IsKept n items (place + n.step) → ⊥
+      pub value-gone : ¬ IsCandidateId ids (candidate + n.step) → get items candidate ≡ None → IsKept n items (candidate + n.step) → ⊥
       value-gone apart none (inl count) =
-          let for : IsForName n place = for-name n top ids of_names place one in
-          let from : n.first ≤ place = for.from in
+          let for : IsForName n candidate = for-name n top ids of_names candidate one in
+          let from : n.first ≤ candidate = for.from in
           let below : n.count_id < n.first = laws.below in
-          let is : place + n.step ≡ n.count_id = count.is in
+          let is : candidate + n.step ≡ n.count_id = count.is in
           absurd (omega arith)
       value-gone apart none (inr part) = elim part.is [
-        | inl e ↦ apart (subst (IsCandidateId ids) (sym e) (all items part.place part.at.inside))
+        | inl e ↦ apart (subst (IsCandidateId ids) (sym e) (all items part.candidate part.at.inside))
         | inr e ↦
-            let same : part.place ≡ place = omega arith in
-            some_none part.name (sym (named-at n items part.name part.place part.at) ∙ ap (get items) same ∙ none)
+            let same : part.candidate ≡ candidate = omega arith in
+            some_none part.name (sym (named-at n items part.name part.candidate part.at) ∙ ap (get items) same ∙ none)
       ]
 
   -- ---- the names that a walk has met
 
   module _ (words : List ℕ) (id : ℕ) (saw : SawBelow n items words id) where
     pub saw-more : (new : List ℕ) → ((other : List ℕ) → Saw words other → Saw new other) → ((name : List ℕ) → get items id ≡ Some name → IsName name → Saw new name) → SawBelow n items new (id + 1)
-    saw-more new keeps here place name inside less is lawful = elim (cases_eq place id) [
+    saw-more new keeps here candidate name inside less is lawful = elim (cases_eq candidate id) [
       | inl e ↦ here name (subst (λ (k : ℕ). get items k ≡ Some name) e is) lawful
-      | inr apart ↦ keeps name (saw place name inside (omega arith) is lawful)
+      | inr apart ↦ keeps name (saw candidate name inside (omega arith) is lawful)
     ]
 
     -- it is no id of a name
     pub saw-past : (ids : IdRange) → HasAllCandidates n ids → ¬ IsCandidateId ids id → SawBelow n items words (id + 1)
-    saw-past ids all apart place name inside less is lawful = elim (cases_eq place id) [
-      | inl e ↦ absurd (apart (subst (IsCandidateId ids) e (all items place inside)))
-      | inr other ↦ saw place name inside (omega arith) is lawful
+    saw-past ids all apart candidate name inside less is lawful = elim (cases_eq candidate id) [
+      | inl e ↦ absurd (apart (subst (IsCandidateId ids) e (all items candidate inside)))
+      | inr other ↦ saw candidate name inside (omega arith) is lawful
     ]
 
   pub saw-first : (words : List ℕ) (first : Option ℕ) → IsNextId items None first → IfSome first (λ id. SawBelow n items words id)
   saw-first words None next = tt
-  saw-first words (Some at) next = λ place name inside less is lawful. absurd (some_none name (sym is ∙ next.2 place tt less))
+  saw-first words (Some at) next = λ candidate name inside less is lawful. absurd (some_none name (sym is ∙ next.2 candidate tt less))
 
   pub saw-next : (words : List ℕ) (id : ℕ) (next : Option ℕ) → SawBelow n items words (id + 1) → IsNextId items (Some id) next → IfSome next (λ at. SawBelow n items words at)
   saw-next words id None saw is_next = tt
-  saw-next words id (Some at) saw is_next = λ place name inside less is lawful. elim (cases_lt id place) [
-    | inl behind ↦ absurd (some_none name (sym is ∙ is_next.2 place behind less))
-    | inr le ↦ saw place name inside (omega arith) is lawful
+  saw-next words id (Some at) saw is_next = λ candidate name inside less is lawful. elim (cases_lt id candidate) [
+    | inl behind ↦ absurd (some_none name (sym is ∙ is_next.2 candidate behind less))
+    | inr le ↦ saw candidate name inside (omega arith) is lawful
   ]
 
 -- an orphan was removed
 pub saw-after : (n : Numbering) (laws : IsNumbering n) (before after : Items) (id : ℕ) → AltersOnly before after id → get after id ≡ None → ¬ IsKept n before id
     → (words : List ℕ) → SawBelow n before words (id + 1) → SawBelow n after words (id + 1)
-saw-after n laws before after id only gone orphan words saw place name inside less is lawful = elim (cases_eq place id) [
+saw-after n laws before after id only gone orphan words saw candidate name inside less is lawful = elim (cases_eq candidate id) [
   | inl e ↦ absurd (some_none name (sym is ∙ ap (get after) e ∙ gone))
   | inr apart ↦
       let same : count_in n after ≡ count_in n before = orphan-count n laws before after id only gone orphan in
-      saw place name (record { from = inside.from; to = subst (λ (k : ℕ). place < n.first + k) same inside.to }) less (sym (only place apart) ∙ is) lawful
+      saw candidate name (record { from = inside.from; to = subst (λ (k : ℕ). candidate < n.first + k) same inside.to }) less (sym (only candidate apart) ∙ is) lawful
 ]

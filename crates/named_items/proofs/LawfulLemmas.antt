@@ -47,20 +47,20 @@ IfSetting limit (Some pair) = IsSetting limit pair
 at_most : (n m : ℕ) → nat_le n m ≡ true → n ≤ m
 at_most n m is = grind (arith, nat_tests)
 
-passes-setting : (n : Numbering) (place : ℕ) (name value : List ℕ) → is_pair n place name value ≡ true → IsSetting n.longest (name, value)
-passes-setting n place name value is =
+passes-setting : (n : Numbering) (id : ℕ) (name value : List ℕ) → is_pair n id name value ≡ true → IsSetting n.longest (name, value)
+passes-setting n id name value is =
     let last = and_parts _ (nat_le (length value) n.longest) is in
     let third = and_parts _ (nat_le 1 (length value)) last.0 in
-    let second = and_parts (is_name name) (n.is_candidate place name) third.0 in
+    let second = and_parts (is_name name) (n.is_candidate id name) third.0 in
     record { named = is_name-sound name second.0; valued = (at_most 1 (length value) third.1, at_most (length value) n.longest last.1) }
 
-of-setting : (n : Numbering) (place : ℕ) (first second : Option (List ℕ)) → IfSetting n.longest (pair_of n place first second)
-of-setting n place None second = tt
-of-setting n place (Some name) None = tt
-of-setting n place (Some name) (Some value) = by (is_pair n place name value) refl
+of-setting : (n : Numbering) (id : ℕ) (first second : Option (List ℕ)) → IfSetting n.longest (pair_of n id first second)
+of-setting n id None second = tt
+of-setting n id (Some name) None = tt
+of-setting n id (Some name) (Some value) = by (is_pair n id name value) refl
   where
-    by : (b : Bool) → is_pair n place name value ≡ b → IfSetting n.longest (cond (is_pair n place name value) (Some (name, value)) None)
-    by true is = subst (λ (t : Bool). IfSetting n.longest (cond t (Some (name, value)) None)) (sym is) (passes-setting n place name value is)
+    by : (b : Bool) → is_pair n id name value ≡ b → IfSetting n.longest (cond (is_pair n id name value) (Some (name, value)) None)
+    by true is = subst (λ (t : Bool). IfSetting n.longest (cond t (Some (name, value)) None)) (sym is) (passes-setting n id name value is)
     by false is = subst (λ (t : Bool). IfSetting n.longest (cond t (Some (name, value)) None)) (sym is) tt
 
 abbrev names_map : List Pair → Map
@@ -108,7 +108,7 @@ list-lawful limit f a (suc m) each = by (f a) (each a) (list-lawful limit f (a +
 pub settings-lawful : (n : Numbering) → IsNumbering n → n.step < 2 ^ 32 → (items : Items) → IsSettings n.longest (settings_in n items)
 unfolding settings_in
 settings-lawful n laws small items =
-    let lawful = list-lawful n.longest (pair_at n items) n.first (count_in n items) (λ place. of-setting n place (maps.get items place) (maps.get items (place + n.step))) in
+    let lawful = list-lawful n.longest (pair_at n items) n.first (count_in n items) (λ id. of-setting n id (maps.get items id) (maps.get items (id + n.step))) in
     let few : count_in n items ≤ n.step = laws.few (maps.get items n.count_id) in
     let len : maps.len (names_map (pairs_on (pair_at n items) n.first (count_in n items))) ≤ count_in n items = lawful.few in
     record { names = lawful.names; values = lawful.values; few = omega arith }

@@ -15,7 +15,7 @@ pub mod NewSteps
 mod NvsSteps
 mod OtherSteps
 pub mod PairLemmas
-mod PlaceSteps
+mod IdSteps
 mod PutSteps
 pub mod RangePairs
 mod RemovalUnits
@@ -26,7 +26,6 @@ mod SeenSteps
 mod SetSteps
 mod SoFar
 pub mod SpendSteps
-mod StopSteps
 pub mod OrphanLemmas
 pub mod OrphanSteps
 pub mod OrphanUnits

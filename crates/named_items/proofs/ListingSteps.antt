@@ -17,9 +17,9 @@ use Rattle.named_items.specs.Walking.{IsNameIn}
 use Rattle.item_store.specs.declared.entry.IdRange.{IdRange}
 use Rattle.named_items.proofs.LookupSteps.{at-known, at-lawful, named-as}
 use Rattle.named_items.proofs.NameLemmas.{get-at, get-nowhere, at-value}
-use Rattle.named_items.proofs.OrphanLemmas.{seek, kept-place}
+use Rattle.named_items.proofs.OrphanLemmas.{seek, kept-id}
 use Rattle.named_items.proofs.OrphanSteps.{named-at}
-use Rattle.named_items.proofs.PlaceSteps.{kept-at}
+use Rattle.named_items.proofs.IdSteps.{kept-at}
 use Rattle.named_items.proofs.RangePairs.{tie}
 
 some_none : {A : Type 0} (x : A) → Some x ≡ None → ⊥
@@ -30,18 +30,18 @@ some_none x e = cc
 module _ (n : Numbering) (items : Items) (after : ℕ) where
   -- there is no item above
   pub past-items : IsNextId items (Some after) None → IsPastAll n items after
-  past-items none name place at =
-      elim (cases_lt after place) [
-        | inl behind ↦ absurd (some_none name (sym (named-at n items name place at) ∙ none place behind))
+  past-items none name id at =
+      elim (cases_lt after id) [
+        | inl behind ↦ absurd (some_none name (sym (named-at n items name id at) ∙ none id behind))
         | inr le ↦ le
       ]
 
   -- the next item is above the ids of names
   pub past-names : (ids : IdRange) → HasAllCandidates n ids → (next : ℕ) → IsNextId items (Some after) (Some next) → ids.most < next → IsPastAll n items after
-  past-names ids candidates next is high name place at =
-      let to : place ≤ ids.most = (candidates items place at.inside).to in
-      elim (cases_lt after place) [
-        | inl behind ↦ absurd (some_none name (sym (named-at n items name place at) ∙ is.2 place behind (omega arith)))
+  past-names ids candidates next is high name id at =
+      let to : id ≤ ids.most = (candidates items id at.inside).to in
+      elim (cases_lt after id) [
+        | inl behind ↦ absurd (some_none name (sym (named-at n items name id at) ∙ is.2 id behind (omega arith)))
         | inr le ↦ le
       ]
 
@@ -77,8 +77,8 @@ module _ (n : Numbering) (laws : IsNumbering n) (items : Items) (clean : HasNoOr
       let value = at-value n items stands.0 next stands.1 in
       some_none value.0 (sym (subst (λ (k : ℕ). get items (next + k) ≡ Some value.0) is_step value.1) ∙ sym none)
 
-  pub place-known : ((count : Option (List ℕ)) → n.first + n.count_of count + n.step ≤ top) → next + n.step < top
-  place-known within =
+  pub id-known : ((count : Option (List ℕ)) → n.first + n.count_of count + n.step ≤ top) → next + n.step < top
+  id-known within =
       let stands = stands-next (get items next) refl in
       at-known n items stands.0 next stands.1 top within
 
@@ -87,9 +87,9 @@ module _ (n : Numbering) (laws : IsNumbering n) (items : Items) (clean : HasNoOr
       (is.0, record { at = named-next name named; valued = ap (λ (k : ℕ). get items (next + k)) is_step ∙ sym valued }, none-between)
     where
       none-between : HasNoneBetween n items after next
-      none-between other place at behind =
-          elim (cases_lt place next) [
-            | inl less ↦ absurd (some_none other (sym (named-at n items other place at) ∙ is.2 place behind less))
+      none-between other id at behind =
+          elim (cases_lt id next) [
+            | inl less ↦ absurd (some_none other (sym (named-at n items other id at) ∙ is.2 id behind less))
             | inr le ↦ le
           ]
 
@@ -112,14 +112,14 @@ answer-more old new name value updates q =
 
 -- it answers the names that stand up to this id as the settings do, and no others
 pub record HasListed (n : Numbering) (items : Items) (found : List ℕ → Option (List ℕ)) (after : ℕ) : Type 0 where
-  pub here : (name : List ℕ) (place : ℕ) → IsAt n items name place → place ≤ after → found name ≡ get (settings_in n items) name
-  pub only : (name : List ℕ) → ((place : ℕ) → IsAt n items name place → after < place) → found name ≡ None
+  pub here : (name : List ℕ) (id : ℕ) → IsAt n items name id → id ≤ after → found name ≡ get (settings_in n items) name
+  pub only : (name : List ℕ) → ((id : ℕ) → IsAt n items name id → after < id) → found name ≡ None
 
 module _ (n : Numbering) (items : Items) where
   -- at first it is empty
   pub listed-none : (ids : IdRange) → HasAllCandidates n ids → 0 < ids.least → (found : List ℕ → Option (List ℕ)) → ((name : List ℕ) → found name ≡ None) → HasListed n items found (ids.least - 1)
   listed-none ids candidates some found none = record {
-    here = λ name place at low. let from : ids.least ≤ place = (candidates items place at.inside).from in absurd (omega arith);
+    here = λ name id at low. let from : ids.least ≤ id = (candidates items id at.inside).from in absurd (omega arith);
     only = λ name all. none name;
   }
 
@@ -127,33 +127,33 @@ module _ (n : Numbering) (items : Items) where
   pub listed-more : (found more : List ℕ → Option (List ℕ)) (after next : ℕ) (name value : List ℕ) → IsSettingAt n items next name value → after < next → HasNoneBetween n items after next
       → ((q : List ℕ) → more q ≡ cond (tie name q) (Some value) (found q)) → HasListed n items found after → HasListed n items more next
   listed-more found more after next name value setting behind none adds so_far = record {
-    here = λ q place at low. by-here q place at low (cases_Bool (tie name q));
+    here = λ q id at low. by-here q id at low (cases_Bool (tie name q));
     only = λ q all. by-only q all (cases_Bool (tie name q));
   }
     where
-      by-here : (q : List ℕ) (place : ℕ) → IsAt n items q place → place ≤ next → (tie name q ≡ true) ⊎ (tie name q ≡ false) → more q ≡ get (settings_in n items) q
-      by-here q place at low (inl same) =
+      by-here : (q : List ℕ) (id : ℕ) → IsAt n items q id → id ≤ next → (tie name q ≡ true) ⊎ (tie name q ≡ false) → more q ≡ get (settings_in n items) q
+      by-here q id at low (inl same) =
           adds q ∙ cond-true (tie name q) (Some value) (found q) same
           ∙ sym (get-at n items name value next setting.at setting.valued) ∙ ap (get (settings_in n items)) (ties_same name q same)
-      by-here q place at low (inr apart) =
+      by-here q id at low (inr apart) =
           adds q ∙ cond-false (tie name q) (Some value) (found q) apart
-          ∙ so_far.here q place at (earlier (cases_lt after place))
+          ∙ so_far.here q id at (earlier (cases_lt after id))
         where
-          earlier : (after < place) ⊎ (place ≤ after) → place ≤ after
+          earlier : (after < id) ⊎ (id ≤ after) → id ≤ after
           earlier (inr le) = le
           earlier (inl later) =
-              let le : next ≤ place = none q place at later in
-              let e : place ≡ next = omega arith in
+              let le : next ≤ id = none q id at later in
+              let e : id ≡ next = omega arith in
               let named : q ≡ name = named-as q name (get items next) (named-at n items q next (subst (IsAt n items q) e at)) (named-at n items name next setting.at) in
               absurd (false≢true (sym apart ∙ ap (tie name) named ∙ ties_itself name))
 
-      by-only : (q : List ℕ) → ((place : ℕ) → IsAt n items q place → next < place) → (tie name q ≡ true) ⊎ (tie name q ≡ false) → more q ≡ None
+      by-only : (q : List ℕ) → ((id : ℕ) → IsAt n items q id → next < id) → (tie name q ≡ true) ⊎ (tie name q ≡ false) → more q ≡ None
       by-only q all (inl same) =
           let up : next < next = all next (subst (λ (x : List ℕ). IsAt n items x next) (ties_same name q same) setting.at) in
           absurd (omega arith)
       by-only q all (inr apart) =
           adds q ∙ cond-false (tie name q) (Some value) (found q) apart
-          ∙ so_far.only q (λ place at. let up : next < place = all place at in omega arith)
+          ∙ so_far.only q (λ id at. let up : next < id = all id at in omega arith)
 
   -- in the end it answers as the settings do
   pub listed-all : IsNumbering n → HasNoOrphans n items → (found : List ℕ → Option (List ℕ)) (after : ℕ) → IsPastAll n items after → HasListed n items found after
@@ -161,9 +161,9 @@ module _ (n : Numbering) (items : Items) where
   listed-all laws clean found after past so_far q =
       elim (seek (pair_at n items) q n.first (count_in n items)) [
         | inl some ↦
-            let at : IsAt n items q some.0 = kept-place n laws items clean some.0 q (record { from = some.1; to = some.2 }) some.3 in
+            let at : IsAt n items q some.0 = kept-id n laws items clean some.0 q (record { from = some.1; to = some.2 }) some.3 in
             so_far.here q some.0 at (past q some.0 at)
         | inr none ↦
-            so_far.only q (λ place at. absurd (none place at.inside.from at.inside.to at.here))
-            ∙ sym (get-nowhere n items q (λ place inside. none place inside.from inside.to))
+            so_far.only q (λ id at. absurd (none id at.inside.from at.inside.to at.here))
+            ∙ sym (get-nowhere n items q (λ id inside. none id inside.from inside.to))
       ]

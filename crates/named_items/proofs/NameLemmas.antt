@@ -21,19 +21,19 @@ some_none x e = cc
 
 module _ (n : Numbering) (items : Items) where
   -- where it stands
-  pub get-at : (name value : List ℕ) (place : ℕ) → IsAt n items name place → map.get items (place + n.step) ≡ Some value → map.get (settings_in n items) name ≡ Some value
-  get-at name value place at is =
-      let from : n.first ≤ place = at.inside.from in
-      let to : place < n.first + count_in n items = at.inside.to in
-      let made = pair-made n place name (map.get items place) (map.get items (place + n.step)) at.here in
+  pub get-at : (name value : List ℕ) (id : ℕ) → IsAt n items name id → map.get items (id + n.step) ≡ Some value → map.get (settings_in n items) name ≡ Some value
+  get-at name value id at is =
+      let from : n.first ≤ id = at.inside.from in
+      let to : id < n.first + count_in n items = at.inside.to in
+      let made = pair-made n id name (map.get items id) (map.get items (id + n.step)) at.here in
       let same : made.value ≡ value = some_same made.value value (sym made.is_value ∙ is) in
-      let pair : pair_at n items place ≡ Some (name, value) = made-pair n place name value (map.get items place) (map.get items (place + n.step)) made.is_name is (subst (λ (v : List ℕ). is_pair n place name v ≡ true) same made.passes) in
-      let low : look name (pairs_on (pair_at n items) n.first (place - n.first)) ≡ None = on-none (pair_at n items) name n.first (place - n.first) (λ k x y. at.lowest k x (omega arith)) in
-      let rest : Option (List ℕ) = look name (pairs_on (pair_at n items) (place + 1) (n.first + count_in n items - (place + 1))) in
+      let pair : pair_at n items id ≡ Some (name, value) = made-pair n id name value (map.get items id) (map.get items (id + n.step)) made.is_name is (subst (λ (v : List ℕ). is_pair n id name v ≡ true) same made.passes) in
+      let low : look name (pairs_on (pair_at n items) n.first (id - n.first)) ≡ None = on-none (pair_at n items) name n.first (id - n.first) (λ k x y. at.lowest k x (omega arith)) in
+      let rest : Option (List ℕ) = look name (pairs_on (pair_at n items) (id + 1) (n.first + count_in n items - (id + 1))) in
       ap (λ (m : Map). map.get m name) (settings-on n items) ∙ get-on (pair_at n items) n.first (count_in n items) name
-      ∙ on-split (pair_at n items) name n.first (count_in n items) place from to
-      ∙ or-none (look name (pairs_on (pair_at n items) n.first (place - n.first))) _ low
-      ∙ or-some (found name (pair_at n items place)) rest value (ap (found name) pair ∙ cond-true (tie name name) (Some value) None (ties_itself name))
+      ∙ on-split (pair_at n items) name n.first (count_in n items) id from to
+      ∙ or-none (look name (pairs_on (pair_at n items) n.first (id - n.first))) _ low
+      ∙ or-some (found name (pair_at n items id)) rest value (ap (found name) pair ∙ cond-true (tie name name) (Some value) None (ties_itself name))
     where
       some_same : (x y : List ℕ) → Some x ≡ Some y → x ≡ y
       some_same x y e = cc
@@ -45,21 +45,21 @@ module _ (n : Numbering) (items : Items) where
       ∙ on-none (pair_at n items) name n.first (count_in n items) (λ k from to. none k (record { from = from; to = to }))
 
   -- the value of a name that stands somewhere
-  pub at-value : (name : List ℕ) (place : ℕ) → IsAt n items name place → (value : List ℕ) × (map.get items (place + n.step) ≡ Some value)
-  at-value name place at =
-      let made = pair-made n place name (map.get items place) (map.get items (place + n.step)) at.here in
+  pub at-value : (name : List ℕ) (id : ℕ) → IsAt n items name id → (value : List ℕ) × (map.get items (id + n.step) ≡ Some value)
+  at-value name id at =
+      let made = pair-made n id name (map.get items id) (map.get items (id + n.step)) at.here in
       (made.value, made.is_value)
 
   -- a name with a value stands somewhere, and one without nowhere
   pub nowhere-none : (name : List ℕ) → map.get (settings_in n items) name ≡ None → IsIdOfName n items name None
-  nowhere-none name none = λ place inside has. lowest place inside has
+  nowhere-none name none = λ id inside has. lowest id inside has
     where
       look-none : look name (pairs_on (pair_at n items) n.first (count_in n items)) ≡ None
       look-none = sym (ap (λ (m : Map). map.get m name) (settings-on n items) ∙ get-on (pair_at n items) n.first (count_in n items) name) ∙ none
 
-      lowest : (place : ℕ) → IsInside n items place → HasName (pair_at n items place) name → ⊥
-      lowest place inside has =
-          let some = on-some (pair_at n items) name n.first (count_in n items) place inside.from inside.to has in
+      lowest : (id : ℕ) → IsInside n items id → HasName (pair_at n items id) name → ⊥
+      lowest id inside has =
+          let some = on-some (pair_at n items) name n.first (count_in n items) id inside.from inside.to has in
           some_none some.0 (sym some.1 ∙ look-none)
 
 -- ---- how many names
@@ -117,19 +117,19 @@ module _ (n : Numbering) (laws : IsNumbering n) (items : Items) (clean : HasNoOr
       ∙ map-sum one (pair_at n items) n.first (count_in n items) (clean-distinct n laws items clean)
       ∙ sym (length-sum (pairs_on (pair_at n items) n.first (count_in n items)))
 
-  -- A place that has a name or a value has both.
-  pub used-name : (place : ℕ) → IsInside n items place → ¬ (map.get items place ≡ None) → ¬ (pair_at n items place ≡ None)
-  used-name place inside used none =
+  -- An id that has a name or a value has both.
+  pub used-name : (candidate : ℕ) → IsInside n items candidate → ¬ (map.get items candidate ≡ None) → ¬ (pair_at n items candidate ≡ None)
+  used-name candidate inside used none =
       let b : n.count_id < n.first = laws.below in
-      let f : n.first ≤ place = inside.from in
-      let t : place < n.first + count_in n items = inside.to in
+      let f : n.first ≤ candidate = inside.from in
+      let t : candidate < n.first + count_in n items = inside.to in
       let few : count_in n items ≤ n.step = laws.few (map.get items n.count_id) in
-      elim (clean place) [
+      elim (clean candidate) [
         | inl gone ↦ used gone
         | inr kept ↦ elim kept [
-          | inl count ↦ let e : place ≡ n.count_id = count.is in absurd (omega arith)
+          | inl count ↦ let e : candidate ≡ n.count_id = count.is in absurd (omega arith)
           | inr part ↦
-              let g : n.first ≤ part.place = part.at.inside.from in
+              let g : n.first ≤ part.candidate = part.at.inside.from in
               elim part.is [
                 | inl e ↦ let h : ⊥ = subst (λ (o : Option Pair). HasName o part.name) (sym (ap (pair_at n items) e) ∙ none) part.at.here in h
                 | inr e ↦ absurd (omega arith)
@@ -137,22 +137,22 @@ module _ (n : Numbering) (laws : IsNumbering n) (items : Items) (clean : HasNoOr
         ]
       ]
 
-  pub used-value : (place : ℕ) → IsInside n items place → ¬ (map.get items (place + n.step) ≡ None) → ¬ (pair_at n items place ≡ None)
-  used-value place inside used none =
+  pub used-value : (candidate : ℕ) → IsInside n items candidate → ¬ (map.get items (candidate + n.step) ≡ None) → ¬ (pair_at n items candidate ≡ None)
+  used-value candidate inside used none =
       let b : n.count_id < n.first = laws.below in
-      let f : n.first ≤ place = inside.from in
+      let f : n.first ≤ candidate = inside.from in
       let few : count_in n items ≤ n.step = laws.few (map.get items n.count_id) in
-      elim (clean (place + n.step)) [
+      elim (clean (candidate + n.step)) [
         | inl gone ↦ used gone
         | inr kept ↦ elim kept [
-          | inl count ↦ let e : place + n.step ≡ n.count_id = count.is in absurd (omega arith)
+          | inl count ↦ let e : candidate + n.step ≡ n.count_id = count.is in absurd (omega arith)
           | inr part ↦
-              let g : n.first ≤ part.place = part.at.inside.from in
-              let h : part.place < n.first + count_in n items = part.at.inside.to in
+              let g : n.first ≤ part.candidate = part.at.inside.from in
+              let h : part.candidate < n.first + count_in n items = part.at.inside.to in
               elim part.is [
                 | inl e ↦ absurd (omega arith)
                 | inr e ↦
-                    let same : part.place ≡ place = omega arith in
+                    let same : part.candidate ≡ candidate = omega arith in
                     let h : ⊥ = subst (λ (o : Option Pair). HasName o part.name) (ap (pair_at n items) same ∙ none) part.at.here in h
               ]
         ]

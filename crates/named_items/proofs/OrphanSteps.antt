@@ -19,13 +19,13 @@ use Rattle.named_items.proofs.SoFar.{IsPast, HasNoneBefore, ids_left}
 
 -- ---- which name stands at an id
 
--- the item at a place where a setting counts is its name
-pub named-at : (n : Numbering) (items : Items) (name : List ℕ) (place : ℕ) → IsAt n items name place → get items place ≡ Some name
-named-at n items name place at = let made = pair-made n place name (get items place) (get items (place + n.step)) at.here in made.is_name
+-- the item at an id where a setting counts is its name
+pub named-at : (n : Numbering) (items : Items) (name : List ℕ) (id : ℕ) → IsAt n items name id → get items id ≡ Some name
+named-at n items name id at = let made = pair-made n id name (get items id) (get items (id + n.step)) at.here in made.is_name
 
--- it stands at one place
-pub same-place : (n : Numbering) (items : Items) (name : List ℕ) (a b : ℕ) → IsAt n items name a → IsAt n items name b → a ≡ b
-same-place n items name a b x y =
+-- it stands at one id
+pub same-id : (n : Numbering) (items : Items) (name : List ℕ) (a b : ℕ) → IsAt n items name a → IsAt n items name b → a ≡ b
+same-id n items name a b x y =
     elim (cases_lt a b) [
       | inl less ↦ absurd (y.lowest a x.inside.from less x.here)
       | inr le ↦ elim (cases_lt b a) [

@@ -21,8 +21,8 @@ module _ (price : ℕ → ℕ) (cap sectors : ℕ) (before : Items) (first secon
   pub value-fails : (T : Type 0) (d b : Device) (mid : Items) (fault : WriteFault) → (b ≡ d → mid ≡ before) → WriteEnds {T = T} price cap sectors d b before mid second value (Err fault) → PutsPair {T = T} price cap sectors before mid first second name value (Err fault)
   value-fails T d b mid (NoSpace need live) same ends =
       let full : (sectors - 1) * (cap - price (length value)) < items_cost price before = ends.full in
-      (ends.items, record { one = price (length value); is = inl refl; full = inr (omega arith) }, inl ends.needs)
-  value-fails T d b mid TooLong same ends = (same ends.1, record { one = price (length value); is = inl refl; full = inl ends.0 }, inl ends.0)
+      (ends.items, record { one = price (length value); is = inl refl; full = omega arith }, inl ends.needs)
+  value-fails T d b mid TooLong same ends = (same ends.1, ends.0)
   value-fails T d b mid PowerLost same ends = elim ends.items [ inl none ↦ inl none | inr put ↦ inr (inl put) ]
 
   module _ (free : get before second ≡ None) (mid : Items) (there : mid ≡ insert before second value) where
@@ -34,10 +34,7 @@ module _ (price : ℕ → ℕ) (cap sectors : ℕ) (before : Items) (first secon
     mid-cost = ap (items_cost price) there ∙ insert-cost price before second value free
 
     pub name-refused : (sectors - 1) * (cap - price (length name)) < items_cost price mid → IsRefused price cap sectors before name value
-    name-refused full = record { one = price (length name); is = inr refl; full = inr (let cost = mid-cost in omega arith) }
-
-    pub name-long : cap < price (length name) → IsRefused price cap sectors before name value
-    name-long over = record { one = price (length name); is = inr refl; full = inl over }
+    name-refused full = record { one = price (length name); is = inr refl; full = let cost = mid-cost in omega arith }
 
     -- power is lost in the delete
     pub undo-lost : (T U : Type 0) (d e : Device) (after : Items) (lost : Lost) → DeleteEnds {T = U} d e mid after second (Err lost) → PutsPair {T = T} price cap sectors before after first second name value (Err PowerLost)
@@ -51,10 +48,9 @@ name-cut before mid after first second text name value there same ends = elim en
   | inr put ↦ inr (inr (put ∙ ap (λ (m : Items). insert m first text) there ∙ ap (insert (insert before second value) first) same))
 ]
 
--- neither of the two is too long
-pub both-fit : (cap value name : ℕ) → value ≤ cap → name ≤ cap → (cap < value) ⊎ (cap < name) → ⊥
-both-fit cap value name one two (inl over) = omega arith
-both-fit cap value name one two (inr over) = omega arith
+-- what fits a sector is not too long
+pub not-over : (cap cost : ℕ) → cost ≤ cap → cap < cost → ⊥
+not-over cap cost fits over = omega arith
 
 -- ---- a later call, in the geometry and on the area of the first one
 

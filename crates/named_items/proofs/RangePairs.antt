@@ -1,5 +1,5 @@
--- The map of the pairs that a function gives on a range of places, the lower place of two equal names first; and what it
--- becomes where the function changes at one place.
+-- The map of the pairs that a function gives on a range of ids, the lower id of two equal names first; and what it
+-- becomes where the function changes at one id.
 use Rattle.std.proofs.Common.{◌≡◌, ℕ, zero, suc, ◌+◌, ◌-◌, ◌<◌, ◌≤◌, Bool, true, false, cond, List, [], ◌∷◌, ◌++◌, Option, Some, None, nat_cmp, refl, sym, ap, subst, ◌∙◌, inl, inr, arith}
 use Rattle.std.specs.Option.{option_or}
 use Rattle.std.specs.List.{filter_map, range_with_len, cons_option}
@@ -70,7 +70,7 @@ on-agree f g a (suc m) same =
     ap (λ (o : Option Pair). cons_option o (pairs_on f (a + 1) m)) (same a (omega arith) (omega arith))
     ∙ ap (cons_option (g a)) (on-agree f g (a + 1) m (λ k from to. same k (omega arith) (omega arith)))
 
--- a name that no place has
+-- a name that no id has
 pub on-none : (f : ℕ → Option Pair) (q : List ℕ) (a m : ℕ) → ((k : ℕ) → a ≤ k → k < a + m → ¬ HasName (f k) q) → look q (pairs_on f a m) ≡ None
 on-none f q a zero none = refl
 on-none f q a (suc m) none =
@@ -78,12 +78,12 @@ on-none f q a (suc m) none =
     ∙ ap (λ (o : Option (List ℕ)). option_or o (look q (pairs_on f (a + 1) m))) (found-other q (f a) (none a (omega arith) (omega arith)))
     ∙ on-none f q (a + 1) m (λ k from to. none k (omega arith) (omega arith))
 
--- one place more
+-- one id more
 pub on-more : (f : ℕ → Option Pair) (a m : ℕ) → pairs_on f a (m + 1) ≡ pairs_on f a m ++ cons_option (f (a + m)) []
 on-more f a m =
     ap (filter_map f) (range-append a m 1) ∙ filter_map-append f (range_with_len a m) (range_with_len (a + m) 1)
 
--- a place splits the range
+-- an id splits the range
 pub on-split : (f : ℕ → Option Pair) (q : List ℕ) (a m p : ℕ) → a ≤ p → p < a + m
     → look q (pairs_on f a m) ≡ option_or (look q (pairs_on f a (p - a))) (option_or (found q (f p)) (look q (pairs_on f (p + 1) (a + m - (p + 1)))))
 on-split f q a m p from to =
@@ -108,7 +108,7 @@ found-here : (q : List ℕ) (o : Option Pair) → HasName o q → (v : List ℕ)
 found-here q None has = absurd has
 found-here q (Some x) has = (x.1, cond-true (tie q x.0) (Some x.1) None (subst (λ (name : List ℕ). tie q name ≡ true) (sym has) (ties_itself q)))
 
--- a name that a place has
+-- a name that an id has
 pub on-some : (f : ℕ → Option Pair) (q : List ℕ) (a m p : ℕ) → a ≤ p → p < a + m → HasName (f p) q → (v : List ℕ) × (look q (pairs_on f a m) ≡ Some v)
 on-some f q a m p from to has =
     let here = found-here q (f p) has in
@@ -119,7 +119,7 @@ on-some f q a m p from to has =
     by (Some w) is v e = (w, on-split f q a m p from to ∙ or-some (look q (pairs_on f a (p - a))) (option_or (found q (f p)) (look q (pairs_on f (p + 1) (a + m - (p + 1))))) w is)
     by None is v e = (v, on-split f q a m p from to ∙ or-none (look q (pairs_on f a (p - a))) (option_or (found q (f p)) (look q (pairs_on f (p + 1) (a + m - (p + 1))))) is ∙ e)
 
--- ---- a change at one place
+-- ---- a change at one id
 
 unfoldable pub map_on : (ℕ → Option Pair) → ℕ → ℕ → Map
 map_on f a m = from_entries (pairs_on f a m)
@@ -169,7 +169,7 @@ module _ (f g : ℕ → Option Pair) (a m p : ℕ) (from : a ≤ p) (to : p < a 
       clash : q ≡ name → ⊥
       clash e = false-true (sym apart ∙ ap (tie q) (sym e) ∙ ties_itself q)
 
-  -- the place gets this pair, and had none or one of this name
+  -- the id gets this pair, and had none or one of this name
   pub on-put : (name value : List ℕ) → g p ≡ Some (name, value) → ((x : List ℕ) → HasName (f p) x → x ≡ name) → ((k : ℕ) → a ≤ k → k < p → ¬ HasName (f k) name) → map_on g a m ≡ insert (map_on f a m) name value
   on-put name value is only none = same_settings (map_on g a m) (insert (map_on f a m) name value) (λ q.
       elim (cases_Bool (tie q name)) [
@@ -185,7 +185,7 @@ module _ (f g : ℕ → Option Pair) (a m p : ℕ) (from : a ≤ p) (to : p < a 
             ∙ sym (get-insert nat_list_cmp_total (map_on f a m) name value q ∙ cond-false (tie q name) (Some value) (get (map_on f a m) q) apart)
       ])
 
-  -- the place loses its pair, and no other place has the name
+  -- the id loses its pair, and no other id has the name
   pub on-take : (name : List ℕ) → g p ≡ None → ((x : List ℕ) → HasName (f p) x → x ≡ name) → ((k : ℕ) → a ≤ k → k < p → ¬ HasName (f k) name) → ((k : ℕ) → p < k → k < a + m → ¬ HasName (f k) name)
       → map_on g a m ≡ remove (map_on f a m) name
   on-take name is only lower higher = same_settings (map_on g a m) (remove (map_on f a m) name) (λ q.
@@ -202,7 +202,7 @@ module _ (f g : ℕ → Option Pair) (a m p : ℕ) (from : a ≤ p) (to : p < a 
             ∙ sym (get-remove nat_list_cmp_total (map_on f a m) name q ∙ cond-false (tie q name) None (get (map_on f a m) q) apart)
       ])
 
-  -- the place loses its pair, and a lower one has the name
+  -- the id loses its pair, and a lower one has the name
   pub on-hide : (name : List ℕ) (k : ℕ) → g p ≡ None → ((x : List ℕ) → HasName (f p) x → x ≡ name) → a ≤ k → k < p → HasName (f k) name → map_on g a m ≡ map_on f a m
   on-hide name k is only low high has = same_settings (map_on g a m) (map_on f a m) (λ q.
       elim (cases_Bool (tie q name)) [

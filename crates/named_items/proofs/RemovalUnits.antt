@@ -11,7 +11,7 @@ use Rattle.flash_sim.specs.declared.flash.PowerLost.{PowerLost as Lost}
 use Rattle.flash_map.specs.Spending.{SpendsAtMost}
 use Rattle.flash_map.proofs.Plans.{counted_counted}
 use Rattle.flash_map.specs.declared.area.Geometry.{Geometry}
-use Rattle.backend_api.specs.Room.{mount_units, removal_units}
+use Rattle.backend_api.specs.Room.{foreign_units, removal_units}
 use Rattle.item_laws.specs.Items.{Items}
 use Rattle.named_items.specs.StoreEnds.{DeleteEnds, most_items, item_units}
 use Rattle.named_items.specs.Orphans.{SpendsPerItem}
@@ -105,18 +105,18 @@ quarter : (s x : ℕ) → 3 * s * x ≤ 12 * s * x
 quarter s x = let three : 3 * s ≤ 12 * s = omega arith in mul-le-mul_right x three
 
 module _ (g : Geometry) where
-  store-le : item_units g ≤ mount_units g
+  store-le : item_units g ≤ foreign_units g
   store-le =
       let wide = quarter g.sectors (g.sector / g.unit + 3) in
       omega arith
 
-  pub store-mounted : (d e : Device) → SpendsAtMost d e (item_units g) → SpendsAtMost d e (mount_units g)
+  pub store-mounted : (d e : Device) → SpendsAtMost d e (item_units g) → SpendsAtMost d e (foreign_units g)
   store-mounted d e spent =
       let le = store-le in
       let within : spent.0 ≤ item_units g = spent.1 in
       (spent.0, omega arith, spent.2)
 
-  pub all-removed : (d e f : Device) (items : ℕ) → items ≤ most_items g → SpendsAtMost d e (item_units g) → SpendsAtMost e f (items * removal_units g) → SpendsAtMost d f (mount_units g)
+  pub all-removed : (d e f : Device) (items : ℕ) → items ≤ most_items g → SpendsAtMost d e (item_units g) → SpendsAtMost e f (items * removal_units g) → SpendsAtMost d f (foreign_units g)
   all-removed d e f items few one two =
       let wide = quarter g.sectors (g.sector / g.unit + 3) in
       let each : items * removal_units g ≤ g.sectors * (g.sector / 8) * removal_units g = mul-le-mul_right (removal_units g) few in

@@ -196,12 +196,13 @@ module _ (k : SectorFormat) (d e : Device) (area : Area) where
     ring-delete-entry id (Err x) ends room = between-most d e 0 (k.units.entry 0) (k.units.entry 0) (omega arith) (ends.fitting room)
 
     -- by whether it needs one
-    pub ring-delete-next : {V : Type 0} (id : ℕ) (r : Result V Lost) → ring_writing.DeleteEnds k d e area id r → SpendsAtMost d e (cond (has_room_at k d area 0) (k.units.entry 0) (ring_removal k (sector_size d area)))
-    ring-delete-next {V = V} id r ends = by (has_room_at k d area 0) refl
+    pub ring-delete-next : {V : Type 0} (most id : ℕ) (r : Result V Lost) → ring_writing.DeleteEnds k d e area id r → SpendsAtMost d e most
+        → SpendsAtMost d e (cond (has_room_at k d area 0) (k.units.entry 0) most)
+    ring-delete-next {V = V} most id r ends one = by (has_room_at k d area 0) refl
       where
-        by : (roomy : Bool) → has_room_at k d area 0 ≡ roomy → SpendsAtMost d e (cond roomy (k.units.entry 0) (ring_removal k (sector_size d area)))
+        by : (roomy : Bool) → has_room_at k d area 0 ≡ roomy → SpendsAtMost d e (cond roomy (k.units.entry 0) most)
         by true is = ring-delete-entry id r ends is
-        by false is = ring-delete-one id r ends
+        by false is = one
 
   -- ---- what they spend at most
 

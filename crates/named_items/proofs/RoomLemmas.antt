@@ -97,7 +97,7 @@ module _ (price : ℕ → ℕ) (cap counted : ℕ) (too_many : Map → List ℕ 
           | inr kept ↦ elim kept [
             | inl count ↦ counts (map.get items n.count_id) count.counts
             | inr part ↦
-                let f : n.first ≤ part.place = part.at.inside.from in
+                let f : n.first ≤ part.candidate = part.at.inside.from in
                 let b : n.count_id < n.first = laws.below in
                 elim part.is [ inl e ↦ absurd (omega arith) | inr e ↦ absurd (omega arith) ]
           ]

@@ -16,26 +16,26 @@ pub record AreOfNames (n : Numbering) (top : ℕ) (ids : IdRange) : Type 0 where
   pub most : ids.most + n.step < top
   pub few : ids.most < ids.least + MOST_IDS
 
--- the place is one of these ids
-pub record IsCandidateId (ids : IdRange) (place : ℕ) : Type 0 where
-  pub from : ids.least ≤ place
-  pub to : place ≤ ids.most
+-- the id is one of these
+pub record IsCandidateId (ids : IdRange) (id : ℕ) : Type 0 where
+  pub from : ids.least ≤ id
+  pub to : id ≤ ids.most
 
--- each place at which the name may stand, up to the count, is one of these
+-- each candidate id of the name, up to the count, is one of these
 abbrev pub HasCandidates : Numbering → List ℕ → IdRange → Type 0
 HasCandidates n name ids =
-    (items : Items) (place : ℕ) → IsInside n items place → n.is_candidate place name ≡ true
-    → IsCandidateId ids place
+    (items : Items) (id : ℕ) → IsInside n items id → n.is_candidate id name ≡ true
+    → IsCandidateId ids id
 
--- each place of a name up to the count is one of these
+-- each id of names up to the count is one of these
 abbrev pub HasAllCandidates : Numbering → IdRange → Type 0
-HasAllCandidates n ids = (items : Items) (place : ℕ) → IsInside n items place → IsCandidateId ids place
+HasAllCandidates n ids = (items : Items) (id : ℕ) → IsInside n items id → IsCandidateId ids id
 
 -- at each of these ids the name may stand, by the count of some items
 abbrev pub HasOnlyCandidates : Numbering → List ℕ → IdRange → Type 0
-HasOnlyCandidates n name ids = (place : ℕ) → IsCandidateId ids place
-    → (items : Items) × IsCandidate n items name place
+HasOnlyCandidates n name ids = (id : ℕ) → IsCandidateId ids id
+    → (items : Items) × IsCandidate n items name id
 
--- each of these ids is a place of names, by the count of some items
-abbrev pub HasOnlyPlaces : Numbering → IdRange → Type 0
-HasOnlyPlaces n ids = (place : ℕ) → IsCandidateId ids place → (items : Items) × IsInside n items place
+-- each of these is an id of names, by the count of some items
+abbrev pub HasOnlyNameIds : Numbering → IdRange → Type 0
+HasOnlyNameIds n ids = (id : ℕ) → IsCandidateId ids id → (items : Items) × IsInside n items id

@@ -12,23 +12,19 @@ DeletesPair before after first second (Ok x) = after ≡ remove (remove before f
 DeletesPair before after first second (Err lost) =
     (after ≡ before) ⊎ (after ≡ remove before first) ⊎ (after ≡ remove (remove before first) second)
 
--- One of the two writes was refused: its item costs more than a sector has, or the items, perhaps
--- with the value, leave no room for it.
+-- One of the two writes was refused: the items, perhaps with the value, leave no room for it.
 pub record IsRefused (price : ℕ → ℕ) (cap sectors : ℕ) (before : Items) (name value : List ℕ) : Type 0 where
   pub one : ℕ
   pub is : (one ≡ price (length value)) ⊎ (one ≡ price (length name))
-  pub full : (cap < one) ⊎ ((sectors - 1) * (cap - one) < price (length value) + items_cost price before)
-
--- the name or the value costs more, with its entry, than a sector has
-abbrev pub OneTooLong : (ℕ → ℕ) → ℕ → List ℕ → List ℕ → Type 0
-OneTooLong price cap name value = (cap < price (length value)) ⊎ (cap < price (length name))
+  pub full : (sectors - 1) * (cap - one) < price (length value) + items_cost price before
 
 -- what one of the two writes needs, in bytes
 abbrev pub IsNeedOfOne : (ℕ → ℕ) → ℕ → List ℕ → List ℕ → Type 0
 IsNeedOfOne price need name value = (need ≡ price (length value)) ⊎ (need ≡ price (length name))
 
 -- Both items are there; or a write was refused, and neither is; or power was lost, and neither is,
--- or the value alone, or both.
+-- or the value alone, or both. Only the value can be too long: it costs more, with its entry, than a
+-- sector has.
 abbrev pub PutsPair : {T : Type 0} → (ℕ → ℕ) → ℕ → ℕ → Items → Items → ℕ → ℕ → List ℕ → List ℕ
     → Result T WriteFault → Type 0
 PutsPair price cap sectors before after first second name value (Ok x) =
@@ -36,7 +32,7 @@ PutsPair price cap sectors before after first second name value (Ok x) =
 PutsPair price cap sectors before after first second name value (Err (NoSpace need live)) =
     (after ≡ before) × IsRefused price cap sectors before name value × IsNeedOfOne price need name value
 PutsPair price cap sectors before after first second name value (Err TooLong) =
-    (after ≡ before) × IsRefused price cap sectors before name value × OneTooLong price cap name value
+    (after ≡ before) × (cap < price (length value))
 PutsPair price cap sectors before after first second name value (Err PowerLost) =
     (after ≡ before) ⊎ (after ≡ insert before second value)
     ⊎ (after ≡ insert (insert before second value) first name)
@@ -46,6 +42,6 @@ abbrev pub AltersTwo : Items → Items → ℕ → ℕ → Type 0
 AltersTwo before after first second =
     (id : ℕ) → ¬ (id ≡ first) → ¬ (id ≡ second) → get after id ≡ get before id
 
--- the place has neither a name nor a value
+-- the candidate id has neither a name nor a value
 abbrev pub IsFree : Items → ℕ → ℕ → Type 0
 IsFree items first second = (get items first ≡ None) × (get items second ≡ None)

@@ -14,9 +14,9 @@ use Rattle.named_items.specs.Pairs.{count_in, IsAt, IsIdOfName}
 abbrev pub put_all : Items → List (ℕ × List ℕ) → Items
 put_all items puts = fold (λ before put. insert before put.0 put.1) items puts
 
--- the value, and then the name at this place
-abbrev pub pair_at_place : Numbering → ℕ → List ℕ → List ℕ → List (ℕ × List ℕ)
-pair_at_place n place name value = (place + n.step, value) ∷ (place, name) ∷ []
+-- the value, and then the name at this candidate id
+abbrev pub pair_at_id : Numbering → ℕ → List ℕ → List ℕ → List (ℕ × List ℕ)
+pair_at_id n id name value = (id + n.step, value) ∷ (id, name) ∷ []
 
 -- All puts are done; or there is no room, and none is; or power was lost, and the first ones are.
 -- `TooManyNames` never comes.
@@ -31,19 +31,19 @@ MakesPuts before after puts (Err PowerLost) = (done : ℕ) × (after ≡ put_all
 -- The name has a value: the value is put where it stands.
 pub record Changes (n : Numbering) (before : Items) (name value : List ℕ) (puts : List (ℕ × List ℕ)) : Type 0
   where
-    pub place : ℕ
-    pub at : IsAt n before name place
-    pub are : puts ≡ (place + n.step, value) ∷ []
+    pub candidate : ℕ
+    pub at : IsAt n before name candidate
+    pub are : puts ≡ (candidate + n.step, value) ∷ []
 
--- The name is new: it goes to the least free place of those where it may stand.
+-- The name is new: it goes to its least free candidate id.
 pub record Takes (n : Numbering) (before : Items) (name value : List ℕ) (puts : List (ℕ × List ℕ)) : Type 0
   where
     pub absent : IsIdOfName n before name None
     pub free : ℕ
     pub least : IsFreeCandidate n before name (Some free)
-    pub are : puts ≡ pair_at_place n free name value
+    pub are : puts ≡ pair_at_id n free name value
 
--- The name is new, and no such place is free: the count rises by one, and the name goes to the place
+-- The name is new, and no candidate id is free: the count rises by one, and the name goes to the id
 -- that this allows, the one behind the last.
 pub record Raises (n : Numbering) (before : Items) (name value : List ℕ) (puts : List (ℕ × List ℕ)) : Type 0
   where
@@ -53,7 +53,7 @@ pub record Raises (n : Numbering) (before : Items) (name value : List ℕ) (puts
     pub spelled : count ≡ n.count_bytes (count_in n before + 1)
     pub counts : n.is_count (Some count) ≡ true
     pub one_more : n.count_of (Some count) ≡ count_in n before + 1
-    pub are : puts ≡ (n.count_id, count) ∷ pair_at_place n (n.first + count_in n before) name value
+    pub are : puts ≡ (n.count_id, count) ∷ pair_at_id n (n.first + count_in n before) name value
 
 -- what a set puts, in order
 abbrev pub ArePutsOfSet : Numbering → Items → List ℕ → List ℕ → List (ℕ × List ℕ) → Type 0
@@ -76,16 +76,17 @@ SetLeavesItems n before after name value (Err PowerLost) =
 
 -- ---- deletes
 
--- The name stands at this place. Its item is gone, and then perhaps its value's.
+-- The name stands at this candidate id. Its item is gone, and then perhaps its value's.
 pub record TakesAway (n : Numbering) (before after : Items) (name : List ℕ) : Type 0 where
-  pub place : ℕ
-  pub at : IsAt n before name place
-  pub left : (after ≡ remove before place) ⊎ (after ≡ remove (remove before place) (place + n.step))
+  pub candidate : ℕ
+  pub at : IsAt n before name candidate
+  pub left : (after ≡ remove before candidate)
+      ⊎ (after ≡ remove (remove before candidate) (candidate + n.step))
 
 -- The items that a delete leaves: those before without the name and its value. If power was lost, they
 -- are as before, or the name alone is gone, or both are.
 abbrev pub DeleteLeavesItems : {T E : Type 0} → Numbering → Items → Items → List ℕ → Result T E → Type 0
 DeleteLeavesItems n before after name (Ok x) =
     (IsIdOfName n before name None × (after ≡ before))
-    ⊎ ((place : ℕ) × IsAt n before name place × (after ≡ remove (remove before place) (place + n.step)))
+    ⊎ ((id : ℕ) × IsAt n before name id × (after ≡ remove (remove before id) (id + n.step)))
 DeleteLeavesItems n before after name (Err lost) = (after ≡ before) ⊎ TakesAway n before after name

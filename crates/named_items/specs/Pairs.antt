@@ -14,18 +14,18 @@ module _ (n : Numbering) where
 
   -- a lawful name at an id of its own, and a value of 1 to the most bytes
   abbrev pub is_pair : ℕ → List ℕ → List ℕ → Bool
-  is_pair place name value =
-      is_name name && n.is_candidate place name && nat_le 1 (length value) && nat_le (length value) n.longest
+  is_pair id name value =
+      is_name name && n.is_candidate id name && nat_le 1 (length value) && nat_le (length value) n.longest
 
   -- the setting that two items are
   abbrev pub pair_of : ℕ → Option (List ℕ) → Option (List ℕ) → Option (List ℕ × List ℕ)
-  pair_of place None value = None
-  pair_of place (Some name) None = None
-  pair_of place (Some name) (Some value) = if is_pair place name value then Some (name, value) else None
+  pair_of id None value = None
+  pair_of id (Some name) None = None
+  pair_of id (Some name) (Some value) = if is_pair id name value then Some (name, value) else None
 
   -- the setting whose name stands at this id
   abbrev pub pair_at : Items → ℕ → Option (List ℕ × List ℕ)
-  pair_at items place = pair_of place (get items place) (get items (place + n.step))
+  pair_at items id = pair_of id (get items id) (get items (id + n.step))
 
   -- The map that items read as. Of two settings of one name, the one at the lower id is in effect.
   unfoldable pub settings_in : Items → Map
@@ -36,31 +36,31 @@ abbrev pub HasName : Option (List ℕ × List ℕ) → List ℕ → Type 0
 HasName None name = ⊥
 HasName (Some pair) name = pair.0 ≡ name
 
--- the place is one that the count allows
-pub record IsInside (n : Numbering) (items : Items) (place : ℕ) : Type 0 where
-  pub from : n.first ≤ place
-  pub to : place < n.first + count_in n items
+-- the id is one that the count allows for names
+pub record IsInside (n : Numbering) (items : Items) (id : ℕ) : Type 0 where
+  pub from : n.first ≤ id
+  pub to : id < n.first + count_in n items
 
 -- a setting of this name stands there, in effect or not
-pub record IsHeld (n : Numbering) (items : Items) (name : List ℕ) (place : ℕ) : Type 0 where
-  pub inside : IsInside n items place
-  pub here : HasName (pair_at n items place) name
+pub record IsHeld (n : Numbering) (items : Items) (name : List ℕ) (id : ℕ) : Type 0 where
+  pub inside : IsInside n items id
+  pub here : HasName (pair_at n items id) name
 
--- no setting of this name stands below the place
+-- no setting of this name stands below the id
 abbrev pub IsLowest : Numbering → Items → List ℕ → ℕ → Type 0
-IsLowest n items name place =
-    (other : ℕ) → n.first ≤ other → other < place → ¬ HasName (pair_at n items other) name
+IsLowest n items name id =
+    (other : ℕ) → n.first ≤ other → other < id → ¬ HasName (pair_at n items other) name
 
 -- the setting in effect of this name stands there
-pub record IsAt (n : Numbering) (items : Items) (name : List ℕ) (place : ℕ) : Type 0 where
-  pub inside : IsInside n items place
-  pub here : HasName (pair_at n items place) name
-  pub lowest : IsLowest n items name place
+pub record IsAt (n : Numbering) (items : Items) (name : List ℕ) (id : ℕ) : Type 0 where
+  pub inside : IsInside n items id
+  pub here : HasName (pair_at n items id) name
+  pub lowest : IsLowest n items name id
 
 -- where the setting in effect of this name stands, if there is one
 abbrev pub IsIdOfName : Numbering → Items → List ℕ → Option ℕ → Type 0
 IsIdOfName n items name None = (other : ℕ) → IsInside n items other → ¬ HasName (pair_at n items other) name
-IsIdOfName n items name (Some place) = IsAt n items name place
+IsIdOfName n items name (Some id) = IsAt n items name id
 
 -- the item is a count
 pub record IsCount (n : Numbering) (items : Items) (id : ℕ) : Type 0 where
@@ -70,9 +70,9 @@ pub record IsCount (n : Numbering) (items : Items) (id : ℕ) : Type 0 where
 -- the item is the name or the value of a setting in effect
 pub record IsPart (n : Numbering) (items : Items) (id : ℕ) : Type 0 where
   pub name : List ℕ
-  pub place : ℕ
-  pub at : IsAt n items name place
-  pub is : (id ≡ place) ⊎ (id ≡ place + n.step)
+  pub candidate : ℕ
+  pub at : IsAt n items name candidate
+  pub is : (id ≡ candidate) ⊎ (id ≡ candidate + n.step)
 
 abbrev pub IsKept : Numbering → Items → ℕ → Type 0
 IsKept n items id = IsCount n items id ⊎ IsPart n items id
@@ -85,6 +85,6 @@ HasNoOrphans n items = (id : ℕ) → (get items id ≡ None) ⊎ IsKept n items
 abbrev pub AltersOnly : Items → Items → ℕ → Type 0
 AltersOnly old new id = (other : ℕ) → ¬ (other ≡ id) → get new other ≡ get old other
 
--- the item is the name or the value of this place
+-- the item is the name or the value of this candidate id
 abbrev pub IsOf : Numbering → ℕ → ℕ → Type 0
-IsOf n place id = (id ≡ place) ⊎ (id ≡ place + n.step)
+IsOf n candidate id = (id ≡ candidate) ⊎ (id ≡ candidate + n.step)

@@ -1,13 +1,11 @@
 -- How an area holds items for a store over sectors of any format, by its geometry and its sectors
 -- alone. The geometry gives the format.
-use Rattle.std.specs.Prelude.{◌≡◌, ℕ, ◌+◌, ◌*◌, ◌≤◌, Bool, true, false, List, Option, None}
+use Rattle.std.specs.Prelude.{◌≡◌, ℕ, ◌+◌, ◌*◌, ◌≤◌, Bool, true, false, List, None}
 use Rattle.std.proofs.Common.{subst}
 use Rattle.flash_map.specs.declared.area.Area.{Area}
 use Rattle.flash_map.specs.declared.area.Geometry.{Geometry}
 use Rattle.flash_map.specs.declared.area.Role.{Role}
-use Rattle.flash_map.specs.declared.faults.Damaged.{Damaged}
 use Rattle.flash_map.specs.Area.{sector_at}
-use Rattle.item_laws.specs.Items.{Items}
 use Rattle.item_laws.specs.Area.{next, is_closed_at, open_sector}
 use Rattle.item_laws.specs.Live.{all_placed}
 use Rattle.item_store.specs.declared.latest.LastSlots.{LastSlots}
@@ -16,13 +14,6 @@ use Rattle.item_store.specs.Cached.{IsCacheOf}
 use Rattle.item_store.specs.SectorFormat.{SectorFormat, slots}
 use Rattle.item_store.specs.Latest.{Knows}
 use Rattle.item_store.specs.Room.{has_room}
-use Rattle.item_store.specs.Standing.{items}
-
-abbrev pub ring_damage : (Geometry → SectorFormat) → Area → Geometry → List (List ℕ) → Option Damaged
-ring_damage format_of area geometry sectors = (format_of geometry).damage sectors
-
-abbrev pub ring_items : (Geometry → SectorFormat) → Area → Geometry → List (List ℕ) → Items
-ring_items format_of area geometry sectors = items (format_of geometry) sectors
 
 -- no power loss left anything undone
 abbrev pub ring_rests : (Geometry → SectorFormat) → Area → Geometry → List (List ℕ) → Type 0

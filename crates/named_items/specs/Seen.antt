@@ -20,11 +20,11 @@ is_marked words hash = bit_at (get_or words (hash / 32 % 512) 0) (hash % 32)
 abbrev pub Saw : List ℕ → List ℕ → Type 0
 Saw words name = is_marked words (hash name) ≡ 1
 
--- the bits of all lawful names are set that stand as items below this id, at places of names
+-- the bits of all lawful names are set that stand as items below this id, at ids of names
 abbrev pub SawBelow : Numbering → Items → List ℕ → ℕ → Type 0
 SawBelow n items words id =
-    (place : ℕ) (name : List ℕ) → IsInside n items place → place < id → get items place ≡ Some name
-    → IsName name → Saw words name
+    (candidate : ℕ) (name : List ℕ) → IsInside n items candidate → candidate < id
+    → get items candidate ≡ Some name → IsName name → Saw words name
 
 -- A walk in rising order has come to this id: below it no orphan is left, and the set has the names.
 pub record HasCome (n : Numbering) (items : Items) (words : List ℕ) (id : ℕ) : Type 0 where

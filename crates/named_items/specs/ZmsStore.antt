@@ -1,5 +1,5 @@
 -- How a ZMS area holds items, by its geometry and its sectors alone.
-use Rattle.std.specs.Prelude.{◌≡◌, ℕ, ◌+◌, ◌-◌, ◌≤◌, Bool, List, Option}
+use Rattle.std.specs.Prelude.{◌≡◌, ℕ, ◌+◌, ◌-◌, ◌/◌, ◌≤◌, Bool, List, Option}
 use Rattle.std.proofs.Common.{arith}
 use Rattle.std.proofs.lemmas.Bool.Decides.{nat_tests}
 use Rattle.flash_sim.specs.Device.{Device}
@@ -18,9 +18,10 @@ use Rattle.flash_sim.specs.declared.flash.Kind.{Kind as BankKind}
 use Rattle.flash_sim.specs.declared.flash.Kind.TheVariants.{Erasing, Rewritable}
 use Rattle.zms_format.specs.Formats.{format_of, units_of}
 use Rattle.zms_store.specs.declared.store.Zms.{Zms}
+use Rattle.zms_store.specs.Spending.{most_delete}
 use Rattle.zms_store.specs.Standing.{kept}
 use Rattle.named_items.specs.Limits.{value-leaves_room}
-use Rattle.named_items.specs.RingStore.{ring_rests, ring_removal, ring_roomy, RingStands, ring-rested, ring_describes}
+use Rattle.named_items.specs.RingStore.{ring_rests, ring_roomy, RingStands, ring-rested, ring_describes}
 
 abbrev pub zms_damage : Area → Geometry → List (List ℕ) → Option Damaged
 zms_damage area geometry sectors = damage_of geometry.kind sectors
@@ -43,7 +44,7 @@ abbrev pub zms_redo : Geometry → ℕ
 zms_redo geometry = (format_of geometry).units.mount geometry.sector
 
 abbrev pub zms_removal : Geometry → ℕ
-zms_removal geometry = ring_removal (format_of geometry) geometry.sector
+zms_removal geometry = most_delete geometry.kind (geometry.sector / 16)
 
 -- the most that ends a garbage collection whose copies are all made
 abbrev pub zms_clear : Geometry → ℕ
@@ -60,10 +61,11 @@ zms_roomy area geometry sectors = ring_roomy format_of area geometry sectors
 -- collection and one whole removal.
 pub zms-lean : (geometry : Geometry)
     → zms_redo geometry + zms_entry geometry ≤ zms_clear geometry + zms_removal geometry
+unfolding data_len
 zms-lean geometry = by geometry.kind
   where
     by : (bank : BankKind) → (units_of bank).mount geometry.sector + (units_of bank).entry 0
-        ≤ (units_of bank).any_clear.lost + ((units_of bank).round geometry.sector + (units_of bank).entry 0)
+        ≤ (units_of bank).any_clear.lost + most_delete bank (geometry.sector / 16)
     by Rewritable = omega arith
     by Erasing = omega arith
 

@@ -28,27 +28,27 @@ pub fn count_written()
 
 /// Writing a value leaves the settings unchanged, if its name has no item.
 pub fn value_written()
-    ensures { (n : Numbering) (items : Items) (place : ℕ) (value : List ℕ) → IsNumbering n
-        → IsInside n items place → get items place ≡ None
-        → settings_in n (insert items (place + n.step) value) ≡ settings_in n items }
+    ensures { (n : Numbering) (items : Items) (candidate : ℕ) (value : List ℕ) → IsNumbering n
+        → IsInside n items candidate → get items candidate ≡ None
+        → settings_in n (insert items (candidate + n.step) value) ≡ settings_in n items }
 {}
 
 /// Writing the name or the value that completes a setting gives the name its value. No setting of
 /// another name may stand there, and no lower id may have a setting of the name.
 pub fn setting_written()
-    ensures { (n : Numbering) (items : Items) (place id : ℕ) (bytes name value : List ℕ)
-        → IsNumbering n → IsInside n items place → IsOf n place id
-        → pair_at n (insert items id bytes) place ≡ Some (name, value)
-        → ((other : List ℕ) → HasName (pair_at n items place) other → other ≡ name)
-        → IsLowest n items name place
+    ensures { (n : Numbering) (items : Items) (candidate id : ℕ) (bytes name value : List ℕ)
+        → IsNumbering n → IsInside n items candidate → IsOf n candidate id
+        → pair_at n (insert items id bytes) candidate ≡ Some (name, value)
+        → ((other : List ℕ) → HasName (pair_at n items candidate) other → other ≡ name)
+        → IsLowest n items name candidate
         → settings_in n (insert items id bytes) ≡ insert (settings_in n items) name value }
 {}
 
 /// If no item is an orphan, deleting the item of a name removes its setting.
 pub fn name_deleted()
-    ensures { (n : Numbering) (items : Items) (name : List ℕ) (place : ℕ) → IsNumbering n
-        → HasNoOrphans n items → IsAt n items name place
-        → settings_in n (remove items place) ≡ remove (settings_in n items) name }
+    ensures { (n : Numbering) (items : Items) (name : List ℕ) (candidate : ℕ) → IsNumbering n
+        → HasNoOrphans n items → IsAt n items name candidate
+        → settings_in n (remove items candidate) ≡ remove (settings_in n items) name }
 {}
 
 /// If no item is an orphan, the items cost at most what `pair_room` says of the settings. Its cost

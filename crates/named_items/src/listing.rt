@@ -39,13 +39,13 @@ fn next_setting<'a, N: IdLayout, S: ItemStore, F: Flash, L: Ledger>(
         IsNextSetting (N.numbering area) (on S.contents (F.device flash.now) area) after
         (option_map (λ next. (next.0, next.1, next.2.now)) result) }
 {
-    let place = store.next_by(flash, index, Some(after), steps)?;
-    if place > N::all_candidates().most {
+    let candidate = store.next_by(flash, index, Some(after), steps)?;
+    if candidate > N::all_candidates().most {
         return None;
     }
-    let name = name_in(store, flash, index, place, steps)?;
-    let value = store.get_by(flash, index, place + N::step(), steps)?;
-    Some((place, name, value))
+    let name = name_in(store, flash, index, candidate, steps)?;
+    let value = store.get_by(flash, index, candidate + N::step(), steps)?;
+    Some((candidate, name, value))
 }
 
 /// All settings, in the byte order of their names. No item may be an orphan. It makes one index,
@@ -74,11 +74,11 @@ pub fn all_settings<'a, N: IdLayout, S: ItemStore, F: Flash, L: Ledger>(
     store.fill_index(flash, &mut index, steps);
     let mut found = BTreeMap::new(alloc);
     let mut after = N::all_candidates().least - 1;
-    while let Some((place, name, value)) = next_setting::<N, S, F, L>(
+    while let Some((candidate, name, value)) = next_setting::<N, S, F, L>(
         store, flash, &index, after, steps,
     ) {
         found.insert(name, value)?;
-        after = place;
+        after = candidate;
     }
     Ok(found)
 }

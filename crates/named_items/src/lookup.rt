@@ -94,7 +94,7 @@ pub fn setting_of<'a, N: IdLayout, S: ItemStore, F: Flash, L: Ledger>(
     requires stands { StandsOn S.mounted_on S.stands (F.device flash.now) store.now }
     requires clean { let area = S.mounted_on store.now in
         HasNoOrphans (N.numbering area) (on S.contents (F.device flash.now) area) }
-    ensures place { let area = S.mounted_on store.now in
+    ensures candidate { let area = S.mounted_on store.now in
         IsIdOfName (N.numbering area) (on S.contents (F.device flash.now) area) name.now
         (option_map (λ holder. holder.id) result) }
     ensures value { let area = S.mounted_on store.now in
@@ -153,6 +153,6 @@ pub fn value_of<'a, N: IdLayout, S: ItemStore, F: Flash, L: Ledger>(
     }
     let mut index = S::new_index();
     store.fill_index(flash, &mut index, steps);
-    let place = N::place_of(store, flash, &index, name, steps)?;
-    store.get_by(flash, &index, place + N::step(), steps)
+    let candidate = N::id_of(store, flash, &index, name, steps)?;
+    store.get_by(flash, &index, candidate + N::step(), steps)
 }

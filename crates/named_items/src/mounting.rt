@@ -5,7 +5,7 @@ ghost use Rattle.flash_map.specs.Faults.{mount_lost};
 ghost use Rattle.flash_map.specs.Lawful.{IsLawfulFor};
 ghost use Rattle.flash_map.specs.Touches.{Touches};
 ghost use Rattle.backend_api.specs.Ends.{MountEnds};
-ghost use Rattle.backend_api.specs.Room.{mount_units};
+ghost use Rattle.backend_api.specs.Room.{foreign_units};
 ghost use Rattle.backend_api.specs.Written.{StaysWritten};
 ghost use Rattle.flash_map.specs.On.{on, HoldsOn};
 ghost use Rattle.named_items.specs.Mounted.{IsMountedOn};
@@ -23,10 +23,10 @@ use std::sync::ledger::Ledger;
 
 /// Mounts a store, and deletes the items that belong to no setting, in rising order of ids. The
 /// settings and each item that is kept stay, even if power is lost; no item is new or has other
-/// bytes. Whatever the result, it spends at most as many units and erases as `mount_units` says for
-/// the area's geometry. If no item is an orphan, it spends at most those of the store's redo. If some
-/// are, it spends at most those that end a garbage collection, and those of one delete for each. The
-/// area is all FF afterwards only if it was so before.
+/// bytes. Whatever the result, it spends at most the units and erases of `foreign_units` for the
+/// area's geometry. If no item is an orphan, it spends at most those that finish what a power loss
+/// left (`redo`). If some are, it spends at most those that end a garbage collection, and those of
+/// one delete for each. The area is all FF afterwards only if it was so before.
 ///
 /// # Errors
 /// `Damaged` exactly if the area shows damage; nothing was programmed then. `PowerLost`: the
@@ -60,7 +60,7 @@ pub fn mount_store<N: IdLayout, S: ItemStore, F: Flash, L: Ledger>(
         → F.device flash.new ≡ F.device flash.old }
     ensures written { StaysWritten (F.device flash.old) (F.device flash.new) area }
     ensures units { let d = F.device flash.old in let g = geometry_of d area in
-        SpendsBooting (N.numbering area) (mount_units g) (S.redo g) (S.clear g) (S.removal g) d
+        SpendsBooting (N.numbering area) (foreign_units g) (S.redo g) (S.clear g) (S.removal g) d
         (F.device flash.new) (on S.contents d area) }
     ensures store { let e = F.device flash.new in
         IfOk result

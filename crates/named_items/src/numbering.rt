@@ -9,7 +9,7 @@ ghost use Rattle.backend_api.specs.Map.{Map};
 ghost use Rattle.named_items.specs.Numbering.{Numbering, IsNumbering};
 ghost use Rattle.named_items.specs.PairRoom.{IsCountCost};
 ghost use Rattle.named_items.specs.Pairs.{count_in, settings_in, IsKept, IsIdOfName, HasNoOrphans};
-ghost use Rattle.named_items.specs.CandidateIds.{AreOfNames, HasCandidates, HasOnlyCandidates, HasAllCandidates, HasOnlyPlaces};
+ghost use Rattle.named_items.specs.CandidateIds.{AreOfNames, HasCandidates, HasOnlyCandidates, HasAllCandidates, HasOnlyNameIds};
 ghost use Rattle.named_items.specs.Looking.{HasIds};
 ghost use Rattle.named_items.specs.Putting.{room_in};
 
@@ -47,7 +47,7 @@ pub trait IdLayout {
     fn all_candidates() -> IdRange
         ensures ids { (area : area_type) → AreOfNames (numbering area) top result }
         ensures candidates { (area : area_type) → HasAllCandidates (numbering area) result }
-        ensures only { (area : area_type) → HasOnlyPlaces (numbering area) result };
+        ensures only { (area : area_type) → HasOnlyNameIds (numbering area) result };
 
     /// Whether a name may have a value: if the answer is `false`, the name has none. It
     /// makes no index.
@@ -82,7 +82,7 @@ pub trait IdLayout {
 
     /// The id at which the setting of a name stands; `None` if the name has no value. Items may be
     /// orphans. It looks at the ids of the name in rising order, up to that one.
-    fn place_of<S: ItemStore, F: Flash, L: Ledger>(
+    fn id_of<S: ItemStore, F: Flash, L: Ledger>(
         store: &S,
         flash: &F,
         index: &S::Index,

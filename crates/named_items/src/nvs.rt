@@ -174,18 +174,6 @@ impl ItemStore for Nvs {
         Nvs::delete(self, flash, id as u16, steps)
     }
 
-    fn next_id<F: Flash, L: Ledger>(
-        &self,
-        flash: &F,
-        after: Option<u32>,
-        steps: &mut Steps<L>,
-    ) -> Option<u32> {
-        match Nvs::next_id(self, flash, narrowed(after), steps) {
-            Some(next) => Some(u32::from(next)),
-            None => None,
-        }
-    }
-
     fn next_by<F: Flash, L: Ledger>(
         &self,
         flash: &F,

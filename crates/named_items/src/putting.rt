@@ -13,7 +13,7 @@ ghost use Rattle.backend_api.specs.Room.{command_units};
 ghost use Rattle.named_items.specs.StoreEnds as items;
 ghost use Rattle.named_items.specs.Pairs.{settings_in, AltersOnly, IsAt, IsIdOfName};
 ghost use Rattle.named_items.specs.Ends.{AltersTwo};
-ghost use Rattle.named_items.specs.Leaving.{pair_at_place, MakesPuts, SetLeavesItems};
+ghost use Rattle.named_items.specs.Leaving.{pair_at_id, MakesPuts, SetLeavesItems};
 ghost use Rattle.named_items.specs.Looking.{HasIds};
 ghost use Rattle.named_items.specs.Mounted.{IsMounted, StaysMounted};
 ghost use Rattle.named_items.specs.Putting.{room_in, IsNewAt, IsStorable, SetLeavesOn};
@@ -170,7 +170,7 @@ pub fn put_new<N: IdLayout, S: ItemStore, F: Flash, L: Ledger>(
     requires here { IsMounted S.mounted_on S.stands S.contents N.numbering (F.device flash.old)
         store.old }
     requires value { IsStorable (value_limit (S.mounted_on store.old)) value.now }
-    requires place { let area = S.mounted_on store.old in
+    requires candidate { let area = S.mounted_on store.old in
         IsNewAt (N.numbering area) N.too_many (on S.contents (F.device flash.old) area) name.now
         first }
 
@@ -183,7 +183,7 @@ pub fn put_new<N: IdLayout, S: ItemStore, F: Flash, L: Ledger>(
         (S.mounted_on store.old) name.now value.now result }
     ensures items { let d = F.device flash.old in let area = S.mounted_on store.old in
         MakesPuts (on S.contents d area) (on S.contents (F.device flash.new) area)
-        (pair_at_place (N.numbering area) first name.now value.now) result }
+        (pair_at_id (N.numbering area) first name.now value.now) result }
     ensures others { let area = S.mounted_on store.old in
         AltersTwo (on S.contents (F.device flash.old) area)
         (on S.contents (F.device flash.new) area) first (first + (N.numbering area).step) }

@@ -289,20 +289,7 @@ pub trait ItemStore: Drop {
         ensures down { is_err result ≡ true → runs self.new ≡ false };
 
     /// The least id above `after` that has an item, or the least of all if `after` is `None`;
-    /// `None` if there is none.
-    fn next_id<F: Flash, L: Ledger>(
-        &self,
-        flash: &F,
-        after: Option<u32>,
-        steps: &mut Steps<L>,
-    ) -> Option<u32>
-        requires lawful { IsLawfulFor (F.device flash.now).banks (mounted_on self.now) }
-        requires stands { StandsOn mounted_on stands (F.device flash.now) self.now }
-        ensures next { IsNextId (on contents (F.device flash.now) (mounted_on self.now)) after
-            result }
-        ensures known { IfSome result is_id };
-
-    /// The least id above `after` that has an item, as `next_id` gives it, found by the index.
+    /// `None` if there is none. It is found by the index.
     fn next_by<F: Flash, L: Ledger>(
         &self,
         flash: &F,

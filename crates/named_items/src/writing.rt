@@ -105,9 +105,9 @@ pub fn delete_name<N: IdLayout, S: ItemStore, F: Flash, L: Ledger>(
 /// deleted again.
 ///
 /// # Errors
-/// `TooLong`: one of the two costs more, with its entry, than a sector has for it. `NoSpace`: the
-/// items cost too much for one of the writes, whose need it gives. After either the items are as
-/// before. `PowerLost`: neither is written, or the value alone, or both, and the store is down.
+/// `TooLong`: the value costs more, with its entry, than a sector has for it. `NoSpace`: the items
+/// cost too much for one of the writes, whose need it gives. After either the items are as before.
+/// `PowerLost`: neither is written, or the value alone, or both, and the store is down.
 #[tactic(auto, using(flash_map::proofs::Touches::then))]
 pub fn put_pair<S: ItemStore, F: Flash, L: Ledger>(
     store: &mut S,
@@ -146,15 +146,12 @@ pub fn put_pair<S: ItemStore, F: Flash, L: Ledger>(
     match store.write_changed(flash, first, name.bytes(), steps) {
         Ok(()) => Ok(()),
         Err(WriteFault::PowerLost) => Err(WriteFault::PowerLost),
-        Err(WriteFault::TooLong) => match store.delete(flash, second, steps) {
-            Ok(()) => Err(WriteFault::TooLong),
-            Err(_) => Err(WriteFault::PowerLost),
-        },
         Err(WriteFault::NoSpace { need, live }) => {
             match store.delete(flash, second, steps) {
                 Ok(()) => Err(WriteFault::NoSpace { need, live }),
                 Err(_) => Err(WriteFault::PowerLost),
             }
         }
+        Err(WriteFault::TooLong) => unreachable!(),
     }
 }

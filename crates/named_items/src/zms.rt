@@ -164,15 +164,6 @@ impl ItemStore for Zms {
         Zms::delete(self, flash, id, steps)
     }
 
-    fn next_id<F: Flash, L: Ledger>(
-        &self,
-        flash: &F,
-        after: Option<u32>,
-        steps: &mut Steps<L>,
-    ) -> Option<u32> {
-        Zms::next_id(self, flash, after, steps)
-    }
-
     fn next_by<F: Flash, L: Ledger>(
         &self,
         flash: &F,

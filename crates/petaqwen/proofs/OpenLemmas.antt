@@ -16,8 +16,8 @@ module _ {S : Type 0} (old new : Device) (areas : List Area) (label : List ℕ) 
     same = refl;
     up = up;
     mounts = subst (λ (a : Area). Mounts {T = Unit {0}} old new a (Ok tt)) (sym here)
-        (record { touches = m.touches; ends = m.ends; sound = m.sound; keeps = m.keeps; rests = m.rests; at_most = m.at_most });
+        (record { touches = m.touches; ends = m.ends; sound = m.sound; keeps = m.keeps; rests = m.rests; units = m.units });
   }
 
   pub fails : (fault : MountFault) → Mounts {T = S} old new area (Err fault) → FailsToOpen old new areas areas label (Mount fault)
-  fails fault m = (area, found, record { touches = m.touches; ends = m.ends; sound = m.sound; keeps = m.keeps; rests = m.rests; at_most = m.at_most }, refl)
+  fails fault m = (area, found, record { touches = m.touches; ends = m.ends; sound = m.sound; keeps = m.keeps; rests = m.rests; units = m.units }, refl)

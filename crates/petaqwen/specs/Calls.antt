@@ -18,14 +18,16 @@ use Rattle.handlers.specs.Held.{HandlerState}
 use Rattle.handlers.specs.Registry.{Registered, subtrees}
 use Rattle.handlers.specs.declared.registry.RegisterFault.{RegisterFault}
 use Rattle.handlers.specs.declared.registry.RegisterFault.TheVariants.{Exists, NoMemory}
+use Rattle.backend_api.specs.Boot.{MountUnits}
 use Rattle.backend_api.specs.Commands.{Command, puts_of}
 use Rattle.backend_api.specs.Ends.{MountEnds}
-use Rattle.backend_api.specs.Room.{mount_units}
-use Rattle.any_backend.specs.ByRole.{any_contents, any_damage, any_room, any_rests, any_chance, any_tears}
+use Rattle.backend_api.specs.Room.{foreign_units}
+use Rattle.any_backend.specs.ByRole.{any_contents, any_damage, any_room, any_rests, any_owes, any_boot, any_chance, any_tears}
 use Rattle.any_backend.specs.Standing.{area_of, is_up}
 use Rattle.any_backend.specs.declared.backend.AnyBackend.{AnyBackend}
 use Rattle.settings_core.specs.Carrying.{CarryEndsOn, due_units, save_lost}
 use Rattle.settings_core.specs.Loading.{LoadEnds}
+use Rattle.settings_core.specs.Owing.{OwesBoot}
 use Rattle.settings_core.specs.Saving.{more_pairs}
 use Rattle.settings_core.specs.declared.loading.Loaded.{Loaded}
 use Rattle.settings_core.specs.declared.loading.LoadFault.{LoadFault}
@@ -52,14 +54,15 @@ abbrev pub partition : List Area → List ℕ → Option Area
 partition areas label = option_and_then (λ area. for_settings area.role area) (labelled areas label)
 
 -- How mounting settings on a partition ends. Whatever the result, the settings stay, and no byte outside the
--- partition changes.
+-- partition changes. It spends at most `foreign_units`, and at most what the partition owes. The partition
+-- owes no more afterwards.
 pub record Mounts {T : Type 0} (old new : Device) (area : Area) (result : Result T MountFault) : Type 0 where
   pub touches : Touches (area ∷ []) old new (mount_lost result)
   pub ends : MountEnds (on any_damage old area) old new result
   pub sound : on any_damage old area ≡ None → on any_damage new area ≡ None
   pub keeps : on any_damage old area ≡ None → on any_contents new area ≡ on any_contents old area
   pub rests : HoldsOn any_rests old area → new ≡ old
-  pub at_most : SpendsAtMost old new (mount_units (geometry_of old area))
+  pub units : MountUnits any_owes (foreign_units (geometry_of old area)) old new area
 
 -- the settings of the partition with this label are mounted and up, and the partitions stay
 pub record Opens (old new : Device) (areas after : List Area) (label : List ℕ) (backend : AnyBackend) :
@@ -80,7 +83,7 @@ FailsToOpen old new areas after label (Mount fault) =
 -- ---- registering
 
 -- The handler in this state was registered behind the others. Else nothing changed: the subtree is registered
--- already, or memory was wanting.
+-- already, or memory ran out.
 abbrev pub Registers : List Registered → List Registered → List ℕ → HandlerState
     → Result (Unit {0}) RegisterFault → Type 0
 Registers before after subtree state (Ok x) =
@@ -104,7 +107,7 @@ save_units d backend pairs =
     due_units (geometry_of d (area_of backend)) (on any_contents d (area_of backend)) (puts_of pairs)
 
 -- How carrying out commands on the settings ends, after so many of them. A flash that loses power takes the
--- settings down; nothing else does.
+-- settings down; nothing else does. The partition then owes at most its `boot_units` to the next mount.
 pub record CarriesOut (old new : Device) (before after : AnyBackend) (commands : List Command) (most : ℕ)
     (result : Result (Unit {0}) SaveFault) : Type 0 where
   pub touches : Touches (area_of before ∷ []) old new (save_lost result)
@@ -114,6 +117,7 @@ pub record CarriesOut (old new : Device) (before after : AnyBackend) (commands :
       commands count result
   pub at_most : SpendsAtMost old new most
   pub sound : is_up before ≡ true → on any_damage new (area_of before) ≡ None
+  pub owes : save_lost result ≡ true → OwesBoot any_owes any_boot new (area_of after)
   pub down : save_lost result ≡ true → is_up after ≡ false
   pub up : save_lost result ≡ false → is_up after ≡ is_up before
 

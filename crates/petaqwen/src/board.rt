@@ -22,9 +22,9 @@ pub struct Board<F: Flash> {
 
 impl Board<SparseSim> {
     /// A simulated flash that the word describes, such as
-    /// `bank=erasing/4/4096/4,area=nvs/settings/0/0/4`: units, sectors and their number, then
-    /// partitions by label, bank, first sector and number of sectors. All bytes are FF. Power is
-    /// on, no loss is planned, and nothing was spent yet.
+    /// `bank=erasing/4/4096/4,area=nvs/settings/0/0/4`: kind, unit and sector in bytes, number of
+    /// sectors; then partitions by role, label, bank, first sector and number of sectors. All bytes
+    /// are FF. Power is on, no loss is planned, and nothing was spent yet.
     ///
     /// # Errors
     /// `BadSpec` with the first item that is refused, counted from 1; `NoMemory`.

@@ -23,9 +23,9 @@ pub enum Error {
     Register(RegisterFault),
     /// No handler took the value.
     Set(RuntimeFault),
-    /// The load did not end.
+    /// The load failed.
     Load(LoadFault),
-    /// The save did not end.
+    /// The save stopped early.
     Save(SaveFault),
     /// An earlier call answered that power was lost.
     Off,

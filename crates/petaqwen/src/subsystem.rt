@@ -56,10 +56,13 @@ impl<F: Flash> Subsystem<F> {
     /// interrupted. What the partition reads as stays, also where power is lost. No handler is
     /// registered yet.
     ///
+    /// It spends at most the units and erases that the partition owes, as the last interrupted
+    /// command left it, and none at rest; whatever the bytes, at most `foreign_units`. It leaves no
+    /// more to the next mount than it found.
+    ///
     /// # Errors
     /// `NoPartition` exactly where no partition for settings has the label; then nothing changes.
-    /// `Mount`: the bytes are those of no store, power was lost, or memory was wanting. The board
-    /// comes back.
+    /// `Mount`: the partition is damaged, power was lost, or memory ran out. The board comes back.
     pub fn open(alloc: Global, board: Board<F>, label: &str) -> Result<Subsystem<F>, Unopened<F>>
         requires sound { AreServed (F.device board.flash).banks board.map }
 
@@ -170,12 +173,14 @@ impl<F: Flash> Subsystem<F> {
         get::<F, Brand>(&self.settings, &self.board.flash, name, Blank::new(1))
     }
 
-    /// Stores what the handlers hold: those whose own subtree matches the given one, all without
-    /// one. A value that is stored already is not stored again. `end` of the answer says how it
-    /// ended, and `pairs` how many values were stored before that. The handlers stay.
+    /// Stores what the handlers under the given subtree hold; without one, what all hold. A value
+    /// that is stored already is not stored again. `end` of the answer says how it ended, and
+    /// `pairs` how many values were stored before that. The handlers stay. It spends at most the
+    /// units and erases of one set for each value that differs.
     ///
-    /// After `PowerLost` each value is the old one or the new one, and the first so many are new.
-    /// The settings then answer `Off`, until they are closed and opened again.
+    /// After `PowerLost` the first so many values are new and the others old; over FCB the next
+    /// may be torn by chance. The next mount then spends at most `boot_units`. The settings answer
+    /// `Off`, until they are closed and opened again.
     pub fn save(&mut self, subtree: Option<&Name>) -> Saved
         requires ready { IsReady (F.device self.old.board.flash) self.old.board.map
             self.old.settings.backend (registered state self.old.registry) }

@@ -6,7 +6,7 @@ use Rattle.std.proofs.lemmas.List.Sums.{sum_by-cons}
 use Rattle.fcb_ring.specs.Writing.{record_cost}
 use Rattle.record_settings.specs.Settings.{settings_of}
 use Rattle.record_settings.specs.Live.{is_live, live_bodies}
-use Rattle.record_settings.specs.Numbers.{cost_by, put_cost, room}
+use Rattle.record_settings.specs.Room.{cost_by, put_cost, room}
 use Rattle.record_settings.specs.Rounds.{bodies_cost}
 use Rattle.record_settings.proofs.PrefixLemmas.{settings-cost}
 use Rattle.record_settings.proofs.LiveLemmas.{live-says}

@@ -86,10 +86,6 @@ get-settings_of limit bodies name =
     map.empty None bodies (map.get-empty (slice_cmp nat_cmp) name)
     ∙ ap stored (sym (last_value-scan limit name bodies))
 
-pub last_value-none : (limit : ℕ) (name : List ℕ) → last_value limit name [] ≡ None
-unfolding last_value
-last_value-none limit name = refl
-
 -- one record more
 pub last_value-push : (limit : ℕ) (name : List ℕ) (bodies : List (List ℕ)) (body : List ℕ) → last_value limit name (bodies ++ body ∷ []) ≡ found_by name (last_value limit name bodies) (setting_of limit body)
 last_value-push limit name bodies body =

@@ -1,7 +1,5 @@
 -- What a collection copies, record by record.
 use Rattle.std.proofs.Common.{◌≡◌, ℕ, Bool, true, false, cond, not, ◌&&◌, ◌||◌, ◌==◌, List, [], ◌∷◌, ◌++◌, length, Option, Some, None, refl, ap, ◌∙◌, append_assoc}
-use Rattle.std.proofs.lemmas.Bool.{or_left, or_right}
-use Rattle.std.proofs.lemmas.List.{append-nil}
 use Rattle.std.proofs.lemmas.List.Folds.{list_any-append}
 use Rattle.record_settings.specs.Settings.{setting_of}
 use Rattle.record_settings.specs.Live.{has_name, names, is_live, is_live_by, live_bodies}
@@ -10,11 +8,6 @@ use Rattle.record_settings.specs.Live.{has_name, names, is_live, is_live_by, liv
 
 pub names-append : (limit : ℕ) (name : List ℕ) (xs ys : List (List ℕ)) → names limit name (xs ++ ys) ≡ (names limit name xs || names limit name ys)
 names-append limit name xs ys = list_any-append (λ body. has_name name (setting_of limit body)) xs ys
-
--- this one is of the name
-pub names-found : (limit : ℕ) (name : List ℕ) (seen : List (List ℕ)) (body : List ℕ) (later : List (List ℕ)) → has_name name (setting_of limit body) ≡ true → names limit name (seen ++ body ∷ later) ≡ true
-names-found limit name seen body later here =
-    names-append limit name seen (body ∷ later) ∙ or_right (names limit name seen) (has_name name (setting_of limit body) || names limit name later) (or_left (has_name name (setting_of limit body)) (names limit name later) here)
 
 -- ---- whether a record is live
 
@@ -82,10 +75,3 @@ copies-one limit body later = refl
 -- one record of the victim more
 pub copies-push : (limit : ℕ) (done : List (List ℕ)) (body : List ℕ) (later : List (List ℕ)) → live_bodies limit (done ++ body ∷ []) later ≡ live_bodies limit done (body ∷ later) ++ cond (is_live limit body later) (body ∷ []) []
 copies-push limit done body later = copies-split limit done (body ∷ []) later ∙ ap (λ bodies. live_bodies limit done (body ∷ later) ++ bodies) (copies-one limit body later)
-
-pub copies-live : (limit : ℕ) (done : List (List ℕ)) (body : List ℕ) (later : List (List ℕ)) → is_live limit body later ≡ true → live_bodies limit (done ++ body ∷ []) later ≡ live_bodies limit done (body ∷ later) ++ body ∷ []
-copies-live limit done body later live = copies-push limit done body later ∙ ap (λ (t : Bool). live_bodies limit done (body ∷ later) ++ cond t (body ∷ []) []) live
-
-pub copies-dead : (limit : ℕ) (done : List (List ℕ)) (body : List ℕ) (later : List (List ℕ)) → is_live limit body later ≡ false → live_bodies limit (done ++ body ∷ []) later ≡ live_bodies limit done (body ∷ later)
-copies-dead limit done body later dead =
-    copies-push limit done body later ∙ ap (λ (t : Bool). live_bodies limit done (body ∷ later) ++ cond t (body ∷ []) []) dead ∙ append-nil (live_bodies limit done (body ∷ later))

@@ -12,7 +12,7 @@ use Rattle.backend_api.specs.Map.{Map}
 use Rattle.backend_api.specs.Room.{HasNoRoom}
 use Rattle.record_settings.specs.Settings.{settings_of}
 use Rattle.record_settings.specs.Live.{live_bodies}
-use Rattle.record_settings.specs.Numbers.{cap, pair_cost, room}
+use Rattle.record_settings.specs.Room.{cap, pair_cost, room}
 use Rattle.record_settings.specs.Rounds.{bodies_cost, FindsNoRoom}
 use Rattle.record_settings.proofs.Coded.{pairs_of, pairs-none, pairs-append, bodies_in, bodies-live, pairs-live}
 use Rattle.record_settings.proofs.CopyCost.{room-cost}

@@ -18,7 +18,7 @@ use Rattle.backend_api.specs.Map.{Map, IsValue, IsSettings}
 use Rattle.record_settings.specs.Settings.{setting_of, settings_of}
 use Rattle.record_settings.specs.Last.{last_value, stored}
 use Rattle.record_settings.specs.Live.{names, is_live, is_live_by, live_bodies}
-use Rattle.record_settings.specs.Numbers.{pair_cost}
+use Rattle.record_settings.specs.Room.{pair_cost}
 use Rattle.fcb_ring.specs.Writing.{record_cost}
 use Rattle.record_settings.specs.Rounds.{bodies_cost}
 use Rattle.record_settings.proofs.BodyLemmas.{setting-says, settings-none}

@@ -1,6 +1,6 @@
 pub mod Last
 pub mod Live
-pub mod Numbers
+pub mod Room
 pub mod Rounds
 pub mod Settings
 pub mod Torn

@@ -6,7 +6,7 @@ ghost use Rattle.flash_map.specs.Lawful.{IsLawfulFor};
 ghost use Rattle.flash_map.specs.Touches.{Touches};
 ghost use Rattle.backend_api.specs.Boot.{MountUnits};
 ghost use Rattle.backend_api.specs.Ends.{MountEnds};
-ghost use Rattle.backend_api.specs.Room.{mount_units};
+ghost use Rattle.backend_api.specs.Room.{foreign_units};
 ghost use Rattle.flash_map.specs.On.{on, HoldsOn, StandsOn};
 ghost use Rattle.settings_core.specs.Reading.{GetEnds};
 
@@ -54,7 +54,7 @@ impl<K: Backend> Settings<K> {
         ensures rests { HoldsOn K.rests (F.device flash.old) area
             → F.device flash.new ≡ F.device flash.old }
         ensures units { let d = F.device flash.old in
-            MountUnits K.owes (mount_units (geometry_of d area)) d (F.device flash.new) area }
+            MountUnits K.owes (foreign_units (geometry_of d area)) d (F.device flash.new) area }
         ensures area { IfOk result (λ settings. K.mounted_on settings.backend ≡ area) }
         ensures stands { IfOk result
             (λ settings. StandsOn K.mounted_on K.stands (F.device flash.new) settings.backend) }

@@ -7,7 +7,7 @@ use Rattle.flash_map.specs.Area.{value_limit, unit_of}
 use Rattle.flash_map.specs.declared.area.Area.{Area}
 use Rattle.flash_map.specs.declared.area.Geometry.{Geometry}
 use Rattle.fcb_ring.specs.Changing.{body_at}
-use Rattle.record_settings.specs.Numbers.{put_cost}
+use Rattle.record_settings.specs.Room.{put_cost}
 use Rattle.backend_fcb.specs.Compaction.{bodies_at}
 use Rattle.backend_fcb.specs.declared.compaction.Kept.{Kept}
 use Rattle.backend_fcb.proofs.lookup.cost_of.Goals as goal

@@ -2,7 +2,7 @@ use Rattle.std.proofs.Common.{◌≡◌, ◌*◌, ◌≤◌, take}
 use Rattle.std.specs.Prelude.{sum_by}
 use Rattle.flash_sim.specs.declared.flash.TheConstants.{PROGRAM_LIMIT}
 use Rattle.flash_map.specs.Area.{value_limit, unit_of}
-use Rattle.record_settings.specs.Numbers.{put_cost}
+use Rattle.record_settings.specs.Room.{put_cost}
 use Rattle.backend_fcb.specs.Compaction.{bodies_at}
 use Rattle.backend_fcb.proofs.lookup.cost_of.Given as goal
 

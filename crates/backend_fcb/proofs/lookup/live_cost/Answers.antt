@@ -7,7 +7,7 @@ use Rattle.flash_map.specs.Area.{value_limit, unit_of, sector_size}
 use Rattle.flash_map.specs.declared.area.Area.{Area}
 use Rattle.fcb_ring.specs.declared.record.RecordAt.{RecordAt}
 use Rattle.fcb_ring.specs.Standing.{entries_on, record_places}
-use Rattle.record_settings.specs.Numbers.{put_cost}
+use Rattle.record_settings.specs.Room.{put_cost}
 use Rattle.record_settings.proofs.CopyCost.{room-cost}
 use Rattle.backend_fcb.specs.Compaction.{IsKept, bodies_at}
 use Rattle.backend_fcb.specs.Standing.{bodies_on}

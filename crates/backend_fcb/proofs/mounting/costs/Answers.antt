@@ -6,7 +6,7 @@ use Rattle.flash_map.specs.Area.{value_limit, unit_of}
 use Rattle.fcb_ring.specs.declared.record.RecordAt.{RecordAt}
 use Rattle.fcb_ring.specs.Standing.{entries_on}
 use Rattle.backend_fcb.proofs.WalkLemmas.{at-listed, for-listed, at-smaller}
-use Rattle.record_settings.specs.Numbers.{put_cost}
+use Rattle.record_settings.specs.Room.{put_cost}
 use Rattle.backend_fcb.proofs.CostSteps.{SumsOf, sums_of-start, sums_of-few, sums_of-step, sums_of-end, few-records, sector-few}
 use Rattle.backend_fcb.proofs.mounting.costs.Goals as goal
 

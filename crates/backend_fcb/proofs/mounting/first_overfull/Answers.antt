@@ -5,7 +5,7 @@ use Rattle.flash_map.specs.Area.{value_limit, unit_of, sector_size, sectors_of}
 use Rattle.flash_map.specs.declared.area.Area.{Area}
 use Rattle.flash_map.specs.declared.area.Geometry.{Geometry}
 use Rattle.fcb_ring.proofs.AreaLemmas.{has_size, count-sectors}
-use Rattle.record_settings.specs.Numbers.{cap}
+use Rattle.record_settings.specs.Room.{cap}
 use Rattle.backend_fcb.proofs.PutsCosts.{overfull_at, over-none, over-more, over-found, over-end}
 use Rattle.backend_fcb.proofs.mounting.first_overfull.Goals as goal
 

@@ -16,9 +16,9 @@ returns-clause-not_it g c = λ no_part kept.
       | inl count ↦ let is : c.args.id ≡ 0x8000 = count.is in absurd (omega arith)
       | inr part ↦
           let few = count-few (get items 0x8000) in
-          let to : part.place < 0x8001 + count_in (numbering_of (g.S.ItemStore.mounted_on c.args.store.now)) items = part.at.inside.to in
-          let from : 0x8001 ≤ part.place = part.at.inside.from in
-          let here : part.place ≡ c.if-id.place =
+          let to : part.candidate < 0x8001 + count_in (numbering_of (g.S.ItemStore.mounted_on c.args.store.now)) items = part.at.inside.to in
+          let from : 0x8001 ≤ part.candidate = part.at.inside.from in
+          let here : part.candidate ≡ c.if-id.candidate =
           elim c.if-id.branch [
             | then-id w ↦ elim part.is [ inl e ↦ omega arith | inr e ↦ absurd (omega arith) ]
             | else-id w ↦ elim part.is [ inl e ↦ absurd (omega arith) | inr e ↦ omega arith ]

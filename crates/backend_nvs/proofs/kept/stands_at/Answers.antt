@@ -7,27 +7,27 @@ use Rattle.flash_map.specs.On.{on}
 use Rattle.named_items.specs.Pairs.{IsAt, HasName, pair_at}
 use Rattle.backend_nvs.specs.IdLayout.{numbering_of}
 use Rattle.named_items.proofs.LookupSteps.{at-lawful, named-as}
-use Rattle.named_items.proofs.OrphanSteps.{named-at, same-place}
+use Rattle.named_items.proofs.OrphanSteps.{named-at, same-id}
 use Rattle.backend_nvs.proofs.kept.stands_at.Goals as goal
 
 pub returns-in-Err-clause-not_it : goal.returns-in-Err-clause-not_it
 returns-in-Err-clause-not_it g c = λ is name at.
     let items : Items = on g.S.ItemStore.contents (g.F.Flash.device c.args.flash.now) (g.S.ItemStore.mounted_on c.args.store.now) in
-    let same : name ≡ c.in-Some.bytes.now = named-as name c.in-Some.bytes.now (get items c.args.place) (named-at (numbering_of (g.S.ItemStore.mounted_on c.args.store.now)) items name c.args.place at) (sym c.in-Some.ensures) in
-    absurd (false≢true (c.in-Err.ensures.names.1 (subst IsName same (at-lawful (numbering_of (g.S.ItemStore.mounted_on c.args.store.now)) items name c.args.place at))))
+    let same : name ≡ c.in-Some.bytes.now = named-as name c.in-Some.bytes.now (get items c.args.id) (named-at (numbering_of (g.S.ItemStore.mounted_on c.args.store.now)) items name c.args.id at) (sym c.in-Some.ensures) in
+    absurd (false≢true (c.in-Err.ensures.names.1 (subst IsName same (at-lawful (numbering_of (g.S.ItemStore.mounted_on c.args.store.now)) items name c.args.id at))))
 
-pub returns-in-Some-place_of-clause-not_it : goal.returns-in-Some-place_of-clause-not_it
-returns-in-Some-place_of-clause-not_it g c = λ is name at.
+pub returns-in-Some-id_of-clause-not_it : goal.returns-in-Some-id_of-clause-not_it
+returns-in-Some-id_of-clause-not_it g c = λ is name at.
     let items : Items = on g.S.ItemStore.contents (g.F.Flash.device c.args.flash.now) (g.S.ItemStore.mounted_on c.args.store.now) in
-    let same : name ≡ c.in-Some.bytes.now = named-as name c.in-Some.bytes.now (get items c.args.place) (named-at (numbering_of (g.S.ItemStore.mounted_on c.args.store.now)) items name c.args.place at) (sym c.in-Some.ensures) in
+    let same : name ≡ c.in-Some.bytes.now = named-as name c.in-Some.bytes.now (get items c.args.id) (named-at (numbering_of (g.S.ItemStore.mounted_on c.args.store.now)) items name c.args.id at) (sym c.in-Some.ensures) in
     let read : c.in-Ok.name ≡ c.in-Some.bytes.now = c.in-Ok.ensures.reads.0 in
-    eqb-false c.in-Some-place_of.found c.args.place is
-    (same-place (numbering_of (g.S.ItemStore.mounted_on c.args.store.now)) items c.in-Ok.name c.in-Some-place_of.found c.args.place c.in-Some-place_of.ensures
-    (subst (λ (t : List ℕ). IsAt (numbering_of (g.S.ItemStore.mounted_on c.args.store.now)) items t c.args.place) (same ∙ sym read) at))
+    eqb-false c.in-Some-id_of.found c.args.id is
+    (same-id (numbering_of (g.S.ItemStore.mounted_on c.args.store.now)) items c.in-Ok.name c.in-Some-id_of.found c.args.id c.in-Some-id_of.ensures
+    (subst (λ (t : List ℕ). IsAt (numbering_of (g.S.ItemStore.mounted_on c.args.store.now)) items t c.args.id) (same ∙ sym read) at))
 
-pub returns-in-None-place_of-clause-not_it : goal.returns-in-None-place_of-clause-not_it
-returns-in-None-place_of-clause-not_it g c = λ is name at.
+pub returns-in-None-id_of-clause-not_it : goal.returns-in-None-id_of-clause-not_it
+returns-in-None-id_of-clause-not_it g c = λ is name at.
     let items : Items = on g.S.ItemStore.contents (g.F.Flash.device c.args.flash.now) (g.S.ItemStore.mounted_on c.args.store.now) in
-    let same : name ≡ c.in-Some.bytes.now = named-as name c.in-Some.bytes.now (get items c.args.place) (named-at (numbering_of (g.S.ItemStore.mounted_on c.args.store.now)) items name c.args.place at) (sym c.in-Some.ensures) in
+    let same : name ≡ c.in-Some.bytes.now = named-as name c.in-Some.bytes.now (get items c.args.id) (named-at (numbering_of (g.S.ItemStore.mounted_on c.args.store.now)) items name c.args.id at) (sym c.in-Some.ensures) in
     let read : c.in-Ok.name ≡ c.in-Some.bytes.now = c.in-Ok.ensures.reads.0 in
-    c.in-None-place_of.ensures c.args.place at.inside (subst (λ (t : List ℕ). HasName (pair_at (numbering_of (g.S.ItemStore.mounted_on c.args.store.now)) items c.args.place) t) (same ∙ sym read) at.here)
+    c.in-None-id_of.ensures c.args.id at.inside (subst (λ (t : List ℕ). HasName (pair_at (numbering_of (g.S.ItemStore.mounted_on c.args.store.now)) items c.args.id) t) (same ∙ sym read) at.here)

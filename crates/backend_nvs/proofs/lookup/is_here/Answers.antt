@@ -18,8 +18,8 @@ returns g c =
     let n : Numbering = numbering_of own in
     let items : Items = on g.S.ItemStore.contents (g.F.Flash.device c.args.flash.now) own in
     elim (cases_Bool c.is_at.result) [
-      | inl yes_it ↦ subst (λ (b : Bool). MatchBool b (HasName (pair_at n items c.args.place) c.args.name.now) (¬ HasName (pair_at n items c.args.place) c.args.name.now)) (sym yes_it)
-          (here-has n c.args.place c.args.name.now (get items c.args.place) (get items (c.args.place + 0x4000)) (c.is_at.ensures.yes_it yes_it) c.is_at.ensures.name refl)
-      | inr not_it ↦ subst (λ (b : Bool). MatchBool b (HasName (pair_at n items c.args.place) c.args.name.now) (¬ HasName (pair_at n items c.args.place) c.args.name.now)) (sym not_it)
-          (λ has. c.is_at.ensures.not_it not_it (has-here n c.args.place c.args.name.now (get items c.args.place) (get items (c.args.place + 0x4000)) has))
+      | inl yes_it ↦ subst (λ (b : Bool). MatchBool b (HasName (pair_at n items c.args.id) c.args.name.now) (¬ HasName (pair_at n items c.args.id) c.args.name.now)) (sym yes_it)
+          (here-has n c.args.id c.args.name.now (get items c.args.id) (get items (c.args.id + 0x4000)) (c.is_at.ensures.yes_it yes_it) c.is_at.ensures.name refl)
+      | inr not_it ↦ subst (λ (b : Bool). MatchBool b (HasName (pair_at n items c.args.id) c.args.name.now) (¬ HasName (pair_at n items c.args.id) c.args.name.now)) (sym not_it)
+          (λ has. c.is_at.ensures.not_it not_it (has-here n c.args.id c.args.name.now (get items c.args.id) (get items (c.args.id + 0x4000)) has))
     ]

@@ -19,7 +19,7 @@ use Rattle.flash_map.specs.Touches.{Touches}
 use Rattle.named_items.specs.Ends.{IsFree}
 use Rattle.named_items.specs.Putting.{IsPut, IsStorable}
 use Rattle.named_items.proofs.ChangeSteps.{moved-clean, moved-lawful, moved-cost}
-use Rattle.named_items.specs.Leaving.{pair_at_place, MakesPuts, SetLeavesItems}
+use Rattle.named_items.specs.Leaving.{pair_at_id, MakesPuts, SetLeavesItems}
 use Rattle.named_items.proofs.LeavingSteps.{count-cut, raised-leave}
 use Rattle.named_items.proofs.NewSteps.{not-stored, set-after}
 use Rattle.named_items.proofs.SpendSteps.{spends-some, one-call, spends-both, calls-within, geometry-stays}
@@ -63,8 +63,8 @@ put_new-requires-clause-here g c =
 pub put_new-requires-clause-value : goal.put_new-requires-clause-value
 put_new-requires-clause-value g c = subst (λ (x : Area). IsStorable (value_limit x) c.args.value.now) (sym c.write_changed.ensures.area) c.requires.value
 
-pub put_new-requires-clause-place : goal.put_new-requires-clause-place
-put_new-requires-clause-place g c =
+pub put_new-requires-clause-candidate : goal.put_new-requires-clause-candidate
+put_new-requires-clause-candidate g c =
     let d : Device = g.F.Flash.device c.args.flash.now in
     let b : Device = g.F.Flash.device c.write_changed.new.flash in
     let own : Area = g.S.ItemStore.mounted_on c.args.store.now in
@@ -248,7 +248,7 @@ returns-in-Ok-clause-items g c =
     let more : count_of (Some bytes) ≡ count_in (numbering_of own) before + 1 = c.bytes_of_count-bytes.ensures.counts ∙ ap (λ (x : ℕ). x + 1) c.requires.counted in
     raised-leave (numbering_of own) before c.args.name.now c.args.value.now c.requires.absent c.requires.full bytes counts more spelled mid (on g.S.ItemStore.contents e own) (0x8001 + c.args.count) c.put_new.result c.in-Ok.ensures.ends.items
     (ap (λ (x : ℕ). 0x8001 + x) c.requires.counted)
-    (subst (λ (x : Area). MakesPuts (on g.S.ItemStore.contents b x) (on g.S.ItemStore.contents e x) (pair_at_place (numbering_of x) (0x8001 + c.args.count) c.args.name.now c.args.value.now) c.put_new.result) c.in-Ok.ensures.area c.put_new.ensures.items)
+    (subst (λ (x : Area). MakesPuts (on g.S.ItemStore.contents b x) (on g.S.ItemStore.contents e x) (pair_at_id (numbering_of x) (0x8001 + c.args.count) c.args.name.now c.args.value.now) c.put_new.result) c.in-Ok.ensures.area c.put_new.ensures.items)
 
 pub returns-in-Err-PowerLost-clause-items : goal.returns-in-Err-PowerLost-clause-items
 returns-in-Err-PowerLost-clause-items g c =

@@ -8,16 +8,16 @@ use Rattle.backend_zms.specs.Hash.{first_of}
 use Rattle.backend_zms.proofs.CandidateSteps.{empty-group}
 use Rattle.backend_zms.proofs.numbering.may_stand.Goals as goal
 
-pub loop-place-preserved : goal.loop-place-preserved
-loop-place-preserved g c =
+pub loop-id-preserved : goal.loop-id-preserved
+loop-id-preserved g c =
     let area : Area = g.S.ItemStore.mounted_on c.args.store.now in
     record {
-      within = omega (arith, c.loop-place-test.true);
+      within = omega (arith, c.loop-id-test.true);
       none = λ d bank lawful stands k from below.
-          elim (cases_lt k c.loop-place.place) [
-            | inl before ↦ c.loop-place.invariant.none d bank lawful stands k from before
+          elim (cases_lt k c.loop-id.id) [
+            | inl before ↦ c.loop-id.invariant.none d bank lawful stands k from before
             | inr last ↦
-                let same : c.loop-place.place ≡ k = omega arith in
+                let same : c.loop-id.id ≡ k = omega arith in
                 subst (λ (j : ℕ). get (on g.S.ItemStore.contents d area) j ≡ None) same (c.may_hold.ensures d bank lawful stands c.if-may_hold.false)
           ];
     }
@@ -27,4 +27,4 @@ returns g c =
     let area : Area = g.S.ItemStore.mounted_on c.args.store.now in
     λ d bank lawful stands not_there.
     empty-group (value_limit area) (on g.S.ItemStore.contents d area) c.args.name.now c.first_of-from.result (c.first_of-from.ensures.first ∙ ap first_of c.bytes.ensures.value)
-    (λ k from below. c.loop-place.invariant.none d bank lawful stands k from (omega (arith, c.loop-place-test.false, c.loop-place.auto.place-end)))
+    (λ k from below. c.loop-id.invariant.none d bank lawful stands k from (omega (arith, c.loop-id-test.false, c.loop-id.auto.id-end)))

@@ -44,18 +44,18 @@ returns-then-contains-2 g c =
     let n : Numbering = g.N.IdLayout.numbering area in
     let items : Items = on g.S.ItemStore.contents (g.F.Flash.device c.args.flash.now) area in
     let ids : IdRange = c.all_candidates-ids.result in
-    let place : ℕ = c.args.id - c.step-step.result in
+    let candidate : ℕ = c.args.id - c.step-step.result in
     let apart : ¬ IsCandidateId ids c.args.id = c.if-contains.ensures in
-    let one : IsCandidateId ids place = c.if-contains-2.ensures in
+    let one : IsCandidateId ids candidate = c.if-contains-2.ensures in
     let step : n.step ≡ c.step-step.result = c.step-step.ensures area in
     let from : c.step-step.result ≤ c.args.id = c.if-step-id.true in
-    let is : place + n.step ≡ c.args.id = omega arith in
+    let is : candidate + n.step ≡ c.args.id = omega arith in
     record {
       yes_it = λ some. subst (IsKept n items) is
-          (value-kept n items (g.met.N.IdLayout.is_numbering area) g.N.IdLayout.top ids (c.all_candidates-ids.ensures.ids area) (c.all_candidates-ids.ensures.candidates area) place one
-          (subst (IsCleanBelow n items) (sym is) c.requires.walked.clean) (is-there c.get_by.result (get items place) c.get_by.ensures (sym c.is_some.ensures ∙ some)));
-      not_it = λ none kept. value-gone n items (g.met.N.IdLayout.is_numbering area) g.N.IdLayout.top ids (c.all_candidates-ids.ensures.ids area) (c.all_candidates-ids.ensures.candidates area) place one
-          (subst (λ (k : ℕ). ¬ IsCandidateId ids k) (sym is) apart) (is-gone c.get_by.result (get items place) c.get_by.ensures (sym c.is_some.ensures ∙ none)) (subst (IsKept n items) (sym is) kept);
+          (value-kept n items (g.met.N.IdLayout.is_numbering area) g.N.IdLayout.top ids (c.all_candidates-ids.ensures.ids area) (c.all_candidates-ids.ensures.candidates area) candidate one
+          (subst (IsCleanBelow n items) (sym is) c.requires.walked.clean) (is-there c.get_by.result (get items candidate) c.get_by.ensures (sym c.is_some.ensures ∙ some)));
+      not_it = λ none kept. value-gone n items (g.met.N.IdLayout.is_numbering area) g.N.IdLayout.top ids (c.all_candidates-ids.ensures.ids area) (c.all_candidates-ids.ensures.candidates area) candidate one
+          (subst (λ (k : ℕ). ¬ IsCandidateId ids k) (sym is) apart) (is-gone c.get_by.result (get items candidate) c.get_by.ensures (sym c.is_some.ensures ∙ none)) (subst (IsKept n items) (sym is) kept);
       saw = saw-past n items c.args.seen.now.words c.args.id c.requires.walked.saw ids (c.all_candidates-ids.ensures.candidates area) apart;
     }
 

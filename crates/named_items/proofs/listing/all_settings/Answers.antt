@@ -9,8 +9,8 @@ use Rattle.named_items.proofs.LookupSteps.{at-known}
 use Rattle.named_items.proofs.ListingSteps.{answer, answer-more, listed-none, listed-more, listed-all}
 use Rattle.named_items.proofs.listing.all_settings.Goals as goal
 
-pub loop-place-init : goal.loop-place-init
-loop-place-init g c =
+pub loop-candidate-init : goal.loop-candidate-init
+loop-candidate-init g c =
     let area : Area = g.S.ItemStore.mounted_on c.args.store.now in
     let n : Numbering = g.N.IdLayout.numbering area in
     let items : Items = on g.S.ItemStore.contents (g.F.Flash.device c.args.flash.now) area in
@@ -27,27 +27,27 @@ loop-place-init g c =
     }
 
 pub next_setting-requires-clause-from : goal.next_setting-requires-clause-from
-next_setting-requires-clause-from g c = c.loop-place.invariant.from
+next_setting-requires-clause-from g c = c.loop-candidate.invariant.from
 
-pub loop-place-smaller : goal.loop-place-smaller
-loop-place-smaller g c =
-    let behind : c.loop-place.after < c.in-Some.place = c.in-Some.ensures.0 in
-    let known : c.loop-place.after < g.N.IdLayout.top = c.loop-place.invariant.known in
+pub loop-candidate-smaller : goal.loop-candidate-smaller
+loop-candidate-smaller g c =
+    let behind : c.loop-candidate.after < c.in-Some.candidate = c.in-Some.ensures.0 in
+    let known : c.loop-candidate.after < g.N.IdLayout.top = c.loop-candidate.invariant.known in
     omega arith
 
-pub loop-place-preserved : goal.loop-place-preserved
-loop-place-preserved g c =
+pub loop-candidate-preserved : goal.loop-candidate-preserved
+loop-candidate-preserved g c =
     let area : Area = g.S.ItemStore.mounted_on c.args.store.now in
     let n : Numbering = g.N.IdLayout.numbering area in
     let items : Items = on g.S.ItemStore.contents (g.F.Flash.device c.args.flash.now) area in
-    let behind : c.loop-place.after < c.in-Some.place = c.in-Some.ensures.0 in
-    let from : n.first ≤ c.loop-place.after + 1 = c.loop-place.invariant.from in
-    let known : c.in-Some.place + n.step < g.N.IdLayout.top = at-known n items c.in-Some.name c.in-Some.place c.in-Some.ensures.1.at g.N.IdLayout.top (g.met.N.IdLayout.within area) in
+    let behind : c.loop-candidate.after < c.in-Some.candidate = c.in-Some.ensures.0 in
+    let from : n.first ≤ c.loop-candidate.after + 1 = c.loop-candidate.invariant.from in
+    let known : c.in-Some.candidate + n.step < g.N.IdLayout.top = at-known n items c.in-Some.name c.in-Some.candidate c.in-Some.ensures.1.at g.N.IdLayout.top (g.met.N.IdLayout.within area) in
     record {
-      listed = listed-more n items (answer c.loop-place.found.entries) (answer c.insert.new.self.entries) c.loop-place.after c.in-Some.place c.in-Some.name c.in-Some.value.now
+      listed = listed-more n items (answer c.loop-candidate.found.entries) (answer c.insert.new.self.entries) c.loop-candidate.after c.in-Some.candidate c.in-Some.name c.in-Some.value.now
           c.in-Some.ensures.1 behind c.in-Some.ensures.2
-          (answer-more c.loop-place.found.entries c.insert.new.self.entries c.in-Some.name c.in-Some.value c.in_ok-insert.ensures.updates.0)
-          c.loop-place.invariant.listed;
+          (answer-more c.loop-candidate.found.entries c.insert.new.self.entries c.in-Some.name c.in-Some.value c.in_ok-insert.ensures.updates.0)
+          c.loop-candidate.invariant.listed;
       sorted = c.in_ok-insert.ensures.ordered;
       from = omega arith;
       known = omega arith;
@@ -58,5 +58,5 @@ returns g c =
     let area : Area = g.S.ItemStore.mounted_on c.args.store.now in
     let n : Numbering = g.N.IdLayout.numbering area in
     let items : Items = on g.S.ItemStore.contents (g.F.Flash.device c.args.flash.now) area in
-    listed-settings (λ (bytes : Bor (List ℕ)). bytes.now) c.loop-place.found.entries c.loop-place.invariant.sorted (settings_in n items)
-    (listed-all n items (g.met.N.IdLayout.is_numbering area) c.requires.clean (answer c.loop-place.found.entries) c.loop-place.after c.in_default.ensures c.loop-place.invariant.listed)
+    listed-settings (λ (bytes : Bor (List ℕ)). bytes.now) c.loop-candidate.found.entries c.loop-candidate.invariant.sorted (settings_in n items)
+    (listed-all n items (g.met.N.IdLayout.is_numbering area) c.requires.clean (answer c.loop-candidate.found.entries) c.loop-candidate.after c.in_default.ensures c.loop-candidate.invariant.listed)

@@ -7,8 +7,8 @@ use Rattle.flash_map.specs.On.{on}
 use Rattle.named_items.proofs.ListingSteps.{HasListed, answer}
 use Rattle.named_items.proofs.listing.all_settings.Given as goal
 
-abbrev pub invariant-loop-place : goal.invariant-loop-place
-invariant-loop-place g l =
+abbrev pub invariant-loop-candidate : goal.invariant-loop-candidate
+invariant-loop-candidate g l =
     let area = g.S.ItemStore.mounted_on l.initial.store in
     record {
       listed : HasListed (g.N.IdLayout.numbering area) (on g.S.ItemStore.contents (g.F.Flash.device l.initial.flash) area) (answer l.found.entries) l.after;
@@ -17,5 +17,5 @@ invariant-loop-place g l =
       known : l.after < g.N.IdLayout.top;
     }
 
-abbrev pub decreases-loop-place : goal.decreases-loop-place
-decreases-loop-place g l = g.N.IdLayout.top - l.after
+abbrev pub decreases-loop-candidate : goal.decreases-loop-candidate
+decreases-loop-candidate g l = g.N.IdLayout.top - l.after

@@ -5,15 +5,15 @@ use Rattle.item_laws.specs.Items.{Items}
 use Rattle.item_store.specs.declared.entry.IdRange.{IdRange}
 use Rattle.item_store.specs.Asking.{IsHolderOf}
 use Rattle.named_items.specs.Numbering.{Numbering}
-use Rattle.named_items.proofs.PlaceSteps.{place-found, value-found}
+use Rattle.named_items.proofs.IdSteps.{id-found, value-found}
 use Rattle.named_items.proofs.lookup.setting_of.Goals as goal
 
-pub returns-clause-place : goal.returns-clause-place
-returns-clause-place g c =
+pub returns-clause-candidate : goal.returns-clause-candidate
+returns-clause-candidate g c =
     let area : Area = g.S.ItemStore.mounted_on c.args.store.now in
     let items : Items = on g.S.ItemStore.contents (g.F.Flash.device c.args.flash.now) area in
     let ids : IdRange = c.candidates_of-ids.result in
-    place-found (g.N.IdLayout.numbering area) (g.met.N.IdLayout.is_numbering area) items c.requires.clean g.N.IdLayout.top ids (c.candidates_of-ids.ensures.ids area) c.args.name.now (c.candidates_of-ids.ensures.candidates area) c.step.result c.holder_of.result
+    id-found (g.N.IdLayout.numbering area) (g.met.N.IdLayout.is_numbering area) items c.requires.clean g.N.IdLayout.top ids (c.candidates_of-ids.ensures.ids area) c.args.name.now (c.candidates_of-ids.ensures.candidates area) c.step.result c.holder_of.result
     (subst (λ (bytes : List ℕ). IsHolderOf ids c.step.result items bytes c.holder_of.result) c.bytes.ensures.value c.holder_of.ensures)
 
 pub returns-clause-value : goal.returns-clause-value

@@ -16,13 +16,13 @@ pub returns-in_err-setting_of : goal.returns-in_err-setting_of
 returns-in_err-setting_of g c =
     let area : Area = g.S.ItemStore.mounted_on c.args.store.now in
     let items : Items = on g.S.ItemStore.contents (g.F.Flash.device c.args.flash.now) area in
-    rw c.from_residual.ensures (sym (get-nowhere (g.N.IdLayout.numbering area) items c.args.name.now c.in_err-setting_of.ensures.place))
+    rw c.from_residual.ensures (sym (get-nowhere (g.N.IdLayout.numbering area) items c.args.name.now c.in_err-setting_of.ensures.candidate))
 
 pub returns : goal.returns
 returns g c =
     let area : Area = g.S.ItemStore.mounted_on c.args.store.now in
     let n : Numbering = g.N.IdLayout.numbering area in
     let items : Items = on g.S.ItemStore.contents (g.F.Flash.device c.args.flash.now) area in
-    let place : ℕ = c.in_ok-setting_of.field-0.id in
-    let value = at-value n items c.args.name.now place c.in_ok-setting_of.ensures.place in
-    c.in_ok-setting_of.ensures.value ∙ value.1 ∙ sym (get-at n items c.args.name.now value.0 place c.in_ok-setting_of.ensures.place value.1)
+    let candidate : ℕ = c.in_ok-setting_of.field-0.id in
+    let value = at-value n items c.args.name.now candidate c.in_ok-setting_of.ensures.candidate in
+    c.in_ok-setting_of.ensures.value ∙ value.1 ∙ sym (get-at n items c.args.name.now value.0 candidate c.in_ok-setting_of.ensures.candidate value.1)

@@ -13,17 +13,17 @@ returns-then-not-may_have g c =
     let items : Items = on g.S.ItemStore.contents (g.F.Flash.device c.args.flash.now) area in
     sym (get-nowhere (g.N.IdLayout.numbering area) items c.args.name.now (c.may_have.ensures c.if-not-may_have.true))
 
-pub returns-in_err-place : goal.returns-in_err-place
-returns-in_err-place g c =
+pub returns-in_err-candidate : goal.returns-in_err-candidate
+returns-in_err-candidate g c =
     let area : Area = g.S.ItemStore.mounted_on c.args.store.now in
     let items : Items = on g.S.ItemStore.contents (g.F.Flash.device c.args.flash.now) area in
-    rw c.from_residual.ensures (sym (get-nowhere (g.N.IdLayout.numbering area) items c.args.name.now c.in_err-place.ensures))
+    rw c.from_residual.ensures (sym (get-nowhere (g.N.IdLayout.numbering area) items c.args.name.now c.in_err-candidate.ensures))
 
 pub returns : goal.returns
 returns g c =
     let area : Area = g.S.ItemStore.mounted_on c.args.store.now in
     let n : Numbering = g.N.IdLayout.numbering area in
     let items : Items = on g.S.ItemStore.contents (g.F.Flash.device c.args.flash.now) area in
-    let value = at-value n items c.args.name.now c.in_ok-place.place c.in_ok-place.ensures in
-    let stored : get items (c.in_ok-place.place + c.step.result) ≡ Some value.0 = subst (λ (k : ℕ). get items (c.in_ok-place.place + k) ≡ Some value.0) (c.step.ensures area) value.1 in
-    c.get_by.ensures ∙ stored ∙ sym (get-at n items c.args.name.now value.0 c.in_ok-place.place c.in_ok-place.ensures value.1)
+    let value = at-value n items c.args.name.now c.in_ok-candidate.candidate c.in_ok-candidate.ensures in
+    let stored : get items (c.in_ok-candidate.candidate + c.step.result) ≡ Some value.0 = subst (λ (k : ℕ). get items (c.in_ok-candidate.candidate + k) ≡ Some value.0) (c.step.ensures area) value.1 in
+    c.get_by.ensures ∙ stored ∙ sym (get-at n items c.args.name.now value.0 c.in_ok-candidate.candidate c.in_ok-candidate.ensures value.1)

@@ -7,7 +7,7 @@ use Rattle.item_laws.specs.Bytes.{IsNextOf}
 use Rattle.item_laws.specs.Items.{Items}
 use Rattle.named_items.specs.Numbering.{Numbering}
 use Rattle.item_store.specs.declared.entry.IdRange.{IdRange}
-use Rattle.named_items.proofs.PlaceSteps.{next-found, next-lawful}
+use Rattle.named_items.proofs.IdSteps.{next-found, next-lawful}
 use Rattle.named_items.proofs.walking.next_name.Goals as goal
 
 pub next_of-requires-clause-least : goal.next_of-requires-clause-least

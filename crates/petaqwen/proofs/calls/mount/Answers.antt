@@ -7,5 +7,5 @@ returns-clause-mounts g c = record {
   sound = c.mount.ensures.sound;
   keeps = c.mount.ensures.keeps;
   rests = c.mount.ensures.rests;
-  at_most = c.mount.ensures.units.at_most;
+  units = c.mount.ensures.units;
 }

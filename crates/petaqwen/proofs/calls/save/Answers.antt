@@ -9,6 +9,7 @@ returns-clause-ends g c = (
     ends = c.save.ensures.ends.1;
     at_most = c.save.ensures.at_most;
     sound = c.save.ensures.sound;
+    owes = c.save.ensures.owes;
     down = c.save.ensures.down;
     up = c.save.ensures.up;
   },

@@ -15,7 +15,7 @@ use Rattle.fcb_ring.proofs.AppendLemmas.{unit-after}
 use Rattle.backend_api.specs.Room.{command_units}
 use Rattle.backend_api.specs.Commands.Command.{Put}
 use Rattle.backend_fcb.specs.Changing.{HasNoPlace, PutEnds, SpendsCost, SpendsUpToCost, collect_units}
-use Rattle.record_settings.specs.Numbers.{pair_cost}
+use Rattle.record_settings.specs.Room.{pair_cost}
 use Rattle.record_settings.specs.Settings.{body_of, setting_of, with_setting}
 use Rattle.backend_fcb.specs.Standing.{settings_on}
 use Rattle.backend_fcb.proofs.Ends.{stands-ready, some-bytes, few-bytes, one-less, ready-stands, ready-undamaged, sets-new, finds-no_space, few-rounds, puts-value}

@@ -12,7 +12,7 @@ use Rattle.backend_api.proofs.MapLemmas.{remove-absent}
 use Rattle.backend_api.specs.Room.{command_units}
 use Rattle.backend_api.specs.Commands.Command.{Del}
 use Rattle.backend_fcb.specs.Changing.{HasNoPlace, PutEnds, SpendsCost, SpendsUpToCost, collect_units}
-use Rattle.record_settings.specs.Numbers.{put_cost}
+use Rattle.record_settings.specs.Room.{put_cost}
 use Rattle.record_settings.specs.Settings.{body_of, setting_of, with_setting}
 use Rattle.backend_fcb.specs.Standing.{settings_on}
 use Rattle.record_settings.proofs.BodyLemmas.{length-body_of}

@@ -1,4 +1,4 @@
-use Rattle.std.proofs.Common.{ℕ, ◌+◌, ◌≤◌, ◌≡◌, ◌∷◌, [], None, refl, sym, ap, subst, ◌∙◌, arith}
+use Rattle.std.proofs.Common.{◌+◌, ◌≤◌, ◌≡◌, ◌∷◌, [], None, refl, sym, ap, subst, ◌∙◌, arith}
 use Rattle.flash_sim.specs.Device.{Device}
 use Rattle.flash_map.specs.declared.area.Area.{Area}
 use Rattle.flash_map.specs.declared.area.Geometry.{Geometry}
@@ -9,8 +9,8 @@ use Rattle.fcb_ring.specs.Standing.{KeepsEntries}
 use Rattle.fcb_ring.proofs.AppendLemmas.{unit-after}
 use Rattle.fcb_ring.specs.Rings.{first_damage}
 use Rattle.fcb_ring.specs.Standing.{states_on, erases_due, erases_on}
-use Rattle.backend_api.specs.Room.{mount_units}
-use Rattle.record_settings.specs.Numbers.{reserve}
+use Rattle.backend_api.specs.Room.{foreign_units}
+use Rattle.record_settings.specs.Room.{reserve}
 use Rattle.std.specs.Option.{option_map}
 use Rattle.backend_fcb.specs.Reading.{first_overfull}
 use Rattle.backend_fcb.specs.Standing.{IsReady, damage_on}
@@ -28,7 +28,7 @@ returns-in-Err-clause-touches g c = untouched (c.args.area ∷ []) (g.F.Flash.de
 pub returns-in-Err-clause-units : goal.returns-in-Err-clause-units
 returns-in-Err-clause-units g c =
     let d : Device = g.F.Flash.device c.args.flash.now in
-    record { at_most = none-more d (mount_units (geometry_of d c.args.area)); owed = λ most owes. none-more d most; left = λ most owes. owes }
+    record { at_most = none-more d (foreign_units (geometry_of d c.args.area)); owed = λ most owes. none-more d most; left = λ most owes. owes }
 
 pub returns-in-Err-clause-spends : goal.returns-in-Err-clause-spends
 returns-in-Err-clause-spends g c =
@@ -62,7 +62,7 @@ returns-in-Some-clause-touches g c = untouched (c.args.area ∷ []) (g.F.Flash.d
 pub returns-in-Some-clause-units : goal.returns-in-Some-clause-units
 returns-in-Some-clause-units g c =
     let d : Device = g.F.Flash.device c.args.flash.now in
-    record { at_most = none-more d (mount_units (geometry_of d c.args.area)); owed = λ most owes. none-more d most; left = λ most owes. owes }
+    record { at_most = none-more d (foreign_units (geometry_of d c.args.area)); owed = λ most owes. none-more d most; left = λ most owes. owes }
 
 pub returns-in-Some-clause-spends : goal.returns-in-Some-clause-spends
 returns-in-Some-clause-spends g c =

@@ -7,7 +7,7 @@ use Rattle.named_items.specs.NvsStore.{nvs_items}
 use Rattle.backend_nvs.specs.IdLayout.{numbering_of}
 use Rattle.backend_nvs.proofs.BootSteps.{owed-spent, owed-left}
 use Rattle.flash_map.specs.Area.{geometry_of}
-use Rattle.backend_api.specs.Room.{mount_units}
+use Rattle.backend_api.specs.Room.{foreign_units}
 use Rattle.backend_nvs.proofs.backend.NvsBackendBackend.mount.Goals as goal
 
 pub returns-in-Ok-clause-stands : goal.returns-in-Ok-clause-stands
@@ -39,7 +39,7 @@ returns-in-Ok-clause-units g c =
     let e : Device = g.F.Flash.device c.mount_store.new.flash in
     record {
       at_most = c.mount_store.ensures.units.at_most;
-      owed = owed-spent d e c.args.area (mount_units (geometry_of d c.args.area)) c.mount_store.ensures.rests c.mount_store.ensures.units;
+      owed = owed-spent d e c.args.area (foreign_units (geometry_of d c.args.area)) c.mount_store.ensures.rests c.mount_store.ensures.units;
       left = owed-left d e c.args.area c.mount_store.ensures.touches.banks c.mount_store.result c.mount_store.ensures.ends c.mount_store.ensures.keeps c.mount_store.ensures.rests;
     }
 
@@ -49,6 +49,6 @@ returns-in-Err-clause-units g c =
     let e : Device = g.F.Flash.device c.mount_store.new.flash in
     record {
       at_most = c.mount_store.ensures.units.at_most;
-      owed = owed-spent d e c.args.area (mount_units (geometry_of d c.args.area)) c.mount_store.ensures.rests c.mount_store.ensures.units;
+      owed = owed-spent d e c.args.area (foreign_units (geometry_of d c.args.area)) c.mount_store.ensures.rests c.mount_store.ensures.units;
       left = owed-left d e c.args.area c.mount_store.ensures.touches.banks c.mount_store.result c.mount_store.ensures.ends c.mount_store.ensures.keeps c.mount_store.ensures.rests;
     }

@@ -16,17 +16,17 @@ returns-clause-ids g area = record {
 
 -- the count is 511 at most
 pub returns-clause-candidates : goal.returns-clause-candidates
-returns-clause-candidates g area = λ items place inside.
+returns-clause-candidates g area = λ items id inside.
     let few = count-few (get items 0x8000) in
-    let from : 0x8001 ≤ place = inside.from in
-    let to : place < 0x8001 + count_of (get items 0x8000) = inside.to in
+    let from : 0x8001 ≤ id = inside.from in
+    let to : id < 0x8001 + count_of (get items 0x8000) = inside.to in
     record { from = from; to = omega arith }
 
 -- and may be 511
 pub returns-clause-only : goal.returns-clause-only
-returns-clause-only g area = λ place among.
+returns-clause-only g area = λ id among.
     let items : Items = insert empty 0x8000 (255 ∷ 1 ∷ []) in
     let full : count_of (get items 0x8000) ≡ 511 = ap count_of (get-put empty 0x8000 (255 ∷ 1 ∷ [])) in
-    let from : 0x8001 ≤ place = among.from in
-    let to : place ≤ 0x81FF = among.to in
+    let from : 0x8001 ≤ id = among.from in
+    let to : id ≤ 0x81FF = among.to in
     (items, record { from = from; to = omega arith })

@@ -4,11 +4,11 @@ use Rattle.backend_nvs.proofs.numbering.NvsIdLayoutIdLayout.candidates_of.Goals 
 pub returns-clause-ids : goal.returns-clause-ids
 returns-clause-ids g area = g.all_candidates.ensures.ids area
 
--- each name may stand at each place
+-- each name may stand at each id
 pub returns-clause-candidates : goal.returns-clause-candidates
-returns-clause-candidates g area = λ items place inside candidate. g.all_candidates.ensures.candidates area items place inside
+returns-clause-candidates g area = λ items id inside candidate. g.all_candidates.ensures.candidates area items id inside
 
 pub returns-clause-only : goal.returns-clause-only
-returns-clause-only g area = λ place among.
-    let some = g.all_candidates.ensures.only area place among in
+returns-clause-only g area = λ id among.
+    let some = g.all_candidates.ensures.only area id among in
     (some.0, record { inside = some.1; candidate = refl })

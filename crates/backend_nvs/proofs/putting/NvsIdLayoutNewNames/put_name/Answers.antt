@@ -9,14 +9,14 @@ use Rattle.named_items.specs.Candidates.{IsFreeCandidate}
 use Rattle.named_items.specs.Pairs.{count_in}
 use Rattle.named_items.specs.Putting.{IsPut}
 use Rattle.named_items.proofs.LeavingSteps.{takes, puts-leave}
-use Rattle.named_items.specs.Leaving.{pair_at_place}
+use Rattle.named_items.specs.Leaving.{pair_at_id}
 use Rattle.backend_nvs.specs.IdLayout.{numbering_of, settings_of}
 use Rattle.backend_nvs.proofs.CountSteps.{all-used, names-over, few-free, free-few}
 use Rattle.named_items.specs.Orphans.{HasOrphans}
 use Rattle.backend_nvs.proofs.putting.NvsIdLayoutNewNames.put_name.Goals as goal
 
-pub put_new-requires-clause-place : goal.put_new-requires-clause-place
-put_new-requires-clause-place g c =
+pub put_new-requires-clause-candidate : goal.put_new-requires-clause-candidate
+put_new-requires-clause-candidate g c =
     let d : Device = g.F.Flash.device c.args.flash.now in
     let own : Area = g.S.ItemStore.mounted_on c.args.store.now in
     let before : Items = on g.S.ItemStore.contents d own in
@@ -29,7 +29,7 @@ put_new-requires-clause-place g c =
       free = least.1;
     }
 
--- no place is free
+-- no id is free
 pub returns-then-is_full-clause-ends : goal.returns-then-is_full-clause-ends
 returns-then-is_full-clause-ends g c =
     let d : Device = g.F.Flash.device c.args.flash.now in
@@ -56,14 +56,14 @@ returns-then-is_full-clause-store g c =
       down = λ lost. absurd (false≢true lost);
     }
 
--- the least free place takes the name
+-- the least free id takes the name
 pub returns-in-Some-clause-items : goal.returns-in-Some-clause-items
 returns-in-Some-clause-items g c =
     let d : Device = g.F.Flash.device c.args.flash.now in
     let e : Device = g.F.Flash.device c.put_new.new.flash in
     let own : Area = g.S.ItemStore.mounted_on c.args.store.now in
     let before : Items = on g.S.ItemStore.contents d own in
-    puts-leave (numbering_of own) before c.args.name.now c.args.value.now (on g.S.ItemStore.contents e own) (pair_at_place (numbering_of own) c.in-Some.free c.args.name.now c.args.value.now) c.put_new.result
+    puts-leave (numbering_of own) before c.args.name.now c.args.value.now (on g.S.ItemStore.contents e own) (pair_at_id (numbering_of own) c.in-Some.free c.args.name.now c.args.value.now) c.put_new.result
     (takes (numbering_of own) before c.args.name.now c.args.value.now c.in-Some.free c.requires.absent (c.in-Some.ensures c.args.name.now)) c.put_new.ensures.items
 
 pub returns-then-is_full-clause-items : goal.returns-then-is_full-clause-items

@@ -8,9 +8,9 @@ use Rattle.backend_zms.proofs.numbering.ZmsIdLayoutIdLayout.is_kept.Goals.{then-
 pub returns-clause-not_it : goal.returns-clause-not_it
 returns-clause-not_it g c = λ no_name.
     let area = g.S.ItemStore.mounted_on c.args.store.now in
-    let which : ((c.args.id < 0xC0000000) × (c.if-id.place ≡ c.args.id)) ⊎ ((0xC0000000 ≤ c.args.id) × (c.if-id.place ≡ c.args.id - 0x40000000)) =
+    let which : ((c.args.id < 0xC0000000) × (c.if-id.candidate ≡ c.args.id)) ⊎ ((0xC0000000 ≤ c.args.id) × (c.if-id.candidate ≡ c.args.id - 0x40000000)) =
     elim c.if-id.branch [
-      | then-id w ↦ inl (w.if-id.true, w.place-is)
-      | else-id w ↦ inr (w.if-id.false, w.place-is)
+      | then-id w ↦ inl (w.if-id.true, w.candidate-is)
+      | else-id w ↦ inr (w.if-id.false, w.candidate-is)
     ] in
-    not-kept (value_limit area) (on g.S.ItemStore.contents (g.F.Flash.device c.args.flash.now) area) c.args.id c.if-id.place which (c.stands_at.ensures.not_it no_name)
+    not-kept (value_limit area) (on g.S.ItemStore.contents (g.F.Flash.device c.args.flash.now) area) c.args.id c.if-id.candidate which (c.stands_at.ensures.not_it no_name)

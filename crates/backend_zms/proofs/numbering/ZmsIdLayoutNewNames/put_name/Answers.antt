@@ -5,7 +5,7 @@ use Rattle.flash_map.specs.declared.area.Area.{Area}
 use Rattle.flash_map.specs.Area.{geometry_of, sectors_of, value_limit}
 use Rattle.flash_map.specs.On.{on}
 use Rattle.item_laws.specs.Items.{Items}
-use Rattle.named_items.specs.Leaving.{pair_at_place}
+use Rattle.named_items.specs.Leaving.{pair_at_id}
 use Rattle.named_items.specs.Pairs.{settings_in}
 use Rattle.named_items.specs.Putting.{IsPut}
 use Rattle.named_items.proofs.LeavingSteps.{takes, puts-leave}
@@ -15,8 +15,8 @@ use Rattle.named_items.specs.Orphans.{HasOrphans}
 use Rattle.backend_zms.proofs.numbering.ZmsIdLayoutNewNames.put_name.Goals as goal
 
 -- there is an id left
-pub put_new-requires-clause-place : goal.put_new-requires-clause-place
-put_new-requires-clause-place g c =
+pub put_new-requires-clause-candidate : goal.put_new-requires-clause-candidate
+put_new-requires-clause-candidate g c =
     let area : Area = g.S.ItemStore.mounted_on c.args.store.now in
     let before : Items = on g.S.ItemStore.contents (g.F.Flash.device c.args.flash.now) area in
     record {
@@ -56,7 +56,7 @@ returns-in-Some-clause-items g c =
     let e : Device = g.F.Flash.device c.put_new.new.flash in
     let area : Area = g.S.ItemStore.mounted_on c.args.store.now in
     let before : Items = on g.S.ItemStore.contents (g.F.Flash.device c.args.flash.now) area in
-    puts-leave (numbering_of area) before c.args.name.now c.args.value.now (on g.S.ItemStore.contents e area) (pair_at_place (numbering_of area) c.in-Some.free c.args.name.now c.args.value.now) c.put_new.result
+    puts-leave (numbering_of area) before c.args.name.now c.args.value.now (on g.S.ItemStore.contents e area) (pair_at_id (numbering_of area) c.in-Some.free c.args.name.now c.args.value.now) c.put_new.result
     (takes (numbering_of area) before c.args.name.now c.args.value.now c.in-Some.free c.requires.absent c.in-Some.ensures) c.put_new.ensures.items
 
 pub returns-in-None-clause-items : goal.returns-in-None-clause-items

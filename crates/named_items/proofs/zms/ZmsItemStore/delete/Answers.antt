@@ -1,7 +1,9 @@
 use Rattle.flash_map.specs.Area.{geometry_of}
 use Rattle.zms_format.specs.Formats.{format_of}
+use Rattle.named_items.specs.ZmsStore.{zms_removal}
+use Rattle.named_items.proofs.MostUnits.{between-same}
 use Rattle.named_items.proofs.ZmsSteps.{zms-law, zms-frugal, zms-erased}
-use Rattle.named_items.proofs.RingSteps.{ring-deletes_on, ring-delete-most, ring-delete-removal, ring-delete-one, ring-delete-next, ring-delete-written}
+use Rattle.named_items.proofs.RingSteps.{ring-deletes_on, ring-delete-most, ring-delete-removal, ring-delete-next, ring-delete-written}
 use Rattle.named_items.proofs.zms.ZmsItemStore.delete.Goals as goal
 
 pub returns-clause-ends : goal.returns-clause-ends
@@ -14,11 +16,13 @@ returns-clause-units g c =
     let e = g.F.Flash.device c.delete.new.flash in
     let area = c.args.self.now.store.area in
     let k = format_of (geometry_of d area) in
+    let removal = zms_removal (geometry_of d area) in
+    let one = between-same d e 0 removal c.delete.ensures.units.at_most in
     record {
       at_most = ring-delete-most k d e area c.requires.lawful.several (zms-frugal d area c.requires.lawful c.requires.stands.role) c.args.id c.delete.result c.delete.ensures.ends;
       removal = ring-delete-removal k d e area c.requires.lawful.several (zms-frugal d area c.requires.lawful c.requires.stands.role) c.args.id c.delete.result c.delete.ensures.ends;
-      one = ring-delete-one k d e area c.args.id c.delete.result c.delete.ensures.ends;
-      next = ring-delete-next k d e area (zms-law (geometry_of d area)) c.args.id c.delete.result c.delete.ensures.ends;
+      one = one;
+      next = ring-delete-next k d e area (zms-law (geometry_of d area)) removal c.args.id c.delete.result c.delete.ensures.ends one;
     }
 
 pub returns-clause-written : goal.returns-clause-written

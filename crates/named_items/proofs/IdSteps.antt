@@ -40,7 +40,7 @@ among-own n top ids own id low high =
     record { from = omega arith; to = omega arith }
 
 module _ (n : Numbering) (items : Items) where
-  -- an id for names that is kept is the place of the setting whose name is there
+  -- an id for names that is kept is that of the setting whose name is there
   pub kept-at : (laws : IsNumbering n) (name : List ℕ) (id : ℕ) → IsForName n id → get items id ≡ Some name → IsKept n items id → IsAt n items name id
   kept-at laws name id own has kept =
       let low : n.first ≤ id = own.from in
@@ -56,7 +56,7 @@ module _ (n : Numbering) (items : Items) where
               let same : part.name ≡ name = named-as part.name name (get items id) (named-at n items part.name id at) has in
               subst (λ (t : List ℕ). IsAt n items t id) same at
           | inr e ↦
-              let from : n.first ≤ part.place = part.at.inside.from in
+              let from : n.first ≤ part.candidate = part.at.inside.from in
               absurd (omega arith)
         ]
       ]
@@ -82,23 +82,23 @@ module _ (n : Numbering) (laws : IsNumbering n) (items : Items) (clean : HasNoOr
         | inr kept ↦ kept-at n items laws bytes id (among-own n top ids own id has.from (omega arith)) has.has kept
       ]
 
-  here-bytes : (name : List ℕ) (place : ℕ) → HasName (pair_at n items place) name → IsCandidateId ids place → HasBytes ids.least ids.most items place name
-  here-bytes name place has among = record { from = among.from; to = among.to; has = (has-here n place name (get items place) (get items (place + n.step)) has).named }
+  here-bytes : (name : List ℕ) (candidate : ℕ) → HasName (pair_at n items candidate) name → IsCandidateId ids candidate → HasBytes ids.least ids.most items candidate name
+  here-bytes name candidate has among = record { from = among.from; to = among.to; has = (has-here n candidate name (get items candidate) (get items (candidate + n.step)) has).named }
 
-  -- an id that has the bytes of a name is its place, and without one the name has none
-  pub place-found : (name : List ℕ) → HasCandidates n name ids → (step : ℕ) (o : Option Holder) → IsHolderOf ids step items name o → IsIdOfName n items name (option_map (λ holder. holder.id) o)
-  place-found name candidates step None none = λ other inside has. none other (here-bytes name other has (candidates items other inside (at-candidate n items name other has)))
-  place-found name candidates step (Some holder) has = name-is holder.id name has.0
+  -- an id that has the bytes of a name is its id, and without one the name has none
+  pub id-found : (name : List ℕ) → HasCandidates n name ids → (step : ℕ) (o : Option Holder) → IsHolderOf ids step items name o → IsIdOfName n items name (option_map (λ holder. holder.id) o)
+  id-found name candidates step None none = λ other inside has. none other (here-bytes name other has (candidates items other inside (at-candidate n items name other has)))
+  id-found name candidates step (Some holder) has = name-is holder.id name has.0
 
-  at-key : (name : List ℕ) (place : ℕ) → IsAt n items name place → contains_key (settings_in n items) name ≡ true
-  at-key name place at = let value = at-value n items name place at in ap is_some (get-at n items name value.0 place at value.1)
+  at-key : (name : List ℕ) (candidate : ℕ) → IsAt n items name candidate → contains_key (settings_in n items) name ≡ true
+  at-key name candidate at = let value = at-value n items name candidate at in ap is_some (get-at n items name value.0 candidate at value.1)
 
   module _ (candidates : HasAllCandidates n ids) (after : Option (List ℕ)) where
-    key-bytes : (name : List ℕ) → contains_key (settings_in n items) name ≡ true → (place : ℕ) × HasBytes ids.least ids.most items place name
+    key-bytes : (name : List ℕ) → contains_key (settings_in n items) name ≡ true → (candidate : ℕ) × HasBytes ids.least ids.most items candidate name
     key-bytes name has =
         elim (seek (pair_at n items) name n.first (count_in n items)) [
           | inl some ↦ (some.0, here-bytes name some.0 some.3 (candidates items some.0 (record { from = some.1; to = some.2 })))
-          | inr none ↦ absurd (false≢true (sym (ap is_some (get-nowhere n items name (λ place inside. none place inside.from inside.to))) ∙ has))
+          | inr none ↦ absurd (false≢true (sym (ap is_some (get-nowhere n items name (λ candidate inside. none candidate inside.from inside.to))) ∙ has))
         ]
 
     next-is : (o : Option (List ℕ)) → IsNextOf ids.least ids.most items after o → IsLeast after (contains_key (settings_in n items)) o

@@ -21,7 +21,7 @@ use Rattle.fcb_ring.specs.Changing.{AppendEnds, CopiedRecord, StopsCopyingRecord
 use Rattle.fcb_ring.specs.Writing.{record_cost}
 use Rattle.fcb_ring.proofs.AppendLemmas.{unit-after}
 use Rattle.fcb_ring.proofs.AreaLemmas.{count-sectors}
-use Rattle.backend_api.specs.Room.{command_units, mount_units}
+use Rattle.backend_api.specs.Room.{command_units}
 use Rattle.migrator.specs.Choosing.{choice_units}
 use Rattle.migrator.specs.Migrating.{fill_units, move_units}
 
@@ -96,50 +96,36 @@ erased-most d e area (Err x) units lost = most_weaker d e (count_by is_written (
 units-still : (a b : Device) (area : Area) → b.banks ≡ a.banks → geometry_of b area ≡ geometry_of a area
 units-still a b area banks = ap (λ (all : List Bank). record { unit = (bank_at all area.bank).unit; sector = (bank_at all area.bank).sector; sectors = area.sectors; kind = (bank_at all area.bank).kind }) banks
 
--- and then mounted
-pub opened-most : (a b e : Device) (area : Area) → b.banks ≡ a.banks → SpendsAtMost a b area.sectors → SpendsAtMost b e (mount_units (geometry_of b area)) → SpendsAtMost a e (area.sectors + mount_units (geometry_of a area))
-opened-most a b e area banks first second =
-    most_then a b e area.sectors (mount_units (geometry_of a area)) first (subst (λ (g : Geometry). SpendsAtMost b e (mount_units g)) (units-still a b area banks) second)
-
--- it was erased, and not mounted
-pub erased-first : (a b : Device) (area : Area) (more : ℕ) → SpendsAtMost a b area.sectors → SpendsAtMost a b (area.sectors + more)
-erased-first a b area more spent = most_weaker a b area.sectors (area.sectors + more) (omega arith) spent
+-- and then mounted, which spent nothing
+pub opened-most : (a b e : Device) (area : Area) → e ≡ b → SpendsAtMost a b area.sectors → SpendsAtMost a e area.sectors
+opened-most a b e area same spent = subst (λ (x : Device). SpendsAtMost a x area.sectors) (sym same) spent
 
 -- nothing was put yet
-pub opened-first : (a b : Device) (area : Area) (names : ℕ) → SpendsAtMost a b (area.sectors + mount_units (geometry_of a area)) → SpendsAtMost a b (fill_units (geometry_of a area) names)
-opened-first a b area names spent = most_weaker a b (area.sectors + mount_units (geometry_of a area)) (fill_units (geometry_of a area) names) (omega arith) spent
+pub opened-first : (a b : Device) (area : Area) (names : ℕ) → SpendsAtMost a b area.sectors → SpendsAtMost a b (fill_units (geometry_of a area) names)
+opened-first a b area names spent = most_weaker a b area.sectors (fill_units (geometry_of a area) names) (omega arith) spent
+
+-- the puts, in the units of the area on the device before
+puts-most : (a b e : Device) (area into : Area) (count names : ℕ) → b.banks ≡ a.banks → into ≡ area → count ≡ names → SpendsAtMost b e (count * command_units (geometry_of b into)) → SpendsAtMost b e (names * command_units (geometry_of a area))
+puts-most a b e area into count names banks same is spent =
+    let g : geometry_of b into ≡ geometry_of a area = ap (geometry_of b) same ∙ units-still a b area banks in
+    subst (λ (x : Geometry). SpendsAtMost b e (names * command_units x)) g (subst (λ (n : ℕ). SpendsAtMost b e (n * command_units (geometry_of b into))) is spent)
 
 -- all settings were put
-pub filled-most : (a b e : Device) (area into : Area) (count names : ℕ) → b.banks ≡ a.banks → into ≡ area → count ≡ names → SpendsAtMost a b (area.sectors + mount_units (geometry_of a area)) → SpendsAtMost b e (count * command_units (geometry_of b into))
+pub filled-most : (a b e : Device) (area into : Area) (count names : ℕ) → b.banks ≡ a.banks → into ≡ area → count ≡ names → SpendsAtMost a b area.sectors → SpendsAtMost b e (count * command_units (geometry_of b into))
     → SpendsAtMost a e (fill_units (geometry_of a area) names)
 filled-most a b e area into count names banks same is first second =
-    let g : geometry_of b into ≡ geometry_of a area = ap (geometry_of b) same ∙ units-still a b area banks in
-    let puts : SpendsAtMost b e (names * command_units (geometry_of a area)) =
-    subst (λ (x : Geometry). SpendsAtMost b e (names * command_units x)) g (subst (λ (n : ℕ). SpendsAtMost b e (n * command_units (geometry_of b into))) is second) in
-    most_then a b e (area.sectors + mount_units (geometry_of a area)) (names * command_units (geometry_of a area)) first puts
+    most_then a b e area.sectors (names * command_units (geometry_of a area)) first (puts-most a b e area into count names banks same is second)
 
--- ---- the same, where power lasted: each sector that was written was erased
-
-pub opened-between : (a b e : Device) (area : Area) → b.banks ≡ a.banks → Spends a b (count_by is_written (sectors_of a area)) → SpendsAtMost b e (mount_units (geometry_of b area)) → SpendsBetween a e (count_by is_written (sectors_of a area)) (area.sectors + mount_units (geometry_of a area))
-opened-between a b e area banks first second =
+-- the same, where power lasted: each sector that was written was erased
+pub filled-between : (a b e : Device) (area into : Area) (count names : ℕ) → b.banks ≡ a.banks → into ≡ area → count ≡ names → Spends a b (count_by is_written (sectors_of a area)) → SpendsAtMost b e (count * command_units (geometry_of b into))
+    → SpendsBetween a e (count_by is_written (sectors_of a area)) (fill_units (geometry_of a area) names)
+filled-between a b e area into count names banks same is first second =
     let written : ℕ = count_by is_written (sectors_of a area) in
-    let units : ℕ = mount_units (geometry_of a area) in
-    let mounted : SpendsAtMost b e units = subst (λ (g : Geometry). SpendsAtMost b e (mount_units g)) (units-still a b area banks) second in
-    between_further a e written area.sectors units (written-within a area) (between_then (between_exact a b written first) (between_most b e units mounted))
+    let puts : ℕ = names * command_units (geometry_of a area) in
+    between_further a e written area.sectors puts (written-within a area) (between_then (between_exact a b written first) (between_most b e puts (puts-most a b e area into count names banks same is second)))
   where
     between_further : (d x : Device) (count sectors more : ℕ) → count ≤ sectors → SpendsBetween d x (count + 0) (count + more) → SpendsBetween d x count (sectors + more)
     between_further d x count sectors more within spends = between_within spends count (sectors + more) (omega arith) (omega arith)
-
-pub filled-between : (a b e : Device) (area into : Area) (least count names : ℕ) → b.banks ≡ a.banks → into ≡ area → count ≡ names → SpendsBetween a b least (area.sectors + mount_units (geometry_of a area)) → SpendsAtMost b e (count * command_units (geometry_of b into))
-    → SpendsBetween a e least (fill_units (geometry_of a area) names)
-filled-between a b e area into least count names banks same is first second =
-    let g : geometry_of b into ≡ geometry_of a area = ap (geometry_of b) same ∙ units-still a b area banks in
-    let puts : SpendsAtMost b e (names * command_units (geometry_of a area)) =
-    subst (λ (x : Geometry). SpendsAtMost b e (names * command_units x)) g (subst (λ (n : ℕ). SpendsAtMost b e (n * command_units (geometry_of b into))) is second) in
-    least-same a e least (fill_units (geometry_of a area) names) (between_then first (between_most b e (names * command_units (geometry_of a area)) puts))
-  where
-    least-same : (d x : Device) (count most : ℕ) → SpendsBetween d x (count + 0) most → SpendsBetween d x count most
-    least-same d x count most spends = between_within spends count most (omega arith) (omega arith)
 
 -- what holds however a call ends
 pub on-ok : {T E : Type 0} (result : Result T E) (P : Type 0) → P → OnOk result P

@@ -15,7 +15,7 @@ use Rattle.fcb_ring.specs.Standing.{is_up, erases_on, ring_damage}
 use Rattle.fcb_ring.specs.declared.ring.Ring.{Ring}
 use Rattle.backend_api.specs.Map.{Map}
 use Rattle.flash_map.specs.On.{on, HoldsOn, StandsOn}
-use Rattle.backend_api.specs.Room.{Room, command_units, mount_units}
+use Rattle.backend_api.specs.Room.{Room, command_units}
 use Rattle.backend_api.specs.declared.backend.SetFault.{SetFault}
 use Rattle.backend_api.specs.declared.backend.SetFault.TheVariants.{NoSpace as NoPlace, TooManyNames as OneTooMany, PowerLost as CopyLost}
 use Rattle.flash_sim.specs.declared.flash.PowerLost.{PowerLost as Lost}
@@ -83,6 +83,12 @@ pub record IsServed {S : Type 0} (serves : Area → Geometry → Type 0) (mounte
   pub up : StandsOn mounted_on stands d state
   pub is_active : active ≡ active_on areas d
 
+-- the source's sectors are as before, and its store still stands on them
+pub record KeepsSource {S : Type 0} (mounted_on : S → Area) (stands : S → Geometry → List (List ℕ) → Type 0)
+    (old new : Device) (source : S) : Type 0 where
+  pub sectors : sectors_of new (mounted_on source) ≡ sectors_of old (mounted_on source)
+  pub up : StandsOn mounted_on stands new source
+
 -- how the opening of an area with no settings ends
 abbrev pub OpenEnds : {T : Type 0} → Map → Result T MigrateFault → Type 0
 OpenEnds copy (Ok x) = copy ≡ finite.empty
@@ -122,10 +128,10 @@ pub record IsMoved (damage : Area → Geometry → List (List ℕ) → Option Da
   pub reads : on contents new area ≡ settings
   pub free : NoneTooMany room settings None
 
--- The most units and erases of filling an area, whole or cut: it is erased and mounted, and `names`
--- settings are put into it.
+-- The most units and erases of filling an area, whole or cut: it is erased, and `names` settings are put
+-- into it.
 abbrev pub fill_units : Geometry → ℕ → ℕ
-fill_units geometry names = geometry.sectors + mount_units geometry + names * command_units geometry
+fill_units geometry names = geometry.sectors + names * command_units geometry
 
 -- An area was filled with `names` settings. That spent at least one unit or erase for each sector that was
 -- written.

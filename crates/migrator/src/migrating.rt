@@ -3,15 +3,14 @@ ghost use Rattle.std.specs.Prelude.{◌≡◌, ◌⊎◌, ◌+◌, ◌<◌, ◌�
 ghost use Rattle.std.specs.FinMap as finite;
 ghost use Rattle.flash_map.specs.Area.{sectors_of, geometry_of, AreApart};
 ghost use Rattle.flash_map.specs.Lawful.{IsLawfulFor};
-ghost use Rattle.flash_map.specs.Spending.{Spends, SpendsAtMost, SpendsBetween};
+ghost use Rattle.flash_map.specs.Spending.{Spends, SpendsAtMost};
 ghost use Rattle.flash_map.specs.Touches.{Touches};
 ghost use Rattle.flash_map.specs.Units.{is_written};
-ghost use Rattle.backend_api.specs.Room.{mount_units};
-ghost use Rattle.flash_map.specs.On.{on, StandsOn};
+ghost use Rattle.flash_map.specs.On.{on, HoldsOn, StandsOn};
 ghost use Rattle.fcb_ring.specs.Standing.{erases_on, is_up};
 ghost use Rattle.migrator.specs.Areas.{is_store_at};
 ghost use Rattle.migrator.specs.Choosing.{IsOpen};
-ghost use Rattle.migrator.specs.Migrating.{migrate_lost, is_refused, ActiveRests, IsLeftResting, IsServed, CanMove, KeepsSelector, ChoosesOnce, FillSpends, FillsAndChooses, fill_units, move_units, migrate_units, filled_as, moved_as, worked_on, room_on, OpenEnds, FillEnds, ReadsAs, MoveEnds, MigrateEnds};
+ghost use Rattle.migrator.specs.Migrating.{migrate_lost, is_refused, ActiveRests, IsLeftResting, IsServed, CanMove, KeepsSelector, KeepsSource, ChoosesOnce, FillSpends, FillsAndChooses, fill_units, move_units, migrate_units, filled_as, moved_as, worked_on, room_on, OpenEnds, FillEnds, ReadsAs, MoveEnds, MigrateEnds};
 
 use crate::Selector;
 use crate::areas::{area_at, target};
@@ -38,7 +37,8 @@ pub enum MigrateFault {
     NoMemory,
 }
 
-// Erases the sectors of an area that are not erased. It then reads as no settings.
+// Erases the sectors of an area that are not erased. It then reads as no settings, and a mount of it
+// has nothing to do.
 fn erase<F: Flash, K: Backend, L: Ledger>(
     flash: &mut F,
     area: &Area,
@@ -51,6 +51,7 @@ fn erase<F: Flash, K: Backend, L: Ledger>(
         (is_err result) }
     ensures sound { OnOk result (on K.damage (F.device flash.new) area.now ≡ None) }
     ensures empty { OnOk result (on K.contents (F.device flash.new) area.now ≡ finite.empty) }
+    ensures rests { OnOk result (HoldsOn K.rests (F.device flash.new) area.now) }
     ensures units { let d = F.device flash.old in
         OnOk result (Spends d (F.device flash.new) (count_by is_written (sectors_of d area.now))) }
     ensures units_lost { let d = F.device flash.old in
@@ -60,7 +61,7 @@ fn erase<F: Flash, K: Backend, L: Ledger>(
     K::format(flash, area, steps)
 }
 
-// Erases an area, and mounts a store on it.
+// Erases an area, and mounts a store on it. That mount spends nothing.
 fn open_blank<F: Flash, K: Backend, L: Ledger>(
     alloc: Global,
     flash: &mut F,
@@ -77,11 +78,9 @@ fn open_blank<F: Flash, K: Backend, L: Ledger>(
     ensures stands { IfOk result
         (λ state. StandsOn K.mounted_on K.stands (F.device flash.new) state) }
     ensures at_most { let d = F.device flash.old in
-        SpendsAtMost d (F.device flash.new) (area.sectors + mount_units (geometry_of d area)) }
+        SpendsAtMost d (F.device flash.new) area.sectors }
     ensures erased { let d = F.device flash.old in
-        OnOk result
-        (SpendsBetween d (F.device flash.new) (count_by is_written (sectors_of d area))
-        (area.sectors + mount_units (geometry_of d area))) }
+        OnOk result (Spends d (F.device flash.new) (count_by is_written (sectors_of d area))) }
 {
     let erased: Result<(), PowerLost> = erase::<F, K, L>(flash, &area, steps);
     match erased {
@@ -246,9 +245,8 @@ pub fn migrate<F: Flash, K: Backend, L: Ledger>(
 
     ensures touches { let areas = worked_on map.now selector.old.ring.area active in
         Touches areas (F.device flash.old) (F.device flash.new) (migrate_lost result) }
-    ensures source { let area = K.mounted_on from.now in
-        sectors_of (F.device flash.new) area ≡ sectors_of (F.device flash.old) area }
-    ensures from { StandsOn K.mounted_on K.stands (F.device flash.new) from.now }
+    ensures source { let d = F.device flash.old in
+        KeepsSource K.mounted_on K.stands d (F.device flash.new) from.now }
     ensures area { selector.new.ring.area ≡ selector.old.ring.area }
     ensures map { let settings = on K.contents (F.device flash.old) (K.mounted_on from.now) in
         ReadsAs K.damage K.contents map.now (F.device flash.new) settings }

@@ -6,6 +6,7 @@ mod KeepSteps
 mod MapSteps
 mod MirrorEnds
 mod MountSteps
+mod OwingSteps
 mod PriceLemmas
 mod ReadLemmas
 mod RepairSteps

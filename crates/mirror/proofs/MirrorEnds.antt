@@ -34,6 +34,10 @@ refused-touches T room d trusted other areas settings name value TooManyNames lo
 refused-touches T room d trusted other areas settings name value (NoSpace need live) looked = untouched areas d
 refused-touches T room d trusted other areas settings name value PowerLost looked = absurd looked
 
+pub no-first : (a b : Bool) → a ≡ false → (a && b) ≡ false
+no-first true b e = absurd (false≢true (sym e))
+no-first false b e = refl
+
 pub no-second : (a b : Bool) → b ≡ false → (a && b) ≡ false
 no-second true b e = e
 no-second false b e = refl

@@ -23,7 +23,7 @@ use Rattle.fcb_ring.specs.Entries.{HasEntries, states}
 use Rattle.fcb_ring.specs.Rings.{first_damage}
 use Rattle.fcb_ring.specs.Standing.{entries_on, erases_due, erases_on, ring_damage}
 use Rattle.backend_api.specs.Map.{Map}
-use Rattle.backend_api.specs.Room.{Room, mount_units}
+use Rattle.backend_api.specs.Room.{Room, foreign_units}
 use Rattle.migrator.specs.Active.{active_in, active_on, selector_damage_on}
 use Rattle.migrator.specs.Areas.{selector_of}
 use Rattle.migrator.proofs.Migration.{active-on}
@@ -260,8 +260,8 @@ pub mounts-spend : (d m e : Device) (s t o : Area) (before now : Map) → m.bank
 mounts-spend d m e s t o before now banks same first second =
     most_then d m e (trust_units d s) (both_units d t o (maps.len before)) first
     (subst (λ (x : Map). SpendsAtMost m e (both_units d t o (maps.len x))) same
-    (subst (λ (g : Geometry). SpendsAtMost m e (mount_units (geometry_of d t) + other_units g (maps.len now))) (geometry-same d m o banks)
-    (subst (λ (g : Geometry). SpendsAtMost m e (mount_units g + other_units (geometry_of m o) (maps.len now))) (geometry-same d m t banks) second)))
+    (subst (λ (g : Geometry). SpendsAtMost m e (foreign_units (geometry_of d t) + other_units g (maps.len now))) (geometry-same d m o banks)
+    (subst (λ (g : Geometry). SpendsAtMost m e (foreign_units g + other_units (geometry_of m o) (maps.len now))) (geometry-same d m t banks) second)))
 
 -- ---- what it spares
 
@@ -311,7 +311,7 @@ module _ (damage : Area → Geometry → List (List ℕ) → Option Damaged) (co
           bytes = bytes-behind rests d m e o banks o-same after.bytes;
           at_most =
               most_then d m e (trust_units d s) (both_mounts d t o) first
-              (subst (λ (g : Geometry). SpendsAtMost m e (mount_units (geometry_of d t) + mount_units g)) (geometry-same d m o banks)
-              (subst (λ (g : Geometry). SpendsAtMost m e (mount_units g + mount_units (geometry_of m o))) (geometry-same d m t banks) after.at_most));
+              (subst (λ (g : Geometry). SpendsAtMost m e (foreign_units (geometry_of d t) + foreign_units g)) (geometry-same d m o banks)
+              (subst (λ (g : Geometry). SpendsAtMost m e (foreign_units g + foreign_units (geometry_of m o))) (geometry-same d m t banks) after.at_most));
         };
   }

@@ -20,7 +20,7 @@ use Rattle.flash_map.proofs.Apart.{same_apart}
 use Rattle.flash_map.proofs.SpendingLemmas.{most_weaker}
 use Rattle.backend_api.specs.Ends.{MountEnds}
 use Rattle.backend_api.specs.Map.{Map}
-use Rattle.backend_api.specs.Room.{Room, mount_units}
+use Rattle.backend_api.specs.Room.{Room, foreign_units}
 use Rattle.backend_api.specs.Written.{StaysWritten}
 use Rattle.migrator.specs.Migrating.{fill_units}
 use Rattle.migrator.proofs.Copies.{geometry-same}
@@ -51,25 +51,25 @@ within : (a b : ℕ) → a ≤ a + b
 within a b = omega arith
 
 -- the other area was mounted
-pub opened-first : (d m : Device) (own area : Area) (names : ℕ) → own ≡ area → SpendsAtMost d m (mount_units (geometry_of d own)) → SpendsAtMost d m (other_units (geometry_of d area) names)
+pub opened-first : (d m : Device) (own area : Area) (names : ℕ) → own ≡ area → SpendsAtMost d m (foreign_units (geometry_of d own)) → SpendsAtMost d m (other_units (geometry_of d area) names)
 opened-first d m own area names same spent =
-    most_weaker d m (mount_units (geometry_of d area)) (other_units (geometry_of d area) names) (within (mount_units (geometry_of d area)) (fill_units (geometry_of d area) names))
-    (subst (λ (x : Area). SpendsAtMost d m (mount_units (geometry_of d x))) same spent)
+    most_weaker d m (foreign_units (geometry_of d area)) (other_units (geometry_of d area) names) (within (foreign_units (geometry_of d area)) (fill_units (geometry_of d area) names))
+    (subst (λ (x : Area). SpendsAtMost d m (foreign_units (geometry_of d x))) same spent)
 
 -- and repaired
-pub opened-then : (d m e : Device) (own area : Area) (before now : Map) → m.banks ≡ d.banks → own ≡ area → now ≡ before → SpendsAtMost d m (mount_units (geometry_of d own)) → SpendsAtMost m e (fill_units (geometry_of m area) (maps.len now))
+pub opened-then : (d m e : Device) (own area : Area) (before now : Map) → m.banks ≡ d.banks → own ≡ area → now ≡ before → SpendsAtMost d m (foreign_units (geometry_of d own)) → SpendsAtMost m e (fill_units (geometry_of m area) (maps.len now))
     → SpendsAtMost d e (other_units (geometry_of d area) (maps.len before))
 opened-then d m e own area before now banks same is first second =
-    most_then d m e (mount_units (geometry_of d area)) (fill_units (geometry_of d area) (maps.len before))
-    (subst (λ (x : Area). SpendsAtMost d m (mount_units (geometry_of d x))) same first)
+    most_then d m e (foreign_units (geometry_of d area)) (fill_units (geometry_of d area) (maps.len before))
+    (subst (λ (x : Area). SpendsAtMost d m (foreign_units (geometry_of d x))) same first)
     (subst (λ (x : Map). SpendsAtMost m e (fill_units (geometry_of d area) (maps.len x))) is (subst (λ (g : Geometry). SpendsAtMost m e (fill_units g (maps.len now))) (geometry-same d m area banks) second))
 
 module _ (damage : Area → Geometry → List (List ℕ) → Option Damaged) (contents : Area → Geometry → List (List ℕ) → Map) (rests : Area → Geometry → List (List ℕ) → Type 0) where
   -- ---- one area, whose mount keeps what it holds
 
   pub held-on : (d m : Device) (area : Area) (settings : Map) → (on damage d area ≡ None → on damage m area ≡ None) → (on damage d area ≡ None → on contents m area ≡ on contents d area)
-      → (HoldsOn rests d area → m ≡ d) → StaysWritten d m area → SpendsAtMost d m (mount_units (geometry_of d area))
-      → HoldsMap damage contents d area settings → KeepsCopy damage contents rests d m area settings (mount_units (geometry_of d area))
+      → (HoldsOn rests d area → m ≡ d) → StaysWritten d m area → SpendsAtMost d m (foreign_units (geometry_of d area))
+      → HoldsMap damage contents d area settings → KeepsCopy damage contents rests d m area settings (foreign_units (geometry_of d area))
   held-on d m area settings sound keeps rest stays units holds = record {
     holds = record { sound = sound holds.sound; reads = keeps holds.sound ∙ holds.reads };
     bytes = mounted-bytes rests d m area rest stays;
@@ -96,11 +96,11 @@ module _ (damage : Area → Geometry → List (List ℕ) → Option Damaged) (co
     pub beside : sectors_of m o ≡ sectors_of d o
     pub rest : HoldsOn rests d t → m ≡ d
     pub written : StaysWritten d m t
-    pub units : SpendsAtMost d m (mount_units (geometry_of d t))
+    pub units : SpendsAtMost d m (foreign_units (geometry_of d t))
 
   pub side-done : (serves : Area → Geometry → Type 0) (areas : List Area) (d : Device) (map : IsMirrorMap serves areas d) (m : Device) (place : ℕ) (a t o : Area) (lost : Bool)
       → slice_get areas place ≡ Some a → slice_get areas place ≡ Some t → slice_get areas (other_place areas place) ≡ Some o → IsLawful d.banks d.bytes → IsLawful m.banks m.bytes → Touches (a ∷ []) d m lost
-      → (on damage d a ≡ None → on damage m a ≡ None) → (on damage d a ≡ None → on contents m a ≡ on contents d a) → (HoldsOn rests d a → m ≡ d) → StaysWritten d m a → SpendsAtMost d m (mount_units (geometry_of d a))
+      → (on damage d a ≡ None → on damage m a ≡ None) → (on damage d a ≡ None → on contents m a ≡ on contents d a) → (HoldsOn rests d a → m ≡ d) → StaysWritten d m a → SpendsAtMost d m (foreign_units (geometry_of d a))
       → SideDone d m t o
   side-done serves areas d map m place a t o lost at there beside lawful mid touches sound keeps rest written units =
       let others = other-is serves areas d map place in
@@ -120,12 +120,12 @@ module _ (damage : Area → Geometry → List (List ℕ) → Option Damaged) (co
   pub record OtherDone (m e : Device) (t o : Area) : Type 0 where
     pub banks : e.banks ≡ m.banks
     pub beside : sectors_of e t ≡ sectors_of m t
-    pub held : HoldsMap damage contents m o (on contents m t) → KeepsCopy damage contents rests m e o (on contents m t) (mount_units (geometry_of m o))
+    pub held : HoldsMap damage contents m o (on contents m t) → KeepsCopy damage contents rests m e o (on contents m t) (foreign_units (geometry_of m o))
     pub idle : HoldsMap damage contents m o (on contents m t) → HoldsOn rests m o → e ≡ m
     pub units : SpendsAtMost m e (other_units (geometry_of m o) (maps.len (on contents m t)))
 
   pub other-done : (m e : Device) (b o x t : Area) → b ≡ o → x ≡ t → e.banks ≡ m.banks → sectors_of e x ≡ sectors_of m x
-      → (HoldsMap damage contents m b (on contents m x) → KeepsCopy damage contents rests m e b (on contents m x) (mount_units (geometry_of m b))) → (HoldsMap damage contents m b (on contents m x) → HoldsOn rests m b → e ≡ m)
+      → (HoldsMap damage contents m b (on contents m x) → KeepsCopy damage contents rests m e b (on contents m x) (foreign_units (geometry_of m b))) → (HoldsMap damage contents m b (on contents m x) → HoldsOn rests m b → e ≡ m)
       → SpendsAtMost m e (other_units (geometry_of m b) (maps.len (on contents m x))) → OtherDone m e t o
   other-done m e b o x t b_is x_is banks beside held idle units =
       subst (λ (y : Area). OtherDone m e y o) x_is (subst (λ (y : Area). OtherDone m e x y) b_is (record { banks = banks; beside = beside; held = held; idle = idle; units = units }))
@@ -140,12 +140,12 @@ module _ (damage : Area → Geometry → List (List ℕ) → Option Damaged) (co
       held = λ none holds. record {
         holds = record { sound = still damage d m o one.banks one.beside ∙ holds.sound; reads = still contents d m o one.banks one.beside ∙ holds.reads };
         bytes = same-bytes rests d m o one.beside;
-        at_most = most_weaker d m (mount_units (geometry_of d t)) (both_mounts d t o) (within (mount_units (geometry_of d t)) (mount_units (geometry_of d o))) one.units;
+        at_most = most_weaker d m (foreign_units (geometry_of d t)) (both_mounts d t o) (within (foreign_units (geometry_of d t)) (foreign_units (geometry_of d o))) one.units;
       };
     }
 
     pub units-first : (names : ℕ) → SpendsAtMost d m (both_units d t o names)
-    units-first names = most_weaker d m (mount_units (geometry_of d t)) (both_units d t o names) (within (mount_units (geometry_of d t)) (other_units (geometry_of d o) names)) one.units
+    units-first names = most_weaker d m (foreign_units (geometry_of d t)) (both_units d t o names) (within (foreign_units (geometry_of d t)) (other_units (geometry_of d o) names)) one.units
 
     module _ (e : Device) (two : OtherDone m e t o) where
       pub spares-then : SparesBoth damage contents rests d e t o
@@ -158,8 +158,8 @@ module _ (damage : Area → Geometry → List (List ℕ) → Option Damaged) (co
               holds = record { sound = after.holds.sound; reads = after.holds.reads ∙ one.reads none };
               bytes = bytes-behind rests d m e o one.banks one.beside after.bytes;
               at_most =
-                  most_then d m e (mount_units (geometry_of d t)) (mount_units (geometry_of d o)) one.units
-                  (subst (λ (g : Geometry). SpendsAtMost m e (mount_units g)) (geometry-same d m o one.banks) after.at_most);
+                  most_then d m e (foreign_units (geometry_of d t)) (foreign_units (geometry_of d o)) one.units
+                  (subst (λ (g : Geometry). SpendsAtMost m e (foreign_units g)) (geometry-same d m o one.banks) after.at_most);
             };
       }
 
@@ -170,7 +170,7 @@ module _ (damage : Area → Geometry → List (List ℕ) → Option Damaged) (co
 
       pub units-then : on damage d t ≡ None → SpendsAtMost d e (both_units d t o (maps.len (on contents d t)))
       units-then none =
-          most_then d m e (mount_units (geometry_of d t)) (other_units (geometry_of d o) (maps.len (on contents d t))) one.units
+          most_then d m e (foreign_units (geometry_of d t)) (other_units (geometry_of d o) (maps.len (on contents d t))) one.units
           (subst (λ (x : Map). SpendsAtMost m e (other_units (geometry_of d o) (maps.len x))) (one.reads none)
           (subst (λ (g : Geometry). SpendsAtMost m e (other_units g (maps.len (on contents m t)))) (geometry-same d m o one.banks) two.units))
 

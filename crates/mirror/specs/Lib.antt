@@ -2,6 +2,7 @@ pub mod Laws
 pub mod Mirrored
 pub mod Mounting
 pub mod Naming
+pub mod Owing
 pub mod Prices
 pub mod Room
 pub mod Standing

@@ -14,7 +14,7 @@ use Rattle.flash_map.specs.Spending.{SpendsAtMost}
 use Rattle.flash_map.specs.Touches.{Touches}
 use Rattle.fcb_ring.specs.Standing.{erases_on, ring_damage}
 use Rattle.backend_api.specs.Map.{Map}
-use Rattle.backend_api.specs.Room.{Room, mount_units}
+use Rattle.backend_api.specs.Room.{Room, foreign_units}
 use Rattle.backend_api.specs.Written.{StaysWritten}
 use Rattle.migrator.specs.Active.{active_in, active_on, selector_damage_on}
 use Rattle.migrator.specs.Areas.{selector_of, target}
@@ -94,7 +94,7 @@ TrustEnds areas old new (Err NoMemory) = ⊥
 
 -- the most units and erases of the mounts of two areas
 abbrev pub both_mounts : Device → Area → Area → ℕ
-both_mounts d trusted other = mount_units (geometry_of d trusted) + mount_units (geometry_of d other)
+both_mounts d trusted other = foreign_units (geometry_of d trusted) + foreign_units (geometry_of d other)
 
 -- how the mount of one area ends
 abbrev pub SideEnds : {S : Type 0} → (S → Area) → (S → Geometry → List (List ℕ) → Type 0)
@@ -427,12 +427,12 @@ pub record IsAtRest (damage : Area → Geometry → List (List ℕ) → Option D
 
 -- the most units and erases of the mount and the repair of the other area, with so many names
 abbrev pub other_units : Geometry → ℕ → ℕ
-other_units geometry names = mount_units geometry + fill_units geometry names
+other_units geometry names = foreign_units geometry + fill_units geometry names
 
 -- the most units and erases of the mount of both areas, if the map has so many names
 abbrev pub both_units : Device → Area → Area → ℕ → ℕ
 both_units d trusted other names =
-    mount_units (geometry_of d trusted) + other_units (geometry_of d other) names
+    foreign_units (geometry_of d trusted) + other_units (geometry_of d other) names
 
 -- the most units and erases of a mount of the selector that then names the trusted area
 abbrev pub trust_units : Device → Area → ℕ

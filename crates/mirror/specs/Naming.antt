@@ -10,7 +10,7 @@ use Rattle.migrator.specs.Choosing.{Chooses, IsOpen}
 use Rattle.mirror.specs.Trusted.{trusted_on}
 
 -- The selector got exactly one record more, which names the area: its mount kept the records, then the
--- area was chosen, and behind that no byte of the selector changed.
+-- area was chosen, and after that no byte of the selector changed.
 pub record NamesOnce (areas : List Area) (old new : Device) (selector : Area) (index : ℕ) : Type 0 where
   pub mounted : Device
   pub named : Device

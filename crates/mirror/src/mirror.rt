@@ -12,6 +12,7 @@ ghost use Rattle.setting_name.specs.Name.{IsName};
 ghost use Rattle.backend_api.specs.Room.{command_units};
 ghost use Rattle.backend_api.specs.Written.{StaysWritten};
 ghost use Rattle.mirror.specs.Mirrored.{HasRoom, IsMirror, LooksForBoth, MirrorDeletes, MirrorSets, SameSide, higher, lower};
+ghost use Rattle.mirror.specs.Owing.{OneOwes};
 ghost use Rattle.mirror.specs.Room.{too_many_on};
 
 use crate::fitting::{has_value, is_too_many, look_for_room};
@@ -142,8 +143,10 @@ impl<K: Priced> Mirror<K> {
             set_lost result ≡ false
             → IsMirror K.mounted_on K.stands K.contents K.room K.prices e self.new.trusted
             self.new.other }
-        ensures down { set_lost result ≡ true
-            → (K.runs self.new.trusted.store && K.runs self.new.other.store) ≡ false }
+        ensures cut { let e = F.device flash.new in
+            set_lost result ≡ true
+            → ((K.runs self.new.trusted.store && K.runs self.new.other.store) ≡ false)
+            × OneOwes K.owes K.boot_units K.rests e self.old.trusted.area self.old.other.area }
     {
         match put(&mut self.trusted, flash, name, value, steps) {
             Ok(()) => {}
@@ -217,7 +220,8 @@ impl<K: Priced> Mirror<K> {
     /// that comes first in the map, if that one is full, else those of the other one. Both checks
     /// come before anything is programmed. `PowerLost`: the mirror is down. Each area is as before
     /// or has the value; the other one has it only if the trusted one does. The map fits both
-    /// areas, with the value and without it.
+    /// areas, with the value and without it. At most one of them owes anything to the next mount,
+    /// and that at most what one cut command leaves (`boot_units`).
     pub fn set<F: Flash, L: Ledger>(
         &mut self,
         flash: &mut F,
@@ -248,6 +252,9 @@ impl<K: Priced> Mirror<K> {
             self.new.other }
         ensures down { set_lost result ≡ true
             → (K.runs self.new.trusted.store && K.runs self.new.other.store) ≡ false }
+        ensures owes { set_lost result ≡ true
+            → OneOwes K.owes K.boot_units K.rests (F.device flash.new) self.old.trusted.area
+            self.old.other.area }
     {
         match self.look_for_room(flash, name, value, steps) {
             Ok(()) => self.put_both(flash, name, value, steps),
@@ -263,7 +270,8 @@ impl<K: Priced> Mirror<K> {
     /// # Errors
     /// `PowerLost`: the mirror is down. Each area is as before or without the name; the other
     /// one is without it only if the trusted one is. The map fits both areas, with the name
-    /// and without it.
+    /// and without it. At most one of them owes anything to the next mount, and that at most what
+    /// one cut command leaves (`boot_units`).
     pub fn delete<F: Flash, L: Ledger>(
         &mut self,
         flash: &mut F,
@@ -293,6 +301,9 @@ impl<K: Priced> Mirror<K> {
             self.new.other }
         ensures down { is_err result ≡ true
             → (K.runs self.new.trusted.store && K.runs self.new.other.store) ≡ false }
+        ensures owes { is_err result ≡ true
+            → OneOwes K.owes K.boot_units K.rests (F.device flash.new) self.old.trusted.area
+            self.old.other.area }
     {
         match take(&mut self.trusted, flash, name, steps) {
             Ok(()) => {}

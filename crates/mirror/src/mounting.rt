@@ -8,13 +8,15 @@ ghost use Rattle.flash_map.specs.Lawful.{IsLawfulFor};
 ghost use Rattle.flash_map.specs.On.{on, HoldsOn, StandsOn};
 ghost use Rattle.flash_map.specs.Spending.{SpendsAtMost};
 ghost use Rattle.flash_map.specs.Touches.{Touches};
+ghost use Rattle.backend_api.specs.Boot.{MountUnits};
 ghost use Rattle.backend_api.specs.Map.{Map as map_type};
-ghost use Rattle.backend_api.specs.Room.{mount_units};
+ghost use Rattle.backend_api.specs.Room.{foreign_units};
 ghost use Rattle.backend_api.specs.Written.{StaysWritten};
 ghost use Rattle.migrator.specs.Areas.{is_store_at, selector_of};
 ghost use Rattle.migrator.specs.Migrating.{fill_units};
 ghost use Rattle.mirror.specs.Mirrored.{SideStands};
 ghost use Rattle.mirror.specs.Mounting.{BothEnds, BothFitEnds, FitEnds, HoldEnds, HoldsMap, IsAtRest, IsKeptIf, IsNotRefused, KeepsCopy, MayCopyTrusted, MirrorMounts, OtherEnds, RepairsAs, SideEnds, SparesAreas, SparesBoth, both_units, fault_at, mount_lost, other_place, other_units, trust_units, worked_on};
+ghost use Rattle.mirror.specs.Owing.{LeavesDue, MountsOwed, OpensOwed, naming_units};
 ghost use Rattle.mirror.specs.Room.{IsMirrored};
 ghost use Rattle.mirror.specs.Trusted.{IsMirrorMap, MirrorReads, trusted_on};
 
@@ -81,8 +83,8 @@ fn mount_side<K: Priced, F: Flash, L: Ledger>(
     ensures rests { HoldsOn K.rests (F.device flash.old) area
         → F.device flash.new ≡ F.device flash.old }
     ensures written { StaysWritten (F.device flash.old) (F.device flash.new) area }
-    ensures at_most { let d = F.device flash.old in
-        SpendsAtMost d (F.device flash.new) (mount_units (geometry_of d area)) }
+    ensures units { let d = F.device flash.old in
+        MountUnits K.owes (foreign_units (geometry_of d area)) d (F.device flash.new) area }
 {
     let own = area;
     match K::mount(alloc, flash, area, steps) {
@@ -185,11 +187,11 @@ fn mount_other<K: Priced, F: Flash, L: Ledger>(
     ensures held { let d = F.device flash.old in let e = F.device flash.new in
         (settings : map_type) → HoldsMap K.damage K.contents d area settings
         → KeepsCopy K.damage K.contents K.rests d e area settings
-        (mount_units (geometry_of d area)) }
+        (foreign_units (geometry_of d area)) }
     ensures rests { HoldsOn K.rests (F.device flash.old) area
         → F.device flash.new ≡ F.device flash.old }
-    ensures at_most { let d = F.device flash.old in
-        SpendsAtMost d (F.device flash.new) (mount_units (geometry_of d area)) }
+    ensures units { let d = F.device flash.old in
+        MountUnits K.owes (foreign_units (geometry_of d area)) d (F.device flash.new) area }
 {
     match K::mount(alloc, flash, area, steps) {
         Ok(store) => Ok(if_same(trusted, store, flash, steps)),
@@ -265,7 +267,7 @@ fn open_other<K: Priced, F: Flash, L: Ledger>(
         let settings = on K.contents d (K.mounted_on trusted.now) in
         HoldsMap K.damage K.contents d area settings
         → KeepsCopy K.damage K.contents K.rests d e area settings
-        (mount_units (geometry_of d area)) }
+        (foreign_units (geometry_of d area)) }
     ensures idle { let d = F.device flash.old in
         let settings = on K.contents d (K.mounted_on trusted.now) in
         HoldsMap K.damage K.contents d area settings → HoldsOn K.rests d area
@@ -274,6 +276,8 @@ fn open_other<K: Priced, F: Flash, L: Ledger>(
         let settings = on K.contents d (K.mounted_on trusted.now) in
         SpendsAtMost d (F.device flash.new)
         (other_units (geometry_of d area) (finite.len settings)) }
+    ensures owes { let d = F.device flash.old in let e = F.device flash.new in
+        OpensOwed K.owes K.damage K.contents d e area (on K.contents d (K.mounted_on trusted.now)) }
 {
     let own = area;
     let mounted: Result<Option<K>, MirrorMount> = mount_other(alloc, trusted, flash, own, steps);
@@ -328,6 +332,10 @@ fn mount_both<K: Priced, F: Flash, L: Ledger>(
         → slice_get map.now (other_place map.now place) ≡ Some other
         → SpendsAtMost d (F.device flash.new)
         (both_units d trusted other (finite.len (on K.contents d trusted))) }
+    ensures owes { let d = F.device flash.old in let e = F.device flash.new in
+        (trusted other : area_type) → slice_get map.now place ≡ Some trusted
+        → slice_get map.now (other_place map.now place) ≡ Some other
+        → MountsOwed K.owes K.damage K.contents 0 d e trusted other }
 {
     let side: Result<Side<K>, MirrorMount> = mount_side(
         alloc,
@@ -377,9 +385,13 @@ impl<K: Priced> Mirror<K> {
     /// trusted one is formatted: it is all FF only if it was all FF before. If a mount of it alone
     /// has nothing to do, its bytes stay. A mount spends at most the units and erases of the
     /// selector's mount, one choice, the mounts of both areas, and one repair for the map's names.
-    /// If there is nothing to do, it spends nothing. A selector that names the trusted area keeps its
-    /// records. One that names the other area gets exactly one more, unless power is lost. A mount
-    /// takes memory for each name, and a repair for each value too.
+    /// If there is nothing to do, it spends nothing. Together the two areas spend at most what they
+    /// owe, and one repair if the other one does not hold the map. The trusted one owes no more
+    /// afterwards, nor does the other one if it holds the map. Nothing is said of what an
+    /// interrupted repair leaves. The next mount of the selector erases no more sectors than
+    /// before, or at most one. A selector that names the trusted area keeps its records. One that
+    /// names the other area gets exactly one more, unless power is lost. A mount takes memory for
+    /// each name, and a repair for each value too.
     ///
     /// # Errors
     /// `Damaged` exactly if the selector or the trusted area is damaged; no byte of a store area
@@ -427,6 +439,14 @@ impl<K: Priced> Mirror<K> {
             → SpendsAtMost d (F.device flash.new)
             (trust_units d selector
             + both_units d trusted other (finite.len (on K.contents d trusted))) }
+        ensures owes { let d = F.device flash.old in let e = F.device flash.new in
+            (selector trusted other : area_type) → selector_of map.now ≡ Some selector
+            → slice_get map.now (trusted_on map.now d) ≡ Some trusted
+            → slice_get map.now (other_place map.now (trusted_on map.now d)) ≡ Some other
+            → MountsOwed K.owes K.damage K.contents (naming_units map.now d selector) d e trusted
+            other }
+        ensures left { let d = F.device flash.old in let e = F.device flash.new in
+            (selector : area_type) → selector_of map.now ≡ Some selector → LeavesDue d e selector }
     {
         let place = match trust::<K, F, L>(flash, map, steps) {
             Ok(place) => place,

@@ -64,7 +64,7 @@ pub trait Priced: Backend {
     // The `Room` of an area follows from its prices.
     ghost is_room: { (area : area_type) (geometry : Geometry) → IsMirrored area → IsRoomBy (Self.room area geometry) (prices area geometry) };
 
-    // What a power loss left is never another record.
+    // What a power loss left is never another record, so the command is done or not (`sides`).
     ghost never_chance: { (area : area_type) (geometry : Geometry) (sectors : List (List ℕ)) (loss : loss_type) → IsMirrored area → Self.chance area geometry sectors loss ≡ false };
 
     // A lawful area whose bytes are all FF is undamaged, and has no settings.

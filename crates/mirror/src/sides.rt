@@ -3,8 +3,8 @@ ghost use Rattle.std.specs.Prelude.{◌≡◌, ◌<◌, ◌≤◌, ◌∷◌, []
 ghost use Rattle.std.specs.FinMap as finite;
 ghost use Rattle.flash_map.specs.Area.{geometry_of, value_limit};
 ghost use Rattle.flash_map.specs.On.{on};
-ghost use Rattle.flash_map.specs.Spending.{SpendsAtMost};
 ghost use Rattle.flash_map.specs.Touches.{Touches};
+ghost use Rattle.backend_api.specs.Boot.{CommandUnits};
 ghost use Rattle.backend_api.specs.Map.{IsAbsent, IsStored};
 ghost use Rattle.backend_api.specs.Room.{HasNoRoom, command_units};
 ghost use Rattle.backend_api.specs.Written.{StaysWritten};
@@ -52,8 +52,10 @@ pub(crate) fn put<K: Priced, F: Flash, L: Ledger>(
     ensures ends { let d = F.device flash.old in let settings = on K.contents d side.old.area in
         SideCommand K.contents d (F.device flash.new) side.old.area
         (IsStored settings name.now value.now) (finite.insert settings name.now value.now) result }
-    ensures at_most { let d = F.device flash.old in
-        SpendsAtMost d (F.device flash.new) (command_units (geometry_of d side.old.area)) }
+    ensures units { let d = F.device flash.old in let area = side.old.area in
+        let g = geometry_of d area in
+        CommandUnits K.owes (K.boot_units area g) (command_units g) d (F.device flash.new) area
+        (is_err result) }
     ensures sound { on K.damage (F.device flash.new) side.old.area ≡ None }
     ensures stands { is_err result ≡ false
         → SideStands K.mounted_on K.stands (F.device flash.new) side.new }
@@ -83,8 +85,10 @@ pub(crate) fn take<K: Priced, F: Flash, L: Ledger>(
         SideCommand K.contents d (F.device flash.new) side.old.area
         (IsAbsent settings name.now) (finite.remove settings name.now) result }
     ensures written { StaysWritten (F.device flash.old) (F.device flash.new) side.old.area }
-    ensures at_most { let d = F.device flash.old in
-        SpendsAtMost d (F.device flash.new) (command_units (geometry_of d side.old.area)) }
+    ensures units { let d = F.device flash.old in let area = side.old.area in
+        let g = geometry_of d area in
+        CommandUnits K.owes (K.boot_units area g) (command_units g) d (F.device flash.new) area
+        (is_err result) }
     ensures sound { on K.damage (F.device flash.new) side.old.area ≡ None }
     ensures stands { is_err result ≡ false
         → SideStands K.mounted_on K.stands (F.device flash.new) side.new }

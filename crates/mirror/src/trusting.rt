@@ -3,11 +3,13 @@ ghost use Rattle.std.specs.Prelude.{◌≡◌, ◌≢◌, ◌<◌, ◌∷◌, []
 ghost use Rattle.flash_map.specs.declared.area.Area.{Area as area_type};
 ghost use Rattle.flash_map.specs.Spending.{SpendsAtMost};
 ghost use Rattle.flash_map.specs.Touches.{Touches};
+ghost use Rattle.fcb_ring.specs.Standing.{erases_on};
 ghost use Rattle.migrator.specs.Active.{active_in, active_on, selector_damage_on};
 ghost use Rattle.migrator.specs.Areas.{IsLawfulMap, is_store_at, selector_of, target};
 ghost use Rattle.migrator.specs.Choosing.{Chooses, IsOpen, choice_units};
 ghost use Rattle.mirror.specs.Mounting.{NameEnds, SelectorRests, TrustEnds, fault_at, mount_lost, trust_units};
 ghost use Rattle.mirror.specs.Naming.{SparesRecords};
+ghost use Rattle.mirror.specs.Owing.{LeavesDue};
 ghost use Rattle.mirror.specs.Trusted.{IsMirrorMap, is_blank_at, trusted_on, trusted_with};
 
 use crate::areas::{is_blank, selector_place};
@@ -82,6 +84,7 @@ fn name_trusted<F: Flash, L: Ledger>(
     ensures idle { active ≡ trusted → F.device flash.new ≡ F.device flash.old }
     ensures at_most { let d = F.device flash.old in
         SpendsAtMost d (F.device flash.new) (choice_units d selector.old.ring.area) }
+    ensures left { LeavesDue (F.device flash.old) (F.device flash.new) selector.old.ring.area }
 {
     if active == trusted {
         return Ok(());
@@ -110,6 +113,12 @@ pub(crate) fn trust<K: Priced, F: Flash, L: Ledger>(
     ensures at_most { let d = F.device flash.old in
         (selector : area_type) → selector_of map.now ≡ Some selector
         → SpendsAtMost d (F.device flash.new) (trust_units d selector) }
+    ensures named { let d = F.device flash.old in
+        (selector : area_type) → selector_of map.now ≡ Some selector
+        → active_on map.now d ≡ trusted_on map.now d
+        → SpendsAtMost d (F.device flash.new) (erases_on d selector) }
+    ensures left { let d = F.device flash.old in let e = F.device flash.new in
+        (selector : area_type) → selector_of map.now ≡ Some selector → LeavesDue d e selector }
 {
     let place = selector_place(map);
     let mut selector = match Selector::mount(flash, area_at(map, place), steps) {

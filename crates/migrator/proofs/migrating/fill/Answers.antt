@@ -1,13 +1,11 @@
-use Rattle.std.specs.Prelude.{count_by}
 use Rattle.std.proofs.Common.{◌≡◌, ℕ, [], ◌∷◌, All, List, length, map, refl, sym, ap, subst, ◌∙◌}
 use Rattle.std.specs.FinMap as maps
 use Rattle.std.proofs.lemmas.List.{length-map}
 use Rattle.flash_sim.specs.Device.{Device}
 use Rattle.flash_sim.specs.declared.flash.Bank.{Bank}
-use Rattle.flash_map.specs.Area.{geometry_of, sectors_of, value_limit}
+use Rattle.flash_map.specs.Area.{geometry_of, value_limit}
 use Rattle.flash_map.specs.Lawful.{IsLawfulFor}
 use Rattle.flash_map.specs.Touches.{Touches}
-use Rattle.flash_map.specs.Units.{is_written}
 use Rattle.flash_map.specs.declared.area.Area.{Area}
 use Rattle.flash_map.proofs.Apart.{same_apart}
 use Rattle.flash_map.proofs.Touches.{untouched}
@@ -83,6 +81,6 @@ returns g c =
       spends = (
         filled-most a b e c.args.area (g.K.Backend.mounted_on c.in-Ok-opened.to) (length c.deref.result.now) (maps.len m) banks there names c.open_blank-opened.ensures.at_most c.put_all-copied.ensures.at_most,
         on-ok c.filled_as.result (Fills a e c.args.area (maps.len m))
-            (filled-between a b e c.args.area (g.K.Backend.mounted_on c.in-Ok-opened.to) (count_by is_written (sectors_of a c.args.area)) (length c.deref.result.now) (maps.len m) banks there names c.in-Ok-opened.ensures.erased c.put_all-copied.ensures.at_most),
+            (filled-between a b e c.args.area (g.K.Backend.mounted_on c.in-Ok-opened.to) (length c.deref.result.now) (maps.len m) banks there names c.in-Ok-opened.ensures.erased c.put_all-copied.ensures.at_most),
       );
     }

@@ -82,22 +82,19 @@ pub returns-in-None-clause-lost : goal.returns-in-None-clause-lost
 returns-in-None-clause-lost g c lost = absurd (false≢true lost)
 
 pub returns-in-Some-clause-source : goal.returns-in-Some-clause-source
-returns-in-Some-clause-source g c = c.move_to.ensures.source
-
-pub returns-in-Some-clause-from : goal.returns-in-Some-clause-from
-returns-in-Some-clause-from g c =
+returns-in-Some-clause-source g c =
     let a : Device = g.F.Flash.device c.args.flash.now in
     let e : Device = g.F.Flash.device c.move_to.new.flash in
-    stands-still g.K.Backend.mounted_on g.K.Backend.stands g.K.Backend.contents g.K.Backend.room a e c.args.from.now c.move_to.ensures.touches.banks c.move_to.ensures.source c.requires.up
+    record {
+      sectors = c.move_to.ensures.source;
+      up = stands-still g.K.Backend.mounted_on g.K.Backend.stands g.K.Backend.contents g.K.Backend.room a e c.args.from.now c.move_to.ensures.touches.banks c.move_to.ensures.source c.requires.up;
+    }
 
 pub returns-in-Some-clause-area : goal.returns-in-Some-clause-area
 returns-in-Some-clause-area g c = c.move_to.ensures.selector.area
 
 pub returns-in-None-clause-source : goal.returns-in-None-clause-source
-returns-in-None-clause-source g c = refl
-
-pub returns-in-None-clause-from : goal.returns-in-None-clause-from
-returns-in-None-clause-from g c = c.requires.up
+returns-in-None-clause-source g c = record { sectors = refl; up = c.requires.up }
 
 pub returns-in-None-clause-area : goal.returns-in-None-clause-area
 returns-in-None-clause-area g c = refl

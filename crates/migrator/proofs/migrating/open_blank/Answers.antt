@@ -1,7 +1,10 @@
-use Rattle.flash_map.specs.Area.{geometry_of}
-use Rattle.backend_api.specs.Room.{mount_units}
-use Rattle.migrator.proofs.Spent.{erased-first, erased-most, opened-between, opened-most}
-use Rattle.std.proofs.Common.{[], ◌∷◌, Result, Err, ap, subst, ◌∙◌}
+use Rattle.flash_sim.specs.Device.{Device}
+use Rattle.flash_map.specs.Area.{sectors_of}
+use Rattle.flash_map.specs.Spending.{Spends}
+use Rattle.flash_map.specs.Units.{is_written}
+use Rattle.migrator.proofs.Spent.{erased-most, opened-most}
+use Rattle.std.specs.Prelude.{count_by}
+use Rattle.std.proofs.Common.{[], ◌∷◌, Result, Err, sym, ap, subst, ◌∙◌}
 use Rattle.flash_map.proofs.Touches.{then}
 use Rattle.flash_map.specs.Faults.{mount_lost}
 use Rattle.flash_map.specs.Touches.{Touches}
@@ -18,24 +21,24 @@ returns-in-Err-PowerLost-clause-touches g c =
 
 pub returns-in-Err-clause-at_most : goal.returns-in-Err-clause-at_most
 returns-in-Err-clause-at_most g c =
-    let a = g.F.Flash.device c.args.flash.now in
-    erased-first a (g.F.Flash.device c.erase-erased.new.flash) c.args.area (mount_units (geometry_of a c.args.area))
-    (erased-most a (g.F.Flash.device c.erase-erased.new.flash) c.args.area c.erase-erased.result c.erase-erased.ensures.units c.erase-erased.ensures.units_lost)
+    erased-most (g.F.Flash.device c.args.flash.now) (g.F.Flash.device c.erase-erased.new.flash) c.args.area c.erase-erased.result c.erase-erased.ensures.units c.erase-erased.ensures.units_lost
 
 pub returns-in-Ok-mount-clause-at_most : goal.returns-in-Ok-mount-clause-at_most
 returns-in-Ok-mount-clause-at_most g c =
-    opened-most (g.F.Flash.device c.args.flash.now) (g.F.Flash.device c.erase-erased.new.flash) (g.F.Flash.device c.mount.new.flash) c.args.area c.in-Ok.ensures.touches.banks
-    (erased-most (g.F.Flash.device c.args.flash.now) (g.F.Flash.device c.erase-erased.new.flash) c.args.area c.erase-erased.result c.erase-erased.ensures.units c.erase-erased.ensures.units_lost) c.mount.ensures.units.at_most
+    opened-most (g.F.Flash.device c.args.flash.now) (g.F.Flash.device c.erase-erased.new.flash) (g.F.Flash.device c.mount.new.flash) c.args.area (c.mount.ensures.rests c.in-Ok.ensures.rests)
+    (erased-most (g.F.Flash.device c.args.flash.now) (g.F.Flash.device c.erase-erased.new.flash) c.args.area c.erase-erased.result c.erase-erased.ensures.units c.erase-erased.ensures.units_lost)
 
 pub returns-in-Err-PowerLost-clause-at_most : goal.returns-in-Err-PowerLost-clause-at_most
 returns-in-Err-PowerLost-clause-at_most g c =
-    opened-most (g.F.Flash.device c.args.flash.now) (g.F.Flash.device c.erase-erased.new.flash) (g.F.Flash.device c.mount.new.flash) c.args.area c.in-Ok.ensures.touches.banks
-    (erased-most (g.F.Flash.device c.args.flash.now) (g.F.Flash.device c.erase-erased.new.flash) c.args.area c.erase-erased.result c.erase-erased.ensures.units c.erase-erased.ensures.units_lost) c.mount.ensures.units.at_most
+    opened-most (g.F.Flash.device c.args.flash.now) (g.F.Flash.device c.erase-erased.new.flash) (g.F.Flash.device c.mount.new.flash) c.args.area (c.mount.ensures.rests c.in-Ok.ensures.rests)
+    (erased-most (g.F.Flash.device c.args.flash.now) (g.F.Flash.device c.erase-erased.new.flash) c.args.area c.erase-erased.result c.erase-erased.ensures.units c.erase-erased.ensures.units_lost)
 
 pub returns-in-Err-NoMemory-clause-at_most : goal.returns-in-Err-NoMemory-clause-at_most
 returns-in-Err-NoMemory-clause-at_most g c =
-    opened-most (g.F.Flash.device c.args.flash.now) (g.F.Flash.device c.erase-erased.new.flash) (g.F.Flash.device c.mount.new.flash) c.args.area c.in-Ok.ensures.touches.banks
-    (erased-most (g.F.Flash.device c.args.flash.now) (g.F.Flash.device c.erase-erased.new.flash) c.args.area c.erase-erased.result c.erase-erased.ensures.units c.erase-erased.ensures.units_lost) c.mount.ensures.units.at_most
+    opened-most (g.F.Flash.device c.args.flash.now) (g.F.Flash.device c.erase-erased.new.flash) (g.F.Flash.device c.mount.new.flash) c.args.area (c.mount.ensures.rests c.in-Ok.ensures.rests)
+    (erased-most (g.F.Flash.device c.args.flash.now) (g.F.Flash.device c.erase-erased.new.flash) c.args.area c.erase-erased.result c.erase-erased.ensures.units c.erase-erased.ensures.units_lost)
 
 pub returns-in-Ok-mount-clause-erased : goal.returns-in-Ok-mount-clause-erased
-returns-in-Ok-mount-clause-erased g c = opened-between (g.F.Flash.device c.args.flash.now) (g.F.Flash.device c.erase-erased.new.flash) (g.F.Flash.device c.mount.new.flash) c.args.area c.in-Ok.ensures.touches.banks c.in-Ok.ensures.units c.mount.ensures.units.at_most
+returns-in-Ok-mount-clause-erased g c =
+    let a = g.F.Flash.device c.args.flash.now in
+    subst (λ (x : Device). Spends a x (count_by is_written (sectors_of a c.args.area))) (sym (c.mount.ensures.rests c.in-Ok.ensures.rests)) c.in-Ok.ensures.units

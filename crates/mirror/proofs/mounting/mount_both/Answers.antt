@@ -2,11 +2,13 @@ use Rattle.std.proofs.Common.{◌≡◌, ℕ, Bool, false, List, [], ◌∷◌, 
 use Rattle.std.specs.FinMap as maps
 use Rattle.std.specs.List.{slice_get}
 use Rattle.flash_sim.specs.declared.flash.Bank.{Bank}
-use Rattle.flash_map.specs.Area.{AreApart, sectors_of}
+use Rattle.flash_map.specs.Area.{AreApart, geometry_of, sectors_of}
 use Rattle.flash_map.specs.Lawful.{IsLawfulFor}
 use Rattle.flash_map.specs.On.{on}
 use Rattle.flash_map.proofs.Apart.{same_apart}
+use Rattle.backend_api.specs.Boot.{MountUnits}
 use Rattle.backend_api.specs.Map.{Map}
+use Rattle.backend_api.specs.Room.{foreign_units}
 use Rattle.flash_sim.specs.Device.{Device}
 use Rattle.flash_map.specs.Touches.{Touches}
 use Rattle.flash_map.specs.declared.area.Area.{Area}
@@ -17,9 +19,11 @@ use Rattle.migrator.proofs.Migration.{store-of}
 use Rattle.mirror.specs.declared.mirror.Mirror.{Mirror}
 use Rattle.mirror.specs.declared.sides.Side.{Side}
 use Rattle.mirror.specs.Mounting.{BothFitEnds, FitsAt, SideEnds, mount_lost, other_place}
+use Rattle.mirror.specs.Owing.{OpensOwed}
 use Rattle.mirror.specs.Room.{FitsOn}
 use Rattle.mirror.proofs.MapSteps.{both-mounted, look-ends, look-lost, map-still, other-is, selector-still, some-area}
 use Rattle.mirror.proofs.MountSteps.{lost-same}
+use Rattle.mirror.proofs.OwingSteps.{owed-first, owed-then}
 use Rattle.mirror.proofs.SideSteps.{idle-then, other-done, other-stops, side-done, side-stops, spares-first, spares-then, units-first, units-then}
 use Rattle.mirror.proofs.mounting.mount_both.Goals as goal
 
@@ -174,7 +178,7 @@ returns-in-Err-clause-spares g c trusted other there beside =
     let d : Device = g.F.Flash.device c.args.flash.now in
     let m : Device = g.F.Flash.device c.mount_side-side.new.flash in
     let one = side-done g.K.Backend.damage g.K.Backend.contents g.K.Backend.rests g.K.Backend.serves c.args.map.now d c.requires.map m c.args.place c.area_at.result trusted other (mount_lost c.mount_side-side.result) c.area_at.ensures there beside
-    (g.met.F.Flash.is_lawful c.args.flash.now) (g.met.F.Flash.is_lawful c.mount_side-side.new.flash) c.mount_side-side.ensures.touches c.mount_side-side.ensures.sound c.mount_side-side.ensures.keeps c.mount_side-side.ensures.rests c.mount_side-side.ensures.written c.mount_side-side.ensures.at_most in
+    (g.met.F.Flash.is_lawful c.args.flash.now) (g.met.F.Flash.is_lawful c.mount_side-side.new.flash) c.mount_side-side.ensures.touches c.mount_side-side.ensures.sound c.mount_side-side.ensures.keeps c.mount_side-side.ensures.rests c.mount_side-side.ensures.written c.mount_side-side.ensures.units.at_most in
     spares-first g.K.Backend.damage g.K.Backend.contents g.K.Backend.rests d m trusted other one
 
 pub returns-in-Err-clause-idle : goal.returns-in-Err-clause-idle
@@ -182,7 +186,7 @@ returns-in-Err-clause-idle g c trusted other there beside rest other_rest holds 
     let d : Device = g.F.Flash.device c.args.flash.now in
     let m : Device = g.F.Flash.device c.mount_side-side.new.flash in
     let one = side-done g.K.Backend.damage g.K.Backend.contents g.K.Backend.rests g.K.Backend.serves c.args.map.now d c.requires.map m c.args.place c.area_at.result trusted other (mount_lost c.mount_side-side.result) c.area_at.ensures there beside
-    (g.met.F.Flash.is_lawful c.args.flash.now) (g.met.F.Flash.is_lawful c.mount_side-side.new.flash) c.mount_side-side.ensures.touches c.mount_side-side.ensures.sound c.mount_side-side.ensures.keeps c.mount_side-side.ensures.rests c.mount_side-side.ensures.written c.mount_side-side.ensures.at_most in
+    (g.met.F.Flash.is_lawful c.args.flash.now) (g.met.F.Flash.is_lawful c.mount_side-side.new.flash) c.mount_side-side.ensures.touches c.mount_side-side.ensures.sound c.mount_side-side.ensures.keeps c.mount_side-side.ensures.rests c.mount_side-side.ensures.written c.mount_side-side.ensures.units.at_most in
     one.rest rest
 
 pub returns-in-Err-clause-at_most : goal.returns-in-Err-clause-at_most
@@ -190,7 +194,7 @@ returns-in-Err-clause-at_most g c trusted other there beside =
     let d : Device = g.F.Flash.device c.args.flash.now in
     let m : Device = g.F.Flash.device c.mount_side-side.new.flash in
     let one = side-done g.K.Backend.damage g.K.Backend.contents g.K.Backend.rests g.K.Backend.serves c.args.map.now d c.requires.map m c.args.place c.area_at.result trusted other (mount_lost c.mount_side-side.result) c.area_at.ensures there beside
-    (g.met.F.Flash.is_lawful c.args.flash.now) (g.met.F.Flash.is_lawful c.mount_side-side.new.flash) c.mount_side-side.ensures.touches c.mount_side-side.ensures.sound c.mount_side-side.ensures.keeps c.mount_side-side.ensures.rests c.mount_side-side.ensures.written c.mount_side-side.ensures.at_most in
+    (g.met.F.Flash.is_lawful c.args.flash.now) (g.met.F.Flash.is_lawful c.mount_side-side.new.flash) c.mount_side-side.ensures.touches c.mount_side-side.ensures.sound c.mount_side-side.ensures.keeps c.mount_side-side.ensures.rests c.mount_side-side.ensures.written c.mount_side-side.ensures.units.at_most in
     units-first g.K.Backend.damage g.K.Backend.contents g.K.Backend.rests d m trusted other one (maps.len (on g.K.Backend.contents d trusted))
 
 pub returns-in-Err-look_for_both-clause-spares : goal.returns-in-Err-look_for_both-clause-spares
@@ -198,7 +202,7 @@ returns-in-Err-look_for_both-clause-spares g c trusted other there beside =
     let d : Device = g.F.Flash.device c.args.flash.now in
     let m : Device = g.F.Flash.device c.mount_side-side.new.flash in
     let one = side-done g.K.Backend.damage g.K.Backend.contents g.K.Backend.rests g.K.Backend.serves c.args.map.now d c.requires.map m c.args.place c.area_at.result trusted other (mount_lost c.mount_side-side.result) c.area_at.ensures there beside
-    (g.met.F.Flash.is_lawful c.args.flash.now) (g.met.F.Flash.is_lawful c.mount_side-side.new.flash) c.mount_side-side.ensures.touches c.mount_side-side.ensures.sound c.mount_side-side.ensures.keeps c.mount_side-side.ensures.rests c.mount_side-side.ensures.written c.mount_side-side.ensures.at_most in
+    (g.met.F.Flash.is_lawful c.args.flash.now) (g.met.F.Flash.is_lawful c.mount_side-side.new.flash) c.mount_side-side.ensures.touches c.mount_side-side.ensures.sound c.mount_side-side.ensures.keeps c.mount_side-side.ensures.rests c.mount_side-side.ensures.written c.mount_side-side.ensures.units.at_most in
     spares-first g.K.Backend.damage g.K.Backend.contents g.K.Backend.rests d m trusted other one
 
 pub returns-in-Err-look_for_both-clause-idle : goal.returns-in-Err-look_for_both-clause-idle
@@ -206,7 +210,7 @@ returns-in-Err-look_for_both-clause-idle g c trusted other there beside rest oth
     let d : Device = g.F.Flash.device c.args.flash.now in
     let m : Device = g.F.Flash.device c.mount_side-side.new.flash in
     let one = side-done g.K.Backend.damage g.K.Backend.contents g.K.Backend.rests g.K.Backend.serves c.args.map.now d c.requires.map m c.args.place c.area_at.result trusted other (mount_lost c.mount_side-side.result) c.area_at.ensures there beside
-    (g.met.F.Flash.is_lawful c.args.flash.now) (g.met.F.Flash.is_lawful c.mount_side-side.new.flash) c.mount_side-side.ensures.touches c.mount_side-side.ensures.sound c.mount_side-side.ensures.keeps c.mount_side-side.ensures.rests c.mount_side-side.ensures.written c.mount_side-side.ensures.at_most in
+    (g.met.F.Flash.is_lawful c.args.flash.now) (g.met.F.Flash.is_lawful c.mount_side-side.new.flash) c.mount_side-side.ensures.touches c.mount_side-side.ensures.sound c.mount_side-side.ensures.keeps c.mount_side-side.ensures.rests c.mount_side-side.ensures.written c.mount_side-side.ensures.units.at_most in
     one.rest rest
 
 pub returns-in-Err-look_for_both-clause-at_most : goal.returns-in-Err-look_for_both-clause-at_most
@@ -214,7 +218,7 @@ returns-in-Err-look_for_both-clause-at_most g c trusted other there beside =
     let d : Device = g.F.Flash.device c.args.flash.now in
     let m : Device = g.F.Flash.device c.mount_side-side.new.flash in
     let one = side-done g.K.Backend.damage g.K.Backend.contents g.K.Backend.rests g.K.Backend.serves c.args.map.now d c.requires.map m c.args.place c.area_at.result trusted other (mount_lost c.mount_side-side.result) c.area_at.ensures there beside
-    (g.met.F.Flash.is_lawful c.args.flash.now) (g.met.F.Flash.is_lawful c.mount_side-side.new.flash) c.mount_side-side.ensures.touches c.mount_side-side.ensures.sound c.mount_side-side.ensures.keeps c.mount_side-side.ensures.rests c.mount_side-side.ensures.written c.mount_side-side.ensures.at_most in
+    (g.met.F.Flash.is_lawful c.args.flash.now) (g.met.F.Flash.is_lawful c.mount_side-side.new.flash) c.mount_side-side.ensures.touches c.mount_side-side.ensures.sound c.mount_side-side.ensures.keeps c.mount_side-side.ensures.rests c.mount_side-side.ensures.written c.mount_side-side.ensures.units.at_most in
     units-first g.K.Backend.damage g.K.Backend.contents g.K.Backend.rests d m trusted other one (maps.len (on g.K.Backend.contents d trusted))
 
 pub returns-in-Ok-opened-clause-spares : goal.returns-in-Ok-opened-clause-spares
@@ -222,7 +226,7 @@ returns-in-Ok-opened-clause-spares g c trusted other there beside =
     let d : Device = g.F.Flash.device c.args.flash.now in
     let m : Device = g.F.Flash.device c.mount_side-side.new.flash in
     let one = side-done g.K.Backend.damage g.K.Backend.contents g.K.Backend.rests g.K.Backend.serves c.args.map.now d c.requires.map m c.args.place c.area_at.result trusted other (mount_lost c.mount_side-side.result) c.area_at.ensures there beside
-    (g.met.F.Flash.is_lawful c.args.flash.now) (g.met.F.Flash.is_lawful c.mount_side-side.new.flash) c.mount_side-side.ensures.touches c.mount_side-side.ensures.sound c.mount_side-side.ensures.keeps c.mount_side-side.ensures.rests c.mount_side-side.ensures.written c.mount_side-side.ensures.at_most in
+    (g.met.F.Flash.is_lawful c.args.flash.now) (g.met.F.Flash.is_lawful c.mount_side-side.new.flash) c.mount_side-side.ensures.touches c.mount_side-side.ensures.sound c.mount_side-side.ensures.keeps c.mount_side-side.ensures.rests c.mount_side-side.ensures.written c.mount_side-side.ensures.units.at_most in
     let e : Device = g.F.Flash.device c.open_other-opened.new.flash in
     let same : c.area_at.result ≡ trusted = some-area c.area_at.result trusted (sym c.area_at.ensures ∙ there) in
     let o-same : c.area_at-2.result ≡ other = some-area c.area_at-2.result other (sym c.area_at-2.ensures ∙ ap (slice_get c.args.map.now) c.other_place-other.ensures ∙ beside) in
@@ -237,7 +241,7 @@ returns-in-Ok-opened-clause-idle g c trusted other there beside rest other_rest 
     let d : Device = g.F.Flash.device c.args.flash.now in
     let m : Device = g.F.Flash.device c.mount_side-side.new.flash in
     let one = side-done g.K.Backend.damage g.K.Backend.contents g.K.Backend.rests g.K.Backend.serves c.args.map.now d c.requires.map m c.args.place c.area_at.result trusted other (mount_lost c.mount_side-side.result) c.area_at.ensures there beside
-    (g.met.F.Flash.is_lawful c.args.flash.now) (g.met.F.Flash.is_lawful c.mount_side-side.new.flash) c.mount_side-side.ensures.touches c.mount_side-side.ensures.sound c.mount_side-side.ensures.keeps c.mount_side-side.ensures.rests c.mount_side-side.ensures.written c.mount_side-side.ensures.at_most in
+    (g.met.F.Flash.is_lawful c.args.flash.now) (g.met.F.Flash.is_lawful c.mount_side-side.new.flash) c.mount_side-side.ensures.touches c.mount_side-side.ensures.sound c.mount_side-side.ensures.keeps c.mount_side-side.ensures.rests c.mount_side-side.ensures.written c.mount_side-side.ensures.units.at_most in
     let e : Device = g.F.Flash.device c.open_other-opened.new.flash in
     let same : c.area_at.result ≡ trusted = some-area c.area_at.result trusted (sym c.area_at.ensures ∙ there) in
     let o-same : c.area_at-2.result ≡ other = some-area c.area_at-2.result other (sym c.area_at-2.ensures ∙ ap (slice_get c.args.map.now) c.other_place-other.ensures ∙ beside) in
@@ -252,7 +256,7 @@ returns-in-Ok-opened-clause-at_most g c trusted other there beside =
     let d : Device = g.F.Flash.device c.args.flash.now in
     let m : Device = g.F.Flash.device c.mount_side-side.new.flash in
     let one = side-done g.K.Backend.damage g.K.Backend.contents g.K.Backend.rests g.K.Backend.serves c.args.map.now d c.requires.map m c.args.place c.area_at.result trusted other (mount_lost c.mount_side-side.result) c.area_at.ensures there beside
-    (g.met.F.Flash.is_lawful c.args.flash.now) (g.met.F.Flash.is_lawful c.mount_side-side.new.flash) c.mount_side-side.ensures.touches c.mount_side-side.ensures.sound c.mount_side-side.ensures.keeps c.mount_side-side.ensures.rests c.mount_side-side.ensures.written c.mount_side-side.ensures.at_most in
+    (g.met.F.Flash.is_lawful c.args.flash.now) (g.met.F.Flash.is_lawful c.mount_side-side.new.flash) c.mount_side-side.ensures.touches c.mount_side-side.ensures.sound c.mount_side-side.ensures.keeps c.mount_side-side.ensures.rests c.mount_side-side.ensures.written c.mount_side-side.ensures.units.at_most in
     let e : Device = g.F.Flash.device c.open_other-opened.new.flash in
     let same : c.area_at.result ≡ trusted = some-area c.area_at.result trusted (sym c.area_at.ensures ∙ there) in
     let o-same : c.area_at-2.result ≡ other = some-area c.area_at-2.result other (sym c.area_at-2.ensures ∙ ap (slice_get c.args.map.now) c.other_place-other.ensures ∙ beside) in
@@ -267,7 +271,7 @@ returns-in-Err-opened-clause-spares g c trusted other there beside =
     let d : Device = g.F.Flash.device c.args.flash.now in
     let m : Device = g.F.Flash.device c.mount_side-side.new.flash in
     let one = side-done g.K.Backend.damage g.K.Backend.contents g.K.Backend.rests g.K.Backend.serves c.args.map.now d c.requires.map m c.args.place c.area_at.result trusted other (mount_lost c.mount_side-side.result) c.area_at.ensures there beside
-    (g.met.F.Flash.is_lawful c.args.flash.now) (g.met.F.Flash.is_lawful c.mount_side-side.new.flash) c.mount_side-side.ensures.touches c.mount_side-side.ensures.sound c.mount_side-side.ensures.keeps c.mount_side-side.ensures.rests c.mount_side-side.ensures.written c.mount_side-side.ensures.at_most in
+    (g.met.F.Flash.is_lawful c.args.flash.now) (g.met.F.Flash.is_lawful c.mount_side-side.new.flash) c.mount_side-side.ensures.touches c.mount_side-side.ensures.sound c.mount_side-side.ensures.keeps c.mount_side-side.ensures.rests c.mount_side-side.ensures.written c.mount_side-side.ensures.units.at_most in
     let e : Device = g.F.Flash.device c.open_other-opened.new.flash in
     let same : c.area_at.result ≡ trusted = some-area c.area_at.result trusted (sym c.area_at.ensures ∙ there) in
     let o-same : c.area_at-2.result ≡ other = some-area c.area_at-2.result other (sym c.area_at-2.ensures ∙ ap (slice_get c.args.map.now) c.other_place-other.ensures ∙ beside) in
@@ -282,7 +286,7 @@ returns-in-Err-opened-clause-idle g c trusted other there beside rest other_rest
     let d : Device = g.F.Flash.device c.args.flash.now in
     let m : Device = g.F.Flash.device c.mount_side-side.new.flash in
     let one = side-done g.K.Backend.damage g.K.Backend.contents g.K.Backend.rests g.K.Backend.serves c.args.map.now d c.requires.map m c.args.place c.area_at.result trusted other (mount_lost c.mount_side-side.result) c.area_at.ensures there beside
-    (g.met.F.Flash.is_lawful c.args.flash.now) (g.met.F.Flash.is_lawful c.mount_side-side.new.flash) c.mount_side-side.ensures.touches c.mount_side-side.ensures.sound c.mount_side-side.ensures.keeps c.mount_side-side.ensures.rests c.mount_side-side.ensures.written c.mount_side-side.ensures.at_most in
+    (g.met.F.Flash.is_lawful c.args.flash.now) (g.met.F.Flash.is_lawful c.mount_side-side.new.flash) c.mount_side-side.ensures.touches c.mount_side-side.ensures.sound c.mount_side-side.ensures.keeps c.mount_side-side.ensures.rests c.mount_side-side.ensures.written c.mount_side-side.ensures.units.at_most in
     let e : Device = g.F.Flash.device c.open_other-opened.new.flash in
     let same : c.area_at.result ≡ trusted = some-area c.area_at.result trusted (sym c.area_at.ensures ∙ there) in
     let o-same : c.area_at-2.result ≡ other = some-area c.area_at-2.result other (sym c.area_at-2.ensures ∙ ap (slice_get c.args.map.now) c.other_place-other.ensures ∙ beside) in
@@ -297,7 +301,7 @@ returns-in-Err-opened-clause-at_most g c trusted other there beside =
     let d : Device = g.F.Flash.device c.args.flash.now in
     let m : Device = g.F.Flash.device c.mount_side-side.new.flash in
     let one = side-done g.K.Backend.damage g.K.Backend.contents g.K.Backend.rests g.K.Backend.serves c.args.map.now d c.requires.map m c.args.place c.area_at.result trusted other (mount_lost c.mount_side-side.result) c.area_at.ensures there beside
-    (g.met.F.Flash.is_lawful c.args.flash.now) (g.met.F.Flash.is_lawful c.mount_side-side.new.flash) c.mount_side-side.ensures.touches c.mount_side-side.ensures.sound c.mount_side-side.ensures.keeps c.mount_side-side.ensures.rests c.mount_side-side.ensures.written c.mount_side-side.ensures.at_most in
+    (g.met.F.Flash.is_lawful c.args.flash.now) (g.met.F.Flash.is_lawful c.mount_side-side.new.flash) c.mount_side-side.ensures.touches c.mount_side-side.ensures.sound c.mount_side-side.ensures.keeps c.mount_side-side.ensures.rests c.mount_side-side.ensures.written c.mount_side-side.ensures.units.at_most in
     let e : Device = g.F.Flash.device c.open_other-opened.new.flash in
     let same : c.area_at.result ≡ trusted = some-area c.area_at.result trusted (sym c.area_at.ensures ∙ there) in
     let o-same : c.area_at-2.result ≡ other = some-area c.area_at-2.result other (sym c.area_at-2.ensures ∙ ap (slice_get c.args.map.now) c.other_place-other.ensures ∙ beside) in
@@ -312,7 +316,7 @@ returns-in-Err-clause-ends g c trusted other there beside =
     let d : Device = g.F.Flash.device c.args.flash.now in
     let m : Device = g.F.Flash.device c.mount_side-side.new.flash in
     let one = side-done g.K.Backend.damage g.K.Backend.contents g.K.Backend.rests g.K.Backend.serves c.args.map.now d c.requires.map m c.args.place c.area_at.result trusted other (mount_lost c.mount_side-side.result) c.area_at.ensures there beside
-    (g.met.F.Flash.is_lawful c.args.flash.now) (g.met.F.Flash.is_lawful c.mount_side-side.new.flash) c.mount_side-side.ensures.touches c.mount_side-side.ensures.sound c.mount_side-side.ensures.keeps c.mount_side-side.ensures.rests c.mount_side-side.ensures.written c.mount_side-side.ensures.at_most in
+    (g.met.F.Flash.is_lawful c.args.flash.now) (g.met.F.Flash.is_lawful c.mount_side-side.new.flash) c.mount_side-side.ensures.touches c.mount_side-side.ensures.sound c.mount_side-side.ensures.keeps c.mount_side-side.ensures.rests c.mount_side-side.ensures.written c.mount_side-side.ensures.units.at_most in
     let same : c.area_at.result ≡ trusted = some-area c.area_at.result trusted (sym c.area_at.ensures ∙ there) in
     side-stops g.K.Backend.damage g.K.Backend.contents g.K.Backend.rests g.K.Backend.mounted_on g.K.Backend.stands g.K.Backend.room g.K.Priced.prices c.args.map.now d m trusted other c.args.place one c.in-Err.fault
     (subst (λ (x : Area). SideEnds g.K.Backend.mounted_on g.K.Backend.stands g.K.Backend.damage d m x c.args.place (Err c.in-Err.fault)) same c.in-Err.ensures.ends)
@@ -323,7 +327,7 @@ returns-in-Err-opened-clause-ends g c trusted other there beside =
     let d : Device = g.F.Flash.device c.args.flash.now in
     let m : Device = g.F.Flash.device c.mount_side-side.new.flash in
     let one = side-done g.K.Backend.damage g.K.Backend.contents g.K.Backend.rests g.K.Backend.serves c.args.map.now d c.requires.map m c.args.place c.area_at.result trusted other (mount_lost c.mount_side-side.result) c.area_at.ensures there beside
-    (g.met.F.Flash.is_lawful c.args.flash.now) (g.met.F.Flash.is_lawful c.mount_side-side.new.flash) c.mount_side-side.ensures.touches c.mount_side-side.ensures.sound c.mount_side-side.ensures.keeps c.mount_side-side.ensures.rests c.mount_side-side.ensures.written c.mount_side-side.ensures.at_most in
+    (g.met.F.Flash.is_lawful c.args.flash.now) (g.met.F.Flash.is_lawful c.mount_side-side.new.flash) c.mount_side-side.ensures.touches c.mount_side-side.ensures.sound c.mount_side-side.ensures.keeps c.mount_side-side.ensures.rests c.mount_side-side.ensures.written c.mount_side-side.ensures.units.at_most in
     let e : Device = g.F.Flash.device c.open_other-opened.new.flash in
     let same : c.area_at.result ≡ trusted = some-area c.area_at.result trusted (sym c.area_at.ensures ∙ there) in
     let o-same : c.area_at-2.result ≡ other = some-area c.area_at-2.result other (sym c.area_at-2.ensures ∙ ap (slice_get c.args.map.now) c.other_place-other.ensures ∙ beside) in
@@ -336,3 +340,61 @@ returns-in-Err-opened-clause-ends g c trusted other there beside =
     other-stops g.K.Backend.damage g.K.Backend.contents g.K.Backend.rests g.K.Backend.mounted_on g.K.Backend.stands g.K.Backend.room g.K.Priced.prices c.args.map.now d m trusted other c.args.place one e two c.area_at-2.result (on g.K.Backend.contents e c.area_at-2.result ≡ on g.K.Backend.contents m (g.K.Backend.mounted_on c.in-Ok.side.store)) c.in-Err-opened.fault was c.in-Err-opened.ensures.ends
     (subst (λ (x : Map). FitsAt g.K.Backend.room g.K.Priced.prices c.args.map.now m c.args.place x) settings (subst (λ (n : ℕ). FitsAt g.K.Backend.room g.K.Priced.prices c.args.map.now m n (on g.K.Backend.contents m c.in-Ok.side.area)) c.in-Ok.ensures.ends.2 fits.0))
     (subst (λ (x : Map). FitsAt g.K.Backend.room g.K.Priced.prices c.args.map.now m (other_place c.args.map.now c.args.place) x) settings (subst (λ (n : ℕ). FitsAt g.K.Backend.room g.K.Priced.prices c.args.map.now m n (on g.K.Backend.contents m c.in-Ok.side.area)) c.other_place-other.ensures fits.1))
+
+pub returns-in-Err-clause-owes : goal.returns-in-Err-clause-owes
+returns-in-Err-clause-owes g c trusted other there beside =
+    let d : Device = g.F.Flash.device c.args.flash.now in
+    let m : Device = g.F.Flash.device c.mount_side-side.new.flash in
+    let same : c.area_at.result ≡ trusted = some-area c.area_at.result trusted (sym c.area_at.ensures ∙ there) in
+    let one = side-done g.K.Backend.damage g.K.Backend.contents g.K.Backend.rests g.K.Backend.serves c.args.map.now d c.requires.map m c.args.place c.area_at.result trusted other (mount_lost c.mount_side-side.result) c.area_at.ensures there beside
+    (g.met.F.Flash.is_lawful c.args.flash.now) (g.met.F.Flash.is_lawful c.mount_side-side.new.flash) c.mount_side-side.ensures.touches c.mount_side-side.ensures.sound c.mount_side-side.ensures.keeps c.mount_side-side.ensures.rests c.mount_side-side.ensures.written c.mount_side-side.ensures.units.at_most in
+    let units : MountUnits g.K.Backend.owes (foreign_units (geometry_of d trusted)) d m trusted = subst (λ (x : Area). MountUnits g.K.Backend.owes (foreign_units (geometry_of d x)) d m x) same c.mount_side-side.ensures.units in
+    owed-first g.K.Backend.owes g.K.Backend.damage g.K.Backend.contents g.K.Backend.rests (foreign_units (geometry_of d trusted)) d m trusted other one units
+
+pub returns-in-Err-look_for_both-clause-owes : goal.returns-in-Err-look_for_both-clause-owes
+returns-in-Err-look_for_both-clause-owes g c trusted other there beside =
+    let d : Device = g.F.Flash.device c.args.flash.now in
+    let m : Device = g.F.Flash.device c.mount_side-side.new.flash in
+    let same : c.area_at.result ≡ trusted = some-area c.area_at.result trusted (sym c.area_at.ensures ∙ there) in
+    let one = side-done g.K.Backend.damage g.K.Backend.contents g.K.Backend.rests g.K.Backend.serves c.args.map.now d c.requires.map m c.args.place c.area_at.result trusted other (mount_lost c.mount_side-side.result) c.area_at.ensures there beside
+    (g.met.F.Flash.is_lawful c.args.flash.now) (g.met.F.Flash.is_lawful c.mount_side-side.new.flash) c.mount_side-side.ensures.touches c.mount_side-side.ensures.sound c.mount_side-side.ensures.keeps c.mount_side-side.ensures.rests c.mount_side-side.ensures.written c.mount_side-side.ensures.units.at_most in
+    let units : MountUnits g.K.Backend.owes (foreign_units (geometry_of d trusted)) d m trusted = subst (λ (x : Area). MountUnits g.K.Backend.owes (foreign_units (geometry_of d x)) d m x) same c.mount_side-side.ensures.units in
+    owed-first g.K.Backend.owes g.K.Backend.damage g.K.Backend.contents g.K.Backend.rests (foreign_units (geometry_of d trusted)) d m trusted other one units
+
+pub returns-in-Ok-opened-clause-owes : goal.returns-in-Ok-opened-clause-owes
+returns-in-Ok-opened-clause-owes g c trusted other there beside =
+    let d : Device = g.F.Flash.device c.args.flash.now in
+    let m : Device = g.F.Flash.device c.mount_side-side.new.flash in
+    let one = side-done g.K.Backend.damage g.K.Backend.contents g.K.Backend.rests g.K.Backend.serves c.args.map.now d c.requires.map m c.args.place c.area_at.result trusted other (mount_lost c.mount_side-side.result) c.area_at.ensures there beside
+    (g.met.F.Flash.is_lawful c.args.flash.now) (g.met.F.Flash.is_lawful c.mount_side-side.new.flash) c.mount_side-side.ensures.touches c.mount_side-side.ensures.sound c.mount_side-side.ensures.keeps c.mount_side-side.ensures.rests c.mount_side-side.ensures.written c.mount_side-side.ensures.units.at_most in
+    let e : Device = g.F.Flash.device c.open_other-opened.new.flash in
+    let same : c.area_at.result ≡ trusted = some-area c.area_at.result trusted (sym c.area_at.ensures ∙ there) in
+    let o-same : c.area_at-2.result ≡ other = some-area c.area_at-2.result other (sym c.area_at-2.ensures ∙ ap (slice_get c.args.map.now) c.other_place-other.ensures ∙ beside) in
+    let on_it : g.K.Backend.mounted_on c.in-Ok.side.store ≡ trusted = c.in-Ok.ensures.ends.3.here ∙ c.in-Ok.ensures.ends.1 ∙ same in
+    let was : on g.K.Backend.damage d trusted ≡ None = subst (λ (x : Area). on g.K.Backend.damage d x ≡ None) same c.in-Ok.ensures.ends.0 in
+    let two = other-done g.K.Backend.damage g.K.Backend.contents g.K.Backend.rests m e c.area_at-2.result other (g.K.Backend.mounted_on c.in-Ok.side.store) trusted o-same on_it c.open_other-opened.ensures.touches.banks c.open_other-opened.ensures.trusted
+    c.open_other-opened.ensures.held c.open_other-opened.ensures.idle c.open_other-opened.ensures.at_most in
+    let units : MountUnits g.K.Backend.owes (foreign_units (geometry_of d trusted)) d m trusted = subst (λ (x : Area). MountUnits g.K.Backend.owes (foreign_units (geometry_of d x)) d m x) same c.mount_side-side.ensures.units in
+    let opens : OpensOwed g.K.Backend.owes g.K.Backend.damage g.K.Backend.contents m e other (on g.K.Backend.contents m trusted) =
+    subst (λ (y : Area). OpensOwed g.K.Backend.owes g.K.Backend.damage g.K.Backend.contents m e other (on g.K.Backend.contents m y)) on_it
+    (subst (λ (x : Area). OpensOwed g.K.Backend.owes g.K.Backend.damage g.K.Backend.contents m e x (on g.K.Backend.contents m (g.K.Backend.mounted_on c.in-Ok.side.store))) o-same c.open_other-opened.ensures.owes) in
+    owed-then g.K.Backend.owes g.K.Backend.damage g.K.Backend.contents g.K.Backend.rests (foreign_units (geometry_of d trusted)) d m e trusted other one two units opens was
+
+pub returns-in-Err-opened-clause-owes : goal.returns-in-Err-opened-clause-owes
+returns-in-Err-opened-clause-owes g c trusted other there beside =
+    let d : Device = g.F.Flash.device c.args.flash.now in
+    let m : Device = g.F.Flash.device c.mount_side-side.new.flash in
+    let one = side-done g.K.Backend.damage g.K.Backend.contents g.K.Backend.rests g.K.Backend.serves c.args.map.now d c.requires.map m c.args.place c.area_at.result trusted other (mount_lost c.mount_side-side.result) c.area_at.ensures there beside
+    (g.met.F.Flash.is_lawful c.args.flash.now) (g.met.F.Flash.is_lawful c.mount_side-side.new.flash) c.mount_side-side.ensures.touches c.mount_side-side.ensures.sound c.mount_side-side.ensures.keeps c.mount_side-side.ensures.rests c.mount_side-side.ensures.written c.mount_side-side.ensures.units.at_most in
+    let e : Device = g.F.Flash.device c.open_other-opened.new.flash in
+    let same : c.area_at.result ≡ trusted = some-area c.area_at.result trusted (sym c.area_at.ensures ∙ there) in
+    let o-same : c.area_at-2.result ≡ other = some-area c.area_at-2.result other (sym c.area_at-2.ensures ∙ ap (slice_get c.args.map.now) c.other_place-other.ensures ∙ beside) in
+    let on_it : g.K.Backend.mounted_on c.in-Ok.side.store ≡ trusted = c.in-Ok.ensures.ends.3.here ∙ c.in-Ok.ensures.ends.1 ∙ same in
+    let was : on g.K.Backend.damage d trusted ≡ None = subst (λ (x : Area). on g.K.Backend.damage d x ≡ None) same c.in-Ok.ensures.ends.0 in
+    let two = other-done g.K.Backend.damage g.K.Backend.contents g.K.Backend.rests m e c.area_at-2.result other (g.K.Backend.mounted_on c.in-Ok.side.store) trusted o-same on_it c.open_other-opened.ensures.touches.banks c.open_other-opened.ensures.trusted
+    c.open_other-opened.ensures.held c.open_other-opened.ensures.idle c.open_other-opened.ensures.at_most in
+    let units : MountUnits g.K.Backend.owes (foreign_units (geometry_of d trusted)) d m trusted = subst (λ (x : Area). MountUnits g.K.Backend.owes (foreign_units (geometry_of d x)) d m x) same c.mount_side-side.ensures.units in
+    let opens : OpensOwed g.K.Backend.owes g.K.Backend.damage g.K.Backend.contents m e other (on g.K.Backend.contents m trusted) =
+    subst (λ (y : Area). OpensOwed g.K.Backend.owes g.K.Backend.damage g.K.Backend.contents m e other (on g.K.Backend.contents m y)) on_it
+    (subst (λ (x : Area). OpensOwed g.K.Backend.owes g.K.Backend.damage g.K.Backend.contents m e x (on g.K.Backend.contents m (g.K.Backend.mounted_on c.in-Ok.side.store))) o-same c.open_other-opened.ensures.owes) in
+    owed-then g.K.Backend.owes g.K.Backend.damage g.K.Backend.contents g.K.Backend.rests (foreign_units (geometry_of d trusted)) d m e trusted other one two units opens was

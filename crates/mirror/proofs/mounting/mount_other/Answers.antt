@@ -73,3 +73,15 @@ returns-in-Err-NoMemory-clause-held g c settings =
 
 pub returns-in-Err-PowerLost-clause-trusted : goal.returns-in-Err-PowerLost-clause-trusted
 returns-in-Err-PowerLost-clause-trusted g c = same_apart (g.met.F.Flash.is_lawful c.args.flash.now) (g.met.F.Flash.is_lawful c.mount.new.flash) c.requires.other.lawful_trusted.in_bank c.requires.other.apart c.mount.ensures.touches
+
+pub returns-in-Ok-clause-units : goal.returns-in-Ok-clause-units
+returns-in-Ok-clause-units g c = c.mount.ensures.units
+
+pub returns-in-Err-Damaged-clause-units : goal.returns-in-Err-Damaged-clause-units
+returns-in-Err-Damaged-clause-units g c = c.mount.ensures.units
+
+pub returns-in-Err-PowerLost-clause-units : goal.returns-in-Err-PowerLost-clause-units
+returns-in-Err-PowerLost-clause-units g c = c.mount.ensures.units
+
+pub returns-in-Err-NoMemory-clause-units : goal.returns-in-Err-NoMemory-clause-units
+returns-in-Err-NoMemory-clause-units g c = c.mount.ensures.units

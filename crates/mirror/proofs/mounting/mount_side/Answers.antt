@@ -19,3 +19,9 @@ returns-in-Ok-clause-written g c = c.mount.ensures.written (not-records c.args.a
 
 pub returns-in-Err-clause-written : goal.returns-in-Err-clause-written
 returns-in-Err-clause-written g c = c.mount.ensures.written (not-records c.args.area c.requires.role)
+
+pub returns-in-Ok-clause-units : goal.returns-in-Ok-clause-units
+returns-in-Ok-clause-units g c = c.mount.ensures.units
+
+pub returns-in-Err-clause-units : goal.returns-in-Err-clause-units
+returns-in-Err-clause-units g c = c.mount.ensures.units

@@ -5,10 +5,10 @@ use Rattle.std.proofs.lemmas.Bool.{false≢true}
 use Rattle.flash_sim.specs.declared.flash.Bank.{Bank}
 use Rattle.flash_map.specs.Area.{geometry_of, value_limit}
 use Rattle.flash_map.specs.On.{on}
-use Rattle.flash_map.specs.Spending.{SpendsAtMost}
 use Rattle.flash_map.specs.Touches.{Touches}
 use Rattle.flash_map.specs.declared.area.Area.{Area}
 use Rattle.flash_map.specs.Lawful.{IsLawfulFor}
+use Rattle.backend_api.specs.Boot.{CommandUnits}
 use Rattle.backend_api.specs.Ends.{SetEndsOn, set_lost}
 use Rattle.backend_api.specs.Map.{IsStored}
 use Rattle.backend_api.specs.Room.{command_units}
@@ -47,11 +47,11 @@ returns-in-Ok-clause-ends g c =
     subst (λ (x : Area). IsDone contents d e x (IsStored (on contents d x) c.args.name.now c.args.value.now) (insert (on contents d x) c.args.name.now c.args.value.now)) c.requires.stands.here
     (record { settings = ends.settings; idle = ends.same; spends = ends.spends })
 
-pub returns-in-Ok-clause-at_most : goal.returns-in-Ok-clause-at_most
-returns-in-Ok-clause-at_most g c =
+pub returns-in-Ok-clause-units : goal.returns-in-Ok-clause-units
+returns-in-Ok-clause-units g c =
     let d = g.F.Flash.device c.args.flash.now in
     let e = g.F.Flash.device c.set.new.flash in
-    subst (λ (x : Area). SpendsAtMost d e (command_units (geometry_of d x))) c.requires.stands.here c.in-Ok.ensures.units.at_most
+    subst (λ (x : Area). CommandUnits g.K.Backend.owes (g.K.Backend.boot_units x (geometry_of d x)) (command_units (geometry_of d x)) d e x false) c.requires.stands.here c.in-Ok.ensures.units
 
 pub returns-in-Ok-clause-sound : goal.returns-in-Ok-clause-sound
 returns-in-Ok-clause-sound g c =
@@ -75,11 +75,13 @@ returns-in-Err-PowerLost-clause-touches g c =
     let e = g.F.Flash.device c.set.new.flash in
     subst (λ (x : Area). Touches (x ∷ []) d e true) c.requires.stands.here (subst (λ (w : SetFault). Touches (g.K.Backend.mounted_on c.args.side.now.store ∷ []) d e (set_lost {T = Unit {0}} (Err w))) c.in-Err-PowerLost.field-0-is c.in-Err-PowerLost.ensures.touches)
 
-pub returns-in-Err-PowerLost-clause-at_most : goal.returns-in-Err-PowerLost-clause-at_most
-returns-in-Err-PowerLost-clause-at_most g c =
+pub returns-in-Err-PowerLost-clause-units : goal.returns-in-Err-PowerLost-clause-units
+returns-in-Err-PowerLost-clause-units g c =
     let d = g.F.Flash.device c.args.flash.now in
     let e = g.F.Flash.device c.set.new.flash in
-    subst (λ (x : Area). SpendsAtMost d e (command_units (geometry_of d x))) c.requires.stands.here c.in-Err-PowerLost.ensures.units.at_most
+    let here = g.K.Backend.mounted_on c.args.side.now.store in
+    subst (λ (x : Area). CommandUnits g.K.Backend.owes (g.K.Backend.boot_units x (geometry_of d x)) (command_units (geometry_of d x)) d e x true) c.requires.stands.here
+    (subst (λ (w : SetFault). CommandUnits g.K.Backend.owes (g.K.Backend.boot_units here (geometry_of d here)) (command_units (geometry_of d here)) d e here (set_lost {T = Unit {0}} (Err w))) c.in-Err-PowerLost.field-0-is c.in-Err-PowerLost.ensures.units)
 
 pub returns-in-Err-PowerLost-clause-sound : goal.returns-in-Err-PowerLost-clause-sound
 returns-in-Err-PowerLost-clause-sound g c =

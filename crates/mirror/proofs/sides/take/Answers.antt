@@ -3,11 +3,11 @@ use Rattle.std.proofs.Common.{◌∙◌, refl, sym, subst}
 use Rattle.flash_sim.specs.declared.flash.Bank.{Bank}
 use Rattle.flash_map.specs.Area.{geometry_of}
 use Rattle.flash_map.specs.On.{on}
-use Rattle.flash_map.specs.Spending.{SpendsAtMost}
 use Rattle.flash_map.specs.Touches.{Touches}
 use Rattle.flash_map.specs.declared.area.Area.{Area}
 use Rattle.flash_map.specs.declared.area.Role.TheVariants.{Fcb as FcbRole}
 use Rattle.flash_map.specs.Lawful.{IsLawfulFor}
+use Rattle.backend_api.specs.Boot.{CommandUnits}
 use Rattle.backend_api.specs.Room.{command_units}
 use Rattle.backend_api.specs.Written.{StaysWritten}
 use Rattle.mirror.proofs.SideSteps.{not-records}
@@ -25,11 +25,11 @@ returns-clause-touches g c =
 pub returns-clause-same : goal.returns-clause-same
 returns-clause-same g c = record { area = refl; place = refl }
 
-pub returns-clause-at_most : goal.returns-clause-at_most
-returns-clause-at_most g c =
+pub returns-clause-units : goal.returns-clause-units
+returns-clause-units g c =
     let d = g.F.Flash.device c.args.flash.now in
     let e = g.F.Flash.device c.delete.new.flash in
-    subst (λ (x : Area). SpendsAtMost d e (command_units (geometry_of d x))) c.requires.stands.here c.delete.ensures.units.at_most
+    subst (λ (x : Area). CommandUnits g.K.Backend.owes (g.K.Backend.boot_units x (geometry_of d x)) (command_units (geometry_of d x)) d e x (is_err c.delete.result)) c.requires.stands.here c.delete.ensures.units
 
 pub returns-clause-sound : goal.returns-clause-sound
 returns-clause-sound g c =

@@ -4,6 +4,7 @@ use Rattle.migrator.proofs.AreaLemmas.{store-within}
 use Rattle.migrator.specs.Choosing.{choice_units}
 use Rattle.migrator.proofs.Moving.{open-sound}
 use Rattle.migrator.proofs.Spent.{most_none}
+use Rattle.mirror.proofs.OwingSteps.{due-few}
 use Rattle.mirror.proofs.TrustSteps.{chosen-opens}
 use Rattle.mirror.proofs.trusting.name_trusted.Goals as goal
 
@@ -26,3 +27,9 @@ returns-clause-opened g c =
 
 pub returns-then-active-trusted-clause-chosen : goal.returns-then-active-trusted-clause-chosen
 returns-then-active-trusted-clause-chosen g c differs = absurd (differs c.if-active-trusted.true)
+
+pub returns-then-active-trusted-clause-left : goal.returns-then-active-trusted-clause-left
+returns-then-active-trusted-clause-left g c due one before = before
+
+pub returns-clause-left : goal.returns-clause-left
+returns-clause-left g c = due-few (g.F.Flash.device c.args.flash.now) (g.F.Flash.device c.choose.new.flash) c.args.selector.now.ring.area c.choose.ensures.left

@@ -3,7 +3,8 @@ use Rattle.flash_sim.specs.Device.{Device}
 use Rattle.flash_map.specs.declared.area.Area.{Area}
 use Rattle.flash_map.specs.Touches.{Touches}
 use Rattle.flash_map.proofs.Touches.{then}
-use Rattle.fcb_ring.specs.Standing.{IsRingArea, KeepsEntries, ring_damage}
+use Rattle.flash_map.specs.Spending.{SpendsAtMost}
+use Rattle.fcb_ring.specs.Standing.{IsRingArea, KeepsEntries, erases_on, ring_damage}
 use Rattle.migrator.specs.Active.{active_in, active_on}
 use Rattle.migrator.specs.Areas.{is_store_at, selector_of}
 use Rattle.migrator.specs.declared.selecting.Selector.{Selector}
@@ -14,6 +15,7 @@ use Rattle.mirror.specs.Naming.{SparesRecords}
 use Rattle.mirror.specs.Trusted.{trusted_on}
 use Rattle.std.proofs.lemmas.Bool.{false≢true}
 use Rattle.mirror.proofs.MountSteps.{fault-lost}
+use Rattle.mirror.proofs.OwingSteps.{due-less, due-then}
 use Rattle.mirror.proofs.TrustSteps.{active-stores, damage-with, open-rests, records-fault, records-then, selector-here, selector-most, selector-ring, selector-within, trust-cut, trust-fault, trust-first, trust-named, trust-then, trusted-beside}
 use Rattle.mirror.proofs.trusting.trust.Goals as goal
 
@@ -209,3 +211,71 @@ returns-in-Err-name_trusted-clause-records g c selector given none =
     let list : KeepsEntries d m selector = subst (λ (x : Area). KeepsEntries d m x) at (c.mount.ensures.list c.in-Ok.ensures.ends.0) in
     records-then areas d m selector (sym (damage-with areas d selector given) ∙ none) list e c.in-Ok.selector.ring c.active-active.result c.trusted_with-trusted.result true first.banks c.in-Err-name_trusted.ensures.touches.banks here c.in-Ok.ensures.ends.1 active is
     c.name_trusted.ensures.idle (λ whole. absurd (false≢true (sym whole)))
+
+pub returns-in-Err-clause-named : goal.returns-in-Err-clause-named
+returns-in-Err-clause-named g c given selects first =
+    let d : Device = g.F.Flash.device c.args.flash.now in
+    let m : Device = g.F.Flash.device c.mount.new.flash in
+    let at : c.area_at.result ≡ given = selector-here c.args.map.now given c.area_at.result c.selector_place-place.result selects c.selector_place-place.ensures c.area_at.ensures in
+    subst (λ (x : Area). SpendsAtMost d m (erases_on d x)) at (selector-most d m c.area_at.result c.mount.result c.mount.ensures.ends c.mount.ensures.units c.mount.ensures.bound)
+
+pub returns-in-Ok-name_trusted-clause-named : goal.returns-in-Ok-name_trusted-clause-named
+returns-in-Ok-name_trusted-clause-named g c given selects first =
+    let d : Device = g.F.Flash.device c.args.flash.now in
+    let m : Device = g.F.Flash.device c.mount.new.flash in
+    let here = selector-here c.args.map.now c.requires.map.selector c.area_at.result c.selector_place-place.result c.requires.map.selected c.selector_place-place.ensures c.area_at.ensures in
+    let same : c.in-Ok.selector.ring.area ≡ c.area_at.result = c.in-Ok.ensures.ends.2 in
+    let selected : selector_of c.args.map.now ≡ Some c.in-Ok.selector.ring.area = c.requires.map.selected ∙ ap (λ (x : Area). Some x) (sym (same ∙ here)) in
+    let active : active_in c.args.map.now m c.in-Ok.selector.ring.area ≡ active_in c.args.map.now d c.in-Ok.selector.ring.area =
+    ap (active_in c.args.map.now m) same ∙ c.mount.ensures.active c.in-Ok.ensures.ends.0 c.args.map.now ∙ ap (active_in c.args.map.now d) (sym same) in
+    let is = c.trusted_with-trusted.ensures.trusted
+    ∙ trusted-beside g.K.Backend.serves c.args.map.now d m c.in-Ok.selector.ring.area false c.requires.map selected (g.met.F.Flash.is_lawful c.args.flash.now) (g.met.F.Flash.is_lawful c.mount.new.flash) (subst (λ (x : Area). Touches (x ∷ []) d m false) (sym same) c.in-Ok.ensures.touches)
+    c.active-active.result (c.active-active.ensures ∙ active ∙ sym (active-on c.args.map.now d c.in-Ok.selector.ring.area selected))
+    (subst (λ (n : ℕ). is_store_at c.args.map.now n ≡ true) (sym c.active-active.ensures) (active-stores g.K.Backend.serves c.args.map.now d c.requires.map m c.in-Ok.selector.ring.area)) in
+    let named : c.active-active.result ≡ c.trusted_with-trusted.result = c.active-active.ensures ∙ active ∙ sym (active-on c.args.map.now d c.in-Ok.selector.ring.area selected) ∙ first ∙ sym is in
+    let e : Device = g.F.Flash.device c.name_trusted.new.flash in
+    let at : c.area_at.result ≡ given = selector-here c.args.map.now given c.area_at.result c.selector_place-place.result selects c.selector_place-place.ensures c.area_at.ensures in
+    let same_device : e ≡ m = c.name_trusted.ensures.idle named in
+    subst (λ (x : Area). SpendsAtMost d e (erases_on d x)) at (subst (λ (x : Device). SpendsAtMost d x (erases_on d c.area_at.result)) (sym same_device) (selector-most d m c.area_at.result c.mount.result c.mount.ensures.ends c.mount.ensures.units c.mount.ensures.bound))
+
+pub returns-in-Err-name_trusted-clause-named : goal.returns-in-Err-name_trusted-clause-named
+returns-in-Err-name_trusted-clause-named g c given selects first =
+    let d : Device = g.F.Flash.device c.args.flash.now in
+    let m : Device = g.F.Flash.device c.mount.new.flash in
+    let here = selector-here c.args.map.now c.requires.map.selector c.area_at.result c.selector_place-place.result c.requires.map.selected c.selector_place-place.ensures c.area_at.ensures in
+    let same : c.in-Ok.selector.ring.area ≡ c.area_at.result = c.in-Ok.ensures.ends.2 in
+    let selected : selector_of c.args.map.now ≡ Some c.in-Ok.selector.ring.area = c.requires.map.selected ∙ ap (λ (x : Area). Some x) (sym (same ∙ here)) in
+    let active : active_in c.args.map.now m c.in-Ok.selector.ring.area ≡ active_in c.args.map.now d c.in-Ok.selector.ring.area =
+    ap (active_in c.args.map.now m) same ∙ c.mount.ensures.active c.in-Ok.ensures.ends.0 c.args.map.now ∙ ap (active_in c.args.map.now d) (sym same) in
+    let is = c.trusted_with-trusted.ensures.trusted
+    ∙ trusted-beside g.K.Backend.serves c.args.map.now d m c.in-Ok.selector.ring.area false c.requires.map selected (g.met.F.Flash.is_lawful c.args.flash.now) (g.met.F.Flash.is_lawful c.mount.new.flash) (subst (λ (x : Area). Touches (x ∷ []) d m false) (sym same) c.in-Ok.ensures.touches)
+    c.active-active.result (c.active-active.ensures ∙ active ∙ sym (active-on c.args.map.now d c.in-Ok.selector.ring.area selected))
+    (subst (λ (n : ℕ). is_store_at c.args.map.now n ≡ true) (sym c.active-active.ensures) (active-stores g.K.Backend.serves c.args.map.now d c.requires.map m c.in-Ok.selector.ring.area)) in
+    let named : c.active-active.result ≡ c.trusted_with-trusted.result = c.active-active.ensures ∙ active ∙ sym (active-on c.args.map.now d c.in-Ok.selector.ring.area selected) ∙ first ∙ sym is in
+    let e : Device = g.F.Flash.device c.name_trusted.new.flash in
+    let at : c.area_at.result ≡ given = selector-here c.args.map.now given c.area_at.result c.selector_place-place.result selects c.selector_place-place.ensures c.area_at.ensures in
+    let same_device : e ≡ m = c.name_trusted.ensures.idle named in
+    subst (λ (x : Area). SpendsAtMost d e (erases_on d x)) at (subst (λ (x : Device). SpendsAtMost d x (erases_on d c.area_at.result)) (sym same_device) (selector-most d m c.area_at.result c.mount.result c.mount.ensures.ends c.mount.ensures.units c.mount.ensures.bound))
+
+pub returns-in-Err-clause-left : goal.returns-in-Err-clause-left
+returns-in-Err-clause-left g c given selects =
+    let d : Device = g.F.Flash.device c.args.flash.now in
+    let m : Device = g.F.Flash.device c.mount.new.flash in
+    let at : c.area_at.result ≡ given = selector-here c.args.map.now given c.area_at.result c.selector_place-place.result selects c.selector_place-place.ensures c.area_at.ensures in
+    due-less d m c.area_at.result given at c.mount.ensures.left
+
+pub returns-in-Ok-name_trusted-clause-left : goal.returns-in-Ok-name_trusted-clause-left
+returns-in-Ok-name_trusted-clause-left g c given selects =
+    let d : Device = g.F.Flash.device c.args.flash.now in
+    let m : Device = g.F.Flash.device c.mount.new.flash in
+    let e : Device = g.F.Flash.device c.name_trusted.new.flash in
+    let at : c.area_at.result ≡ given = selector-here c.args.map.now given c.area_at.result c.selector_place-place.result selects c.selector_place-place.ensures c.area_at.ensures in
+    due-then d m e c.area_at.result c.in-Ok.selector.ring.area given at (c.in-Ok.ensures.ends.2 ∙ at) c.mount.ensures.left c.name_trusted.ensures.left
+
+pub returns-in-Err-name_trusted-clause-left : goal.returns-in-Err-name_trusted-clause-left
+returns-in-Err-name_trusted-clause-left g c given selects =
+    let d : Device = g.F.Flash.device c.args.flash.now in
+    let m : Device = g.F.Flash.device c.mount.new.flash in
+    let e : Device = g.F.Flash.device c.name_trusted.new.flash in
+    let at : c.area_at.result ≡ given = selector-here c.args.map.now given c.area_at.result c.selector_place-place.result selects c.selector_place-place.ensures c.area_at.ensures in
+    due-then d m e c.area_at.result c.in-Ok.selector.ring.area given at (c.in-Ok.ensures.ends.2 ∙ at) c.mount.ensures.left c.name_trusted.ensures.left

@@ -7,6 +7,7 @@ use Rattle.flash_map.proofs.Touches.{first_of_two, second_of_two, then}
 use Rattle.backend_api.specs.Room.{command_units}
 use Rattle.mirror.proofs.BothSteps.{most-both-on, most-first}
 use Rattle.mirror.proofs.MirrorEnds.{back, delete-ends, delete-mirror, first-cut, other-stands, removed-fit}
+use Rattle.mirror.proofs.OwingSteps.{first-owes, second-owes}
 use Rattle.mirror.proofs.mirror.Mirror.delete.Goals as goal
 
 pub returns-in-Err-clause-touches : goal.returns-in-Err-clause-touches
@@ -25,7 +26,7 @@ pub returns-in-Err-clause-at_most : goal.returns-in-Err-clause-at_most
 returns-in-Err-clause-at_most g c =
     let d : Device = g.F.Flash.device c.args.flash.now in
     let m : Device = g.F.Flash.device c.take.new.flash in
-    most-first d m (command_units (geometry_of d c.args.self.now.trusted.area)) (command_units (geometry_of d c.args.self.now.other.area)) c.take.ensures.at_most
+    most-first d m (command_units (geometry_of d c.args.self.now.trusted.area)) (command_units (geometry_of d c.args.self.now.other.area)) c.take.ensures.units.at_most
 
 pub take-requires-2 : goal.take-requires-2
 take-requires-2 g c =
@@ -48,7 +49,7 @@ returns-clause-at_most g c =
     let d : Device = g.F.Flash.device c.args.flash.now in
     let m : Device = g.F.Flash.device c.take.new.flash in
     let e : Device = g.F.Flash.device c.take-2.new.flash in
-    most-both-on d m e c.args.self.now.trusted.area c.args.self.now.other.area c.in-Ok.ensures.touches.banks c.take.ensures.at_most c.take-2.ensures.at_most
+    most-both-on d m e c.args.self.now.trusted.area c.args.self.now.other.area c.in-Ok.ensures.touches.banks c.take.ensures.units.at_most c.take-2.ensures.units.at_most
 
 pub returns-clause-mirrors : goal.returns-clause-mirrors
 returns-clause-mirrors g c whole =
@@ -68,3 +69,18 @@ returns-clause-written g c = λ blank.
     let e : Device = g.F.Flash.device c.take-2.new.flash in
     let same = back g.K.Backend.mounted_on g.K.Backend.stands g.K.Backend.damage g.K.Backend.contents g.K.Backend.room g.K.Priced.prices d c.args.self.now.trusted c.args.self.now.other c.requires.mirrors (g.met.F.Flash.is_lawful c.args.flash.now) m e (is_err c.take-2.result) (g.met.F.Flash.is_lawful c.take.new.flash) (g.met.F.Flash.is_lawful c.take-2.new.flash) c.in-Ok.ensures.touches.banks c.take-2.ensures.touches in
     c.take.ensures.written (sym (ap (list_all is_erased) same) ∙ blank)
+
+pub returns-in-Err-clause-owes : goal.returns-in-Err-clause-owes
+returns-in-Err-clause-owes g c lost =
+    let d : Device = g.F.Flash.device c.args.flash.now in
+    let m : Device = g.F.Flash.device c.take.new.flash in
+    first-owes g.K.Backend.owes g.K.Backend.mounted_on g.K.Backend.stands g.K.Backend.damage g.K.Backend.contents g.K.Backend.room g.K.Priced.prices d c.args.self.now.trusted c.args.self.now.other c.requires.mirrors (g.met.F.Flash.is_lawful c.args.flash.now) g.K.Backend.boot_units g.K.Backend.rests g.met.K.Backend.stands_rests m
+    (g.met.F.Flash.is_lawful c.take.new.flash) c.in-Err.ensures.touches (c.in-Err.ensures.units.owes refl)
+
+pub returns-clause-owes : goal.returns-clause-owes
+returns-clause-owes g c lost =
+    let d : Device = g.F.Flash.device c.args.flash.now in
+    let m : Device = g.F.Flash.device c.take.new.flash in
+    let e : Device = g.F.Flash.device c.take-2.new.flash in
+    second-owes g.K.Backend.owes g.K.Backend.mounted_on g.K.Backend.stands g.K.Backend.damage g.K.Backend.contents g.K.Backend.room g.K.Priced.prices d c.args.self.now.trusted c.args.self.now.other c.requires.mirrors (g.met.F.Flash.is_lawful c.args.flash.now) g.K.Backend.boot_units g.K.Backend.rests g.met.K.Backend.stands_rests m e (is_err c.take-2.result) c.take.new.side
+    (g.met.F.Flash.is_lawful c.take.new.flash) (g.met.F.Flash.is_lawful c.take-2.new.flash) c.in-Ok.ensures.touches c.take-2.ensures.touches c.take.ensures.same (c.in-Ok.ensures.stands refl) (c.take-2.ensures.units.owes lost)

@@ -17,6 +17,8 @@ use Rattle.migrator.proofs.Moving.{still}
 use Rattle.mirror.proofs.KeepSteps.{keeps-both, keeps-fault, rests-behind, trusted-both, trusted-fault}
 use Rattle.mirror.proofs.MapSteps.{map-still, other-is, store-there}
 use Rattle.mirror.proofs.MountSteps.{both-touch, first-touches, lost-same, mounts-fault, mounts-first, mounts-spend, mounts-then, records-behind, selector-active-still, selector-damage-still, spares-all, spares-selector}
+use Rattle.mirror.specs.Owing.{naming_units}
+use Rattle.mirror.proofs.OwingSteps.{due-still, naming-spent, owed-behind, owed-selector}
 use Rattle.mirror.proofs.TrustSteps.{store-beside, trusted-again, trusted-stores}
 use Rattle.mirror.proofs.mirror.Mirror.mount.Goals as goal
 
@@ -207,3 +209,51 @@ returns-clause-copy g c selector trusted other is there beside =
     spares-all g.K.Backend.damage g.K.Backend.contents g.K.Backend.rests d m selector trusted other first.banks t-same o-same (c.trust.ensures.at_most selector is) e
     (c.mount_both.ensures.spares trusted other here next) areas (mount_lost c.mount_both.result)
     (λ none. records-behind areas d m e selector (mount_lost c.mount_both.result) banks (c.mount_both.ensures.selector selector is) (c.in-Ok.ensures.records selector is none))
+
+pub returns-in-Err-clause-owes : goal.returns-in-Err-clause-owes
+returns-in-Err-clause-owes g c selector trusted other is there beside =
+    let d : Device = g.F.Flash.device c.args.flash.now in
+    let m : Device = g.F.Flash.device c.trust.new.flash in
+    let areas = c.args.map.now in
+    let first = c.in-Err.ensures.touches selector is in
+    let others = other-is g.K.Backend.serves areas d c.requires.map (trusted_on areas d) in
+    let flash = g.met.F.Flash.is_lawful c.args.flash.now in
+    let mid = g.met.F.Flash.is_lawful c.trust.new.flash in
+    let lost = mount_lost {T = ℕ} (Err c.in-Err.fault) in
+    let t-same = store-beside g.K.Backend.serves areas d m selector lost c.requires.map is flash mid first (trusted_on areas d) trusted there (trusted-stores g.K.Backend.serves areas d c.requires.map) in
+    let o-same = store-beside g.K.Backend.serves areas d m selector lost c.requires.map is flash mid first (other_place areas (trusted_on areas d)) other beside others.stores in
+    owed-selector g.K.Backend.owes g.K.Backend.damage g.K.Backend.contents (naming_units areas d selector) d m trusted other first.banks t-same o-same
+    (naming-spent areas d m selector (c.trust.ensures.at_most selector is) (c.trust.ensures.named selector is))
+
+pub returns-clause-owes : goal.returns-clause-owes
+returns-clause-owes g c selector trusted other is there beside =
+    let d : Device = g.F.Flash.device c.args.flash.now in
+    let m : Device = g.F.Flash.device c.trust.new.flash in
+    let e : Device = g.F.Flash.device c.mount_both.new.flash in
+    let areas = c.args.map.now in
+    let at : c.in-Ok.place ≡ trusted_on c.args.map.now d = c.in-Ok.ensures.ends.0 in
+    let first = c.in-Ok.ensures.touches selector is in
+    let others = other-is g.K.Backend.serves areas d c.requires.map (trusted_on areas d) in
+    let flash = g.met.F.Flash.is_lawful c.args.flash.now in
+    let mid = g.met.F.Flash.is_lawful c.trust.new.flash in
+    let t-same = store-beside g.K.Backend.serves areas d m selector false c.requires.map is flash mid first (trusted_on areas d) trusted there (trusted-stores g.K.Backend.serves areas d c.requires.map) in
+    let o-same = store-beside g.K.Backend.serves areas d m selector false c.requires.map is flash mid first (other_place areas (trusted_on areas d)) other beside others.stores in
+    owed-behind g.K.Backend.owes g.K.Backend.damage g.K.Backend.contents (naming_units areas d selector) d m e trusted other first.banks t-same o-same
+    (naming-spent areas d m selector (c.trust.ensures.at_most selector is) (c.trust.ensures.named selector is))
+    (c.mount_both.ensures.owes trusted other (ap (slice_get areas) at ∙ there) (ap (λ (n : ℕ). slice_get areas (other_place areas n)) at ∙ beside))
+
+pub returns-in-Err-clause-left : goal.returns-in-Err-clause-left
+returns-in-Err-clause-left g c selector is = c.trust.ensures.left selector is
+
+pub returns-clause-left : goal.returns-clause-left
+returns-clause-left g c selector is =
+    let d : Device = g.F.Flash.device c.args.flash.now in
+    let m : Device = g.F.Flash.device c.trust.new.flash in
+    let e : Device = g.F.Flash.device c.mount_both.new.flash in
+    let areas = c.args.map.now in
+    let at : c.in-Ok.place ≡ trusted_on c.args.map.now d = c.in-Ok.ensures.ends.0 in
+    let t = store-there areas (trusted_on areas d) (trusted-stores g.K.Backend.serves areas d c.requires.map) in
+    let others = other-is g.K.Backend.serves areas d c.requires.map (trusted_on areas d) in
+    let o = store-there areas (other_place areas (trusted_on areas d)) others.stores in
+    let second = c.mount_both.ensures.touches t.0 o.0 (ap (slice_get areas) at ∙ t.1) (ap (λ (n : ℕ). slice_get areas (other_place areas n)) at ∙ o.1) in
+    due-still d m e selector second.banks (c.mount_both.ensures.selector selector is) (c.trust.ensures.left selector is)

@@ -1,4 +1,5 @@
 use Rattle.std.proofs.Common.{◌≡◌, ◌+◌, ◌≤◌, ℕ, true, false, [], ◌∷◌, length, is_err, refl, sym, subst, ◌∙◌}
+use Rattle.std.proofs.lemmas.Bool.{false≢true}
 use Rattle.flash_sim.specs.Device.{Device}
 use Rattle.flash_map.specs.Area.{geometry_of, value_limit}
 use Rattle.flash_map.specs.On.{on}
@@ -9,7 +10,8 @@ use Rattle.migrator.proofs.Values.{limit-same}
 use Rattle.mirror.specs.Room.{prices_on}
 use Rattle.mirror.proofs.BothSteps.{most-both-on, most-first}
 use Rattle.mirror.proofs.FitLemmas.{not-tight}
-use Rattle.mirror.proofs.MirrorEnds.{few-then, first-cut, no-second, other-stands, put-fits, room-then, set-cut, set-done, set-mirror}
+use Rattle.mirror.proofs.MirrorEnds.{few-then, first-cut, no-first, no-second, other-stands, put-fits, room-then, set-cut, set-done, set-mirror}
+use Rattle.mirror.proofs.OwingSteps.{first-owes, second-owes}
 use Rattle.mirror.proofs.mirror.Mirror.put_both.Goals as goal
 
 pub put-requires-clause-room : goal.put-requires-clause-room
@@ -34,7 +36,7 @@ pub returns-in-Err-clause-at_most : goal.returns-in-Err-clause-at_most
 returns-in-Err-clause-at_most g c =
     let d : Device = g.F.Flash.device c.args.flash.now in
     let m : Device = g.F.Flash.device c.put.new.flash in
-    most-first d m (command_units (geometry_of d c.args.self.now.trusted.area)) (command_units (geometry_of d c.args.self.now.other.area)) c.put.ensures.at_most
+    most-first d m (command_units (geometry_of d c.args.self.now.trusted.area)) (command_units (geometry_of d c.args.self.now.other.area)) c.put.ensures.units.at_most
 
 pub put-requires-2-clause-stands : goal.put-requires-2-clause-stands
 put-requires-2-clause-stands g c =
@@ -71,7 +73,7 @@ returns-in-Ok-put-clause-at_most g c =
     let d : Device = g.F.Flash.device c.args.flash.now in
     let m : Device = g.F.Flash.device c.put.new.flash in
     let e : Device = g.F.Flash.device c.put-2.new.flash in
-    most-both-on d m e c.args.self.now.trusted.area c.args.self.now.other.area c.in-Ok.ensures.touches.banks c.put.ensures.at_most c.put-2.ensures.at_most
+    most-both-on d m e c.args.self.now.trusted.area c.args.self.now.other.area c.in-Ok.ensures.touches.banks c.put.ensures.units.at_most c.put-2.ensures.units.at_most
 
 pub returns-in-Ok-put-clause-mirrors : goal.returns-in-Ok-put-clause-mirrors
 returns-in-Ok-put-clause-mirrors g c whole =
@@ -97,7 +99,26 @@ returns-in-Err-put-clause-at_most g c =
     let d : Device = g.F.Flash.device c.args.flash.now in
     let m : Device = g.F.Flash.device c.put.new.flash in
     let e : Device = g.F.Flash.device c.put-2.new.flash in
-    most-both-on d m e c.args.self.now.trusted.area c.args.self.now.other.area c.in-Ok.ensures.touches.banks c.put.ensures.at_most c.put-2.ensures.at_most
+    most-both-on d m e c.args.self.now.trusted.area c.args.self.now.other.area c.in-Ok.ensures.touches.banks c.put.ensures.units.at_most c.put-2.ensures.units.at_most
 
-pub returns-in-Err-put-clause-down : goal.returns-in-Err-put-clause-down
-returns-in-Err-put-clause-down g c lost = no-second (g.K.Backend.runs c.put.new.side.store) (g.K.Backend.runs c.put-2.new.side.store) (c.in-Err-put.ensures.down refl)
+pub returns-in-Err-clause-cut : goal.returns-in-Err-clause-cut
+returns-in-Err-clause-cut g c lost =
+    let d : Device = g.F.Flash.device c.args.flash.now in
+    let m : Device = g.F.Flash.device c.put.new.flash in (
+      no-first (g.K.Backend.runs c.put.new.side.store) (g.K.Backend.runs c.args.self.now.other.store) (c.in-Err.ensures.down refl),
+      first-owes g.K.Backend.owes g.K.Backend.mounted_on g.K.Backend.stands g.K.Backend.damage g.K.Backend.contents g.K.Backend.room g.K.Priced.prices d c.args.self.now.trusted c.args.self.now.other c.requires.mirrors (g.met.F.Flash.is_lawful c.args.flash.now) g.K.Backend.boot_units g.K.Backend.rests g.met.K.Backend.stands_rests m
+          (g.met.F.Flash.is_lawful c.put.new.flash) c.in-Err.ensures.touches (c.in-Err.ensures.units.owes refl),
+    )
+
+pub returns-in-Err-put-clause-cut : goal.returns-in-Err-put-clause-cut
+returns-in-Err-put-clause-cut g c lost =
+    let d : Device = g.F.Flash.device c.args.flash.now in
+    let m : Device = g.F.Flash.device c.put.new.flash in
+    let e : Device = g.F.Flash.device c.put-2.new.flash in (
+      no-second (g.K.Backend.runs c.put.new.side.store) (g.K.Backend.runs c.put-2.new.side.store) (c.in-Err-put.ensures.down refl),
+      second-owes g.K.Backend.owes g.K.Backend.mounted_on g.K.Backend.stands g.K.Backend.damage g.K.Backend.contents g.K.Backend.room g.K.Priced.prices d c.args.self.now.trusted c.args.self.now.other c.requires.mirrors (g.met.F.Flash.is_lawful c.args.flash.now) g.K.Backend.boot_units g.K.Backend.rests g.met.K.Backend.stands_rests m e true c.put.new.side
+          (g.met.F.Flash.is_lawful c.put.new.flash) (g.met.F.Flash.is_lawful c.put-2.new.flash) c.in-Ok.ensures.touches c.in-Err-put.ensures.touches c.put.ensures.same (c.in-Ok.ensures.stands refl) (c.in-Err-put.ensures.units.owes refl),
+    )
+
+pub returns-in-Ok-put-clause-cut : goal.returns-in-Ok-put-clause-cut
+returns-in-Ok-put-clause-cut g c lost = absurd (false≢true lost)

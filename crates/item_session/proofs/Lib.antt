@@ -7,6 +7,7 @@ mod LineLemmas
 mod MemoryLemmas
 mod MountLemmas
 mod NumberPairs
+pub mod OwesLemmas
 mod RestLemmas
 mod RoomLemmas
 mod RunLemmas

@@ -4,7 +4,7 @@ ghost use Rattle.std.specs.String.{string_bytes};
 ghost use Rattle.item_session.specs.Answer.{text_of};
 
 use flash_sim::NoMemory;
-use script_lines::Bytes;
+use script_lines::{Bytes, ListOf};
 use std::alloc::{AllocError, Global};
 
 /// The answer to a line.
@@ -31,6 +31,9 @@ pub enum Answer {
     /// Power is off.
     Off,
 }
+
+/// The answers to lines.
+pub type Answers = ListOf<Answer>;
 
 fn space_text(alloc: Global, live: u64, stale: u64, free: u64) -> Result<String, AllocError>
     ensures { IfOk result (λ text. string_bytes text ≡ text_of (Answer.Space live stale free)) }
@@ -65,8 +68,6 @@ fn written(alloc: Global, answer: &Answer) -> Result<String, AllocError>
 pub fn answer_text(alloc: Global, answer: &Answer) -> Result<Vec<u8>, NoMemory>
     ensures { IfOk result (λ text. text.items ≡ text_of answer.now) }
 {
-    match written(alloc, answer) {
-        Ok(text) => Ok(text.into_bytes()),
-        Err(_) => Err(NoMemory),
-    }
+    let text = written(alloc, answer)?;
+    Ok(text.into_bytes())
 }

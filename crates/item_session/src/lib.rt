@@ -3,7 +3,6 @@
 #![tactic(auto)]
 
 mod answer;
-mod answers;
 mod fault;
 mod ids;
 mod laws;
@@ -18,8 +17,7 @@ mod script;
 mod session;
 mod writing;
 
-pub use answer::{Answer, answer_text};
-pub use answers::Answers;
+pub use answer::{Answer, Answers, answer_text};
 pub use fault::SessionFault;
 pub use ids::Ids;
 pub use laws::{

@@ -11,7 +11,7 @@ use flash_map::Area;
 use flash_sim::{Bench, Flash, NoMemory, Steps};
 use item_history::{Older, store_older, store_space};
 use item_store::{SlotSectors, Store};
-use script_lines::Bytes;
+use script_lines::copied;
 use std::alloc::Global;
 use std::sync::ledger::Ledger;
 
@@ -19,12 +19,8 @@ use std::sync::ledger::Ledger;
 fn value_of(alloc: Global, bytes: &[u8]) -> Result<Answer, NoMemory>
     ensures { IfOk result (λ answer. answer ≡ Value bytes.now) }
 {
-    match Vec::from_slice(alloc, bytes) {
-        Ok(items) => Ok(Answer::Value {
-            value: Bytes::from_vec(items),
-        }),
-        Err(_) => Err(NoMemory),
-    }
+    let value = copied(alloc, bytes)?;
+    Ok(Answer::Value { value })
 }
 
 // The bytes of an item. `NoMemory`: memory ran out for them.

@@ -1,12 +1,14 @@
 // The run of all lines of a script.
-ghost use Rattle.std.specs.Prelude.{◌≡◌, ◌∷◌, true, All, None, OnOk};
+ghost use Rattle.std.specs.Prelude.{◌≡◌, ◌∷◌, true, All, None, IfOk, OnOk};
+ghost use Rattle.flash_map.specs.Area.{geometry_of};
 ghost use Rattle.item_store.specs.Standing.{IsStoreArea};
 ghost use Rattle.item_session.specs.declared.line.Line.TheVariants.{Mount};
 ghost use Rattle.item_session.specs.Device.{IsServedOn, RestsOn, TakesValues};
+ghost use Rattle.item_session.specs.Owing.{MountsWithin, OwesOn, boot_units};
 ghost use Rattle.item_session.specs.Running.{RunEnds};
 ghost use Rattle.item_session.specs.Standing.{damage_on};
 
-use crate::answers::Answers;
+use crate::answer::Answers;
 use crate::fault::SessionFault;
 use crate::line::Line;
 use crate::session::ItemSession;
@@ -18,7 +20,9 @@ use std::sync::ledger::Ledger;
 
 /// Mounts the store of an area and carries out lines one after another. It returns the answers to
 /// the mount and to each line. If power is on after the last line, another mount of the area would
-/// have nothing to do. An area without damage has none afterwards, whatever the result.
+/// have nothing to do. An area without damage has none afterwards, whatever the result. No mount of
+/// the run reports more than `boot_units`, and an area without damage owes at most that after the
+/// lines, whatever the result.
 ///
 /// # Errors
 /// `Damaged` with the damage that the area shows; the bench is then as before, except that power
@@ -41,11 +45,16 @@ pub fn run_lines<T: SlotSectors, B: Bench, L: Ledger>(
         → damage_on T.format_of (B.device bench.new) area.now ≡ None }
     ensures rests { OnOk result ((B.device bench.new).is_on ≡ true
         → RestsOn T.format_of (B.device bench.new) area.now) }
+    ensures boots { let d = B.device bench.old in
+        IfOk result
+        (λ answers. MountsWithin (boot_units T.format_of (geometry_of d area.now))
+        (Mount ∷ lines.now) answers) }
+    ensures left { let d = B.device bench.old in let area = area.now in
+        damage_on T.format_of d area ≡ None
+        → OwesOn T.format_of (B.device bench.new) area
+        (boot_units T.format_of (geometry_of d area)) }
 {
-    let (mut session, first) = match ItemSession::<T>::open(alloc, bench, area, steps) {
-        Ok(opened) => opened,
-        Err(fault) => return Err(fault),
-    };
+    let (mut session, first) = ItemSession::<T>::open(alloc, bench, area, steps)?;
     let mut answers = Answers::new(alloc);
     match answers.push(first) {
         Ok(()) => {}

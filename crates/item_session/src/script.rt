@@ -44,10 +44,7 @@ fn lines_of<I>(alloc: Global, reported: Vec<LineBelow<I>>) -> Result<Vec<Line>, 
 {
     let mut lines = Vec::new(alloc);
     for below in reported {
-        match lines.push(below.line) {
-            Ok(()) => {}
-            Err(_) => return Err(NoMemory),
-        }
+        lines.push(below.line)?;
     }
     Ok(lines)
 }
@@ -59,13 +56,8 @@ fn read_below<I: IdsEnd>(
 ) -> Result<Vec<Line>, ScriptFault>
     ensures { ReadsLines (item_forms I.below) row_of limit bytes.now result }
 {
-    match read_lines::<LineBelow<I>>(alloc, bytes, limit) {
-        Ok(reported) => match lines_of(alloc, reported) {
-            Ok(lines) => Ok(lines),
-            Err(_) => Err(ScriptFault::NoMemory),
-        },
-        Err(fault) => Err(fault),
-    }
+    let reported = read_lines::<LineBelow<I>>(alloc, bytes, limit)?;
+    lines_of(alloc, reported).map_err(|_| ScriptFault::NoMemory)
 }
 
 /// Reads the lines of a script on numbered items.

@@ -1,9 +1,11 @@
 // A session, which carries out lines one by one.
 ghost use Rattle.std.specs.Prelude.{◌≡◌, ◌⊎◌, true, None, IfOk, IfErr, OnErr, OnOk};
+ghost use Rattle.flash_map.specs.Area.{geometry_of};
 ghost use Rattle.item_store.specs.Standing.{IsStoreArea};
 ghost use Rattle.item_session.specs.declared.line.Line.TheVariants.{Mount};
 ghost use Rattle.item_session.specs.Device.{IsServedOn, TakesValues};
 ghost use Rattle.item_session.specs.LineDone.{LineDone};
+ghost use Rattle.item_session.specs.Owing.{OwesOn, ReportsOwed, boot_units};
 ghost use Rattle.item_session.specs.Running.{MountStops, WantsMemory};
 ghost use Rattle.item_session.specs.Standing.{IsMounted, IsReady, IsSound, damage_on};
 
@@ -30,7 +32,8 @@ pub struct ItemSession<T> {
 
 impl<T: SlotSectors> ItemSession<T> {
     /// Turns power on, and mounts the store of an area. It returns the session with the answer to
-    /// that mount. A mount of an area at rest spends nothing.
+    /// that mount. A mount spends at most what the area owes, and at rest nothing. An area without
+    /// damage owes at most `boot_units` afterwards.
     ///
     /// # Errors
     /// `Damaged` with the damage that the area shows; `NoMemory`. After either the bench is as
@@ -51,6 +54,12 @@ impl<T: SlotSectors> ItemSession<T> {
             (λ opened. IsReady T.role T.format_of T.kept (B.device bench.new) opened.0) }
         ensures area { IfOk result (λ opened. opened.0.area ≡ area.now) }
         ensures before { OnOk result (damage_on T.format_of (B.device bench.old) area.now ≡ None) }
+        ensures boots { let d = B.device bench.old in
+            IfOk result (λ opened. ReportsOwed T.format_of area.now d opened.1) }
+        ensures left { let d = B.device bench.old in let area = area.now in
+            damage_on T.format_of d area ≡ None
+            → OwesOn T.format_of (B.device bench.new) area
+            (boot_units T.format_of (geometry_of d area)) }
         ensures stops { IfErr result
             (MountStops T.format_of area.now (B.device bench.old) (B.device bench.new)) }
     {
@@ -67,7 +76,8 @@ impl<T: SlotSectors> ItemSession<T> {
     }
 
     /// Carries out a line. With power off, `set`, `del`, `get`, `older` and `space` answer `off`. A
-    /// mount of an area at rest spends nothing.
+    /// mount spends at most what the area owes, and at rest nothing. After any line the area owes
+    /// at most `boot_units`.
     ///
     /// # Errors
     /// `NoMemory`, for the bytes that `get` or `older` reports, or for what a mount keeps of the
@@ -90,6 +100,11 @@ impl<T: SlotSectors> ItemSession<T> {
             (IsReady T.role T.format_of T.kept (B.device bench.new) self.new) }
         ensures area { self.new.area ≡ self.old.area }
         ensures undamaged { damage_on T.format_of (B.device bench.new) self.old.area ≡ None }
+        ensures boots { let d = B.device bench.old in
+            line.now ≡ Mount
+            → IfOk result (λ answer. ReportsOwed T.format_of self.old.area d answer) }
+        ensures left { let area = self.old.area in OwesOn T.format_of (B.device bench.new) area
+            (boot_units T.format_of (geometry_of (B.device bench.old) area)) }
         ensures wants { OnErr result (WantsMemory T.format_of self.old.area line.now
             (B.device bench.old) (B.device bench.new)) }
     {

@@ -3,6 +3,7 @@ mod FoldLemmas
 pub mod HistoryLemmas
 mod LineLemmas
 mod MountLemmas
+pub mod OwesLemmas
 mod PutLemmas
 mod ReachLemmas
 mod RunLemmas

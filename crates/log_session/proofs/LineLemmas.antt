@@ -19,7 +19,7 @@ use Rattle.script_lines.specs.Plan.Replan.{keeps}
 use Rattle.log_session.specs.declared.line.Line.{Line}
 use Rattle.log_session.specs.declared.line.Line.TheVariants.{Put, Records, Cut, Uncut, Mount}
 use Rattle.log_session.specs.declared.answer.Answer.{Answer}
-use Rattle.log_session.specs.declared.answer.Answer.TheVariants.{Done, Log, Lost, Off}
+use Rattle.log_session.specs.declared.answer.Answer.TheVariants.{Done, Log, Lost}
 use Rattle.log_session.specs.Plan.{units_of, is_lost, replan}
 use Rattle.session_table.specs.Bench.{Keeps}
 use Rattle.log_session.specs.LineDone.{LineDone, MountsBy, PutsBy, ReportsChance, powered_for, state_of, turned_on}
@@ -73,14 +73,8 @@ quiet area d line answer step same stays lasts units puts no_mount reported = re
   reports = λ is. refl;
   plans = λ other. absurd (other stays);
   chance = reported;
+  left = λ most one owes. owes;
 }
-
--- with power off
-pub put_off : (area : Area) (d : Device) (body : List ℕ) → d.is_on ≡ false → LineDone area (Put body) Off d d
-put_off area d body dark = quiet area d (Put body) Off (λ last. (refl, dark, refl)) refl refl refl refl tt (put_no_mount body) tt
-
-pub records_off : (area : Area) (d : Device) → d.is_on ≡ false → LineDone area Records Off d d
-records_off area d dark = quiet area d Records Off (λ last. (refl, dark, refl)) refl refl refl refl tt records_no_mount tt
 
 -- all records are reported
 pub reported : (area : Area) (d : Device) (bodies : List (List ℕ)) → d.is_on ≡ true → bodies ≡ log_on d area → LineDone area Records (Log bodies) d d
@@ -99,9 +93,6 @@ wants_if_err (Err e) line d is on = (is, on)
 
 same_spent : (spent : ℕ) → spent + 0 ≡ spent
 same_spent spent = omega arith
-
-same_losses : (losses : ℕ) → losses ≡ losses + 0
-same_losses losses = omega arith
 
 pub no_keeping : (units : ℕ) → replan (Cut units) ≡ keeps → ⊥
 no_keeping units is = cc
@@ -143,6 +134,7 @@ planned area old new units is =
       reports = λ is. absurd (cut_no_records units is);
       plans = λ other. refl;
       chance = tt;
+      left = λ most one owes. owes;
     }
 
 pub unplanned : (area : Area) (old new : Device) → new ≡ record old { plan = dropped old.plan } → LineDone area Uncut (Done 0) old new
@@ -164,6 +156,7 @@ unplanned area old new is =
       reports = λ is. absurd (uncut_no_records is);
       plans = λ other. refl;
       chance = tt;
+      left = λ most one owes. owes;
     }
 
 -- ---- mounts
@@ -182,7 +175,8 @@ idle_spends mid new units are same =
 not_idle : {A : Type 0} (mid new : Device) → mid.is_on ≡ true → new.is_on ≡ false → new ≡ mid → A
 not_idle mid new on off same = absurd (false≢true (sym off ∙ ap (λ (d : Device). d.is_on) same ∙ on))
 
-module _ (area : Area) (old mid new : Device) (on : mid ≡ turned_on old) (none : ring_damage mid area ≡ None) (keeps : KeepsItems mid new area) (idle : erases_on old area ≡ 0 → new ≡ mid) where
+module _ (area : Area) (old mid new : Device) (on : mid ≡ turned_on old) (none : ring_damage mid area ≡ None) (keeps : KeepsItems mid new area) (idle : erases_on old area ≡ 0 → new ≡ mid)
+    (left : erases_on new area ≤ erases_on mid area) where
   -- as the bench was before power was turned on
   by_mount : (answer : Answer) → units_of answer ≤ erases_on mid area → (is_lost answer ≡ false → IsCounted new.spent → units_of answer ≡ erases_on mid area) → (new ≡ mid → answer ≡ Done 0) → MountsBy area answer old new
   by_mount answer most all spends_none = let here = subst (λ (d : Device). KeepsItems d new area) on keeps in record {
@@ -190,6 +184,7 @@ module _ (area : Area) (old mid new : Device) (on : mid ≡ turned_on old) (none
     at_most = subst (λ (d : Device). units_of answer ≤ erases_on d area) on most;
     all = λ whole counts. all whole counts ∙ ap (λ (d : Device). erases_on d area) on;
     items = record { undamaged = here.undamaged; items = here.items; filled = here.filled };
+    left = subst (λ (d : Device). erases_on new area ≤ erases_on d area) on left;
     rests = λ rest. (spends_none (idle rest), idle rest ∙ on);
   }
 
@@ -209,6 +204,7 @@ module _ (area : Area) (old mid new : Device) (on : mid ≡ turned_on old) (none
         reports = λ is. absurd (mount_no_records is);
         plans = λ other. absurd (other refl);
         chance = tt;
+        left = λ most one owes. let less = mounts.left in omega arith;
       }
 
   mount_cut : (units : ℕ) → units ≡ new.spent - old.spent → Touches (area ∷ []) (turned_on old) new true → MountsBy area (Lost units false) old new → LineDone area Mount (Lost units false) old new
@@ -224,6 +220,7 @@ module _ (area : Area) (old mid new : Device) (on : mid ≡ turned_on old) (none
         reports = λ is. absurd (mount_no_records is);
         plans = λ other. absurd (other refl);
         chance = tt;
+        left = λ most one owes. let less = mounts.left in omega arith;
       }
 
   pub mount_done : (units : ℕ) → units ≡ new.spent - mid.spent → Spends mid new (erases_on mid area) → Touches (area ∷ []) mid new false → LineDone area Mount (Done units) old new

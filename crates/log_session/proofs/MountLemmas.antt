@@ -1,5 +1,5 @@
 -- A mount as a line, as the code has it.
-use Rattle.std.proofs.Common.{◌≡◌, ℕ, ◌-◌, true, false, [], ◌∷◌, Option, None, Some, Result, Ok, Err, ap, subst, ◌∙◌}
+use Rattle.std.proofs.Common.{◌≡◌, ℕ, ◌-◌, ◌≤◌, true, false, [], ◌∷◌, Option, None, Some, Result, Ok, Err, ap, subst, ◌∙◌}
 use Rattle.flash_sim.specs.Device.{Device}
 use Rattle.flash_map.specs.declared.area.Area.{Area}
 use Rattle.flash_map.specs.declared.faults.Damaged.{Damaged}
@@ -22,7 +22,7 @@ idle_mount area given old mid new on same idle rests =
     idle (ap (λ (d : Device). erases_on d given) on ∙ ap (λ (a : Area). erases_on old a) same ∙ rests)
 
 module _ (area given : Area) (old mid new : Device) (on : mid ≡ turned_on old) (same : given ≡ area) (r : Result EventLog MountFault)
-    (touches : Touches (given ∷ []) mid new (mount_lost r)) (ends : LogMounts mid new given r) where
+    (touches : Touches (given ∷ []) mid new (mount_lost r)) (ends : LogMounts mid new given r) (left : erases_on new given ≤ erases_on mid given) where
   ended : (x : Result EventLog MountFault) → r ≡ x → LogMounts mid new area x
   ended x is =
       subst (λ (a : Area). LogMounts mid new a x) same
@@ -36,6 +36,9 @@ module _ (area given : Area) (old mid new : Device) (on : mid ≡ turned_on old)
   was : {o : Option Damaged} → ring_damage mid area ≡ o → ring_damage old area ≡ o
   was {o} is = subst (λ (d : Device). ring_damage d area ≡ o) on is
 
+  less : erases_on new area ≤ erases_on mid area
+  less = subst (λ (a : Area). erases_on new a ≤ erases_on mid a) same left
+
   powered : mid.is_on ≡ true
   powered = ap (λ (d : Device). d.is_on) on
 
@@ -43,7 +46,7 @@ module _ (area given : Area) (old mid new : Device) (on : mid ≡ turned_on old)
 
   module _ (log : EventLog) (whole : r ≡ Ok log) where
     pub whole_line : (units : ℕ) → units ≡ new.spent - mid.spent → (erases_on old area ≡ 0 → new ≡ mid) → LineDone area Mount (Done units) old new
-    whole_line units spent idle = let e = ended (Ok log) whole in mount_done area old mid new on e.0 e.3 idle units spent e.4 (touched (Ok log) whole)
+    whole_line units spent idle = let e = ended (Ok log) whole in mount_done area old mid new on e.0 e.3 idle less units spent e.4 (touched (Ok log) whole)
 
     pub whole_mounted : IsMounted new area (Some log)
     whole_mounted = let e = ended (Ok log) whole in (e.2, λ now. e.1)
@@ -58,7 +61,7 @@ module _ (area given : Area) (old mid new : Device) (on : mid ≡ turned_on old)
 
   module _ (lost : r ≡ Err PowerLost) where
     pub lost_line : (units : ℕ) → units ≡ new.spent - mid.spent → (erases_on old area ≡ 0 → new ≡ mid) → LineDone area Mount (Lost units false) old new
-    lost_line units spent idle = let e = ended (Err PowerLost) lost in mount_cut area old mid new on e.0 e.1 idle units spent e.2 (touched (Err PowerLost) lost)
+    lost_line units spent idle = let e = ended (Err PowerLost) lost in mount_cut area old mid new on e.0 e.1 idle less units spent e.2 (touched (Err PowerLost) lost)
 
     pub lost_off : new.is_on ≡ false
     lost_off = let cut = touched (Err PowerLost) lost in (cut.ends powered).off

@@ -14,7 +14,7 @@ use Rattle.flash_map.specs.Touches.{Touches}
 use Rattle.fcb_ring.specs.declared.ring.Ring.{Ring}
 use Rattle.fcb_ring.specs.Chance.{chance_on}
 use Rattle.fcb_ring.specs.Changing.{stays_for}
-use Rattle.fcb_ring.specs.Standing.{ring_damage}
+use Rattle.fcb_ring.specs.Standing.{erases_on, ring_damage}
 use Rattle.fcb_ring.specs.Writing.{record_cost}
 use Rattle.event_ring.specs.declared.appending.LogFault.{LogFault}
 use Rattle.event_ring.specs.declared.appending.LogFault.TheVariants.{TooLong, PowerLost}
@@ -108,9 +108,9 @@ module _ (ring after : Ring) (body : List ℕ) (old new : Device) (on : old.is_o
   on_ring : (end : Result ℕ LogFault) → LogAppends old new ring after body end → AppendsOn ring.area body end old new
   on_ring end ends = record { before = ring; after = after; is_open = stands; same_area = refl; ends = ends }
 
-  pub put_done : (dropped units : ℕ) → units ≡ new.spent - old.spent → Touches (ring.area ∷ []) old new false → LogAppends old new ring after body (Ok dropped)
+  pub put_done : (dropped units : ℕ) → units ≡ new.spent - old.spent → Touches (ring.area ∷ []) old new false → LogAppends old new ring after body (Ok dropped) → erases_on new ring.area ≤ 1
       → LineDone ring.area (Put body) (Appended units dropped) old new
-  put_done dropped units are touches ends =
+  put_done dropped units are touches ends left =
       let adds = ends.1 in
       let geometry : Geometry = geometry_of old ring.area in
       let all = put_units old ring body in
@@ -138,11 +138,12 @@ module _ (ring after : Ring) (body : List ℕ) (old new : Device) (on : old.is_o
         reports = λ is. absurd (put_no_records body is);
         plans = λ other. absurd (other refl);
         chance = tt;
+        left = λ most one owes. omega arith;
       }
 
-  pub put_lost : (units : ℕ) (chance : Bool) → units ≡ new.spent - old.spent → Touches (ring.area ∷ []) old new true → (ends : LogAppends old new ring after body (Err PowerLost)) → chance ≡ chance_on new ring.area (ends.1.cut on).loss
+  pub put_lost : (units : ℕ) (chance : Bool) → units ≡ new.spent - old.spent → Touches (ring.area ∷ []) old new true → (ends : LogAppends old new ring after body (Err PowerLost)) → chance ≡ chance_on new ring.area (ends.1.cut on).loss → erases_on new ring.area ≤ 1
       → LineDone ring.area (Put body) (Lost units chance) old new
-  put_lost units chance are touches ends spells =
+  put_lost units chance are touches ends spells left =
       let loses = ends.1 in
       let geometry : Geometry = geometry_of old ring.area in
       let cut = loses.cut on in
@@ -171,6 +172,7 @@ module _ (ring after : Ring) (body : List ℕ) (old new : Device) (on : old.is_o
         reports = λ is. absurd (put_no_records body is);
         plans = λ other. absurd (other refl);
         chance = record { loss = cut.loss; last = cut.last; is = spells };
+        left = λ most one owes. omega arith;
       }
 
 -- ---- as the code has it
@@ -189,10 +191,10 @@ module _ (area : Area) (ring after : Ring) (bytes body : List ℕ) (old new : De
   touched : (x : Result ℕ LogFault) → r ≡ x → Touches (ring.area ∷ []) old new (lost_in x)
   touched x is = subst (λ (y : Result ℕ LogFault). Touches (ring.area ∷ []) old new (lost_in y)) is touches
 
-  pub done_line : (dropped units : ℕ) → r ≡ Ok dropped → units ≡ new.spent - old.spent → LineDone area (Put body) (Appended units dropped) old new
-  done_line dropped units is spent =
+  pub done_line : (dropped units : ℕ) → r ≡ Ok dropped → units ≡ new.spent - old.spent → erases_on new ring.area ≤ 1 → LineDone area (Put body) (Appended units dropped) old new
+  done_line dropped units is spent left =
       let adds = ended (Ok dropped) is in
-      subst (λ (a : Area). LineDone a (Put body) (Appended units dropped) old new) same (put_done ring after body old new on stands dropped units spent (touched (Ok dropped) is) adds)
+      subst (λ (a : Area). LineDone a (Put body) (Appended units dropped) old new) same (put_done ring after body old new on stands dropped units spent (touched (Ok dropped) is) adds left)
 
   pub done_sound : (dropped : ℕ) → r ≡ Ok dropped → ring_damage new area ≡ None
   done_sound dropped is =
@@ -202,13 +204,13 @@ module _ (area : Area) (ring after : Ring) (bytes body : List ℕ) (old new : De
   pub done_open : (dropped : ℕ) → r ≡ Ok dropped → IsOpen new after
   done_open dropped is = let adds = ended (Ok dropped) is in adds.1.is_open
 
-  pub lost_line : (units : ℕ) (chance : Bool) → r ≡ Err PowerLost → units ≡ new.spent - old.spent → ((loss : Loss) → new.last_loss ≡ Some loss → chance ≡ chance_on new area loss) → LineDone area (Put body) (Lost units chance) old new
-  lost_line units chance is spent spells =
+  pub lost_line : (units : ℕ) (chance : Bool) → r ≡ Err PowerLost → units ≡ new.spent - old.spent → ((loss : Loss) → new.last_loss ≡ Some loss → chance ≡ chance_on new area loss) → erases_on new ring.area ≤ 1 → LineDone area (Put body) (Lost units chance) old new
+  lost_line units chance is spent spells left =
       let loses = ended (Err PowerLost) is in
       let cut = loses.1.cut on in
       subst (λ (a : Area). LineDone a (Put body) (Lost units chance) old new) same
       (put_lost ring after body old new on stands units chance spent (touched (Err PowerLost) is) loses
-      (spells cut.loss cut.last ∙ ap (λ (a : Area). chance_on new a cut.loss) (sym same)))
+      (spells cut.loss cut.last ∙ ap (λ (a : Area). chance_on new a cut.loss) (sym same)) left)
 
   pub lost_sound : r ≡ Err PowerLost → ring_damage new area ≡ None
   lost_sound is =

@@ -17,6 +17,7 @@ use Rattle.log_session.specs.declared.answer.Answer.{Answer}
 use Rattle.log_session.specs.declared.answer.Answer.TheVariants.{Appended}
 use Rattle.log_session.specs.History.{IsAfterDrops, PowerStep}
 use Rattle.log_session.specs.LineDone.{IsServed, LineDone, Runs}
+use Rattle.log_session.specs.Owing.{OwesOn}
 use Rattle.log_session.specs.Step.{State, Step}
 use Rattle.log_session.specs.Stored.{DropsForRoom, IsBlankOn}
 
@@ -77,3 +78,9 @@ BlankDropsForRoom =
     (area : Area) (lines : List Line) (answers : List Answer) (old new : Device)
     → IsLawful old.banks old.bytes → IsRingArea old.banks area → IsBlankOn old area
     → Follows (LineDone area) lines answers old new → DropsForRoom area lines answers old new
+
+-- a mount of a blank area spends nothing
+abbrev pub BlankOwesNothing : Type 0
+BlankOwesNothing =
+    (d : Device) (area : Area) → IsLawful d.banks d.bytes → IsRingArea d.banks area → IsBlankOn d area
+    → OwesOn d area 0

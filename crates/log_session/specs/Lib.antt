@@ -4,6 +4,7 @@ pub mod Laws
 pub mod Line
 pub mod LineDone
 pub mod LineLaws
+pub mod Owing
 pub mod Plan
 pub mod Running
 pub mod Standing

@@ -20,6 +20,7 @@ use Rattle.log_session.specs.declared.line.Line.{Line}
 use Rattle.log_session.specs.declared.line.Line.TheVariants.{Put, Records, Mount}
 use Rattle.log_session.specs.declared.answer.Answer.{Answer}
 use Rattle.log_session.specs.declared.answer.Answer.TheVariants.{Appended, Done, Lost}
+use Rattle.log_session.specs.Owing.{OwesUpTo, boot_units}
 use Rattle.log_session.specs.Plan.{units_of, is_lost, units_in, losses_in, replan, Allows, plan_after, Planned, plan_through, PlansNoLoss}
 use Rattle.session_table.specs.Rules.{IsCounted}
 use Rattle.log_session.specs.Step.{State, Step}
@@ -74,12 +75,14 @@ PutsBy area (Put body) (Lost units chance) old new = AppendsOn area body (Err Po
 PutsBy area line answer old new = ⊤
 
 -- An area that shows no damage is mounted: the erases that are due are carried out, some or all of
--- them if power is lost, and all items stay, the torn ones too. At rest nothing is done.
+-- them if power is lost, and all items stay, the torn ones too. No more erases are due than before. At
+-- rest nothing is done.
 pub record MountsBy (area : Area) (answer : Answer) (old new : Device) : Type 0 where
   pub undamaged : ring_damage old area ≡ None
   pub at_most : units_of answer ≤ erases_on old area
   pub all : is_lost answer ≡ false → IsCounted new.spent → units_of answer ≡ erases_on old area
   pub items : KeepsItems old new area
+  pub left : erases_on new area ≤ erases_on old area
   pub rests : erases_on old area ≡ 0 → (answer ≡ Done 0) × (new ≡ turned_on old)
 
 -- the plan alone may differ
@@ -88,7 +91,8 @@ SameButPlan old new = new ≡ record old { plan = new.plan }
 
 -- A line was carried out by the table. Except for the plan, the bench was touched in the area
 -- alone: a power loss lies in it, and without a unit no byte changed. A line on the plan changes
--- nothing else, and one that lists the records changes nothing.
+-- nothing else, and one that lists the records changes nothing. A line leaves to the next mount no more
+-- than before, or at most one erase.
 pub record LineDone (area : Area) (line : Line) (answer : Answer) (old new : Device) : Type 0 where
   pub step : (last : ℕ) → new.spent ≤ last
       → Step (geometry_of old area) last line answer (state_of area old) (state_of area new)
@@ -100,6 +104,7 @@ pub record LineDone (area : Area) (line : Line) (answer : Answer) (old new : Dev
   pub reports : line ≡ Records → new ≡ old
   pub plans : (replan line ≡ keeps_plan → ⊥) → SameButPlan old new
   pub chance : ReportsChance area line answer new
+  pub left : OwesUpTo boot_units area old new
 
 -- only a loss in the last line says so
 abbrev pub ReportsLastChance : Area → List Line → List Answer → Device → Type 0

@@ -5,10 +5,12 @@ ghost use Rattle.hex.specs.Hex.{encode_lower};
 ghost use Rattle.script_lines.specs.Answer.{dashed, lines_text};
 ghost use Rattle.log_session.specs.Answer.{record_line, text_of};
 
-use crate::bodies::Bodies;
 use flash_sim::NoMemory;
-use script_lines::Bytes;
+use script_lines::{Bytes, ListOf};
 use std::alloc::{AllocError, Global};
+
+/// The bodies of records, in order.
+pub type Bodies = ListOf<Bytes>;
 
 /// The answer to a line.
 #[derive(Debug, Drop)]
@@ -26,6 +28,9 @@ pub enum Answer {
     /// Power is off.
     Off,
 }
+
+/// The answers to lines.
+pub type Answers = ListOf<Answer>;
 
 // Appends a byte string.
 fn add(text: &mut Vec<u8>, bytes: &[u8]) -> Result<(), AllocError>
@@ -102,8 +107,5 @@ fn written(alloc: Global, answer: &Answer) -> Result<Vec<u8>, AllocError>
 pub fn answer_text(alloc: Global, answer: &Answer) -> Result<Vec<u8>, NoMemory>
     ensures { IfOk result (λ text. text.items ≡ text_of answer.now) }
 {
-    match written(alloc, answer) {
-        Ok(text) => Ok(text),
-        Err(_) => Err(NoMemory),
-    }
+    Ok(written(alloc, answer)?)
 }

@@ -1,5 +1,5 @@
 // Laws of the table. The functions do nothing: their contracts are the laws.
-ghost use Rattle.log_session.specs.Laws.{BlankDropsForRoom, DropsWhereFull, HoldsAcknowledged, LinesAreServed, LinesMakeRuns, LosesPower, RunsInRow, RunsReach};
+ghost use Rattle.log_session.specs.Laws.{BlankDropsForRoom, BlankOwesNothing, DropsWhereFull, HoldsAcknowledged, LinesAreServed, LinesMakeRuns, LosesPower, RunsInRow, RunsReach};
 
 /// Wherever power is lost, the log is the first log followed by the records that appends left,
 /// without the oldest ones, which were dropped. Each acknowledged append left its record. Each
@@ -47,4 +47,10 @@ pub fn lines_drop_where_full()
 /// appends, and an oldest sector in which no record checks.
 pub fn items_drop_where_full()
     ensures { BlankDropsForRoom }
+{}
+
+/// A mount of a blank area spends nothing. So from a blank area on, no mount of a script reports
+/// more than one erase (`run_lines`: `boots`).
+pub fn blank_owes_nothing()
+    ensures { BlankOwesNothing }
 {}

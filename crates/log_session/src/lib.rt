@@ -3,9 +3,7 @@
 #![tactic(auto)]
 
 mod answer;
-mod answers;
 mod appending;
-mod bodies;
 mod fault;
 mod laws;
 mod line;
@@ -18,13 +16,11 @@ mod running;
 mod script;
 mod session;
 
-pub use answer::{Answer, answer_text};
-pub use answers::Answers;
-pub use bodies::Bodies;
+pub use answer::{Answer, Answers, Bodies, answer_text};
 pub use fault::SessionFault;
 pub use laws::{
-    acknowledged_records_stand, items_drop_where_full, line_by_line, lines_drop_where_full,
-    lines_fit, power_follows_losses, runs_reach, two_runs,
+    acknowledged_records_stand, blank_owes_nothing, items_drop_where_full, line_by_line,
+    lines_drop_where_full, lines_fit, power_follows_losses, runs_reach, two_runs,
 };
 pub use line::Line;
 pub use plan::{is_lost, units_of};

@@ -5,24 +5,13 @@ ghost use Rattle.event_ring.specs.Standing.{IsOpen};
 ghost use Rattle.log_session.specs.declared.line.Line.TheVariants.{Records};
 ghost use Rattle.log_session.specs.LineDone.{LineDone};
 
-use crate::answer::Answer;
-use crate::bodies::Bodies;
+use crate::answer::{Answer, Bodies};
 use event_ring::EventLog;
 use flash_map::Area;
 use flash_sim::{Bench, Flash, NoMemory, Steps};
-use script_lines::Bytes;
+use script_lines::copied;
 use std::alloc::Global;
 use std::sync::ledger::Ledger;
-
-// A copy of bytes.
-fn copied(alloc: Global, bytes: &[u8]) -> Result<Bytes, NoMemory>
-    ensures { IfOk result (λ copy. copy ≡ bytes.now) }
-{
-    match Vec::from_slice(alloc, bytes) {
-        Ok(items) => Ok(Bytes::from_vec(items)),
-        Err(_) => Err(NoMemory),
-    }
-}
 
 // The bodies of all records, the oldest first.
 fn bodies_of<F: Flash, L: Ledger>(

@@ -5,6 +5,7 @@ ghost use Rattle.flash_map.specs.Area.{value_limit};
 ghost use Rattle.log_session.specs.declared.answer.Answer.TheVariants.{Done};
 ghost use Rattle.log_session.specs.declared.line.Line.TheVariants.{Put, Mount, Records};
 ghost use Rattle.log_session.specs.LineDone.{IsServed, LineDone};
+ghost use Rattle.log_session.specs.Owing.{OwesUpTo, ReportsOwed, boot_units};
 ghost use Rattle.log_session.specs.Standing.{IsMounted, IsReady, IsSound, ShowsDamage};
 
 use crate::answer::Answer;
@@ -30,7 +31,8 @@ pub struct LogSession {
 
 impl LogSession {
     /// Turns power on, and mounts the log of an area. It returns the session with the answer to
-    /// that mount. A mount of an area at rest spends nothing. It takes no memory.
+    /// that mount. A mount spends at most what the area owes, and leaves no more to the next one.
+    /// At rest it spends nothing. It takes no memory.
     ///
     /// # Errors
     /// The damage that the area shows; the bench is then as before, except that power is on.
@@ -48,6 +50,9 @@ impl LogSession {
         ensures before { OnOk result (ring_damage (B.device bench.old) area.now ≡ None) }
         ensures rests { erases_on (B.device bench.old) area.now ≡ 0
             → IfOk result (λ opened. opened.1 ≡ Done 0) }
+        ensures boots { let d = B.device bench.old in
+            IfOk result (λ opened. ReportsOwed area.now d opened.1) }
+        ensures left { OwesUpTo 0 area.now (B.device bench.old) (B.device bench.new) }
         ensures damaged { IfErr result (λ damaged.
             ShowsDamage area.now (B.device bench.old) (B.device bench.new) damaged) }
     {
@@ -63,8 +68,9 @@ impl LogSession {
         }
     }
 
-    /// Carries out a line. With power off, `put` and `all` answer `off`. A mount of an area at rest
-    /// spends nothing.
+    /// Carries out a line. With power off, `put` and `all` answer `off`. A mount spends at most
+    /// what the area owes, and at rest nothing. After any line the area owes no more than before,
+    /// or at most `boot_units`.
     ///
     /// # Errors
     /// `NoMemory`, only if the line is `all` and power is on; nothing changed then, and the
@@ -85,6 +91,9 @@ impl LogSession {
         ensures area { self.new.area ≡ self.old.area }
         ensures rests { line.now ≡ Mount → erases_on (B.device bench.old) self.old.area ≡ 0
             → IfOk result (λ answer. answer ≡ Done 0) }
+        ensures boots { let d = B.device bench.old in
+            line.now ≡ Mount → IfOk result (λ answer. ReportsOwed self.old.area d answer) }
+        ensures left { OwesUpTo boot_units self.old.area (B.device bench.old) (B.device bench.new) }
         ensures same { OnErr result (B.device bench.new ≡ B.device bench.old) }
         ensures memory { OnErr result ((line.now ≡ Records) × ((B.device bench.old).is_on ≡ true)) }
     {

@@ -1,5 +1,6 @@
 -- A blank area in the place of another, as a line.
 use Rattle.std.proofs.Common.{◌≡◌, inl, inr, ℕ, zero, suc, ◌+◌, ◌*◌, ◌<◌, ◌≤◌, ◌==◌, ◌&&◌, Bool, true, List, [], ◌∷◌, length, get_or, take, drop, replicate, refl, sym, ap, subst, ◌∙◌, arith}
+use Rattle.std.specs.Prelude.{Contains}
 use Rattle.std.specs.List.{list_all}
 use Rattle.std.proofs.Math.Nat.{mul-le-mul_left}
 use Rattle.std.proofs.lemmas.Bool.{cases_eq, and_parts}
@@ -16,6 +17,15 @@ use Rattle.flash_map.proofs.ErasedBytes.{erased_from}
 use Rattle.flash_map.proofs.OneCall.{IsWithin, outside_put}
 use Rattle.flash_map.proofs.Sectors.{length-overwritten, range-overwritten}
 use Rattle.mirror_session.specs.LineDone.{blanked}
+
+-- ---- one area
+
+in_one : (P : Area → Type 0) (one x : Area) (k : ℕ) → k < 1 → get_or (one ∷ []) k x ≡ x → P one → P x
+in_one P one x zero below is first = subst P is first
+in_one P one x (suc k) below is first = absurd (omega arith)
+
+pub of_one : (P : Area → Type 0) (one : Area) → P one → (x : Area) → Contains (one ∷ []) x → P x
+of_one P one first x there = in_one P one x there.0 there.1 there.2 first
 
 -- ---- bytes
 

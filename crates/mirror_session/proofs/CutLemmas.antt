@@ -25,7 +25,7 @@ use Rattle.mirror_session.specs.State.{trusted_of}
 use Rattle.mirror_session.specs.Step.{StopsMounting}
 use Rattle.mirror_session.proofs.MountLemmas.{trusted_stores, trusted_there}
 use Rattle.mirror_session.proofs.PlaceLemmas.{map_kept, trusted_of_is}
-use Rattle.mirror_session.proofs.ReplaceLemmas.{of_one}
+use Rattle.mirror_session.proofs.BlankLemmas.{of_one}
 use Rattle.mirror_session.proofs.SelectorLemmas.{same_beyond}
 use Rattle.mirror_session.proofs.SoundLemmas.{none_shown, trusted_none}
 

@@ -1,4 +1,4 @@
--- Lines one after another, behind the mount that opens a session.
+-- Lines one after another, after the mount that opens a session.
 use Rattle.std.proofs.Common.{◌≡◌, ℕ, ◌+◌, ◌<◌, ◌≤◌, Bool, false, List, [], ◌∷◌, ◌++◌, length, take, drop, get_or, inl, inr, Option, refl, sym, ap, subst, ◌∙◌, arith}
 use Rattle.std.specs.Prelude.{is_some}
 use Rattle.std.proofs.lemmas.List.{take_more, take_all, take-append-drop, drop_more}
@@ -47,12 +47,12 @@ module _ (m : Meanings) (areas : List Area) where
   )
 
   -- the opening mount stopped
-  pub stops_first : (lines : List Line) (first now : Device) (fault : SessionFault) → LineStops m areas Mount first now fault → RunStops m areas (Mount ∷ lines) (moment first false) now fault
+  pub stops_first : (lines : List Line) (first now : Device) (fault : SessionFault) → LineStops m areas Mount (moment first false) now fault → RunStops m areas (Mount ∷ lines) (moment first false) now fault
   stops_first lines first now fault stops = stopped m areas (Mount ∷ lines) [] (Mount ∷ lines) [] (moment first false) (moment first false) now fault refl refl (inr stops)
 
-  -- a line behind the first ones stopped
+  -- a line after the first ones stopped
   pub stops_at : (lines : List Line) (i : ℕ) (line : Line) (answers : List Answer) (first mid now : Device) (whole : Bool) (fault : SessionFault) → i < length lines → line ≡ get_or lines i line
-      → RanTo lines i answers first mid whole → LineStops m areas line mid now fault → RunStops m areas (Mount ∷ lines) (moment first false) now fault
+      → RanTo lines i answers first mid whole → LineStops m areas line (moment mid whole) now fault → RunStops m areas (Mount ∷ lines) (moment first false) now fault
   stops_at lines i line answers first mid now whole fault below is so_far stops =
       stopped m areas (Mount ∷ lines) (Mount ∷ take i lines) (line ∷ drop (i + 1) lines) answers (moment first false) (moment mid whole) now fault
       (ap (λ (l : List Line). Mount ∷ l) (sym (take-append-drop i lines) ∙ ap (λ (l : List Line). take i lines ++ l) (drop_more lines i line below ∙ ap (λ (x : Line). x ∷ drop (i + 1) lines) (sym is))))

@@ -31,7 +31,7 @@ use Rattle.mirror_session.specs.LineDone.{FitNow, FitsBoth}
 use Rattle.mirror_session.specs.Standing.{AtRest, IsHeld, IsReady, RestsNow}
 use Rattle.mirror_session.proofs.PlaceLemmas.{beside_some, first_stores, other_is, reads_either, store_at, trusted_of_is}
 
-side_rests : {S : Type 0} (mounted_on : S → Area) (stands : S → Geometry → List (List ℕ) → Type 0) (d : Device) (side : Side S) (rests : Area → Geometry → List (List ℕ) → Type 0)
+pub side_rests : {S : Type 0} (mounted_on : S → Area) (stands : S → Geometry → List (List ℕ) → Type 0) (d : Device) (side : Side S) (rests : Area → Geometry → List (List ℕ) → Type 0)
     → ((state : S) (geometry : Geometry) (sectors : List (List ℕ)) → stands state geometry sectors → rests (mounted_on state) geometry sectors) → SideStands mounted_on stands d side → HoldsOn rests d side.area
 side_rests mounted_on stands d side rests law up =
     subst (λ (a : Area). HoldsOn rests d a) up.here (law side.store (geometry_of d (mounted_on side.store)) (sectors_of d (mounted_on side.store)) up.up)
@@ -74,7 +74,7 @@ module _ {S : Type 0} (mounted_on : S → Area) (stands : S → Geometry → Lis
   some_same x y e = cc
 
   -- what holds of the two areas of the mirror holds of both of the map
-  of_both : (P : Area → Type 0) → P mirror.trusted.area → P mirror.other.area → (place : ℕ) (area : Area) → slice_get areas place ≡ Some area → is_store area ≡ true → P area
+  pub of_both : (P : Area → Type 0) → P mirror.trusted.area → P mirror.other.area → (place : ℕ) (area : Area) → slice_get areas place ≡ Some area → is_store area ≡ true → P area
   of_both P one two place area there store = elim (cases_eq place mirror.trusted.place) [
     | inl same ↦ subst P (some_same mirror.trusted.area area (sym held.trusted.there ∙ ap (slice_get areas) (sym same) ∙ there)) one
     | inr differ ↦

@@ -1,5 +1,6 @@
 mod AccountLemmas
 mod BlankLemmas
+mod BlankOwes
 mod ChangeLemmas
 mod CommandLines
 mod CutLemmas
@@ -7,6 +8,7 @@ mod EmptyLemmas
 mod FoldLemmas
 mod HeldLemmas
 pub mod MountLemmas
+mod OwesLemmas
 pub mod PlaceLemmas
 pub mod PowerLemmas
 pub mod PrefixLemmas

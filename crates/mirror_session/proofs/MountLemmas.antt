@@ -182,7 +182,7 @@ module _ {S : Type 0} (mounted_on : S → Area) (stands : S → Geometry → Lis
 
   module _ (mirror : Mirror S) (whole : result ≡ Ok mirror) (reads : (state : S) (geometry : Geometry) (sectors : List (List ℕ)) → stands state geometry sectors → m.damage (mounted_on state) geometry sectors ≡ None)
       (same : trusted_on areas new ≡ trusted_on areas mid) where
-    on_now : new.is_on ≡ true
+    pub on_now : new.is_on ≡ true
     on_now = (touched (Ok mirror) whole).ends.on
 
     map_now : IsMirrorMap serves areas new
@@ -382,8 +382,8 @@ module _ {S : Type 0} (mounted_on : S → Area) (stands : S → Geometry → Lis
       at_most = subst SpendsFrom on_first most;
     }
 
-    pub damaged_stops : (place : ℕ) (shown : Damaged) → result ≡ Err (HasDamage place shown) → LineStops m areas Mount old new (SessionDamaged place shown)
-    damaged_stops place shown is = let e = ended (Err (HasDamage place shown)) is in (
+    pub damaged_stops : (place : ℕ) (shown : Damaged) → result ≡ Err (HasDamage place shown) → (was : Bool) → LineStops m areas Mount (moment old was) new (SessionDamaged place shown)
+    damaged_stops place shown is was = let e = ended (Err (HasDamage place shown)) is in (
       refl,
       e.is_shown,
       λ selector selected. ended_at selector selected (Err (HasDamage place shown)) is,
@@ -391,10 +391,10 @@ module _ {S : Type 0} (mounted_on : S → Area) (stands : S → Geometry → Lis
       stopped (Err (HasDamage place shown)) is refl,
     )
 
-    pub unfit_stops : (place : ℕ) → result ≡ Err (IsNotFit place) → LineStops m areas Mount old new (SessionUnfit place)
-    unfit_stops place is = let e = ended (Err (IsNotFit place)) is in
+    pub unfit_stops : (place : ℕ) → result ≡ Err (IsNotFit place) → (was : Bool) → LineStops m areas Mount (moment old was) new (SessionUnfit place)
+    unfit_stops place is was = let e = ended (Err (IsNotFit place)) is in
         (refl, e, no_fit place e.trusted e.placed.trusted_there e.unfits, stopped (Err (IsNotFit place)) is refl)
 
-    pub memory_stops : result ≡ Err WantsMemory → LineStops m areas Mount old new SessionMemory
-    memory_stops is =
+    pub memory_stops : result ≡ Err WantsMemory → (was : Bool) → LineStops m areas Mount (moment old was) new SessionMemory
+    memory_stops is was =
         (refl, λ needs. absurd (false≢true needs), (stopped (Err WantsMemory) is refl, λ selector selected. ended_at selector selected (Err WantsMemory) is))

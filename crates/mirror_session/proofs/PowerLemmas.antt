@@ -170,7 +170,7 @@ keeps_names_read r = run_kept r NamesRead off_read (done_read r) (mount_read r)
 
 -- ---- the named area
 
--- the same one, or behind a mount the other one
+-- the same one, or after a mount the other one
 abbrev IsNamed : Rules → Line → State → State → Type 0
 IsNamed r line old new = (new.named ≡ old.named) ⊎ ((line ≡ Mount) × (old.gone ≡ true) × (new.named ≡ r.beside old.named))
 

@@ -1,5 +1,5 @@
 -- A blank area in the place of one of the two store areas, as a line.
-use Rattle.std.proofs.Common.{◌≡◌, ◌≢◌, inl, inr, ℕ, zero, suc, ◌+◌, ◌<◌, ◌==◌, get_or, Any, ◌&&◌, not, Bool, true, false, cond, List, [], ◌∷◌, length, Option, Some, None, refl, sym, ap, subst, ◌∙◌, arith}
+use Rattle.std.proofs.Common.{◌≡◌, ◌≢◌, inl, inr, ℕ, zero, suc, ◌+◌, ◌<◌, ◌==◌, get_or, Any, ◌&&◌, not, Bool, true, false, cond, ◌≤◌, List, [], ◌∷◌, length, Option, Some, None, refl, sym, ap, subst, ◌∙◌, arith}
 use Rattle.std.specs.Prelude.{Contains, is_some, unwrap_or}
 use Rattle.std.specs.FinMap.{empty}
 use Rattle.std.specs.List.{list_all, slice_get}
@@ -13,15 +13,18 @@ use Rattle.flash_map.specs.declared.area.Geometry.{Geometry}
 use Rattle.flash_map.specs.Area.{AreApart, geometry_of, sectors_of}
 use Rattle.flash_map.specs.Lawful.{IsLawfulFor}
 use Rattle.flash_map.specs.Map.{has_label}
-use Rattle.flash_map.specs.On.{on}
+use Rattle.flash_map.specs.On.{on, HoldsOn}
 use Rattle.flash_map.specs.Touches.{IsIn, SameOutside}
 use Rattle.flash_map.specs.Units.{is_erased}
 use Rattle.flash_map.proofs.Plans.{Lasts-zero}
 use Rattle.backend_api.specs.Map.{Map}
+use Rattle.fcb_ring.specs.Entries.{states}
+use Rattle.fcb_ring.specs.Standing.{erases_due}
 use Rattle.fcb_ring.proofs.PlaceLemmas.{found_some}
 use Rattle.migrator.specs.Active.{active_on}
 use Rattle.migrator.specs.Areas.{is_store, is_store_at, selector_of}
 use Rattle.migrator.proofs.Migration.{selector-apart, selector-at}
+use Rattle.migrator.proofs.Moving.{still}
 use Rattle.mirror.specs.declared.mirror.Mirror.{Mirror}
 use Rattle.mirror.specs.Trusted.{IsMirrorMap, damage_shown, is_blank_at, is_blank_on, trusted_on}
 use Rattle.script_lines.specs.Plan.Replan.{keeps}
@@ -29,6 +32,7 @@ use Rattle.session_table.specs.Bench.{area_at}
 use Rattle.session.proofs.ActiveAreas.{active_still, area_there, selector_still, store_there}
 use Rattle.mirror_session.specs.declared.line.Line.TheVariants.{Blank}
 use Rattle.mirror_session.specs.Answer.{done}
+use Rattle.mirror_session.specs.Owing.{OwesUpTo}
 use Rattle.mirror_session.specs.Plan.{replan}
 use Rattle.mirror_session.specs.Bench.{Meanings, beside_in, is_gone, is_labelled, labelled, moment, rules_of, state_of}
 use Rattle.mirror_session.specs.LineDone.{FitNow, FitsBoth, LineDone, blanked}
@@ -36,24 +40,18 @@ use Rattle.mirror_session.specs.Standing.{IsHeld, IsReady}
 use Rattle.mirror_session.specs.State.{State, trusted_of}
 use Rattle.mirror_session.specs.Step.{Replaces}
 use Rattle.session_table.proofs.CountLemmas.{counted_none}
-use Rattle.mirror_session.proofs.BlankLemmas.{blank_lawful, is_blank, outside_blank}
+use Rattle.mirror_session.proofs.BlankLemmas.{blank_lawful, is_blank, of_one, outside_blank}
+use Rattle.mirror_session.proofs.BlankOwes.{blanked_owe}
 use Rattle.mirror_session.proofs.HeldLemmas.{at_here, at_there, beside_here, beside_there, differs, reads_on}
-use Rattle.mirror_session.proofs.MountLemmas.{never_on, trusted_there}
+use Rattle.mirror_session.proofs.MountLemmas.{never_on, trusted_stores, trusted_there}
 use Rattle.mirror_session.proofs.SoundLemmas.{none_shown}
-use Rattle.mirror_session.proofs.PlaceLemmas.{map_kept, other_is, trusted_is, trusted_of_is}
+use Rattle.mirror_session.proofs.PlaceLemmas.{map_kept, other_is, store_is, trusted_is, trusted_of_is}
 use Rattle.mirror_session.proofs.SelectorLemmas.{listed, same_beyond}
 
 -- the area with a label stores settings
 pub labelled_stores : (areas : List Area) (label : List ℕ) (place : ℕ) → labelled areas label ≡ Some place → is_store_at areas place ≡ true
 labelled_stores areas label place is = let f = found_some (is_labelled areas label) 0 (length areas) place is in
     (and_parts (is_store_at areas place) (has_label label (area_at areas place)) f.passes).0
-
-in_one : (P : Area → Type 0) (one x : Area) (k : ℕ) → k < 1 → get_or (one ∷ []) k x ≡ x → P one → P x
-in_one P one x zero below is first = subst P is first
-in_one P one x (suc k) below is first = absurd (omega arith)
-
-pub of_one : (P : Area → Type 0) (one : Area) → P one → (x : Area) → Contains (one ∷ []) x → P x
-of_one P one first x there = in_one P one x there.0 there.1 there.2 first
 
 same_one : (one x : Area) (k : ℕ) → k < 1 → get_or (one ∷ []) k x ≡ x → one ≡ x
 same_one one x zero below is = is
@@ -296,6 +294,18 @@ module _ {S : Type 0} (mounted_on : S → Area) (stands : S → Geometry → Lis
       by true = is.other refl
       by false = is.settings
 
+  -- what both areas owe; the blank one rests
+  owes_then : (owing : Area → Geometry → List (List ℕ) → ℕ → Type 0)
+      → ((x : Device) (area : Area) → IsLawful x.banks x.bytes → IsLawfulFor x.banks area → serves area (geometry_of x area) → is_blank_on x area ≡ true → HoldsOn m.rests x area)
+      → ((area : Area) (geometry : Geometry) (sectors : List (List ℕ)) (most : ℕ) → m.rests area geometry sectors → owing area geometry sectors most) → OwesUpTo owing 0 areas (moment d true) (moment new false)
+  owes_then owing rests resting due most some within was = record {
+    selector = λ s is. subst (λ (n : ℕ). n ≤ due) (sym (still (λ area geometry sectors. erases_due (states geometry.unit sectors)) d new s refl (selector_stays s is))) (was.selector s is);
+    read = λ x at.
+        let store : is_store x ≡ true = store_is areas (trusted_on areas new) x at (trusted_stores serves areas new (map_kept serves areas d new refl map)) in
+        blanked_owe serves m.rests owing areas d map lawful rests resting place stores most (was.both refl) (trusted_on areas new) x at store;
+    both = λ whole. absurd (false≢true whole);
+  }
+
   outside_map : SameOutside areas d new
   outside_map bank offset out = outside bank offset (λ is. out (in_map (IsIn d.banks bank offset) area areas (listed areas place area is_there) is))
 
@@ -341,3 +351,12 @@ module _ {S : Type 0} (mounted_on : S → Area) (stands : S → Geometry → Lis
   replaced_line (Some mirror) held up dark made =
       subst (λ (x : Device). LineDone m areas (Blank label) (done 0) (moment d true) (moment x false)) (sym made)
       (line_done mounted_on stands m serves areas d mirror map held (no_mirror d.is_on dark) lawful empties sounds place (labelled_stores areas label place is) label is)
+
+  pub replaced_owes : (owing : Area → Geometry → List (List ℕ) → ℕ → Type 0)
+      → ((x : Device) (area : Area) → IsLawful x.banks x.bytes → IsLawfulFor x.banks area → serves area (geometry_of x area) → is_blank_on x area ≡ true → HoldsOn m.rests x area)
+      → ((area : Area) (geometry : Geometry) (sectors : List (List ℕ)) (most : ℕ) → m.rests area geometry sectors → owing area geometry sectors most)
+      → (o : Option (Mirror S)) → IsReady mounted_on stands m areas d o → is_some o ≡ true → (d.is_on && is_some o) ≡ false → new ≡ blanked d (area_at areas place) → OwesUpTo owing 0 areas (moment d (is_some o)) (moment new false)
+  replaced_owes owing rests resting None held up dark made = absurd (false≢true up)
+  replaced_owes owing rests resting (Some mirror) held up dark made =
+      subst (λ (x : Device). OwesUpTo owing 0 areas (moment d true) (moment x false)) (sym made)
+      (owes_then mounted_on stands m serves areas d mirror map held (no_mirror d.is_on dark) lawful empties sounds place (labelled_stores areas label place is) owing rests resting)

@@ -134,18 +134,18 @@ module _ (m : Meanings) (areas : List Area) where
       no : ReportsUnfit NoMemory → ⊥
       no is = is
 
-  line_fits : (line : Line) (old : Moment) (new : Device) (fault : SessionFault) → LineStops m areas line old.device new fault → ReportsUnfit fault → FitNow m areas old → ⊥
+  line_fits : (line : Line) (old : Moment) (new : Device) (fault : SessionFault) → LineStops m areas line old new fault → ReportsUnfit fault → FitNow m areas old → ⊥
   line_fits line old new (Unfit place) stops reports fit = stops.2 fit.settings
   line_fits line old new (Damaged place damaged) stops reports fit = reports
   line_fits line old new NoMemory stops reports fit = reports
 
-  stop_fits : (prefix rest : List Line) (old : Moment) (new : Device) (fault : SessionFault) → StopsAt m areas prefix rest old.device new fault → ReportsUnfit fault → FitNow m areas old → ⊥
+  stop_fits : (prefix rest : List Line) (old : Moment) (new : Device) (fault : SessionFault) → StopsAt m areas prefix rest old new fault → ReportsUnfit fault → FitNow m areas old → ⊥
   stop_fits prefix [] old new fault stops reports fit = wants_no_fit fault stops.1 reports
   stop_fits prefix (line ∷ rest) old new fault (inl lacks) reports fit = wants_no_fit fault lacks.1 reports
   stop_fits prefix (line ∷ rest) old new fault (inr stops) reports fit = line_fits line old new fault stops reports fit
 
   -- The first lines were carried out, and then one stopped.
-  pub stopped : (lines prefix rest : List Line) (answers : List Answer) (old mid : Moment) (new : Device) (fault : SessionFault) → lines ≡ prefix ++ rest → Follows (LineDone m areas) prefix answers old mid → StopsAt m areas prefix rest mid.device new fault
+  pub stopped : (lines prefix rest : List Line) (answers : List Answer) (old mid : Moment) (new : Device) (fault : SessionFault) → lines ≡ prefix ++ rest → Follows (LineDone m areas) prefix answers old mid → StopsAt m areas prefix rest mid new fault
       → RunStops m areas lines old new fault
   stopped lines prefix rest answers old mid new fault are runs stops = record {
     prefix = prefix;

@@ -185,7 +185,9 @@ BothNow m areas now =
 
 -- the line changes neither bytes nor counts
 abbrev pub is_quiet : Line → Answer → Bool
+is_quiet (Set name value) (Plain settings.Off) = true
 is_quiet (Set name value) answer = false
+is_quiet (Del name) (Plain settings.Off) = true
 is_quiet (Del name) answer = false
 is_quiet Mount answer = false
 is_quiet (Blank label) (Plain (settings.Done units)) = false

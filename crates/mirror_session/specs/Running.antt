@@ -28,6 +28,7 @@ use Rattle.mirror_session.specs.Standing.{AtRest, RestsNow}
 use Rattle.mirror_session.specs.LineDone.{BothNow, FitNow, FitsBoth, Keeps, LineDone, replaces}
 use Rattle.session.specs.OnMap.{turned_on}
 use Rattle.session_table.specs.Rules.{IsCounted}
+use Rattle.mirror_session.specs.State.{IsOn}
 use Rattle.mirror_session.specs.Step.{Step, needs_power}
 
 -- how many areas were replaced
@@ -112,19 +113,20 @@ abbrev pub FindsNoFit : Meanings → List Area → Device → Type 0
 FindsNoFit m areas d = ¬ FitsBoth m areas d.banks (on m.contents d (area_at areas (trusted_on areas d)))
 
 -- Why a line was not carried out, and what it left: a mount found the damage that the map shows, or
--- settings that do not fit one of the areas; or memory ran out for a line that takes some, with power
--- on if the line needs it.
-abbrev pub LineStops : Meanings → List Area → Line → Device → Device → SessionFault → Type 0
+-- settings that do not fit one of the areas; or memory ran out for a line that takes some. A line that
+-- needs power answers `off` in place of that, unless power is on, the last mount was whole, and no area was
+-- replaced after it.
+abbrev pub LineStops : Meanings → List Area → Line → Moment → Device → SessionFault → Type 0
 LineStops m areas line old new (Damaged place damaged) =
-    (line ≡ Mount) × (damage_shown m.damage areas old ≡ Some (place, damaged))
-    × MountFindsDamage m areas old new place damaged × LeavesDamagedSelector areas old new
-    × MountStops m areas old new
+    (line ≡ Mount) × (damage_shown m.damage areas old.device ≡ Some (place, damaged))
+    × MountFindsDamage m areas old.device new place damaged × LeavesDamagedSelector areas old.device new
+    × MountStops m areas old.device new
 LineStops m areas line old new (Unfit place) =
-    (line ≡ Mount) × IsUnfit m.damage m.contents m.room m.prices areas (turned_on old) new place
-    × FindsNoFit m areas old × MountStops m areas old new
+    (line ≡ Mount) × IsUnfit m.damage m.contents m.room m.prices areas (turned_on old.device) new place
+    × FindsNoFit m areas old.device × MountStops m areas old.device new
 LineStops m areas line old new NoMemory =
-    (takes_memory line ≡ true) × (needs_power line ≡ true → old.is_on ≡ true)
-    × BeginsLine m areas line old new
+    (takes_memory line ≡ true) × (needs_power line ≡ true → IsOn (state_of m areas old))
+    × BeginsLine m areas line old.device new
 
 -- ---- all lines
 
@@ -133,10 +135,10 @@ abbrev pub LacksAnswer : List Line → Device → Device → SessionFault → Ty
 LacksAnswer prefix old new fault = (1 ≤ length prefix) × (fault ≡ NoMemory) × (new ≡ old)
 
 -- After the first lines the next one stopped; or memory ran out for the answer to the line before.
-abbrev pub StopsAt : Meanings → List Area → List Line → List Line → Device → Device → SessionFault → Type 0
-StopsAt m areas prefix [] old new fault = LacksAnswer prefix old new fault
+abbrev pub StopsAt : Meanings → List Area → List Line → List Line → Moment → Device → SessionFault → Type 0
+StopsAt m areas prefix [] old new fault = LacksAnswer prefix old.device new fault
 StopsAt m areas prefix (line ∷ lines) old new fault =
-    LacksAnswer prefix old new fault ⊎ LineStops m areas line old new fault
+    LacksAnswer prefix old.device new fault ⊎ LineStops m areas line old new fault
 
 -- a mount among these lines was whole
 abbrev pub is_mounted : Line → Answer → Bool
@@ -163,7 +165,7 @@ pub record RunStops (m : Meanings) (areas : List Area) (lines : List Line) (old 
   pub answers : List Answer
   pub mid : Moment
   pub runs : Ran m areas prefix answers old mid
-  pub stops : StopsAt m areas prefix rest mid.device new fault
+  pub stops : StopsAt m areas prefix rest mid new fault
   pub early : ReportsUnfit fault → mounted_in prefix answers ≡ false
   pub fitting : ReportsUnfit fault → ¬ FitNow m areas old
 

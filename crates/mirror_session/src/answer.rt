@@ -3,7 +3,7 @@ ghost use Rattle.std.specs.Prelude.{◌≡◌, IfOk};
 ghost use Rattle.mirror_session.specs.Answer.{CanReport, done, lost, off, text_of};
 
 use flash_sim::NoMemory;
-use script_lines::Answer as SettingsAnswer;
+use script_lines::{Answer as SettingsAnswer, ListOf};
 use std::alloc::Global;
 
 /// The answer to a line.
@@ -18,6 +18,9 @@ pub enum Answer {
     /// The last mount was cut, or an area was replaced after it.
     NotYet,
 }
+
+/// The answers to lines.
+pub type Answers = ListOf<Answer>;
 
 impl Answer {
     /// `ok`, with `units` units and erases.

@@ -1,12 +1,12 @@
 // The replacement of an area by a blank one.
-ghost use Rattle.std.specs.Prelude.{◌≡◌, [], ◌+◌, ◌<◌, ◌≤◌, length, replicate, IfOk, OnErr, OnOk, slice_index_or, slice_set, vec_len};
+ghost use Rattle.std.specs.Prelude.{◌≡◌, [], ◌+◌, ◌<◌, ◌≤◌, length, replicate, OnErr, OnOk, slice_index_or, slice_set, vec_len};
 ghost use Rattle.flash_map.specs.Lawful.{IsLawfulFor};
 ghost use Rattle.flash_sim.specs.Contents.{contents};
 ghost use Rattle.flash_sim.specs.Device.{overwritten};
 ghost use Rattle.mirror_session.specs.LineDone.{blanked};
 
 use flash_map::Area;
-use flash_sim::{Bank, Bench, Flash, NoMemory};
+use flash_sim::{Bench, Flash, NoMemory};
 use std::alloc::Global;
 
 // Fills `len` bytes from offset `from` with FF.
@@ -29,16 +29,6 @@ fn erase_in(banks: &mut Vec<Vec<u8>>, bank: usize, from: usize, len: usize)
     erase_range(items, from, len);
 }
 
-// A copy of the banks.
-fn copied(alloc: Global, banks: &[Bank]) -> Result<Vec<Bank>, NoMemory>
-    ensures { IfOk result (λ copy. copy.items ≡ banks.now) }
-{
-    match Vec::from_slice(alloc, banks) {
-        Ok(copy) => Ok(copy),
-        Err(_) => Err(NoMemory),
-    }
-}
-
 // Loads the flash with the bytes that it has, except for those of the area, which are FF then. This
 // drops a planned loss.
 //
@@ -54,7 +44,7 @@ pub(crate) fn blank_area<B: Bench>(
     ensures err { OnErr result (B.device bench.new ≡ B.device bench.old) }
 {
     let mut bytes = bench.snapshot(alloc)?;
-    let banks = copied(alloc, bench.banks())?;
+    let banks = Vec::from_slice(alloc, bench.banks())?;
     let size = banks[area.bank].sector as usize;
     let from = area.first as usize * size;
     erase_in(&mut bytes, area.bank, from, area.sectors as usize * size);

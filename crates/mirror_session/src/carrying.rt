@@ -2,12 +2,16 @@
 ghost use Rattle.std.specs.Prelude.{◌≡◌, true, false, is_some, IfErr, IfOk, OnErr, OnOk};
 ghost use Rattle.mirror.specs.Trusted.{IsMirrorMap};
 ghost use Rattle.mirror_session.specs.declared.line.Line.TheVariants.{Mount, Blank};
-ghost use Rattle.mirror_session.specs.Bench.{meanings, moment};
+ghost use Rattle.mirror_session.specs.Bench.{meanings, moment, state_of};
 ghost use Rattle.mirror_session.specs.LineDone.{IsServed, LineDone};
+ghost use Rattle.mirror_session.specs.Owing.{OwesUpTo, ReportsOwed};
+ghost use Rattle.mirror_session.specs.Plan.{units_of};
 ghost use Rattle.mirror_session.specs.Running.{LineStops, takes_memory};
 ghost use Rattle.mirror_session.specs.Standing.{IsHeld, IsReady};
+ghost use Rattle.mirror_session.specs.State.{IsOn};
 ghost use Rattle.mirror_session.specs.Step.{needs_power};
 ghost use Rattle.session.specs.OnMap.{limit_of};
+ghost use Rattle.session.specs.Owing.{greatest_boot};
 
 use crate::answer::Answer;
 use crate::areas::labelled;
@@ -35,7 +39,9 @@ pub struct MirrorSession<K: Priced> {
 
 impl<K: Priced> MirrorSession<K> {
     /// Turns power on, and mounts the mirror of a map. It returns the session with the answer
-    /// to that mount.
+    /// to that mount, which reports at most the units of the selector, what the areas owe, and one
+    /// repair (`ReportsOwed`). The area that is read owes no more afterwards, and no more erases
+    /// are due in the selector, or at most one.
     ///
     /// # Errors
     /// `Damaged` with the damage that the map shows: the selector's, or that of the area that is
@@ -59,9 +65,19 @@ impl<K: Priced> MirrorSession<K> {
             (λ opened. IsReady K.mounted_on K.stands m map.now (B.device bench.new)
             opened.0.mirror) }
         ensures stops { let m = meanings K.damage K.contents K.rests K.room K.prices in
+            let d = B.device bench.old in
             IfErr result
-            (λ fault. LineStops m map.now Mount (B.device bench.old) (B.device bench.new) fault) }
+            (λ fault. LineStops m map.now Mount (moment d false) (B.device bench.new) fault) }
         ensures banks { (B.device bench.new).banks ≡ (B.device bench.old).banks }
+        ensures boots { let d = B.device bench.old in
+            IfOk result
+            (λ opened. ReportsOwed K.owes K.damage K.contents map.now d (units_of opened.1)) }
+        ensures left { let d = B.device bench.old in let e = B.device bench.new in
+            IfOk result
+            (λ opened. OwesUpTo K.owes 0 map.now (moment d false)
+            (moment e (is_some opened.0.mirror))) }
+        ensures kept { let d = B.device bench.old in let e = B.device bench.new in
+            OwesUpTo K.owes 0 map.now (moment d false) (moment e false) }
     {
         match mount(alloc, bench, map, steps) {
             Ok(mounted) => {
@@ -76,12 +92,15 @@ impl<K: Priced> MirrorSession<K> {
 
     /// Carries out a line. With power off, `set`, `get`, `del` and `names` answer `off`. Power
     /// is off from a line in which it was lost, or in which an area was replaced, until a
-    /// mount answers `ok`.
+    /// mount answers `ok`. A mount reports at most what is due in the selector, one choice, what
+    /// both areas owe, and one repair (`ReportsOwed`). After any line the area that is read owes no
+    /// more than before, or at most what one cut command leaves (`greatest_boot`); and no more
+    /// erases are due in the selector, or at most one.
     ///
     /// # Errors
     /// `Damaged` and `Unfit` as in `open`, only for a mount. `NoMemory`, only for a line
-    /// that takes memory: `get`, `names`, `mount` and `blank`. After any error the session
-    /// must be opened again.
+    /// that takes memory: `get` and `names` with power on, `mount` and `blank`. After any error the
+    /// session must be opened again.
     pub fn carry_out<B: Bench, L: Ledger>(
         &mut self,
         alloc: Global,
@@ -104,10 +123,20 @@ impl<K: Priced> MirrorSession<K> {
             OnOk result
             (IsReady K.mounted_on K.stands m map.now (B.device bench.new) self.new.mirror) }
         ensures stops { let m = meanings K.damage K.contents K.rests K.room K.prices in
-            IfErr result
-            (λ fault. LineStops m map.now line.now (B.device bench.old) (B.device bench.new)
-            fault) }
+            let old = moment (B.device bench.old) (is_some self.old.mirror) in
+            IfErr result (λ fault. LineStops m map.now line.now old (B.device bench.new) fault) }
         ensures banks { (B.device bench.new).banks ≡ (B.device bench.old).banks }
+        ensures boots { let d = B.device bench.old in
+            line.now ≡ Mount
+            → IfOk result
+            (λ answer. ReportsOwed K.owes K.damage K.contents map.now d (units_of answer)) }
+        ensures left { let d = B.device bench.old in let e = B.device bench.new in
+            OnOk result
+            (OwesUpTo K.owes (greatest_boot K.boot_units d.banks map.now) map.now
+            (moment d (is_some self.old.mirror)) (moment e (is_some self.new.mirror))) }
+        ensures kept { let d = B.device bench.old in let e = B.device bench.new in
+            OwesUpTo K.owes (greatest_boot K.boot_units d.banks map.now) map.now
+            (moment d (is_some self.old.mirror)) (moment e false) }
     {
         match line {
             Line::Mount => self.mount(alloc, bench, map, steps),
@@ -143,9 +172,19 @@ impl<K: Priced> MirrorSession<K> {
             OnOk result
             (IsReady K.mounted_on K.stands m map.now (B.device bench.new) self.new.mirror) }
         ensures stops { let m = meanings K.damage K.contents K.rests K.room K.prices in
-            IfErr result
-            (λ fault. LineStops m map.now Mount (B.device bench.old) (B.device bench.new) fault) }
+            let old = moment (B.device bench.old) (is_some self.old.mirror) in
+            IfErr result (λ fault. LineStops m map.now Mount old (B.device bench.new) fault) }
         ensures banks { (B.device bench.new).banks ≡ (B.device bench.old).banks }
+        ensures boots { let d = B.device bench.old in
+            IfOk result
+            (λ answer. ReportsOwed K.owes K.damage K.contents map.now d (units_of answer)) }
+        ensures left { let d = B.device bench.old in let e = B.device bench.new in
+            OnOk result
+            (OwesUpTo K.owes (greatest_boot K.boot_units d.banks map.now) map.now
+            (moment d (is_some self.old.mirror)) (moment e (is_some self.new.mirror))) }
+        ensures kept { let d = B.device bench.old in let e = B.device bench.new in
+            OwesUpTo K.owes (greatest_boot K.boot_units d.banks map.now) map.now
+            (moment d (is_some self.old.mirror)) (moment e false) }
     {
         match mount(alloc, bench, map, steps) {
             Ok(mounted) => {
@@ -179,6 +218,9 @@ impl<K: Priced> MirrorSession<K> {
             (IsReady K.mounted_on K.stands m map.now (B.device bench.new) self.new.mirror) }
         ensures same { OnErr result (B.device bench.new ≡ B.device bench.old) }
         ensures banks { (B.device bench.new).banks ≡ (B.device bench.old).banks }
+        ensures left { let d = B.device bench.old in let e = B.device bench.new in
+            OwesUpTo K.owes 0 map.now (moment d (is_some self.old.mirror))
+            (moment e (is_some self.new.mirror)) }
     {
         let is_whole = self.mirror.is_some();
         if is_whole && bench.is_on() {
@@ -221,8 +263,13 @@ impl<K: Priced> MirrorSession<K> {
             (IsReady K.mounted_on K.stands m map.now (B.device bench.new) self.new.mirror) }
         ensures same { OnErr result (B.device bench.new ≡ B.device bench.old) }
         ensures takes { OnErr result (takes_memory line.now ≡ true) }
-        ensures on { OnErr result ((B.device bench.old).is_on ≡ true) }
+        ensures on { let m = meanings K.damage K.contents K.rests K.room K.prices in
+            let old = moment (B.device bench.old) (is_some self.old.mirror) in
+            OnErr result (IsOn (state_of m map.now old)) }
         ensures banks { (B.device bench.new).banks ≡ (B.device bench.old).banks }
+        ensures left { let d = B.device bench.old in let e = B.device bench.new in
+            OwesUpTo K.owes (greatest_boot K.boot_units d.banks map.now) map.now
+            (moment d (is_some self.old.mirror)) (moment e (is_some self.new.mirror)) }
     {
         if !bench.is_on() {
             return Ok(Answer::off());
@@ -258,6 +305,9 @@ fn with_power<K: Priced, B: Bench, L: Ledger>(
     ensures same { OnErr result (B.device bench.new ≡ B.device bench.old) }
     ensures takes { OnErr result (takes_memory line.now ≡ true) }
     ensures banks { (B.device bench.new).banks ≡ (B.device bench.old).banks }
+    ensures left { let d = B.device bench.old in let e = B.device bench.new in
+        OwesUpTo K.owes (greatest_boot K.boot_units d.banks map.now) map.now
+        (moment d true) (moment e true) }
 {
     match line {
         Line::Set { name, value } => Ok(change_setting(bench, mirror, map, name, value, steps)),

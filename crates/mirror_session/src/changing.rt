@@ -4,8 +4,10 @@ ghost use Rattle.mirror.specs.Trusted.{IsMirrorMap};
 ghost use Rattle.mirror_session.specs.declared.line.Line.TheVariants.{Set, Del};
 ghost use Rattle.mirror_session.specs.Bench.{meanings, moment};
 ghost use Rattle.mirror_session.specs.LineDone.{IsServed, LineDone};
+ghost use Rattle.mirror_session.specs.Owing.{OwesUpTo};
 ghost use Rattle.mirror_session.specs.Standing.{IsHeld};
 ghost use Rattle.session.specs.OnMap.{limit_of};
+ghost use Rattle.session.specs.Owing.{greatest_boot};
 
 use crate::answer::Answer;
 use backend_api::SetFault;
@@ -38,6 +40,9 @@ pub fn set_setting<K: Priced, B: Bench, L: Ledger>(
     ensures held { let m = meanings K.damage K.contents K.rests K.room K.prices in
         IsHeld K.mounted_on K.stands m map.now (B.device bench.new) mirror.new }
     ensures banks { (B.device bench.new).banks ≡ (B.device bench.old).banks }
+    ensures left { let d = B.device bench.old in let e = B.device bench.new in
+        OwesUpTo K.owes (greatest_boot K.boot_units d.banks map.now) map.now
+        (moment d true) (moment e true) }
 {
     let before = bench.spent();
     let end = mirror.set(bench, name, value.as_slice(), steps);
@@ -73,6 +78,9 @@ pub fn delete_setting<K: Priced, B: Bench, L: Ledger>(
     ensures held { let m = meanings K.damage K.contents K.rests K.room K.prices in
         IsHeld K.mounted_on K.stands m map.now (B.device bench.new) mirror.new }
     ensures banks { (B.device bench.new).banks ≡ (B.device bench.old).banks }
+    ensures left { let d = B.device bench.old in let e = B.device bench.new in
+        OwesUpTo K.owes (greatest_boot K.boot_units d.banks map.now) map.now
+        (moment d true) (moment e true) }
 {
     let before = bench.spent();
     let end = mirror.delete(bench, name, steps);
@@ -104,6 +112,9 @@ pub fn change_setting<K: Priced, B: Bench, L: Ledger>(
     ensures held { let m = meanings K.damage K.contents K.rests K.room K.prices in
         IsHeld K.mounted_on K.stands m map.now (B.device bench.new) mirror.new }
     ensures banks { (B.device bench.new).banks ≡ (B.device bench.old).banks }
+    ensures left { let d = B.device bench.old in let e = B.device bench.new in
+        OwesUpTo K.owes (greatest_boot K.boot_units d.banks map.now) map.now
+        (moment d true) (moment e true) }
 {
     if value.as_slice().is_empty() {
         delete_setting(bench, mirror, map, name, steps)

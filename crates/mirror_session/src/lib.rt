@@ -3,7 +3,6 @@
 #![tactic(auto)]
 
 mod answer;
-mod answers;
 mod areas;
 mod blanking;
 mod carrying;
@@ -19,8 +18,7 @@ mod reporting;
 mod running;
 mod script;
 
-pub use answer::{Answer, answer_text};
-pub use answers::Answers;
+pub use answer::{Answer, Answers, answer_text};
 pub use carrying::MirrorSession;
 pub use fault::SessionFault;
 pub use laws::{

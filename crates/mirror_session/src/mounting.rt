@@ -1,9 +1,11 @@
 // The mount of a mirror.
-ghost use Rattle.std.specs.Prelude.{◌≡◌, Bool, is_some, IfErr, IfOk};
+ghost use Rattle.std.specs.Prelude.{◌≡◌, Bool, false, is_some, IfErr, IfOk};
 ghost use Rattle.mirror.specs.Trusted.{IsMirrorMap};
 ghost use Rattle.mirror_session.specs.declared.line.Line.TheVariants.{Mount};
 ghost use Rattle.mirror_session.specs.Bench.{meanings, moment};
 ghost use Rattle.mirror_session.specs.LineDone.{LineDone};
+ghost use Rattle.mirror_session.specs.Owing.{OwesUpTo, ReportsOwed};
+ghost use Rattle.mirror_session.specs.Plan.{units_of};
 ghost use Rattle.mirror_session.specs.Running.{LineStops};
 ghost use Rattle.mirror_session.specs.Standing.{IsReady};
 
@@ -42,8 +44,18 @@ pub(crate) fn mount<K: Priced, B: Bench, L: Ledger>(
         (λ mounted. IsReady K.mounted_on K.stands m map.now (B.device bench.new) mounted.mirror) }
     ensures stops { let m = meanings K.damage K.contents K.rests K.room K.prices in
         IfErr result
-        (λ fault. LineStops m map.now Mount (B.device bench.old) (B.device bench.new) fault) }
+        (λ fault. (was : Bool)
+        → LineStops m map.now Mount (moment (B.device bench.old) was) (B.device bench.new) fault) }
     ensures banks { (B.device bench.new).banks ≡ (B.device bench.old).banks }
+    ensures boots { let d = B.device bench.old in
+        IfOk result
+        (λ mounted. ReportsOwed K.owes K.damage K.contents map.now d (units_of mounted.answer)) }
+    ensures left { let d = B.device bench.old in let e = B.device bench.new in
+        IfOk result
+        (λ mounted. (was : Bool)
+        → OwesUpTo K.owes 0 map.now (moment d was) (moment e (is_some mounted.mirror))) }
+    ensures kept { let d = B.device bench.old in let e = B.device bench.new in
+        (was : Bool) → OwesUpTo K.owes 0 map.now (moment d was) (moment e false) }
 {
     bench.restore();
     let before = bench.spent();

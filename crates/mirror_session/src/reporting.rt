@@ -11,24 +11,14 @@ ghost use Rattle.mirror_session.specs.LineDone.{LineDone};
 ghost use Rattle.mirror_session.specs.Standing.{IsHeld};
 
 use crate::answer::Answer;
-use flash_map::{Area, FlashMap};
+use flash_map::FlashMap;
 use flash_sim::{Bench, Flash, NoMemory, Steps};
 use migrator::area_at;
 use mirror::{Mirror, Priced};
-use script_lines::{Answer as SettingsAnswer, Bytes, Label, Pair, Pairs};
+use script_lines::{Answer as SettingsAnswer, Pair, Pairs, copied};
 use setting_name::Name;
 use std::alloc::Global;
 use std::sync::ledger::Ledger;
-
-// A copy of bytes.
-fn copied(alloc: Global, bytes: &[u8]) -> Result<Bytes, NoMemory>
-    ensures { IfOk result (λ copy. copy ≡ bytes.now) }
-{
-    match Vec::from_slice(alloc, bytes) {
-        Ok(items) => Ok(Bytes::from_vec(items)),
-        Err(_) => Err(NoMemory),
-    }
-}
 
 // The value of a name.
 pub fn get_setting<K: Priced, B: Bench, L: Ledger>(
@@ -94,16 +84,6 @@ fn all_settings<K: Priced, B: Bench, L: Ledger>(
     Ok(pairs)
 }
 
-// The label of the area.
-fn label_of(alloc: Global, area: &Area) -> Result<Label, NoMemory>
-    ensures { IfOk result (λ label. label ≡ area.now.label.bytes) }
-{
-    match Vec::from_slice(alloc, area.label.as_str().as_bytes()) {
-        Ok(bytes) => Ok(Label::from_vec(bytes)),
-        Err(_) => Err(NoMemory),
-    }
-}
-
 // The label of the trusted area and all settings.
 pub fn report_all<K: Priced, B: Bench, L: Ledger>(
     alloc: Global,
@@ -121,7 +101,7 @@ pub fn report_all<K: Priced, B: Bench, L: Ledger>(
         IfOk result (λ answer. LineDone m map.now Names answer (moment d true) (moment d true)) }
 {
     let area = area_at(map, mirror.trusted());
-    let active = label_of(alloc, &area)?;
+    let active = copied(alloc, area.label.as_str().as_bytes())?;
     let pairs = all_settings(alloc, bench, mirror, steps)?;
     Ok(Answer::Plain {
         answer: SettingsAnswer::Names { active, pairs },

@@ -4,7 +4,7 @@ ghost use Rattle.script_lines.specs.Forms.{words_of, IsOneWord, AreTwoWords, Rea
 ghost use Rattle.script_lines.specs.Forms.Field.{a_name, a_label, a_kind, some_bytes, any_bytes, below};
 ghost use Rattle.script_lines.specs.Forms.Said.{name, label, kind, bytes, number};
 
-use crate::lists::{Bytes, Label};
+use crate::lists::{Bytes, Label, copied};
 use crate::why::LineFault::{NoMemory, Refused};
 use crate::why::{LineFault, LineWhy};
 use handlers::HandlerKind;
@@ -33,10 +33,7 @@ pub fn read_label(alloc: Global, word: &[u8]) -> Result<Label, LineFault>
     if !is_label(word) {
         return Err(Refused(LineWhy::Name));
     }
-    match Vec::from_slice(alloc, word) {
-        Ok(bytes) => Ok(Label::from_vec(bytes)),
-        Err(_) => Err(NoMemory),
-    }
+    copied(alloc, word).map_err(|_| NoMemory)
 }
 
 /// Reads a word as a kind of handler: `table`, `counter` or `level`.

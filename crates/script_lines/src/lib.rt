@@ -22,7 +22,7 @@ pub use fields::{
 pub use generator::gen_script;
 pub use grammar::{ScriptFault, ScriptLine, read_lines};
 pub use line::{Line, UNITS_END};
-pub use lists::{Bytes, Give, Gives, Label, ListOf, Pair, Pairs};
+pub use lists::{Bytes, Give, Gives, Label, ListOf, Pair, Pairs, copied};
 pub use plan::{is_lost, plans_of_lines, units_of};
 pub use script::{each_is_read, one_reading, read_script};
 pub use why::{LineFault, LineWhy};

@@ -1,5 +1,5 @@
 // Vectors that contracts see as lists.
-ghost use Rattle.std.specs.Prelude.{◌≡◌, List, ℕ, [], ◌∷◌, ◌++◌, OnOk, OnErr};
+ghost use Rattle.std.specs.Prelude.{◌≡◌, List, ℕ, [], ◌∷◌, ◌++◌, IfOk, OnOk, OnErr};
 
 use flash_sim::NoMemory;
 use setting_name::Name;
@@ -37,13 +37,6 @@ impl<T: Drop> ListOf<T> {
         ListOf { items }
     }
 
-    /// The vector of the items. It takes no memory.
-    pub fn into_vec(self) -> Vec<T>
-        ensures { result.items ≡ self }
-    {
-        self.items
-    }
-
     /// Appends an item.
     ///
     /// # Errors
@@ -66,6 +59,17 @@ impl<T: Drop> ListOf<T> {
 
 /// A byte string.
 pub type Bytes = ListOf<u8>;
+
+/// A copy of bytes.
+///
+/// # Errors
+/// `NoMemory`.
+pub fn copied(alloc: Global, bytes: &[u8]) -> Result<Bytes, NoMemory>
+    ensures { IfOk result (λ copy. copy ≡ bytes.now) }
+{
+    let items = Vec::from_slice(alloc, bytes)?;
+    Ok(Bytes::from_vec(items))
+}
 
 /// The label of an area.
 pub type Label = ListOf<u8>;

@@ -1,22 +1,18 @@
 -- Lines on handlers that leave the bench as it is, with power on.
-use Rattle.std.proofs.Common.{◌≡◌, ℕ, ◌-◌, true, false, Option, Some, None, List, [], ◌∷◌, ◌++◌, map, get_or, refl, sym, ap, subst, ◌∙◌, arith}
-use Rattle.std.specs.Prelude.{option_map, IfOk, Result, Ok, Err}
-use Rattle.std.specs.FinMap.{entries, get}
+use Rattle.std.proofs.Common.{◌≡◌, ℕ, ◌-◌, true, false, Option, Some, List, [], ◌∷◌, ◌++◌, map, refl, sym, ap, subst, ◌∙◌, arith}
+use Rattle.std.specs.Prelude.{IfOk, Result, Ok, Err}
+use Rattle.std.specs.FinMap.{entries}
 use Rattle.std.specs.Option.{unwrap_or}
-use Rattle.std.proofs.Math.ListN.{get_or-map}
 use Rattle.flash_sim.specs.Device.{Device}
 use Rattle.flash_map.specs.declared.area.Area.{Area}
 use Rattle.flash_map.proofs.Touches.{untouched}
-use Rattle.setting_name.specs.Match.{matched_rest}
 use Rattle.handlers.specs.declared.handler.HandlerKind.{HandlerKind}
-use Rattle.handlers.specs.Best.{best}
-use Rattle.handlers.specs.Registry.{Registered, subtrees, nobody, state_at}
+use Rattle.handlers.specs.Registry.{Registered, subtrees}
 use Rattle.backend_api.specs.Map.{Map}
 use Rattle.settings_core.specs.Committing.{commit_all}
 use Rattle.settings_core.specs.Deliveries as deliveries
-use Rattle.settings_core.specs.Deliveries.{Delivery, delivery, delivered, deliver, deliver_all, is_taken, settings_under}
+use Rattle.settings_core.specs.Deliveries.{Delivery, delivered}
 use Rattle.settings_core.specs.Loading.{Gives}
-use Rattle.settings_core.specs.Runtime.{held_at}
 use Rattle.settings_core.specs.Reported.{reported_more}
 use Rattle.settings_core.specs.declared.loading.Loaded.{Loaded as Counts}
 use Rattle.script_lines.specs.declared.lists.Give.{Give}
@@ -28,7 +24,7 @@ use Rattle.script_lines.specs.Plan.{units_of, is_lost, replan}
 use Rattle.script_lines.specs.Plan.Replan.{keeps}
 use Rattle.session_table.specs.Bench.{Meanings, Keeps, ReportsChance, area_at, is_selector, places_of, rules_of, state_of, worked_on}
 use Rattle.session_table.specs.State.{State}
-use Rattle.session_table.specs.Step.{Step, Registers, Loads, Commits, Offers, Asks, give, held_for}
+use Rattle.session_table.specs.Step.{Step, Registers, Loads, Commits, Offers, Asks, give}
 use Rattle.migrator.specs.Active.{active_on}
 use Rattle.session.specs.Handling.{beside, as_given}
 use Rattle.session.specs.OnMap.{DoneWithin, areas_worked_on, moment, powered_for}
@@ -126,15 +122,3 @@ load-done registry full others before gives subtree settings counts s none here 
       given.passed,
       ap (λ (hs : List Registered). beside (record s { settings = settings }) hs s.pool) (committed ∙ ap (commit_all subtree) given.handlers),
     )
-
--- ---- values at run time
-
-pub no-handler : (handlers : List Registered) (name value : List ℕ) → best (subtrees handlers) name ≡ None → delivery (subtrees handlers) (name, value) ≡ None
-no-handler handlers name value none =
-    ap (option_map (λ (place : ℕ). record { place = place; rest = unwrap_or (matched_rest name (get_or (subtrees handlers) place [])) []; value = value })) none
-
-pub held-is : (handlers : List Registered) (name : List ℕ) (place : ℕ) (held : Option (List ℕ)) → best (subtrees handlers) name ≡ Some place → held ≡ held_at handlers place name → held_for handlers name ≡ Some held
-held-is handlers name place held is same =
-    ap (λ (o : Option ℕ). option_map (λ (d : Delivery). get (state_at handlers d.place).held d.rest) (option_map (λ (place : ℕ). record { place = place; rest = unwrap_or (matched_rest name (get_or (subtrees handlers) place [])) []; value = [] }) o)) is
-    ∙ ap (λ (text : List ℕ). Some (get (state_at handlers place).held (unwrap_or (matched_rest name text) []))) (get_or-map (λ (h : Registered). h.subtree) handlers place nobody)
-    ∙ ap (λ (o : Option (List ℕ)). Some o) (sym same)

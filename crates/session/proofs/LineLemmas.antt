@@ -45,9 +45,6 @@ pub reported_at : (chance : Area → Geometry → List (List ℕ) → Loss → B
     → (loss : Loss) → new.last_loss ≡ Some loss → reported ≡ on chance new other loss
 reported_at chance new area other reported same reports loss last = reports loss last ∙ ap (λ (a : Area). on chance new a loss) same
 
-some_loss : (area : Area) (old new : Device) → old.is_on ≡ true → Touches (area ∷ []) old new true → (loss : Loss) × (new.last_loss ≡ Some loss)
-some_loss area old new on touches = let cut = touches.ends on in (cut.loss, cut.last_loss)
-
 module _ (contents : Area → Geometry → List (List ℕ) → Map) (room : Area → Geometry → Room) (chance : Area → Geometry → List (List ℕ) → Loss → Bool) (tears : Area → Geometry → Command → ℕ → Map → Map → Type 0)
     (registry : List Registered) (pool : List HandlerKind) (areas : List Area) (name value : List ℕ) (old new : Device) (powered : old.is_on ≡ true) (stays : active_on areas new ≡ active_on areas old) where
   pub set_done : Touches (active_area areas old ∷ []) old new false → SpendsAtMost old new (command_units (geometry_of old (active_area areas old)))

@@ -15,7 +15,7 @@ use Rattle.flash_map.specs.Spending.{Spends, SpendsAtMost}
 use Rattle.flash_map.proofs.Plans.{counted_counted}
 use Rattle.flash_map.proofs.SpendingLemmas.{most_weaker, spends_most}
 use Rattle.fcb_ring.specs.Standing.{erases_on}
-use Rattle.backend_api.specs.Room.{mount_units}
+use Rattle.backend_api.specs.Room.{foreign_units}
 use Rattle.migrator.specs.declared.selecting.Selector.{Selector}
 use Rattle.migrator.specs.Active.{active_on}
 use Rattle.migrator.specs.Areas.{selector_of}
@@ -52,17 +52,17 @@ same_geometry d e area banks =
 
 -- and then the active area
 pub map_most : (areas : List Area) (d mid e : Device) (area : Area) → mid.banks ≡ d.banks → active_on areas mid ≡ active_on areas d → area ≡ active_area areas mid
-    → SpendsAtMost d mid (selector_erases areas d) → SpendsAtMost mid e (mount_units (geometry_of mid area)) → SpendsAtMost d e (mount_bound areas d)
+    → SpendsAtMost d mid (selector_erases areas d) → SpendsAtMost mid e (foreign_units (geometry_of mid area)) → SpendsAtMost d e (mount_bound areas d)
 map_most areas d mid e area banks active is first second =
     let here : area ≡ active_area areas d = is ∙ ap (area_at areas) active in
     let g : geometry_of mid area ≡ geometry_of d (active_area areas d) = same_geometry d mid area banks ∙ ap (geometry_of d) here in
-    let next : SpendsAtMost mid e (mount_units (geometry_of d (active_area areas d))) = subst (λ (k : Geometry). SpendsAtMost mid e (mount_units k)) g second in
+    let next : SpendsAtMost mid e (foreign_units (geometry_of d (active_area areas d))) = subst (λ (k : Geometry). SpendsAtMost mid e (foreign_units k)) g second in
     let one : first.0 ≤ selector_erases areas d = first.1 in
-    let two : next.0 ≤ mount_units (geometry_of d (active_area areas d)) = next.1 in
+    let two : next.0 ≤ foreign_units (geometry_of d (active_area areas d)) = next.1 in
     (first.0 + next.0, omega arith, next.2 ∙ ap (λ (n : ℕ). counted n next.0) first.2 ∙ counted_counted d.spent first.0 next.0)
 
 bound_powered : (areas : List Area) (d : Device) → mount_bound areas (turned_on d) ≡ mount_bound areas d
-bound_powered areas d = ap (λ (place : ℕ). selector_erases areas d + mount_units (geometry_of d (area_at areas place))) (active_powered areas d)
+bound_powered areas d = ap (λ (place : ℕ). selector_erases areas d + foreign_units (geometry_of d (area_at areas place))) (active_powered areas d)
 
 -- as the answer reports it
 pub few_by : (areas : List Area) (old e : Device) (before after : ℕ) → before ≡ old.spent → after ≡ e.spent → SpendsAtMost (turned_on old) e (mount_bound areas (turned_on old)) → after - before ≤ mount_bound areas old

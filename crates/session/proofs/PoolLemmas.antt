@@ -1,7 +1,8 @@
 -- The first handler of a kind, taken out of the others.
-use Rattle.std.proofs.Common.{◌≡◌, ℕ, zero, suc, ◌+◌, ◌<◌, ◌≤◌, ◌||◌, cond, Bool, true, false, Some, None, List, [], ◌∷◌, ◌++◌, length, take, map, get_or, inl, inr, refl, sym, ap, subst, ◌∙◌, arith}
+use Rattle.std.proofs.Common.{◌≡◌, ℕ, zero, suc, ◌+◌, ◌<◌, ◌≤◌, ◌||◌, cond, Bool, true, false, Option, Some, None, List, [], ◌∷◌, ◌++◌, length, take, map, get_or, inl, inr, refl, sym, ap, subst, ◌∙◌, arith}
 use Rattle.std.specs.Prelude.{option_map, All, Result, Ok, Err}
-use Rattle.std.specs.List.{list_any, remove}
+use Rattle.std.specs.List.{AllWithin, HoldsAt, list_any, remove}
+use Rattle.std.specs.Option.{MatchOption}
 use Rattle.std.specs.Str.{bytes_eq}
 use Rattle.std.proofs.lemmas.Bool.{cases_Bool, cases_lt, false≢true}
 use Rattle.std.proofs.lemmas.Option.{slice_get_read}
@@ -45,31 +46,30 @@ without-at kind other (first ∷ rest) (suc i) below none same = elim (cases_Boo
       (without-at kind other rest i (omega (arith, below)) (sym (ap (λ (b : Bool). b || list_any (same_kind kind) (take i rest)) not) ∙ none) same)
 ]
 
--- a kind is the same only as itself
-pub same-kind : (kind other : HandlerKind) → kind ≡ other → same_kind kind other ≡ true
-same-kind kind other is = subst (λ (k : HandlerKind). same_kind kind k ≡ true) is (itself kind)
-  where
-    itself : (kind : HandlerKind) → same_kind kind kind ≡ true
-    itself Table = refl
-    itself Counter = refl
-    itself Level = refl
+-- ---- the place of the first handler of a kind
 
--- ---- the first handler of a kind, by a walk over the handlers
+module _ {B : Type 0} (kind-of : B → HandlerKind) (kind : HandlerKind) where
+  none-before : (pool : List B) (i : ℕ) → ((k : ℕ) (other : B) → k < i → same_kind kind (kind-of (get_or pool k other)) ≡ false) → i ≤ length pool → list_any (same_kind kind) (take i (map kind-of pool)) ≡ false
+  none-before [] zero none few = refl
+  none-before [] (suc i) none few = refl
+  none-before (first ∷ rest) zero none few = refl
+  none-before (first ∷ rest) (suc i) none few =
+      ap (λ (t : Bool). t || list_any (same_kind kind) (take i (map kind-of rest))) (none zero first (omega arith))
+      ∙ none-before rest i (λ k other lt. none (suc k) other (omega (arith, lt))) (omega (arith, few))
 
-module _ {B : Type 0} (kind-of : B → HandlerKind) (kind : HandlerKind) (pool : List B) (i : ℕ) (b : B) (lt : i < length pool) (is : b ≡ get_or pool i b) where
-  kind-there : (other : HandlerKind) → get_or (map kind-of pool) i other ≡ kind-of b
-  kind-there other = get_or-map kind-of pool i b other lt ∙ ap kind-of (sym is)
+  same-there : (pool : List B) (i : ℕ) → i < length pool → ((other : B) → same_kind kind (kind-of (get_or pool i other)) ≡ true) → same_kind kind (get_or (map kind-of pool) i kind) ≡ true
+  same-there [] i lt same = absurd (omega arith)
+  same-there (first ∷ rest) zero lt same = same first
+  same-there (first ∷ rest) (suc i) lt same = same-there rest i (omega (arith, lt)) same
 
-  within : i < length (map kind-of pool)
-  within = omega (arith, lt, length-map pool kind-of)
-
-  pub first-here : list_any (same_kind kind) (take i (map kind-of pool)) ≡ false → same_kind kind (kind-of b) ≡ true → FirstAt kind (map kind-of pool) (Some i)
-  first-here none same = (within, none, ap (same_kind kind) (kind-there kind) ∙ same)
-
-  pub first-later : list_any (same_kind kind) (take i (map kind-of pool)) ≡ false → same_kind kind (kind-of b) ≡ false → list_any (same_kind kind) (take (i + 1) (map kind-of pool)) ≡ false
-  first-later none other =
-      list_any_more (same_kind kind) (map kind-of pool) i kind within
-      ∙ ap (λ (t : Bool). t || same_kind kind (get_or (map kind-of pool) i kind)) none ∙ ap (same_kind kind) (kind-there kind) ∙ other
+  pub first-placed : (pool : List B) (place : Option ℕ)
+      → MatchOption place (AllWithin (λ b. same_kind kind (kind-of b) ≡ false) pool 0 (length pool))
+      (λ i. (i < length pool) × HoldsAt (λ b. same_kind kind (kind-of b) ≡ true) pool i × AllWithin (λ b. same_kind kind (kind-of b) ≡ false) pool 0 i)
+      → FirstAt kind (map kind-of pool) place
+  first-placed pool None none =
+      sym (ap (list_any (same_kind kind)) (take_all (length pool) (map kind-of pool) (omega (arith, length-map pool kind-of))))
+      ∙ none-before pool (length pool) (λ k other lt. none k other (omega arith) lt) (omega arith)
+  first-placed pool (Some i) (below, same, none) = (omega (arith, below, length-map pool kind-of), none-before pool i (λ k other lt. none k other (omega arith) lt) (omega (arith, below)), same-there pool i below same)
 
 -- ---- a subtree that is registered, by a walk over the registry
 
@@ -136,7 +136,7 @@ module _ {B : Type 0} (state : B → HandlerState) (kind : HandlerKind) (seen po
     others =
         without-at kind kind (kinds state pool) i first.0 first.1 first.2
         ∙ ap (λ (ks : List HandlerKind). Some ks) (sym (map-remove (λ (b : B). (state b).kind) pool i) ∙ ap (kinds state) (sym rest));
-    of_kind = kind-is kind (state b).kind (sym (ap (same_kind kind) (kind-there (λ (b : B). (state b).kind) kind pool i b lt is kind)) ∙ first.2);
+    of_kind = kind-is kind (state b).kind (sym (ap (same_kind kind) (get_or-map (λ (b : B). (state b).kind) pool i b kind lt ∙ ap (λ (b : B). (state b).kind) (sym is))) ∙ first.2);
     new = λ all. (subst (IsFresh state) (sym is) (all i b lt), subst (λ (xs : List B). All (IsFresh state) xs) (sym rest) (all-left (IsFresh state) pool i lt all));
   }
 

@@ -19,7 +19,7 @@ use Rattle.handlers.specs.Held.{HandlerState, fresh}
 use Rattle.handlers.specs.Registry.{Registered}
 use Rattle.backend_api.specs.Commands.{Command, puts_of}
 use Rattle.backend_api.specs.Map.{Map}
-use Rattle.backend_api.specs.Room.{Room, mount_units}
+use Rattle.backend_api.specs.Room.{Room, foreign_units}
 use Rattle.migrator.specs.declared.selecting.Selector.{Selector}
 use Rattle.migrator.specs.Active.{active_on, selector_damage_on}
 use Rattle.migrator.specs.Areas.{IsLawfulMap, is_store, is_store_at, first_store, selector_of, target}
@@ -147,7 +147,7 @@ selector_erases areas d = option_map_or (λ area. erases_on d area) (selector_of
 -- the most units and erases of a mount: the selector's erases, and the most of a mount of
 -- the active area
 abbrev pub mount_bound : List Area → Device → ℕ
-mount_bound areas d = selector_erases areas d + mount_units (geometry_of d (active_area areas d))
+mount_bound areas d = selector_erases areas d + foreign_units (geometry_of d (active_area areas d))
 
 -- the most units and erases of a save: those of one set for each pair that differs
 abbrev pub save_bound : Meanings → List Area → Option (List ℕ) → Moment → ℕ

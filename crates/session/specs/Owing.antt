@@ -1,9 +1,10 @@
 -- What a mount of a map spends, by what the lines that were cut left to it.
-use Rattle.std.specs.Prelude.{◌≡◌, ℕ, ◌+◌, ◌≤◌, max, ⊤, List, [], ◌∷◌, length, if◌then◌else◌}
+use Rattle.std.specs.Prelude.{◌≡◌, ℕ, ◌+◌, ◌≤◌, max, ⊤, List, [], ◌∷◌, length, Option, None, if◌then◌else◌}
 use Rattle.flash_sim.specs.Device.{Device}
 use Rattle.flash_sim.specs.declared.flash.Bank.{Bank}
 use Rattle.flash_map.specs.declared.area.Area.{Area}
 use Rattle.flash_map.specs.declared.area.Geometry.{Geometry}
+use Rattle.flash_map.specs.declared.faults.Damaged.{Damaged}
 use Rattle.flash_map.specs.Spending.{SpendsAtMost}
 use Rattle.backend_api.specs.Boot.{Owes}
 use Rattle.migrator.specs.Areas.{is_store}
@@ -12,7 +13,7 @@ use Rattle.script_lines.specs.declared.line.Line.TheVariants.{Mount}
 use Rattle.script_lines.specs.declared.answer.Answer.{Answer}
 use Rattle.script_lines.specs.Plan.{units_of}
 use Rattle.session_table.specs.Bench.{geometry_in}
-use Rattle.session.specs.OnMap.{active_area, selector_erases, selectors}
+use Rattle.session.specs.OnMap.{active_area, damage_in, selector_erases, selectors}
 
 -- The map owes at most so many units and erases: those that its active area owes, and the erases that
 -- are due in its selector.
@@ -49,6 +50,13 @@ abbrev pub OwesUpTo : (Area → Geometry → List (List ℕ) → ℕ → Type 0)
     → Type 0
 OwesUpTo owing limit areas old new =
     (most : ℕ) → limit ≤ most → OwesOnMap owing areas old most → OwesOnMap owing areas new most
+
+-- the map has no damage if it had none, and owes no more than before, or at most so many
+pub record LeavesMap (damage : Area → Geometry → List (List ℕ) → Option Damaged)
+    (owing : Area → Geometry → List (List ℕ) → ℕ → Type 0) (limit : ℕ) (areas : List Area)
+    (old new : Device) : Type 0 where
+  pub undamaged : damage_in damage areas old ≡ None → damage_in damage areas new ≡ None
+  pub owed : OwesUpTo owing limit areas old new
 
 -- each answer to a mount reports at most so many units and erases
 abbrev pub MountsWithin : ℕ → List Line → List Answer → Type 0

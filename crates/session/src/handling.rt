@@ -16,12 +16,11 @@ ghost use Rattle.session.specs.Handling.{beside, FirstAt, MovesHandlers, Registe
 ghost use Rattle.session.specs.OnMap.{meanings, moment, kinds, DoneWithin, IsFresh, IsServedMap, IsServed, is_handled, limit_of, StandsOnActive, StaysOnArea, HandlersFit, StopsUnchanged};
 
 use crate::changing::spells_another;
-use crate::reporting::copied;
 use backend_api::Backend;
 use flash_map::{Area, FlashMap};
 use flash_sim::{Bench, Flash, NoMemory, Steps};
 use handlers::{Handler, HandlerKind, RegisterFault, Registry, ValueView};
-use script_lines::{Answer, Bytes, Give, Gives, Line, SaveEnd};
+use script_lines::{Answer, Bytes, Give, Gives, Line, SaveEnd, copied};
 use setting_name::Name;
 use settings_core::{
     LoadFault, Report, RuntimeFault, SaveFault, Settings, commit, lawful_registry, runtime_get,
@@ -79,12 +78,10 @@ fn is_own(registry: &Registry, i: usize, subtree: &Name) -> bool
 fn is_registered(registry: &Registry, subtree: &Name) -> bool
     ensures { result ≡ list_any (bytes_eq subtree.now) (subtrees (registered state registry.now)) }
 {
-    let mut i = 0;
-    while i < registry.len() {
+    for i in 0..registry.len() {
         if is_own(registry, i, subtree) {
             return true;
         }
-        i += 1;
     }
     false
 }
@@ -104,14 +101,11 @@ fn is_of_kind(handler: &Box<dyn Handler>, kind: HandlerKind) -> bool
 fn first_of(pool: &[Box<dyn Handler>], kind: HandlerKind) -> Option<usize>
     ensures { FirstAt kind (kinds state pool.now) result }
 {
-    let mut i = 0;
-    while i < pool.len() {
-        if is_of_kind(&pool[i], kind) {
-            return Some(i);
-        }
-        i += 1;
-    }
-    None
+    pool.iter().position(
+        |handler|
+            ensures { result ≡ same_kind kind (state handler.now).kind }
+        { is_of_kind(handler, kind) },
+    )
 }
 
 // Takes the first handler of the kind out of the others.

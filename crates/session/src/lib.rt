@@ -3,7 +3,6 @@
 //! to the next one.
 #![tactic(auto)]
 
-mod answers;
 mod areas;
 mod changing;
 mod fault;
@@ -15,7 +14,6 @@ mod reporting;
 mod running;
 mod session;
 
-pub use answers::Answers;
 pub use fault::SessionFault;
-pub use running::run_lines;
+pub use running::{Answers, run_lines};
 pub use session::Session;

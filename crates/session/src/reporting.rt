@@ -10,7 +10,7 @@ use backend_api::Backend;
 use flash_map::{Area, FlashMap};
 use flash_sim::{Bench, Flash, NoMemory, Steps};
 use handlers::ValueView;
-use script_lines::{Answer, Bytes, Label, Pair, Pairs};
+use script_lines::{Answer, Pair, Pairs, copied};
 use setting_name::Name;
 use settings_core::{Each, Settings};
 use std::alloc::Global;
@@ -34,16 +34,6 @@ impl Each for Reported {
             name: name.copy(),
             value,
         })
-    }
-}
-
-// A copy of bytes.
-pub fn copied(alloc: Global, bytes: &[u8]) -> Result<Bytes, NoMemory>
-    ensures { IfOk result (λ copy. copy ≡ bytes.now) }
-{
-    match Vec::from_slice(alloc, bytes) {
-        Ok(items) => Ok(Bytes::from_vec(items)),
-        Err(_) => Err(NoMemory),
     }
 }
 
@@ -125,21 +115,6 @@ pub fn report_settings<K: Backend, B: Bench, L: Ledger>(
     Ok(Answer::Direct { pairs })
 }
 
-// The label of the area.
-fn label_of(alloc: Global, area: &Area) -> Result<Label, NoMemory>
-    ensures { IfOk result (λ label. label ≡ area.now.label.bytes) }
-{
-    let bytes = area.label.as_str().as_bytes();
-    let mut label = Label::new(alloc);
-    for byte in bytes {
-        match label.push(*byte) {
-            Ok(()) => {}
-            Err(lack) => return Err(lack),
-        }
-    }
-    Ok(label)
-}
-
 // The label of the area and all settings.
 pub fn report_all<K: Backend, B: Bench, L: Ledger>(
     alloc: Global,
@@ -156,7 +131,7 @@ pub fn report_all<K: Backend, B: Bench, L: Ledger>(
     ensures { IfOk result (λ answer. let d = B.device bench.now in
         DoneBeside (meanings K.contents K.room K.chance K.tears) map.now Names answer d d) }
 {
-    let active = label_of(alloc, area)?;
+    let active = copied(alloc, area.label.as_str().as_bytes())?;
     let pairs = settings_under(alloc, bench, settings, area, None, steps)?;
     Ok(Answer::Names { active, pairs })
 }

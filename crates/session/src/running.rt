@@ -10,24 +10,26 @@ ghost use Rattle.session.specs.OnMap.{IsAtRest, IsFresh, IsServed, IsServedMap, 
 ghost use Rattle.session.specs.Owing.{MountsWithin, OwesOnMap, map_boot};
 ghost use Rattle.session.specs.Texts.{AreLabelled};
 
-use crate::answers::Answers;
 use crate::fault::SessionFault;
 use crate::session::Session;
 use backend_api::Backend;
 use flash_map::FlashMap;
 use flash_sim::{Bench, Flash, Steps};
 use handlers::{Handler, Registry};
-use script_lines::Line;
+use script_lines::{Answer, Line, ListOf};
 use std::alloc::Global;
 use std::sync::ledger::Ledger;
+
+/// The answers to lines.
+pub type Answers = ListOf<Answer>;
 
 /// Mounts a map and carries out lines one after another. It returns the answers to the mount and to
 /// each line. The handlers of the pool hold nothing; those that lines register move from it into
 /// the registry, each time the first of the kind. If power is on after the last line, another mount
 /// of the map would have nothing to do. A map without damage has none afterwards, whatever the
-/// result. If the labels of the map are lawful, each answer has a text (`answer_text`). If the map
-/// owes at most so many units and erases (`OwesOnMap`), and that is at least `map_boot`, then no
-/// mount of the run reports more, and the map owes no more behind the lines, whatever the result.
+/// result. If the labels of the map are lawful, each answer has a text (`answer_text`). Take
+/// a number of units and erases, at least `map_boot` and at least what the map owes (`OwesOnMap`).
+/// No mount of the run reports more, and the map owes no more after the lines, whatever the result.
 ///
 /// # Errors
 /// `Damaged` with the damage that a mount found; a map without damage does not give it. The registry

@@ -8,8 +8,8 @@ ghost use Rattle.session_table.specs.Step.{needs_power};
 ghost use Rattle.settings_core.specs.Owing.{OwesBoot};
 ghost use Rattle.session.specs.Handling.{LeavesHandlers, MovesHandlers};
 ghost use Rattle.session.specs.Mounting.{down};
-ghost use Rattle.session.specs.Owing.{OwesUpTo, ReportsOwed, map_boot};
-ghost use Rattle.session.specs.OnMap.{CarriedBeside, DoesNothing, DoneWithin, IsAtRest, IsReady, IsServed, IsServedMap, LineCarried, LineStops, damage_in, is_local, kinds, limit_of, meanings, moment, StandsOnActive, StaysOnArea, HandlersFit, StopsUnchanged};
+ghost use Rattle.session.specs.Owing.{LeavesMap, ReportsOwed, map_boot};
+ghost use Rattle.session.specs.OnMap.{CarriedBeside, DoesNothing, DoneWithin, IsAtRest, IsReady, IsServed, IsServedMap, LineCarried, LineStops, is_local, kinds, limit_of, meanings, moment, StandsOnActive, StaysOnArea, HandlersFit, StopsUnchanged};
 
 use crate::changing::{delete_setting, set_setting};
 use crate::fault::SessionFault;
@@ -72,8 +72,6 @@ impl<K: Backend> Session<K> {
         ensures done { IfOk result
             (λ opened. let d = B.device bench.old in let e = B.device bench.new in CarriedBeside
             (meanings K.contents K.room K.chance K.tears) K.damage map.now Mount opened.1 d e) }
-        ensures undamaged { let d = B.device bench.old in let e = B.device bench.new in
-            damage_in K.damage map.now d ≡ None → damage_in K.damage map.now e ≡ None }
         ensures rests { let d = B.device bench.old in let e = B.device bench.new in
             IsAtRest K.rests map.now d → IfOk result (λ opened. DoesNothing opened.1 d e) }
         ensures stops { let d = B.device bench.old in let e = B.device bench.new in
@@ -85,8 +83,8 @@ impl<K: Backend> Session<K> {
             opened.0.selector opened.0.active opened.0.settings) }
         ensures boots { let d = B.device bench.old in
             IfOk result (λ opened. ReportsOwed K.owes map.now d opened.1) }
-        ensures left { let d = B.device bench.old in let e = B.device bench.new in
-            OwesUpTo K.owes 0 map.now d e }
+        ensures leaves { let d = B.device bench.old in let e = B.device bench.new in
+            LeavesMap K.damage K.owes 0 map.now d e }
     {
         bench.restore();
         let before = bench.spent();
@@ -136,8 +134,6 @@ impl<K: Backend> Session<K> {
             (kinds state pool.old.items))
             (moment (B.device bench.new) (registered state registry.new)
             (kinds state pool.new.items))) }
-        ensures undamaged { let d = B.device bench.old in let e = B.device bench.new in
-            damage_in K.damage map.now d ≡ None → damage_in K.damage map.now e ≡ None }
         ensures rests { let d = B.device bench.old in let e = B.device bench.new in
             line.now ≡ Mount → IsAtRest K.rests map.now d
             → IfOk result (λ answer. DoesNothing answer d e) }
@@ -152,8 +148,8 @@ impl<K: Backend> Session<K> {
         ensures boots { let d = B.device bench.old in
             line.now ≡ Mount
             → IfOk result (λ answer. ReportsOwed K.owes map.now d answer) }
-        ensures left { let d = B.device bench.old in let e = B.device bench.new in
-            OwesUpTo K.owes (map_boot K.boot_units d.banks map.now) map.now d e }
+        ensures leaves { let d = B.device bench.old in let e = B.device bench.new in
+            LeavesMap K.damage K.owes (map_boot K.boot_units d.banks map.now) map.now d e }
         ensures handlers { let hs = registered state registry.new in
             HandlersFit state (limit_of map.now) hs pool.new.items }
         ensures moves { let before = pool.old.items in
@@ -190,8 +186,6 @@ impl<K: Backend> Session<K> {
         ensures done { IfOk result
             (λ answer. let d = B.device bench.old in let e = B.device bench.new in CarriedBeside
             (meanings K.contents K.room K.chance K.tears) K.damage map.now line.now answer d e) }
-        ensures undamaged { let d = B.device bench.old in let e = B.device bench.new in
-            damage_in K.damage map.now d ≡ None → damage_in K.damage map.now e ≡ None }
         ensures rests { let d = B.device bench.old in let e = B.device bench.new in
             line.now ≡ Mount → IsAtRest K.rests map.now d
             → IfOk result (λ answer. DoesNothing answer d e) }
@@ -206,8 +200,8 @@ impl<K: Backend> Session<K> {
         ensures boots { let d = B.device bench.old in
             line.now ≡ Mount
             → IfOk result (λ answer. ReportsOwed K.owes map.now d answer) }
-        ensures left { let d = B.device bench.old in let e = B.device bench.new in
-            OwesUpTo K.owes 0 map.now d e }
+        ensures leaves { let d = B.device bench.old in let e = B.device bench.new in
+            LeavesMap K.damage K.owes 0 map.now d e }
     {
         match line {
             Line::Mount => self.mount(alloc, bench, map, steps),
@@ -230,8 +224,6 @@ impl<K: Backend> Session<K> {
         ensures done { IfOk result
             (λ answer. let d = B.device bench.old in let e = B.device bench.new in CarriedBeside
             (meanings K.contents K.room K.chance K.tears) K.damage map.now Mount answer d e) }
-        ensures undamaged { let d = B.device bench.old in let e = B.device bench.new in
-            damage_in K.damage map.now d ≡ None → damage_in K.damage map.now e ≡ None }
         ensures rests { let d = B.device bench.old in let e = B.device bench.new in
             IsAtRest K.rests map.now d → IfOk result (λ answer. DoesNothing answer d e) }
         ensures stops { let d = B.device bench.old in let e = B.device bench.new in
@@ -244,8 +236,8 @@ impl<K: Backend> Session<K> {
             self.new.settings) }
         ensures boots { let d = B.device bench.old in
             IfOk result (λ answer. ReportsOwed K.owes map.now d answer) }
-        ensures left { let d = B.device bench.old in let e = B.device bench.new in
-            OwesUpTo K.owes 0 map.now d e }
+        ensures leaves { let d = B.device bench.old in let e = B.device bench.new in
+            LeavesMap K.damage K.owes 0 map.now d e }
     {
         match Session::open(alloc, bench, map, steps) {
             Ok((session, answer)) => {
@@ -273,8 +265,6 @@ impl<K: Backend> Session<K> {
         ensures done { IfOk result
             (λ answer. let d = B.device bench.old in let e = B.device bench.new in CarriedBeside
             (meanings K.contents K.room K.chance K.tears) K.damage map.now Migrate answer d e) }
-        ensures undamaged { let d = B.device bench.old in let e = B.device bench.new in
-            damage_in K.damage map.now d ≡ None → damage_in K.damage map.now e ≡ None }
         ensures stops { let d = B.device bench.old in let e = B.device bench.new in
             IfErr result
             (λ fault. LineStops (meanings K.contents K.room K.chance K.tears) K.damage map.now
@@ -283,8 +273,8 @@ impl<K: Backend> Session<K> {
             OnOk result
             (IsReady K.mounted_on K.stands K.runs map.now e self.new.selector self.new.active
             self.new.settings) }
-        ensures left { let d = B.device bench.old in let e = B.device bench.new in
-            OwesUpTo K.owes (map_boot K.boot_units d.banks map.now) map.now d e }
+        ensures leaves { let d = B.device bench.old in let e = B.device bench.new in
+            LeavesMap K.damage K.owes (map_boot K.boot_units d.banks map.now) map.now d e }
     {
         match (&mut self.selector, &mut self.settings) {
             (Some(selector), Some(settings)) => {
@@ -327,8 +317,6 @@ impl<K: Backend> Session<K> {
             (kinds state pool.old.items))
             (moment (B.device bench.new) (registered state registry.new)
             (kinds state pool.new.items))) }
-        ensures undamaged { let d = B.device bench.old in let e = B.device bench.new in
-            damage_in K.damage map.now d ≡ None → damage_in K.damage map.now e ≡ None }
         ensures stops { let d = B.device bench.old in let e = B.device bench.new in
             IfErr result
             (λ fault. LineStops (meanings K.contents K.room K.chance K.tears) K.damage map.now
@@ -337,8 +325,8 @@ impl<K: Backend> Session<K> {
             OnOk result
             (IsReady K.mounted_on K.stands K.runs map.now e self.new.selector self.new.active
             self.new.settings) }
-        ensures left { let d = B.device bench.old in let e = B.device bench.new in
-            OwesUpTo K.owes (map_boot K.boot_units d.banks map.now) map.now d e }
+        ensures leaves { let d = B.device bench.old in let e = B.device bench.new in
+            LeavesMap K.damage K.owes (map_boot K.boot_units d.banks map.now) map.now d e }
         ensures handlers { let hs = registered state registry.new in
             HandlersFit state (limit_of map.now) hs pool.new.items }
         ensures moves { let before = pool.old.items in

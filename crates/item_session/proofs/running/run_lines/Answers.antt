@@ -1,21 +1,27 @@
 -- the mount, then each line, is carried out behind those before it; or memory was wanting
-use Rattle.std.proofs.Common.{◌+◌, ◌≤◌, [], ◌∷◌, ◌++◌, length, inl, refl, sym, subst, ◌∙◌, arith}
+use Rattle.std.proofs.Common.{◌+◌, ◌≤◌, List, [], ◌∷◌, ◌++◌, length, Ok, Err, inl, refl, sym, subst, ◌∙◌, arith}
+use Rattle.std.proofs.lemmas.Result.{err_from_is_err_and}
 use Rattle.flash_map.specs.declared.area.Area.{Area}
+use Rattle.flash_sim.specs.declared.flash.Bank.{Bank}
+use Rattle.item_store.specs.Standing.{IsStoreArea}
+use Rattle.item_session.specs.declared.fault.SessionFault.TheVariants.{NoMemory}
 use Rattle.item_session.specs.declared.line.Line.{Line}
+use Rattle.item_session.specs.declared.line.Line.TheVariants.{Mount}
 use Rattle.item_session.specs.Device.{IsServedOn}
 use Rattle.item_session.specs.LineDone.{LineDone}
 use Rattle.item_session.proofs.FoldLemmas.{left_as, one_more, opened, ran, served_there, sound_at, stops, stops_next, stops_open, stops_sound}
+use Rattle.item_session.proofs.OwesLemmas.{owes-after, run-banks, run-boots}
 use Rattle.item_session.proofs.RestLemmas.{rests_still}
 use Rattle.item_session.proofs.running.run_lines.Goals as goal
 
 pub loop-line-init : goal.loop-line-init
 loop-line-init g c =
     let device = g.B.Flash.device in
-    let done = c.in-Ok.ensures.done in
+    let done = c.in_ok-session.ensures.done in
     record {
-      so_far = rw (c.in-Ok-push.ensures.ok, c.new-answers.ensures) (opened g.T.SlotSectors.format_of c.args.area.now c.args.lines.now c.in-Ok.opened.1 (device c.args.bench.now) (device c.open.new.bench) c.in-Ok.ensures.done);
-      ready = c.in-Ok.ensures.ready;
-      area = c.in-Ok.ensures.area;
+      so_far = rw (c.in-Ok.ensures.ok, c.new-answers.ensures) (opened g.T.SlotSectors.format_of c.args.area.now c.args.lines.now c.in_ok-session.first (device c.args.bench.now) (device c.open.new.bench) c.in_ok-session.ensures.done);
+      ready = c.in_ok-session.ensures.ready;
+      area = c.in_ok-session.ensures.area;
       banks = done.keeps.banks;
     }
 
@@ -35,7 +41,7 @@ loop-line-preserved g c =
     let here = one_more format_of c.args.area.now c.args.lines.now c.loop-line.line-index c.line-item.result c.loop-line.answers c.in-Ok-carry_out.answer (device c.args.bench.now) (device c.loop-line.bench) (device c.carry_out.new.bench)
     c.loop-line-test.true c.line-item.is so_far.so_far done in
     record {
-      so_far = rw (c.in-Ok-push-2.ensures.ok) here;
+      so_far = rw (c.in-Ok-push.ensures.ok) here;
       ready = c.in-Ok-carry_out.ensures.ready;
       area = c.carry_out.ensures.area ∙ so_far.area;
       banks = done.keeps.banks ∙ so_far.banks;
@@ -45,7 +51,7 @@ pub returns-clause-ends : goal.returns-clause-ends
 returns-clause-ends g c =
     let device = g.B.Flash.device in
     let all : length c.args.lines.now ≤ c.loop-line.line-index = omega (arith, c.loop-line-test.false) in
-    (c.in-Ok.ensures.before, ran g.T.SlotSectors.format_of c.args.area.now c.args.lines.now c.loop-line.line-index c.loop-line.answers (device c.args.bench.now) (device c.loop-line.bench) all c.loop-line.invariant.so_far)
+    (c.in_ok-session.ensures.before, ran g.T.SlotSectors.format_of c.args.area.now c.args.lines.now c.loop-line.line-index c.loop-line.answers (device c.args.bench.now) (device c.loop-line.bench) all c.loop-line.invariant.so_far)
 
 pub returns-clause-undamaged : goal.returns-clause-undamaged
 returns-clause-undamaged g c = λ was.
@@ -66,8 +72,8 @@ pub returns-in-Err-carry_out-clause-undamaged : goal.returns-in-Err-carry_out-cl
 returns-in-Err-carry_out-clause-undamaged g c = λ was.
     sound_at g.T.SlotSectors.format_of c.args.area.now c.loop-line.session.area (g.B.Flash.device c.carry_out.new.bench) c.loop-line.invariant.area c.carry_out.ensures.undamaged
 
-pub returns-in-Err-push-2-clause-ends : goal.returns-in-Err-push-2-clause-ends
-returns-in-Err-push-2-clause-ends g c =
+pub returns-in-Err-push-clause-ends : goal.returns-in-Err-push-clause-ends
+returns-in-Err-push-clause-ends g c =
     let device = g.B.Flash.device in
     let format_of = g.T.SlotSectors.format_of in
     let so_far = c.loop-line.invariant in
@@ -76,27 +82,78 @@ returns-in-Err-push-2-clause-ends g c =
     c.loop-line-test.true c.line-item.is so_far.so_far done in
     stops format_of c.args.area.now c.args.lines.now (c.loop-line.line-index + 1) (c.loop-line.answers ++ c.in-Ok-carry_out.answer ∷ []) (device c.args.bench.now) (device c.carry_out.new.bench) (device c.carry_out.new.bench) here (inl refl)
 
-pub returns-in-Err-push-2-clause-undamaged : goal.returns-in-Err-push-2-clause-undamaged
-returns-in-Err-push-2-clause-undamaged g c = λ was.
-    sound_at g.T.SlotSectors.format_of c.args.area.now c.loop-line.session.area (g.B.Flash.device c.carry_out.new.bench) c.loop-line.invariant.area c.carry_out.ensures.undamaged
-
-pub returns-in-Err-push-clause-ends : goal.returns-in-Err-push-clause-ends
-returns-in-Err-push-clause-ends g c =
-    let device = g.B.Flash.device in
-    let here = opened g.T.SlotSectors.format_of c.args.area.now c.args.lines.now c.in-Ok.opened.1 (device c.args.bench.now) (device c.open.new.bench) c.in-Ok.ensures.done in
-    stops g.T.SlotSectors.format_of c.args.area.now c.args.lines.now 0 ([] ++ c.in-Ok.opened.1 ∷ []) (device c.args.bench.now) (device c.open.new.bench) (device c.open.new.bench) here (inl refl)
-
 pub returns-in-Err-push-clause-undamaged : goal.returns-in-Err-push-clause-undamaged
 returns-in-Err-push-clause-undamaged g c = λ was.
-    let ready = c.in-Ok.ensures.ready in
-    sound_at g.T.SlotSectors.format_of c.args.area.now c.in-Ok.opened.0.area (g.B.Flash.device c.open.new.bench) c.in-Ok.ensures.area ready.sound.undamaged
+    sound_at g.T.SlotSectors.format_of c.args.area.now c.loop-line.session.area (g.B.Flash.device c.carry_out.new.bench) c.loop-line.invariant.area c.carry_out.ensures.undamaged
 
 pub returns-in-Err-clause-ends : goal.returns-in-Err-clause-ends
 returns-in-Err-clause-ends g c =
     let device = g.B.Flash.device in
-    stops_open g.T.SlotSectors.format_of c.args.area.now c.args.lines.now (device c.args.bench.now) (device c.open.new.bench) c.in-Err.fault c.in-Err.ensures.stops
+    let here = opened g.T.SlotSectors.format_of c.args.area.now c.args.lines.now c.in_ok-session.first (device c.args.bench.now) (device c.open.new.bench) c.in_ok-session.ensures.done in
+    stops g.T.SlotSectors.format_of c.args.area.now c.args.lines.now 0 ([] ++ c.in_ok-session.first ∷ []) (device c.args.bench.now) (device c.open.new.bench) (device c.open.new.bench) here (inl refl)
 
 pub returns-in-Err-clause-undamaged : goal.returns-in-Err-clause-undamaged
 returns-in-Err-clause-undamaged g c = λ was.
+    let ready = c.in_ok-session.ensures.ready in
+    sound_at g.T.SlotSectors.format_of c.args.area.now c.in_ok-session.session.area (g.B.Flash.device c.open.new.bench) c.in_ok-session.ensures.area ready.sound.undamaged
+
+pub returns-in_err-session-clause-ends : goal.returns-in_err-session-clause-ends
+returns-in_err-session-clause-ends g c =
     let device = g.B.Flash.device in
-    stops_sound g.T.SlotSectors.format_of c.args.area.now (device c.args.bench.now) (device c.open.new.bench) c.in-Err.fault c.in-Err.ensures.stops was
+    let fault = err_from_is_err_and c.from_residual.result c.from_residual.ensures.1 in
+    rw (fault.1, fault.2) (stops_open g.T.SlotSectors.format_of c.args.area.now c.args.lines.now (device c.args.bench.now) (device c.open.new.bench) c.in_err-session.field-0.0 c.in_err-session.ensures.stops)
+
+pub returns-in_err-session-clause-undamaged : goal.returns-in_err-session-clause-undamaged
+returns-in_err-session-clause-undamaged g c = λ was.
+    let device = g.B.Flash.device in
+    stops_sound g.T.SlotSectors.format_of c.args.area.now (device c.args.bench.now) (device c.open.new.bench) c.in_err-session.field-0.0 c.in_err-session.ensures.stops was
+
+pub returns-clause-boots : goal.returns-clause-boots
+returns-clause-boots g c =
+    let device = g.B.Flash.device in
+    run-boots g.T.SlotSectors.format_of c.args.area.now (Mount ∷ c.args.lines.now) (device c.args.bench.now) (device c.loop-line.bench) (Ok c.loop-line.answers) (returns-clause-ends g c)
+
+pub returns-clause-left : goal.returns-clause-left
+returns-clause-left g c = λ was.
+    let d = g.B.Flash.device c.args.bench.now in
+    let e = g.B.Flash.device c.loop-line.bench in
+    let s = g.T.SlotSectors in
+    let banks = run-banks s.format_of c.args.area.now (Mount ∷ c.args.lines.now) d e (Ok c.loop-line.answers) (returns-clause-ends g c) in
+    let own = subst (λ (all : List Bank). IsStoreArea s.role all c.args.area.now) (sym banks) c.requires.area in
+    owes-after s.role s.format_of g.met.T.SlotSectors.lawful e (g.met.B.Flash.is_lawful c.loop-line.bench) c.args.area.now own (returns-clause-undamaged g c was) d banks
+
+pub returns-in-Err-carry_out-clause-left : goal.returns-in-Err-carry_out-clause-left
+returns-in-Err-carry_out-clause-left g c = λ was.
+    let d = g.B.Flash.device c.args.bench.now in
+    let e = g.B.Flash.device c.carry_out.new.bench in
+    let s = g.T.SlotSectors in
+    let banks = run-banks s.format_of c.args.area.now (Mount ∷ c.args.lines.now) d e (Err NoMemory) (returns-in-Err-carry_out-clause-ends g c) in
+    let own = subst (λ (all : List Bank). IsStoreArea s.role all c.args.area.now) (sym banks) c.requires.area in
+    owes-after s.role s.format_of g.met.T.SlotSectors.lawful e (g.met.B.Flash.is_lawful c.carry_out.new.bench) c.args.area.now own (returns-in-Err-carry_out-clause-undamaged g c was) d banks
+
+pub returns-in-Err-push-clause-left : goal.returns-in-Err-push-clause-left
+returns-in-Err-push-clause-left g c = λ was.
+    let d = g.B.Flash.device c.args.bench.now in
+    let e = g.B.Flash.device c.carry_out.new.bench in
+    let s = g.T.SlotSectors in
+    let banks = run-banks s.format_of c.args.area.now (Mount ∷ c.args.lines.now) d e (Err NoMemory) (returns-in-Err-push-clause-ends g c) in
+    let own = subst (λ (all : List Bank). IsStoreArea s.role all c.args.area.now) (sym banks) c.requires.area in
+    owes-after s.role s.format_of g.met.T.SlotSectors.lawful e (g.met.B.Flash.is_lawful c.carry_out.new.bench) c.args.area.now own (returns-in-Err-push-clause-undamaged g c was) d banks
+
+pub returns-in-Err-clause-left : goal.returns-in-Err-clause-left
+returns-in-Err-clause-left g c = λ was.
+    let d = g.B.Flash.device c.args.bench.now in
+    let e = g.B.Flash.device c.open.new.bench in
+    let s = g.T.SlotSectors in
+    let banks = run-banks s.format_of c.args.area.now (Mount ∷ c.args.lines.now) d e (Err NoMemory) (returns-in-Err-clause-ends g c) in
+    let own = subst (λ (all : List Bank). IsStoreArea s.role all c.args.area.now) (sym banks) c.requires.area in
+    owes-after s.role s.format_of g.met.T.SlotSectors.lawful e (g.met.B.Flash.is_lawful c.open.new.bench) c.args.area.now own (returns-in-Err-clause-undamaged g c was) d banks
+
+pub returns-in_err-session-clause-left : goal.returns-in_err-session-clause-left
+returns-in_err-session-clause-left g c = λ was.
+    let d = g.B.Flash.device c.args.bench.now in
+    let e = g.B.Flash.device c.open.new.bench in
+    let s = g.T.SlotSectors in
+    let banks = run-banks s.format_of c.args.area.now (Mount ∷ c.args.lines.now) d e c.from_residual.result (returns-in_err-session-clause-ends g c) in
+    let own = subst (λ (all : List Bank). IsStoreArea s.role all c.args.area.now) (sym banks) c.requires.area in
+    owes-after s.role s.format_of g.met.T.SlotSectors.lawful e (g.met.B.Flash.is_lawful c.open.new.bench) c.args.area.now own (returns-in_err-session-clause-undamaged g c was) d banks

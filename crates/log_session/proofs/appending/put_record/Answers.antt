@@ -9,7 +9,7 @@ pub returns-in-Ok-clause-done : goal.returns-in-Ok-clause-done
 returns-in-Ok-clause-done g c =
     let d = g.B.Flash.device c.args.bench.now in
     let e = g.B.Flash.device c.append-end.new.flash in
-    let line = done_line c.args.area.now c.args.log.now.ring c.append-end.new.self.ring c.as_slice.result.now c.args.body.now d e c.requires.on c.requires.mounted c.requires.area c.as_slice.ensures c.append-end.result c.append-end.ensures.touches c.append-end.ensures.ends c.in-Ok.dropped (e.spent - d.spent) c.in-Ok.is refl in
+    let line = done_line c.args.area.now c.args.log.now.ring c.append-end.new.self.ring c.as_slice.result.now c.args.body.now d e c.requires.on c.requires.mounted c.requires.area c.as_slice.ensures c.append-end.result c.append-end.ensures.touches c.append-end.ensures.ends c.in-Ok.dropped (e.spent - d.spent) c.in-Ok.is refl c.append-end.ensures.left in
     rw (c.spent.ensures, c.spent-before.ensures) line
 
 pub returns-in-Ok-clause-undamaged : goal.returns-in-Ok-clause-undamaged
@@ -30,7 +30,7 @@ returns-in-Err-PowerLost-clause-done g c =
     let e = g.B.Flash.device c.append-end.new.flash in
     let which : c.in-Err-PowerLost.field-0 ≡ PowerLost = rw c.in-Err-PowerLost.is at c.in-Err-PowerLost.field-0-is in
     let end : c.append-end.result ≡ Err PowerLost = c.in-Err-PowerLost.is ∙ ap (λ (fault : LogFault). Err fault) which in
-    let line = lost_line c.args.area.now c.args.log.now.ring c.append-end.new.self.ring c.as_slice.result.now c.args.body.now d e c.requires.on c.requires.mounted c.requires.area c.as_slice.ensures c.append-end.result c.append-end.ensures.touches c.append-end.ensures.ends (e.spent - d.spent) c.spells_another.result end refl c.spells_another.ensures in
+    let line = lost_line c.args.area.now c.args.log.now.ring c.append-end.new.self.ring c.as_slice.result.now c.args.body.now d e c.requires.on c.requires.mounted c.requires.area c.as_slice.ensures c.append-end.result c.append-end.ensures.touches c.append-end.ensures.ends (e.spent - d.spent) c.spells_another.result end refl c.spells_another.ensures c.append-end.ensures.left in
     rw (c.spent.ensures, c.spent-before.ensures) line
 
 pub returns-in-Err-PowerLost-clause-undamaged : goal.returns-in-Err-PowerLost-clause-undamaged

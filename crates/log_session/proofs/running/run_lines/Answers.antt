@@ -1,10 +1,12 @@
 -- the mount, then each line, is carried out behind those before it; or memory was wanting
-use Rattle.std.proofs.Common.{◌+◌, ◌≤◌, [], ◌∷◌, ◌++◌, length, sym, subst, ◌∙◌, arith}
+use Rattle.std.proofs.Common.{◌+◌, ◌≤◌, [], ◌∷◌, ◌++◌, length, Ok, Err, sym, subst, ◌∙◌, arith}
 use Rattle.flash_sim.specs.Device.{Device}
 use Rattle.flash_map.specs.declared.area.Area.{Area}
+use Rattle.log_session.specs.declared.fault.SessionFault.TheVariants.{Damaged as IsDamaged, NoMemory}
 use Rattle.log_session.specs.LineDone.{LineDone}
 use Rattle.log_session.specs.Running.{RunStops}
 use Rattle.log_session.proofs.FoldLemmas.{one_more, opened, ran, sound_still, rested_still, stops}
+use Rattle.log_session.proofs.OwesLemmas.{run-boots}
 use Rattle.log_session.specs.declared.line.Line.TheVariants.{Mount}
 use Rattle.log_session.proofs.running.run_lines.Goals as goal
 
@@ -71,3 +73,28 @@ returns-in-Err-push-clause-ends g c =
 
 pub returns-in-Err-push-clause-undamaged : goal.returns-in-Err-push-clause-undamaged
 returns-in-Err-push-clause-undamaged g c = λ was. sound_still c.args.area.now (g.B.Flash.device c.open.new.bench) c.in-Ok.opened.0 c.in-Ok.ensures.area c.in-Ok.ensures.ready
+
+pub returns-clause-boots : goal.returns-clause-boots
+returns-clause-boots g c =
+    let device = g.B.Flash.device in
+    run-boots c.args.area.now (Mount ∷ c.args.lines.now) (device c.args.bench.now) (device c.loop-line.bench) (Ok c.loop-line.answers) (returns-clause-ends g c)
+
+pub returns-in-Err-carry_out-clause-boots : goal.returns-in-Err-carry_out-clause-boots
+returns-in-Err-carry_out-clause-boots g c =
+    let device = g.B.Flash.device in
+    run-boots c.args.area.now (Mount ∷ c.args.lines.now) (device c.args.bench.now) (device c.carry_out.new.bench) (Err NoMemory) (returns-in-Err-carry_out-clause-ends g c)
+
+pub returns-in-Err-push-2-clause-boots : goal.returns-in-Err-push-2-clause-boots
+returns-in-Err-push-2-clause-boots g c =
+    let device = g.B.Flash.device in
+    run-boots c.args.area.now (Mount ∷ c.args.lines.now) (device c.args.bench.now) (device c.carry_out.new.bench) (Err NoMemory) (returns-in-Err-push-2-clause-ends g c)
+
+pub returns-in-Err-push-clause-boots : goal.returns-in-Err-push-clause-boots
+returns-in-Err-push-clause-boots g c =
+    let device = g.B.Flash.device in
+    run-boots c.args.area.now (Mount ∷ c.args.lines.now) (device c.args.bench.now) (device c.open.new.bench) (Err NoMemory) (returns-in-Err-push-clause-ends g c)
+
+pub returns-in-Err-clause-boots : goal.returns-in-Err-clause-boots
+returns-in-Err-clause-boots g c =
+    let device = g.B.Flash.device in
+    run-boots c.args.area.now (Mount ∷ c.args.lines.now) (device c.args.bench.now) (device c.open.new.bench) (Err (IsDamaged c.in-Err.damaged)) c.in-Err.ensures.damaged

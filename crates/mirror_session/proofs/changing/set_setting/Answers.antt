@@ -16,6 +16,8 @@ use Rattle.mirror_session.proofs.CommandLines.{held_again, set_done, set_done_re
 use Rattle.mirror_session.proofs.CommandLines.{set_lost as set_line_lost}
 use Rattle.mirror_session.proofs.HeldLemmas.{limit_is}
 use Rattle.mirror_session.proofs.SideLemmas.{sides_fit, sides_sound}
+use Rattle.mirror_session.proofs.OwesLemmas.{owes-command}
+use Rattle.mirror_session.proofs.PlaceLemmas.{map_kept}
 use Rattle.mirror_session.proofs.changing.set_setting.Goals as goal
 
 pub set-end-requires-clause-short : goal.set-end-requires-clause-short
@@ -144,3 +146,43 @@ returns-in-Err-PowerLost-clause-held g c =
     let touches = subst (λ (r : Result (Unit {0}) SetFault). Touches (c.args.mirror.now.trusted.area ∷ c.args.mirror.now.other.area ∷ []) old new (set_lost r)) end c.set-end.ensures.touches in
     let sound = set_lost_sound K.mounted_on K.stands m K.serves c.args.map.now old new c.args.mirror.now c.set-end.new.self c.requires.map c.requires.held c.requires.on lawful lawful_new c.args.name.now c.as_slice.result.now some c.set-end.ensures.at_most (new.spent - old.spent) refl c.set-end.result c.set-end.ensures.ends end in
     held_again K.mounted_on K.stands m K.serves c.args.map.now old new c.args.mirror.now c.set-end.new.self c.requires.map c.requires.held c.requires.on lawful lawful_new true touches c.set-end.ensures.trusted c.set-end.ensures.other sound.0 sound.1 (λ power. absurd (false≢true (sym (touches.ends c.requires.on).off ∙ power))) (λ power. absurd (false≢true (sym (touches.ends c.requires.on).off ∙ power)))
+
+pub returns-in-Ok-clause-left : goal.returns-in-Ok-clause-left
+returns-in-Ok-clause-left g c =
+    let K = g.K.Backend in
+    let m = meanings K.damage K.contents K.rests K.room g.K.Priced.prices in
+    let old = g.B.Flash.device c.args.bench.now in
+    let new = g.B.Flash.device c.set-end.new.flash in
+    let banks = c.set-end.ensures.touches.banks in
+    owes-command K.owes c.args.map.now K.mounted_on K.stands m K.serves new c.set-end.new.self (map_kept K.serves c.args.map.now old new banks c.requires.map) (returns-in-Ok-clause-held g c) (λ a h x n is. g.met.K.Backend.rests_owe a h x n is) (λ s h x is. g.met.K.Backend.stands_rests s h x is)
+    K.boot_units (λ a h x few most less is. g.met.K.Backend.owes_more a h x few most less is) old banks c.args.mirror.now.trusted c.args.mirror.now.other c.set-end.ensures.trusted c.set-end.ensures.other (set_lost c.set-end.result) c.set-end.ensures.mirrors c.set-end.ensures.owes
+
+pub returns-in-Err-NoSpace-clause-left : goal.returns-in-Err-NoSpace-clause-left
+returns-in-Err-NoSpace-clause-left g c =
+    let K = g.K.Backend in
+    let m = meanings K.damage K.contents K.rests K.room g.K.Priced.prices in
+    let old = g.B.Flash.device c.args.bench.now in
+    let new = g.B.Flash.device c.set-end.new.flash in
+    let banks = c.set-end.ensures.touches.banks in
+    owes-command K.owes c.args.map.now K.mounted_on K.stands m K.serves new c.set-end.new.self (map_kept K.serves c.args.map.now old new banks c.requires.map) (returns-in-Err-NoSpace-clause-held g c) (λ a h x n is. g.met.K.Backend.rests_owe a h x n is) (λ s h x is. g.met.K.Backend.stands_rests s h x is)
+    K.boot_units (λ a h x few most less is. g.met.K.Backend.owes_more a h x few most less is) old banks c.args.mirror.now.trusted c.args.mirror.now.other c.set-end.ensures.trusted c.set-end.ensures.other (set_lost c.set-end.result) c.set-end.ensures.mirrors c.set-end.ensures.owes
+
+pub returns-in-Err-TooManyNames-clause-left : goal.returns-in-Err-TooManyNames-clause-left
+returns-in-Err-TooManyNames-clause-left g c =
+    let K = g.K.Backend in
+    let m = meanings K.damage K.contents K.rests K.room g.K.Priced.prices in
+    let old = g.B.Flash.device c.args.bench.now in
+    let new = g.B.Flash.device c.set-end.new.flash in
+    let banks = c.set-end.ensures.touches.banks in
+    owes-command K.owes c.args.map.now K.mounted_on K.stands m K.serves new c.set-end.new.self (map_kept K.serves c.args.map.now old new banks c.requires.map) (returns-in-Err-TooManyNames-clause-held g c) (λ a h x n is. g.met.K.Backend.rests_owe a h x n is) (λ s h x is. g.met.K.Backend.stands_rests s h x is)
+    K.boot_units (λ a h x few most less is. g.met.K.Backend.owes_more a h x few most less is) old banks c.args.mirror.now.trusted c.args.mirror.now.other c.set-end.ensures.trusted c.set-end.ensures.other (set_lost c.set-end.result) c.set-end.ensures.mirrors c.set-end.ensures.owes
+
+pub returns-in-Err-PowerLost-clause-left : goal.returns-in-Err-PowerLost-clause-left
+returns-in-Err-PowerLost-clause-left g c =
+    let K = g.K.Backend in
+    let m = meanings K.damage K.contents K.rests K.room g.K.Priced.prices in
+    let old = g.B.Flash.device c.args.bench.now in
+    let new = g.B.Flash.device c.set-end.new.flash in
+    let banks = c.set-end.ensures.touches.banks in
+    owes-command K.owes c.args.map.now K.mounted_on K.stands m K.serves new c.set-end.new.self (map_kept K.serves c.args.map.now old new banks c.requires.map) (returns-in-Err-PowerLost-clause-held g c) (λ a h x n is. g.met.K.Backend.rests_owe a h x n is) (λ s h x is. g.met.K.Backend.stands_rests s h x is)
+    K.boot_units (λ a h x few most less is. g.met.K.Backend.owes_more a h x few most less is) old banks c.args.mirror.now.trusted c.args.mirror.now.other c.set-end.ensures.trusted c.set-end.ensures.other (set_lost c.set-end.result) c.set-end.ensures.mirrors c.set-end.ensures.owes

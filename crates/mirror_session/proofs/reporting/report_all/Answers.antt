@@ -1,5 +1,5 @@
 -- the label of the trusted area, and all settings
-use Rattle.std.proofs.Common.{◌≡◌, ◌∙◌, ◌<◌, ℕ, length, map, ap, subst, sym}
+use Rattle.std.proofs.Common.{◌≡◌, ◌∙◌, ◌<◌, ℕ, length, map, ap, rules, subst, sym}
 use Rattle.std.specs.FinMap.{entries}
 use Rattle.flash_map.specs.declared.area.Area.{Area}
 use Rattle.backend_api.specs.Map.{Map}
@@ -28,7 +28,8 @@ returns g c =
     let place : c.trusted.result ≡ active_on c.args.map.now d = c.trusted.ensures ∙ c.requires.held.named in
     let area : c.area_at-area.result ≡ area_at c.args.map.now (active_on c.args.map.now d) =
     sym (area_there c.args.map.now c.trusted.result c.area_at-area.result c.area_at-area.ensures) ∙ ap (area_at c.args.map.now) place in
+    let label : c.in_ok-active.active ≡ c.area_at-area.result.label.bytes = search rules in
     names m c.args.map.now d c.in_ok-active.active c.in_ok-pairs.pairs c.requires.on
-    (c.in_ok-active.ensures ∙ ap (λ (a : Area). a.label.bytes) area)
+    (label ∙ ap (λ (a : Area). a.label.bytes) area)
     (c.in_ok-pairs.ensures ∙ ap (λ (x : Map). map as_pair (entries x)) (sym (settings_are K.mounted_on K.stands m K.serves c.args.map.now d c.args.mirror.now c.requires.map c.requires.held c.requires.on)))
     (c.requires.held.read c.requires.on)

@@ -1,5 +1,5 @@
 -- the selector was not mounted; or settings were mounted then, or not
-use Rattle.backend_api.specs.Room.{mount_units}
+use Rattle.backend_api.specs.Room.{foreign_units}
 use Rattle.session.proofs.OwesLemmas.{map-units, stopped-units}
 use Rattle.std.proofs.Common.{◌<◌, false, length, List, sym, subst, ap}
 use Rattle.flash_sim.specs.declared.flash.Bank.{Bank}
@@ -86,7 +86,7 @@ returns g c =
       rests = map_rests g.K.Backend.serves g.K.Backend.mounted_on g.K.Backend.stands g.K.Backend.runs g.K.Backend.damage g.K.Backend.contents g.K.Backend.rests areas d mid e c.in-Ok.selector c.active_place-place.result c.mount-mounted.result (g.met.F.Flash.is_lawful c.mount-mounted.new.flash) before c.active_place-place.ensures after;
       owes =
           map-units g.K.Backend.owes areas g.K.Backend.serves d mid false c.requires.map (g.met.F.Flash.is_lawful c.args.flash.now) (g.met.F.Flash.is_lawful c.mount_selector.new.flash) c.in-Ok.ensures.touches c.mount_selector.ensures.idle (c.mount_selector.ensures.active c.in-Ok.ensures.ends.0)
-          e (mount_units (geometry_of mid c.area_at.result)) c.area_at.result (g.met.F.Flash.is_lawful c.mount-mounted.new.flash) (at_active areas mid c.active_place-place.result c.area_at.result c.active_place-place.ensures c.area_at.ensures) c.mount_selector.ensures.at_most c.mount_selector.ensures.left
+          e (foreign_units (geometry_of mid c.area_at.result)) c.area_at.result (g.met.F.Flash.is_lawful c.mount-mounted.new.flash) (at_active areas mid c.active_place-place.result c.area_at.result c.active_place-place.ensures c.area_at.ensures) c.mount_selector.ensures.at_most c.mount_selector.ensures.left
           c.mount-mounted.ensures.touches.banks c.mount-mounted.ensures.touches.outside c.mount-mounted.ensures.units;
       at_most =
           map_most areas d mid e c.area_at.result c.mount_selector.ensures.touches.banks (c.mount_selector.ensures.active c.in-Ok.ensures.ends.0)

@@ -44,7 +44,7 @@ loop-line-init g c =
     let here = opened (meanings g.K.Backend.contents g.K.Backend.room g.K.Backend.chance g.K.Backend.tears) g.K.Backend.damage g.K.Backend.rests c.args.map.now c.args.lines.now c.in-Ok.opened.1 (moment (g.B.Flash.device c.args.bench.now) (registered (λ b. (goal.Handler-dyn g (b.vtable, b.value)).state b.value) c.args.registry.now) (kinds (λ b. (goal.Handler-dyn g (b.vtable, b.value)).state b.value) c.args.pool.items)) (moment (g.B.Flash.device c.open-opened.new.bench) (registered (λ b. (goal.Handler-dyn g (b.vtable, b.value)).state b.value) c.args.registry.now) (kinds (λ b. (goal.Handler-dyn g (b.vtable, b.value)).state b.value) c.args.pool.items)) (record { carried = done; idle = λ is rest. c.in-Ok.ensures.rests rest; at_rest = rests_behind }) in
     let moves = opened_moves (λ b. (goal.Handler-dyn g (b.vtable, b.value)).state b.value) (meanings g.K.Backend.contents g.K.Backend.room g.K.Backend.chance g.K.Backend.tears) g.K.Backend.damage g.K.Backend.rests c.args.map.now c.args.lines.now c.in-Ok.opened.1 (boxes (g.B.Flash.device c.args.bench.now) c.args.registry.now c.args.pool.items) (boxes (g.B.Flash.device c.open-opened.new.bench) c.args.registry.now c.args.pool.items) (record { ran = record { carried = done; idle = λ is rest. c.in-Ok.ensures.rests rest; at_rest = rests_behind }; moves = (refl, refl) }) in
     let d = g.B.Flash.device c.args.bench.now in
-    let boots = boots-first g.K.Backend.owes (map_boot g.K.Backend.boot_units d.banks c.args.map.now) c.args.map.now c.args.lines.now c.in-Ok.opened.1 d (g.B.Flash.device c.open-opened.new.bench) c.in-Ok.ensures.boots c.open-opened.ensures.left in
+    let boots = boots-first g.K.Backend.owes (map_boot g.K.Backend.boot_units d.banks c.args.map.now) c.args.map.now c.args.lines.now c.in-Ok.opened.1 d (g.B.Flash.device c.open-opened.new.bench) c.in-Ok.ensures.boots c.open-opened.ensures.leaves.owed in
     (rw (c.in-Ok-push.ensures.ok, c.new-answers.ensures) here, done.done.keeps.banks, c.in-Ok.ensures.ready, c.requires.pool, c.requires.registry, rw (c.in-Ok-push.ensures.ok, c.new-answers.ensures) moves, rw (c.in-Ok-push.ensures.ok, c.new-answers.ensures) boots)
 
 pub returns-in-Err-carry_out-clause-ends : goal.returns-in-Err-carry_out-clause-ends
@@ -53,7 +53,7 @@ returns-in-Err-carry_out-clause-ends g c =
     c.loop-line-test.true c.line-item.is c.loop-line.invariant.0 c.in-Err-carry_out.ensures.stops
 
 pub returns-in-Err-carry_out-clause-undamaged : goal.returns-in-Err-carry_out-clause-undamaged
-returns-in-Err-carry_out-clause-undamaged g c = λ was. c.carry_out.ensures.undamaged (undamaged (meanings g.K.Backend.contents g.K.Backend.room g.K.Backend.chance g.K.Backend.tears) g.K.Backend.damage g.K.Backend.rests c.args.map.now c.args.lines.now c.loop-line.line-index c.loop-line.answers (moment (g.B.Flash.device c.args.bench.now) (registered (λ b. (goal.Handler-dyn g (b.vtable, b.value)).state b.value) c.args.registry.now) (kinds (λ b. (goal.Handler-dyn g (b.vtable, b.value)).state b.value) c.args.pool.items)) (moment (g.B.Flash.device c.loop-line.bench) (registered (λ b. (goal.Handler-dyn g (b.vtable, b.value)).state b.value) c.loop-line.registry) (kinds (λ b. (goal.Handler-dyn g (b.vtable, b.value)).state b.value) c.loop-line.pool.items)) c.loop-line.invariant.0 was)
+returns-in-Err-carry_out-clause-undamaged g c = λ was. c.carry_out.ensures.leaves.undamaged (undamaged (meanings g.K.Backend.contents g.K.Backend.room g.K.Backend.chance g.K.Backend.tears) g.K.Backend.damage g.K.Backend.rests c.args.map.now c.args.lines.now c.loop-line.line-index c.loop-line.answers (moment (g.B.Flash.device c.args.bench.now) (registered (λ b. (goal.Handler-dyn g (b.vtable, b.value)).state b.value) c.args.registry.now) (kinds (λ b. (goal.Handler-dyn g (b.vtable, b.value)).state b.value) c.args.pool.items)) (moment (g.B.Flash.device c.loop-line.bench) (registered (λ b. (goal.Handler-dyn g (b.vtable, b.value)).state b.value) c.loop-line.registry) (kinds (λ b. (goal.Handler-dyn g (b.vtable, b.value)).state b.value) c.loop-line.pool.items)) c.loop-line.invariant.0 was)
 
 pub returns-in-Err-carry_out-clause-serves : goal.returns-in-Err-carry_out-clause-serves
 returns-in-Err-carry_out-clause-serves g c = λ was.
@@ -66,7 +66,7 @@ returns-in-Err-push-2-clause-ends g c =
     stops_behind (meanings g.K.Backend.contents g.K.Backend.room g.K.Backend.chance g.K.Backend.tears) g.K.Backend.damage g.K.Backend.rests c.args.map.now c.args.lines.now (c.loop-line.line-index + 1) (c.loop-line.answers ++ c.in-Ok-carry_out.answer ∷ []) (moment (g.B.Flash.device c.args.bench.now) (registered (λ b. (goal.Handler-dyn g (b.vtable, b.value)).state b.value) c.args.registry.now) (kinds (λ b. (goal.Handler-dyn g (b.vtable, b.value)).state b.value) c.args.pool.items)) (moment (g.B.Flash.device c.carry_out.new.bench) (registered (λ b. (goal.Handler-dyn g (b.vtable, b.value)).state b.value) c.carry_out.new.registry) (kinds (λ b. (goal.Handler-dyn g (b.vtable, b.value)).state b.value) c.carry_out.new.pool.items)) (registered (λ b. (goal.Handler-dyn g (b.vtable, b.value)).state b.value) c.carry_out.new.registry) here
 
 pub returns-in-Err-push-2-clause-undamaged : goal.returns-in-Err-push-2-clause-undamaged
-returns-in-Err-push-2-clause-undamaged g c = λ was. c.carry_out.ensures.undamaged (undamaged (meanings g.K.Backend.contents g.K.Backend.room g.K.Backend.chance g.K.Backend.tears) g.K.Backend.damage g.K.Backend.rests c.args.map.now c.args.lines.now c.loop-line.line-index c.loop-line.answers (moment (g.B.Flash.device c.args.bench.now) (registered (λ b. (goal.Handler-dyn g (b.vtable, b.value)).state b.value) c.args.registry.now) (kinds (λ b. (goal.Handler-dyn g (b.vtable, b.value)).state b.value) c.args.pool.items)) (moment (g.B.Flash.device c.loop-line.bench) (registered (λ b. (goal.Handler-dyn g (b.vtable, b.value)).state b.value) c.loop-line.registry) (kinds (λ b. (goal.Handler-dyn g (b.vtable, b.value)).state b.value) c.loop-line.pool.items)) c.loop-line.invariant.0 was)
+returns-in-Err-push-2-clause-undamaged g c = λ was. c.carry_out.ensures.leaves.undamaged (undamaged (meanings g.K.Backend.contents g.K.Backend.room g.K.Backend.chance g.K.Backend.tears) g.K.Backend.damage g.K.Backend.rests c.args.map.now c.args.lines.now c.loop-line.line-index c.loop-line.answers (moment (g.B.Flash.device c.args.bench.now) (registered (λ b. (goal.Handler-dyn g (b.vtable, b.value)).state b.value) c.args.registry.now) (kinds (λ b. (goal.Handler-dyn g (b.vtable, b.value)).state b.value) c.args.pool.items)) (moment (g.B.Flash.device c.loop-line.bench) (registered (λ b. (goal.Handler-dyn g (b.vtable, b.value)).state b.value) c.loop-line.registry) (kinds (λ b. (goal.Handler-dyn g (b.vtable, b.value)).state b.value) c.loop-line.pool.items)) c.loop-line.invariant.0 was)
 
 pub loop-line-preserved : goal.loop-line-preserved
 loop-line-preserved g c =
@@ -78,7 +78,7 @@ loop-line-preserved g c =
     let mid = g.B.Flash.device c.loop-line.bench in
     let new = g.B.Flash.device c.carry_out.new.bench in
     let boots = boots-more g.K.Backend.owes (map_boot g.K.Backend.boot_units first.banks c.args.map.now) c.args.map.now c.args.lines.now c.loop-line.line-index c.line-item.result c.loop-line.answers c.in-Ok-carry_out.answer first mid new
-    c.loop-line-test.true c.line-item.is c.loop-line.invariant.6 c.in-Ok-carry_out.ensures.boots (limit-still g.K.Backend.owes g.K.Backend.boot_units c.args.map.now first mid new c.loop-line.invariant.1 c.carry_out.ensures.left) in
+    c.loop-line-test.true c.line-item.is c.loop-line.invariant.6 c.in-Ok-carry_out.ensures.boots (limit-still g.K.Backend.owes g.K.Backend.boot_units c.args.map.now first mid new c.loop-line.invariant.1 c.carry_out.ensures.leaves.owed) in
     (rw (c.in-Ok-push-2.ensures.ok) here, done.done.keeps.banks ∙ c.loop-line.invariant.1, c.in-Ok-carry_out.ensures.ready, c.carry_out.ensures.handlers.pool, c.carry_out.ensures.handlers.registry, rw (c.in-Ok-push-2.ensures.ok) moves, rw (c.in-Ok-push-2.ensures.ok) boots)
 
 pub returns-clause-ends : goal.returns-clause-ends
@@ -105,10 +105,10 @@ pub carry_out-requires-clause-handlers : goal.carry_out-requires-clause-handlers
 carry_out-requires-clause-handlers g c = record { registry = c.loop-line.invariant.4; pool = c.loop-line.invariant.3 }
 
 pub returns-in-Err-clause-boots : goal.returns-in-Err-clause-boots
-returns-in-Err-clause-boots g c most limit owes = (c.open-opened.ensures.left most (omega arith) owes, tt)
+returns-in-Err-clause-boots g c most limit owes = (c.open-opened.ensures.leaves.owed most (omega arith) owes, tt)
 
 pub returns-in-Err-push-clause-boots : goal.returns-in-Err-push-clause-boots
-returns-in-Err-push-clause-boots g c most limit owes = (c.open-opened.ensures.left most (omega arith) owes, tt)
+returns-in-Err-push-clause-boots g c most limit owes = (c.open-opened.ensures.leaves.owed most (omega arith) owes, tt)
 
 pub returns-in-Err-carry_out-clause-boots : goal.returns-in-Err-carry_out-clause-boots
 returns-in-Err-carry_out-clause-boots g c most limit owes =
@@ -116,7 +116,7 @@ returns-in-Err-carry_out-clause-boots g c most limit owes =
     let mid = g.B.Flash.device c.loop-line.bench in
     let new = g.B.Flash.device c.carry_out.new.bench in
     let left = boots-stop g.K.Backend.owes (map_boot g.K.Backend.boot_units first.banks c.args.map.now) c.args.map.now c.args.lines.now c.loop-line.line-index c.loop-line.answers first mid new c.loop-line.invariant.6
-    (limit-still g.K.Backend.owes g.K.Backend.boot_units c.args.map.now first mid new c.loop-line.invariant.1 c.carry_out.ensures.left) in
+    (limit-still g.K.Backend.owes g.K.Backend.boot_units c.args.map.now first mid new c.loop-line.invariant.1 c.carry_out.ensures.leaves.owed) in
     (left most limit owes, tt)
 
 pub returns-in-Err-push-2-clause-boots : goal.returns-in-Err-push-2-clause-boots
@@ -125,7 +125,7 @@ returns-in-Err-push-2-clause-boots g c most limit owes =
     let mid = g.B.Flash.device c.loop-line.bench in
     let new = g.B.Flash.device c.carry_out.new.bench in
     let left = boots-stop g.K.Backend.owes (map_boot g.K.Backend.boot_units first.banks c.args.map.now) c.args.map.now c.args.lines.now c.loop-line.line-index c.loop-line.answers first mid new c.loop-line.invariant.6
-    (limit-still g.K.Backend.owes g.K.Backend.boot_units c.args.map.now first mid new c.loop-line.invariant.1 c.carry_out.ensures.left) in
+    (limit-still g.K.Backend.owes g.K.Backend.boot_units c.args.map.now first mid new c.loop-line.invariant.1 c.carry_out.ensures.leaves.owed) in
     (left most limit owes, tt)
 
 pub returns-clause-boots : goal.returns-clause-boots

@@ -9,7 +9,7 @@ use Rattle.mirror_session.specs.LineDone.{LineDone, blanked}
 use Rattle.session.proofs.ActiveAreas.{area_there}
 use Rattle.session_table.specs.Bench.{area_at}
 use Rattle.mirror_session.proofs.QuietLemmas.{blank_none, no_power}
-use Rattle.mirror_session.proofs.ReplaceLemmas.{labelled_stores, replaced_line}
+use Rattle.mirror_session.proofs.ReplaceLemmas.{labelled_stores, replaced_line, replaced_owes}
 use Rattle.mirror_session.proofs.carrying.MirrorSession.replace.Goals.{else-is_whole-via-then-is_whole+else-is_on, else-is_whole-via-else-is_whole}
 use Rattle.mirror_session.proofs.carrying.MirrorSession.replace.Goals as goal
 
@@ -58,3 +58,20 @@ returns-clause-done g c =
     subst (λ (answer : Answer). LineDone m c.args.map.now (Blank c.args.label.now) answer (moment d whole) (moment new false)) (sym c.done.ensures)
     (replaced_line K.mounted_on K.stands m K.serves c.args.map.now d new c.requires.map (g.met.B.Flash.is_lawful c.args.bench.now) (λ x a fine is served blank. g.met.K.Priced.blank_empty x a fine is served blank) (λ x a fine is served blank. g.met.K.Priced.blank_reads x a fine is served blank)
     c.in-Some.place c.args.label.now is c.args.self.now.mirror c.requires.ready up dark made)
+
+pub returns-clause-left : goal.returns-clause-left
+returns-clause-left g c =
+    let K = g.K.Backend in
+    let m = meanings K.damage K.contents K.rests K.room g.K.Priced.prices in
+    let d = g.B.Flash.device c.args.bench.now in
+    let new = g.B.Flash.device c.blank_area.new.bench in
+    let whole = is_some c.args.self.now.mirror in
+    let is : labelled c.args.map.now c.args.label.now ≡ Some c.in-Some.place = found c.args.map.now c.args.label.now c.as_slice.result.now c.labelled.result (Some c.in-Some.place) c.labelled.ensures c.as_slice.ensures c.in-Some.is in
+    let dark : (d.is_on && whole) ≡ false = elim c.else-is_whole.branch [
+      | else-is_whole-via-then-is_whole+else-is_on w ↦ dark_by d.is_on whole w.is_on.result w.is_on.ensures w.if-is_on.false
+      | else-is_whole-via-else-is_whole w ↦ no_power m c.args.map.now d whole (sym c.is_some-is_whole.ensures ∙ w.if-is_whole.false)
+    ] in
+    let up : whole ≡ true = search rules in
+    let made : new ≡ blanked d (area_at c.args.map.now c.in-Some.place) = c.in_ok-blank_area.ensures.ok ∙ ap (blanked d) (sym (area_there c.args.map.now c.in-Some.place c.area_at-area.result c.area_at-area.ensures)) in
+    replaced_owes K.mounted_on K.stands m K.serves c.args.map.now d new c.requires.map (g.met.B.Flash.is_lawful c.args.bench.now) (λ x a fine is served blank. g.met.K.Priced.blank_empty x a fine is served blank) (λ x a fine is served blank. g.met.K.Priced.blank_reads x a fine is served blank)
+    c.in-Some.place c.args.label.now is K.owes (λ x a fine is served blank. g.met.K.Priced.blank_rests x a fine is served blank) (λ a h x n is. g.met.K.Backend.rests_owe a h x n is) c.args.self.now.mirror c.requires.ready up dark made

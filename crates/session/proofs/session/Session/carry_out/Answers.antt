@@ -25,7 +25,7 @@ pub returns-then-is_local-clause-done : goal.returns-then-is_local-clause-done
 returns-then-is_local-clause-done g c =
     let needs : needs_power c.args.line.now ≡ true = search rules in
     let local : is_local c.args.line.now ≡ true = search rules in
-    carried_if (meanings g.K.Backend.contents g.K.Backend.room g.K.Backend.chance g.K.Backend.tears) g.K.Backend.damage c.args.map.now c.args.line.now (g.B.Flash.device c.args.bench.now) (g.B.Flash.device c.on_active.new.bench) g.K.Backend.serves c.on_active.result _ _ _ _ c.requires.map (g.met.B.Flash.is_lawful c.args.bench.now) (g.met.B.Flash.is_lawful c.on_active.new.bench) local (mount_not_local c.args.line.now local) (plain_powered c.args.line.now needs) c.on_active.ensures.undamaged c.on_active.ensures.done
+    carried_if (meanings g.K.Backend.contents g.K.Backend.room g.K.Backend.chance g.K.Backend.tears) g.K.Backend.damage c.args.map.now c.args.line.now (g.B.Flash.device c.args.bench.now) (g.B.Flash.device c.on_active.new.bench) g.K.Backend.serves c.on_active.result _ _ _ _ c.requires.map (g.met.B.Flash.is_lawful c.args.bench.now) (g.met.B.Flash.is_lawful c.on_active.new.bench) local (mount_not_local c.args.line.now local) (plain_powered c.args.line.now needs) c.on_active.ensures.leaves.undamaged c.on_active.ensures.done
 
 pub returns-else-is_local-clause-done : goal.returns-else-is_local-clause-done
 returns-else-is_local-clause-done g c =
@@ -72,29 +72,32 @@ returns-else-is_local-clause-moves g c =
 pub returns-then-not-needs_power-clause-boots : goal.returns-then-not-needs_power-clause-boots
 returns-then-not-needs_power-clause-boots g c = c.without_power.ensures.boots
 
-pub returns-then-not-needs_power-clause-left : goal.returns-then-not-needs_power-clause-left
-returns-then-not-needs_power-clause-left g c most limit owes = c.without_power.ensures.left most (omega arith) owes
+pub returns-then-not-needs_power-clause-leaves : goal.returns-then-not-needs_power-clause-leaves
+returns-then-not-needs_power-clause-leaves g c = record {
+  undamaged = c.without_power.ensures.leaves.undamaged;
+  owed = λ most limit owes. c.without_power.ensures.leaves.owed most (omega arith) owes;
+}
 
 pub returns-then-not-is_on-clause-boots : goal.returns-then-not-is_on-clause-boots
 returns-then-not-is_on-clause-boots g c is =
     let needs : needs_power c.args.line.now ≡ true = search rules in
     absurd (mount_needs_none c.args.line.now needs is)
 
-pub returns-then-not-is_on-clause-left : goal.returns-then-not-is_on-clause-left
-returns-then-not-is_on-clause-left g c most limit owes = owes
+pub returns-then-not-is_on-clause-leaves : goal.returns-then-not-is_on-clause-leaves
+returns-then-not-is_on-clause-leaves g c = record { undamaged = λ was. was; owed = λ most limit owes. owes }
 
 pub returns-then-is_local-clause-boots : goal.returns-then-is_local-clause-boots
 returns-then-is_local-clause-boots g c is =
     let local : is_local c.args.line.now ≡ true = search rules in
     absurd (mount_not_local c.args.line.now local is)
 
-pub returns-then-is_local-clause-left : goal.returns-then-is_local-clause-left
-returns-then-is_local-clause-left g c = c.on_active.ensures.left
+pub returns-then-is_local-clause-leaves : goal.returns-then-is_local-clause-leaves
+returns-then-is_local-clause-leaves g c = c.on_active.ensures.leaves
 
 pub returns-else-is_local-clause-boots : goal.returns-else-is_local-clause-boots
 returns-else-is_local-clause-boots g c is =
     let needs : needs_power c.args.line.now ≡ true = search rules in
     absurd (mount_needs_none c.args.line.now needs is)
 
-pub returns-else-is_local-clause-left : goal.returns-else-is_local-clause-left
-returns-else-is_local-clause-left g c = c.migrate.ensures.left
+pub returns-else-is_local-clause-leaves : goal.returns-else-is_local-clause-leaves
+returns-else-is_local-clause-leaves g c = c.migrate.ensures.leaves

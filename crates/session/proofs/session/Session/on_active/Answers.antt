@@ -25,12 +25,6 @@ never_none : {K : Type 0} (mounted_on : K → Area) (stands : K → Geometry →
 never_none {K} mounted_on stands runs areas d selector active o is powered ready =
     false≢true (sym (subst (λ (x : Option (Settings K)). IsReady mounted_on stands runs areas d selector active x) is ready) ∙ powered)
 
-pub returns-in-Ok-clause-undamaged : goal.returns-in-Ok-clause-undamaged
-returns-in-Ok-clause-undamaged g c =
-    let was = ready_some g.K.Backend.mounted_on g.K.Backend.stands g.K.Backend.runs c.args.map.now (g.B.Flash.device c.args.bench.now) c.args.self.now.selector c.args.self.now.active c.args.self.now.settings c.in-Some.settings c.in-Some.is c.requires.on c.requires.ready in
-    let outside = outside_local (meanings g.K.Backend.contents g.K.Backend.room g.K.Backend.chance g.K.Backend.tears) c.args.map.now c.args.line.now c.in-Ok.answer (g.B.Flash.device c.args.bench.now) (g.B.Flash.device c.with_power.new.bench) _ _ _ _ c.requires.local c.in-Ok.ensures.done in
-    undamaged_beside g.K.Backend.serves g.K.Backend.mounted_on g.K.Backend.stands g.K.Backend.runs g.K.Backend.damage c.args.map.now (g.B.Flash.device c.args.bench.now) (g.B.Flash.device c.with_power.new.bench) c.requires.map (g.met.B.Flash.is_lawful c.args.bench.now) (g.met.B.Flash.is_lawful c.with_power.new.bench) c.in-Ok.ensures.done.done.keeps.banks outside c.area_at-area.result (at_active c.args.map.now (g.B.Flash.device c.args.bench.now) c.args.self.now.active c.area_at-area.result was.is_active c.area_at-area.ensures) c.in-Ok.ensures.sound
-
 pub returns-in-Ok-clause-ready : goal.returns-in-Ok-clause-ready
 returns-in-Ok-clause-ready g c = λ powered.
     let was = ready_some g.K.Backend.mounted_on g.K.Backend.stands g.K.Backend.runs c.args.map.now (g.B.Flash.device c.args.bench.now) c.args.self.now.selector c.args.self.now.active c.args.self.now.settings c.in-Some.settings c.in-Some.is c.requires.on c.requires.ready in
@@ -59,9 +53,6 @@ with_power-requires g c = record {
 pub returns-in-Ok-clause-done : goal.returns-in-Ok-clause-done
 returns-in-Ok-clause-done g c = c.in-Ok.ensures.done
 
-pub returns-in-Err-clause-undamaged : goal.returns-in-Err-clause-undamaged
-returns-in-Err-clause-undamaged g c = λ none. subst (λ (x : Device). damage_in g.K.Backend.damage c.args.map.now x ≡ None) (sym c.in-Err.ensures.stops.same) none
-
 pub unreachable-requires : goal.unreachable-requires
 unreachable-requires g c = never_none g.K.Backend.mounted_on g.K.Backend.stands g.K.Backend.runs c.args.map.now (g.B.Flash.device c.args.bench.now) c.args.self.now.selector c.args.self.now.active c.args.self.now.settings c.in-None.is c.requires.on c.requires.ready
 
@@ -77,8 +68,8 @@ returns-in-Err-clause-stops g c = stops_unchanged (meanings g.K.Backend.contents
 pub returns-in-Ok-clause-moves : goal.returns-in-Ok-clause-moves
 returns-in-Ok-clause-moves g c = c.in-Ok.ensures.moves
 
-pub returns-in-Ok-clause-left : goal.returns-in-Ok-clause-left
-returns-in-Ok-clause-left g c =
+pub returns-in-Ok-clause-leaves : goal.returns-in-Ok-clause-leaves
+returns-in-Ok-clause-leaves g c =
     let areas : List Area = c.args.map.now in
     let d : Device = g.B.Flash.device c.args.bench.now in
     let e : Device = g.B.Flash.device c.with_power.new.bench in
@@ -86,12 +77,20 @@ returns-in-Ok-clause-left g c =
     let active = c.args.self.now.active in
     let was = ready_some g.K.Backend.mounted_on g.K.Backend.stands g.K.Backend.runs areas d selector active c.args.self.now.settings c.in-Some.settings c.in-Some.is c.requires.on c.requires.ready in
     let outside = outside_local (meanings g.K.Backend.contents g.K.Backend.room g.K.Backend.chance g.K.Backend.tears) areas c.args.line.now c.in-Ok.answer d e _ _ _ _ c.requires.local c.in-Ok.ensures.done in
-    local-owes g.K.Backend.owes areas g.K.Backend.rests g.met.K.Backend.rests_owe g.K.Backend.boot_units g.K.Backend.serves d e c.area_at-area.result c.requires.map (g.met.B.Flash.is_lawful c.args.bench.now) (g.met.B.Flash.is_lawful c.with_power.new.bench)
-    c.in-Ok.ensures.done.done.keeps.banks outside (at_active areas d active c.area_at-area.result was.is_active c.area_at-area.ensures)
-    (ready_rests g.K.Backend.mounted_on g.K.Backend.stands g.K.Backend.runs g.K.Backend.rests g.met.K.Backend.stands_rests areas d selector active c.args.self.now.settings c.requires.ready c.requires.on) c.with_power.ensures.left
-    (ready_rests g.K.Backend.mounted_on g.K.Backend.stands g.K.Backend.runs g.K.Backend.rests g.met.K.Backend.stands_rests areas e selector active (Some c.with_power.new.settings) (returns-in-Ok-clause-ready g c))
+    record {
+      undamaged = undamaged_beside g.K.Backend.serves g.K.Backend.mounted_on g.K.Backend.stands g.K.Backend.runs g.K.Backend.damage areas d e c.requires.map (g.met.B.Flash.is_lawful c.args.bench.now) (g.met.B.Flash.is_lawful c.with_power.new.bench) c.in-Ok.ensures.done.done.keeps.banks outside c.area_at-area.result (at_active areas d active c.area_at-area.result was.is_active c.area_at-area.ensures) c.in-Ok.ensures.sound;
+      owed =
+          local-owes g.K.Backend.owes areas g.K.Backend.rests g.met.K.Backend.rests_owe g.K.Backend.boot_units g.K.Backend.serves d e c.area_at-area.result c.requires.map (g.met.B.Flash.is_lawful c.args.bench.now) (g.met.B.Flash.is_lawful c.with_power.new.bench)
+          c.in-Ok.ensures.done.done.keeps.banks outside (at_active areas d active c.area_at-area.result was.is_active c.area_at-area.ensures)
+          (ready_rests g.K.Backend.mounted_on g.K.Backend.stands g.K.Backend.runs g.K.Backend.rests g.met.K.Backend.stands_rests areas d selector active c.args.self.now.settings c.requires.ready c.requires.on) c.with_power.ensures.left
+          (ready_rests g.K.Backend.mounted_on g.K.Backend.stands g.K.Backend.runs g.K.Backend.rests g.met.K.Backend.stands_rests areas e selector active (Some c.with_power.new.settings) (returns-in-Ok-clause-ready g c));
+    }
 
-pub returns-in-Err-clause-left : goal.returns-in-Err-clause-left
-returns-in-Err-clause-left g c =
-    let d : Device = g.B.Flash.device c.args.bench.now in
-    owes-same g.K.Backend.owes c.args.map.now (map_boot g.K.Backend.boot_units d.banks c.args.map.now) d (g.B.Flash.device c.with_power.new.bench) c.in-Err.ensures.stops.same
+pub returns-in-Err-clause-leaves : goal.returns-in-Err-clause-leaves
+returns-in-Err-clause-leaves g c = record {
+  undamaged =
+      λ none. subst (λ (x : Device). damage_in g.K.Backend.damage c.args.map.now x ≡ None) (sym c.in-Err.ensures.stops.same) none;
+  owed =
+      let d : Device = g.B.Flash.device c.args.bench.now in
+      owes-same g.K.Backend.owes c.args.map.now (map_boot g.K.Backend.boot_units d.banks c.args.map.now) d (g.B.Flash.device c.with_power.new.bench) c.in-Err.ensures.stops.same;
+}

@@ -23,10 +23,12 @@ returns g c =
     } in
     record {
       done = open_done g.K.Backend.mounted_on g.K.Backend.stands g.K.Backend.runs g.K.Backend.damage g.K.Backend.rests g.K.Backend.contents g.K.Backend.room g.K.Backend.chance g.K.Backend.tears areas old d e c.spent-before.result c.spent.result c.mount_map-mounted.result c.answered.result c.restore.ensures c.spent-before.ensures c.spent.ensures mounted c.answered.ensures;
-      undamaged = open_undamaged g.K.Backend.mounted_on g.K.Backend.stands g.K.Backend.runs g.K.Backend.damage g.K.Backend.rests g.K.Backend.contents g.K.Backend.room g.K.Backend.chance g.K.Backend.tears areas old d e c.spent-before.result c.spent.result c.mount_map-mounted.result c.answered.result c.restore.ensures c.spent-before.ensures c.spent.ensures mounted c.answered.ensures;
       rests = open_rests g.K.Backend.mounted_on g.K.Backend.stands g.K.Backend.runs g.K.Backend.damage g.K.Backend.rests g.K.Backend.contents g.K.Backend.room g.K.Backend.chance g.K.Backend.tears areas old d e c.spent-before.result c.spent.result c.mount_map-mounted.result c.answered.result c.restore.ensures c.spent-before.ensures c.spent.ensures mounted c.answered.ensures;
       stops = open_stops g.K.Backend.mounted_on g.K.Backend.stands g.K.Backend.runs g.K.Backend.damage g.K.Backend.rests g.K.Backend.contents g.K.Backend.room g.K.Backend.chance g.K.Backend.tears areas old d e c.spent-before.result c.spent.result c.mount_map-mounted.result c.answered.result c.restore.ensures c.spent-before.ensures c.spent.ensures mounted c.answered.ensures;
       ready = open_ready g.K.Backend.mounted_on g.K.Backend.stands g.K.Backend.runs g.K.Backend.damage g.K.Backend.rests g.K.Backend.contents g.K.Backend.room g.K.Backend.chance g.K.Backend.tears areas old d e c.spent-before.result c.spent.result c.mount_map-mounted.result c.answered.result c.restore.ensures c.spent-before.ensures c.spent.ensures mounted c.answered.ensures;
       boots = open-boots g.K.Backend.owes areas old d e c.spent-before.result c.spent.result c.mount_map-mounted.result c.answered.result c.restore.ensures c.spent-before.ensures c.spent.ensures c.mount_map-mounted.ensures.owes c.answered.ensures;
-      left = open-left g.K.Backend.owes areas old d e c.spent-before.result c.spent.result c.mount_map-mounted.result c.answered.result c.restore.ensures c.spent-before.ensures c.spent.ensures c.mount_map-mounted.ensures.owes c.answered.ensures;
+      leaves = record {
+        undamaged = open_undamaged g.K.Backend.mounted_on g.K.Backend.stands g.K.Backend.runs g.K.Backend.damage g.K.Backend.rests g.K.Backend.contents g.K.Backend.room g.K.Backend.chance g.K.Backend.tears areas old d e c.spent-before.result c.spent.result c.mount_map-mounted.result c.answered.result c.restore.ensures c.spent-before.ensures c.spent.ensures mounted c.answered.ensures;
+        owed = open-left g.K.Backend.owes areas old d e c.spent-before.result c.spent.result c.mount_map-mounted.result c.answered.result c.restore.ensures c.spent-before.ensures c.spent.ensures c.mount_map-mounted.ensures.owes c.answered.ensures;
+      };
     }

@@ -1,10 +1,10 @@
 -- Kinds of stores and numbers of lines, as words.
-use Rattle.std.proofs.Common.{◌≡◌, ◌∙◌, ℕ, ◌≤◌, List, refl, sym, arith, codes}
+use Rattle.std.proofs.Common.{◌≡◌, ◌≢◌, ◌∙◌, ℕ, ◌<◌, ◌≤◌, List, refl, sym, arith, codes}
 use Rattle.std.specs.Fmt.{decimal}
 use Rattle.std.proofs.lemmas.Fmt.{decimal_injective}
 use Rattle.command_words.specs.Commands.{IsLines, store_word}
 use Rattle.command_words.specs.Laws.{OneScript}
-use Rattle.command_words.specs.Operands.{IsNoLineCount}
+use Rattle.command_words.specs.Operands.{IsLineCount, IsNoLineCount}
 use Rattle.command_words.specs.declared.commands.StoreKind.{StoreKind}
 use Rattle.command_words.specs.declared.commands.StoreKind.TheVariants.{Nvs, Zms, Fcb}
 use Rattle.command_words.proofs.FoundLemmas.{apart}
@@ -38,3 +38,10 @@ no_lines word zero n is =
     let same : 0 ≡ n = decimal_injective 0 n (omega arith) (omega arith) (sym zero ∙ is.0) in
     let some : 1 ≤ n = is.1.0 in
     omega arith
+
+-- the word of another number below the end is a number of lines
+pub some_lines : (word : List ℕ) (n : ℕ) → word ≡ decimal n → n ≢ 0 → n < 10001 → IsLineCount word n
+some_lines word n is some below =
+    let least : 1 ≤ n = omega arith in
+    let most : n ≤ 10000 = omega arith in
+    (is, (least, most))

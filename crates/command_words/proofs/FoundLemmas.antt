@@ -1,5 +1,5 @@
 -- What `clap` found, read as a command.
-use Rattle.std.proofs.Common.{◌≡◌, ◌≢◌, ◌∙◌, ◌⊎◌, ◌||◌, ◌++◌, Bool, true, false, List, [], ◌∷◌, Option, Some, None, drop, map, option_map, refl, sym, ap, ap₂, codes, inl, inr, Global}
+use Rattle.std.proofs.Common.{◌≡◌, ◌≢◌, ◌∙◌, ◌⊎◌, ◌||◌, ◌++◌, Bool, true, false, List, [], ◌∷◌, Option, Some, None, drop, map, option_map, refl, sym, ap, ap₂, subst, codes, inl, inr, Global}
 use Rattle.std.proofs.lemmas.List.{map-append}
 use Rattle.std.specs.Prelude.{Box}
 use Rattle.std.specs.List.{list_any}
@@ -18,12 +18,12 @@ use Rattle.clap.specs.declared.parser.matches.SubCommand.{SubCommand}
 use Rattle.clap.specs.declared.parser.matches.Found.{Found}
 use Rattle.clap.proofs.WalkLemmas.{first_value-rows}
 use Rattle.command_words.specs.Commands.{name_of, operands_of, store_word}
-use Rattle.command_words.specs.Forms.{AreNoWords, IsFound, IsNoneFound, form, operand_names, operand_rule, values_at}
+use Rattle.command_words.specs.Forms.{AreNoWords, FindsIn, IsFound, IsNoneFound, form, operand_names, operand_rule, values_at}
 use Rattle.command_words.specs.Operands.{IsNoLineCount, IsNoStoreWord}
 use Rattle.command_words.specs.declared.commands.Command.{Command}
 use Rattle.command_words.specs.declared.commands.Command.TheVariants.{Build, Run, Dump, Migrate, Gen, Log, Items, Mirror}
 
-pub found_at : (m : ArgMatches) (name : Text) (rows : List Row) → Some name ≡ subcommand_name_of m → Some rows ≡ option_map (λ p. p.1) (subcommand_rows_of m)
+found_at : (m : ArgMatches) (name : Text) (rows : List Row) → Some name ≡ subcommand_name_of m → Some rows ≡ option_map (λ p. p.1) (subcommand_rows_of m)
     → subcommand_rows_of m ≡ Some (name, rows)
 found_at m name rows named is = go (out-ArgMatches m).subcommand named is
   where
@@ -31,6 +31,13 @@ found_at m name rows named is = go (out-ArgMatches m).subcommand named is
         → Some rows ≡ option_map (λ p. p.1) (subcommand_rows o) → subcommand_rows o ≡ Some (name, rows)
     go None named is = cc
     go (Some b) named is = cc
+
+-- what was found by the word that names a form
+pub found_in : (m : ArgMatches) (name word : Text) (rows : List Row) (result : Option Command) → Some name ≡ subcommand_name_of m
+    → Some rows ≡ option_map (λ p. p.1) (subcommand_rows_of m) → name ≡ word → FindsIn (Some (word, rows)) result → FindsIn (subcommand_rows_of m) result
+found_in m name word rows result named is same finds =
+    let at : subcommand_rows_of m ≡ Some (word, rows) = found_at m name rows named is ∙ ap (λ n. Some (n, rows)) same in
+    subst (λ (found : Option (Text × List Row)). FindsIn found result) (sym at) finds
 
 same_found : (found : Option (Text × List Row)) (a b : Text) (these those : List Row) → found ≡ Some (a, these) → found ≡ Some (b, those) → (a ≡ b) × (these ≡ those)
 same_found found a b these those at is =

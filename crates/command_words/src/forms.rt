@@ -2,7 +2,7 @@
 ghost use Rattle.std.specs.Prelude.{◌≡◌, map, false, IfOk};
 ghost use Rattle.clap.specs.Words.{app_of, shape_of};
 ghost use Rattle.clap.specs.declared.builder.command.Command.TheViews.{out-Command as fields_of};
-ghost use Rattle.command_words.specs.Forms.{form, image_tool};
+ghost use Rattle.command_words.specs.Forms.{form, forms, image_tool};
 
 use clap::{Arg, Command};
 use std::alloc::{AllocError, Global};
@@ -18,6 +18,13 @@ const FORMS: [(&str, &[&str]); 8] = [
     ("items", &["IMAGE", "SCRIPT", "OUT"]),
     ("mirror", &["IMAGE", "SCRIPT", "OUT"]),
 ];
+
+// The rows of the table.
+fn form_rows() -> &'static [(&'static str, &'static [&'static str])]
+    ensures { map (λ row. (row.0.now, map (λ s. s.now) row.1.now)) result.now ≡ forms }
+{
+    &FORMS
+}
 
 // The form of one command: its name, and the names of its operands.
 fn form<'a>(
@@ -43,7 +50,7 @@ pub fn image_tool<'a>(alloc: Global) -> Result<Command<'a>, AllocError>
     ensures { IfOk result (λ command. app_of command ≡ image_tool) }
 {
     let mut tool = Command::new(alloc, "image_tool").no_binary_name(true);
-    for (name, operands) in &FORMS {
+    for (name, operands) in form_rows() {
         tool = tool.subcommand(form(alloc, name, operands)?)?;
     }
     Ok(tool)

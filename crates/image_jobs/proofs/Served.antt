@@ -39,13 +39,6 @@ pub no_first : (areas : List Area) → slice_get areas 0 ≡ None → is_store_a
 no_first [] none store = absurd (false≢true store)
 no_first (area ∷ areas) none store = absurd (cc)
 
-at_least : (long : Bool) → VALUE_LIMIT ≤ cond long LONG_VALUE_LIMIT VALUE_LIMIT
-at_least true = omega arith
-at_least false = omega arith
-
-pub limit_at_least : (areas : List Area) → VALUE_LIMIT ≤ limit_of areas
-limit_at_least areas = at_least (eqb (area_at areas (first_store areas)).version 2)
-
 -- ---- lines of a script
 
 pub served_script : (limit : ℕ) (host host' : Outside) (name : List ℕ) (Q : Refusal → Type 0) (read : Result (Vec Line) Stop)

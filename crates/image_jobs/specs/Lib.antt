@@ -2,6 +2,7 @@ pub mod Blank
 pub mod Images
 pub mod Inputs
 pub mod Laws
+pub mod Ledgers
 pub mod Lines
 pub mod Jobs
 pub mod Reading

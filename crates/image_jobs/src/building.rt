@@ -21,16 +21,14 @@ pub fn build<'a>(alloc: Global, out: &'a str, spec: &'a str) -> Result<Outcome<'
         Ok(image) => image,
         Err(stop) => return Err(stop),
     };
-    match write_image(
+    let bytes = write_image(
         alloc,
         image.banks.as_slice(),
         &image.map,
         image.bytes.as_slice(),
-    ) {
-        Ok(bytes) => Ok(Outcome {
-            text: Vec::new(alloc),
-            file: Some(OutFile { name: out, bytes }),
-        }),
-        Err(_) => Err(Stop::NoMemory),
-    }
+    )?;
+    Ok(Outcome {
+        text: Vec::new(alloc),
+        file: Some(OutFile { name: out, bytes }),
+    })
 }

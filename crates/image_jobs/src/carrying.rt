@@ -1,5 +1,5 @@
 // Lines on a bench that holds an image.
-ghost use Rattle.std.specs.Prelude.{◌≡◌, ℕ, ◌<◌, ◌≤◌, ◌∷◌, [], true, None, All, IfErr, IfOk, OnOk};
+ghost use Rattle.std.specs.Prelude.{◌≡◌, ℕ, ◌≤◌, ◌∷◌, [], true, None, All, IfErr, IfOk, OnOk};
 ghost use Rattle.handlers.specs.Registry.{registered};
 ghost use Rattle.script_lines.specs.Answer.{CanReport};
 ghost use Rattle.script_lines.specs.declared.line.Line.TheVariants.{Mount};
@@ -9,6 +9,7 @@ ghost use Rattle.session.specs.OnMap.{IsAtRest, IsFresh, IsServed, IsServedMap, 
 ghost use Rattle.session.specs.Owing.{MountsWithin, OwesOnMap, map_boot};
 ghost use Rattle.session.specs.Texts.{AreLabelled};
 ghost use Rattle.image_jobs.specs.Jobs.{IsStop};
+ghost use Rattle.image_jobs.specs.Ledgers.{IsNewLedger};
 
 use crate::stops::{Refusal, Stop};
 use arrayvec::ArrayString;
@@ -61,9 +62,7 @@ pub fn run<K: Backend, B: Bench, L: Ledger>(
     requires lines { All (IsServed (limit_of areas.now)) lines.now }
     requires pool { All (IsFresh state) pool.items }
     requires registry { registered state registry.old ≡ [] }
-    requires name { blank.name ≡ L.name }
-    requires parts { blank.parts ≡ L.parts }
-    requires some { 0 < L.parts }
+    requires ledger { IsNewLedger blank L.name L.parts }
     ensures ends { let d = B.device bench.old in let e = B.device bench.new in
         RunEnds (meanings K.contents K.room K.chance K.tears) K.damage K.rests areas.now
         (Mount ∷ lines.now) (moment d (registered state registry.old) (kinds state pool.items)) e

@@ -52,7 +52,7 @@ pub enum Refusal<'a> {
 pub enum Stop<'a> {
     /// The command is refused, and the line of the refusal is printed.
     Refused(Refusal<'a>),
-    /// A call of the host failed.
+    /// Reading a file failed.
     HostFailed,
     /// There was not enough memory.
     NoMemory,

@@ -1,9 +1,7 @@
 -- How a task ends, from what was prepared and what was printed and written.
-use Rattle.std.proofs.Common.{◌≡◌, ℕ, List, [], ◌∷◌, arith, Option, Some, None, Result, Ok, Err, inl, inr, refl, sym, ap, subst, ◌∙◌}
+use Rattle.std.proofs.Common.{◌≡◌, ℕ, List, [], ◌∷◌, arith, Option, Some, None, Ok, Err, inl, inr, refl, sym, ap, subst, ◌∙◌}
 use Rattle.std.specs.Prelude.{MatchOption, slice_index}
-use Rattle.flash_sim.specs.Device.{Device}
 use Rattle.zs_host.specs.Outside.{Outside, Files, SameBut, printed_more}
-use Rattle.handlers.specs.Registry.{Registered}
 use Rattle.handlers.specs.declared.handler.HandlerKind.{HandlerKind}
 use Rattle.image_jobs.specs.declared.jobs.Output.{Output}
 use Rattle.image_jobs.specs.declared.jobs.Output.TheVariants.{Nowhere, Into}
@@ -15,11 +13,7 @@ use Rattle.command_words.specs.declared.commands.Command.TheVariants as command
 use Rattle.command_words.specs.declared.commands.Command.{Command}
 use Rattle.image_jobs.specs.declared.outcome.Outcome.{Outcome}
 use Rattle.image_jobs.specs.declared.stops.Stop.{Stop}
-use Rattle.image_jobs.specs.declared.stops.Stop.TheVariants.{Refused, HostFailed, NoMemory}
-use Rattle.std.specs.Borrow.{Bor}
-use Rattle.session_jobs.specs.ItemJobs.{ItemJobEnds}
-use Rattle.session_jobs.specs.LogJobs.{LogJobEnds}
-use Rattle.session_jobs.specs.MirrorJobs.{MirrorJobEnds}
+use Rattle.image_jobs.specs.declared.stops.Stop.TheVariants.{Refused, NoMemory}
 use Rattle.image_jobs.specs.Jobs.{File, WritesLeft, file_of}
 use Rattle.image_file.specs.Format.{Plain}
 use Rattle.image_jobs.specs.Refusals.{line_of}
@@ -109,38 +103,6 @@ module _ (k : Stores) (kinds : List HandlerKind) (old : World) (new : Stage) (ho
   wrote (Log image script out) text file does only = subst (λ (f : Option File). DeliversOnly f host host') does.0.writes.2 only
   wrote (Items image script out) text file does only = subst (λ (f : Option File). DeliversOnly f host host') does.0.writes.2 only
   wrote (Mirror image script out) text file does only = subst (λ (f : Option File). DeliversOnly f host host') does.0.writes.2 only
-
--- ---- a job on a log
-
-same_stage : (old new : Stage) → new.bench ≡ old.bench → new.registry ≡ old.registry → new ≡ old
-same_stage old new bench registry =
-    ap (λ (d : Device). record { bench = d; registry = new.registry }) bench
-    ∙ ap (λ (r : List Registered). record { bench = old.bench; registry = r }) registry
-
-pub log_prepared : (k : Stores) (kinds : List HandlerKind) (image script out : Bor (List ℕ)) (old new : World) (result : Result Outcome Stop)
-    → LogJobEnds image.now script.now out.now old.outside new.outside old.stage.bench new.stage.bench result → new.stage.registry ≡ old.stage.registry → Prepares k kinds (Log image script out) old new result
-log_prepared k kinds image script out old new (Ok outcome) ends same = ((ends.0, same), ends.1)
-log_prepared k kinds image script out old new (Err (Refused refusal)) ends same = ((ends.0, same), ends.1)
-log_prepared k kinds image script out old new (Err HostFailed) ends same = (same_stage old.stage new.stage ends.0 same, ends.1)
-log_prepared k kinds image script out old new (Err NoMemory) ends same = ((ends.0, same), ends.1)
-
--- ---- a job on items
-
-pub items_prepared : (k : Stores) (kinds : List HandlerKind) (image script out : Bor (List ℕ)) (old new : World) (result : Result Outcome Stop)
-    → ItemJobEnds image.now script.now out.now old.outside new.outside old.stage.bench new.stage.bench result → new.stage.registry ≡ old.stage.registry → Prepares k kinds (Items image script out) old new result
-items_prepared k kinds image script out old new (Ok outcome) ends same = ((ends.0, same), ends.1)
-items_prepared k kinds image script out old new (Err (Refused refusal)) ends same = ((ends.0, same), ends.1)
-items_prepared k kinds image script out old new (Err HostFailed) ends same = (same_stage old.stage new.stage ends.0 same, ends.1)
-items_prepared k kinds image script out old new (Err NoMemory) ends same = ((ends.0, same), ends.1)
-
--- ---- a job on a mirror
-
-pub mirror_prepared : (k : Stores) (kinds : List HandlerKind) (image script out : Bor (List ℕ)) (old new : World) (result : Result Outcome Stop)
-    → MirrorJobEnds image.now script.now out.now old.outside new.outside old.stage.bench new.stage.bench result → new.stage.registry ≡ old.stage.registry → Prepares k kinds (Mirror image script out) old new result
-mirror_prepared k kinds image script out old new (Ok outcome) ends same = ((ends.0, same), ends.1)
-mirror_prepared k kinds image script out old new (Err (Refused refusal)) ends same = ((ends.0, same), ends.1)
-mirror_prepared k kinds image script out old new (Err HostFailed) ends same = (same_stage old.stage new.stage ends.0 same, ends.1)
-mirror_prepared k kinds image script out old new (Err NoMemory) ends same = ((ends.0, same), ends.1)
 
 -- ---- words that are a command
 

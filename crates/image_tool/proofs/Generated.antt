@@ -38,7 +38,7 @@ use Rattle.image_tool.proofs.Blanks.{blanks_are_not_refused}
 -- ---- the image of a word
 
 -- on a flash that holds it, with these areas
-held_lawful : (image : Plain) (areas : List Area) → HasAreas image areas → IsImage image → IsImage (image_on areas (flash_of image))
+pub held_lawful : (image : Plain) (areas : List Area) → HasAreas image areas → IsImage image → IsImage (image_on areas (flash_of image))
 held_lawful image areas has is =
     subst (λ (version : ℕ). IsImage (record { version = version; banks = image.banks; areas = map plain_area areas; bytes = image.bytes })) (sym has.version)
     (subst (λ (all : List Area). IsImage (record { version = image.version; banks = image.banks; areas = all; bytes = image.bytes })) (sym has.are) is)

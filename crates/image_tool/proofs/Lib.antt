@@ -1,4 +1,6 @@
+mod Alike
 mod Blanks
+mod BlankOwing
 mod Ends
 mod Generated
 mod Pool

@@ -18,7 +18,7 @@ use Rattle.handlers.specs.Registry.{Registered}
 use Rattle.image_jobs.specs.Stages.{stage}
 use Rattle.image_tool.specs.declared.status.Status.{Status}
 use Rattle.image_tool.specs.declared.status.Status.TheVariants as status
-use Rattle.image_tool.specs.Exits.{Exits, ExitsOr, Given, GivenExits, ProcessExits, no_flash, program_kinds, real_host}
+use Rattle.image_tool.specs.Exits.{Exits, ExitsOr, program_kinds}
 use Rattle.image_tool.specs.Tool.{ToolEnds, any_stores, exit_code}
 use Rattle.image_tool.specs.Worlds.{world}
 
@@ -63,12 +63,4 @@ unread words host host' old new code is same = (
   [],
   is,
   inr (inr (refl, same.0, ap (λ (d : Device). stage d []) same.1)),
-)
-
--- on the real host and an empty bench
-pub process_exits : (given : Given) (host host' : Outside) (old new : Device) (code : ℕ) → host ≡ real_host → old ≡ no_flash → GivenExits given host host' old new code → ProcessExits given code
-process_exits given host host' old new code is is_new ends = (
-  host',
-  new,
-  subst (λ (d : Device). GivenExits given real_host host' d new code) is_new (subst (λ (h : Outside). GivenExits given h host' old new code) is ends),
 )

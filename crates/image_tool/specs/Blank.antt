@@ -1,8 +1,9 @@
--- How the blank image of a word reads, and that a script on it is carried out.
-use Rattle.std.specs.Prelude.{◌≡◌, ℕ, None, List}
+-- How the blank image of a word reads, what it owes to a mount, and how a script on it ends.
+use Rattle.std.specs.Prelude.{◌≡◌, ℕ, None, List, [], ◌∷◌}
 use Rattle.std.specs.Borrow.{Bor}
 use Rattle.std.specs.FinMap.{empty}
 use Rattle.flash_map.specs.declared.area.Area.{Area}
+use Rattle.flash_map.specs.declared.area.Role.TheVariants.{Fcb}
 use Rattle.zs_host.specs.Outside.{Outside}
 use Rattle.handlers.specs.declared.handler.HandlerKind.{HandlerKind}
 use Rattle.command_words.specs.Commands.{IsCommand}
@@ -17,6 +18,9 @@ use Rattle.image_jobs.specs.declared.stops.Refusal.{Refusal}
 use Rattle.image_jobs.specs.Images.{HasAreas, OwesOf, active_of, damage_of, settings_of}
 use Rattle.image_jobs.specs.Jobs.{LacksLines, Refuses}
 use Rattle.image_jobs.specs.Stages.{Stage}
+use Rattle.session_jobs.specs.LogJobs.{OwesIn as LogOwes}
+use Rattle.session_jobs.specs.MirrorInputs.{AreMirrored}
+use Rattle.session_jobs.specs.MirrorJobs.{BothOweIn, OwesIn as MirrorOwes}
 use Rattle.image_tool.specs.declared.status.Status.{Status}
 use Rattle.image_tool.specs.Complete.{IsCarriedOut}
 use Rattle.image_tool.specs.Tool.{ToolEnds, any_stores}
@@ -34,6 +38,20 @@ pub record IsEmptyImage (areas : List Area) (image : Plain) : Type 0 where
 abbrev pub SpecsAreEmpty : Type 0
 SpecsAreEmpty = (word : List ℕ) (image : Plain) (areas : List Area) → IsSpec word image → HasAreas image areas
     → IsEmptyImage areas image
+
+-- If the image of a lawful word has one area only, of FCB, a mount of this log spends nothing.
+abbrev pub LogSpecsOweNothing : Type 0
+LogSpecsOweNothing =
+    (word : List ℕ) (image : Plain) (area : Area) → IsSpec word image
+    → HasAreas image (area ∷ []) → area.role ≡ Fcb → LogOwes image area 0
+
+-- If it has a mirror, neither the selector nor one of the two store areas owes anything. So they owe at
+-- most so many, whatever the numbers are.
+abbrev pub MirrorSpecsOweNothing : Type 0
+MirrorSpecsOweNothing =
+    (word : List ℕ) (image : Plain) (areas : List Area) → IsSpec word image
+    → HasAreas image areas → AreMirrored areas → (due most : ℕ)
+    → MirrorOwes areas image due most × BothOweIn areas image most
 
 -- A job that begins with the blank image of a generated script is refused only for want of its
 -- lines, never for the image or its damage.

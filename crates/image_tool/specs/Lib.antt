@@ -4,4 +4,5 @@ pub mod Report
 pub mod Tool
 pub mod Complete
 pub mod Blank
+pub mod Owing
 pub mod Exits

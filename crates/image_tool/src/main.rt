@@ -22,7 +22,8 @@ mod top;
 use flash_sim::{Bench, SparseSim};
 use handlers::{CounterHandler, Handler, HandlerKind, LevelHandler, Registry, TableHandler};
 pub use laws::{
-    blanks_are_empty, blanks_are_lawful, generated_is_carried_out, sound_is_carried_out,
+    areas_owe_alike, blanks_are_empty, blanks_are_lawful, blanks_owe_nothing,
+    generated_is_carried_out, sound_is_carried_out,
 };
 pub use status::Status;
 use std::alloc::{AllocError, Global};

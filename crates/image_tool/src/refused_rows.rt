@@ -101,7 +101,7 @@ pub(crate) static REFUSED: [Case<'static>; 42] = [
         printed: "bad image: area main sector 1: TwoOpen\n",
     },
     Case {
-        shows: "an entry of an earlier cycle of ZMS is hidden before the first set",
+        shows: "ZMS writes a guard over an entry of an earlier cycle, before the first set",
         image: ZMS,
         script: "set a 01\nget a\n",
         put: "484=CA010100202900806100000000000000 532=6101FFFFFFFFFFFF0000000000000000",

@@ -285,7 +285,7 @@ pub(crate) static SETTINGS: [Row; 37] = [
         left: "",
     },
     Row {
-        shows: "the command of a migration plays a mount and a migration",
+        shows: "the command of a migration carries out a mount and a migration",
         image: ALL,
         script: "set a 01\n",
         commands: "run x.img s.txt y.img;migrate y.img z.img;dump z.img",

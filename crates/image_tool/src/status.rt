@@ -12,7 +12,7 @@ pub enum Status {
     /// The file is no image, or not one that the command serves; or an area is damaged, or settings
     /// do not fit it.
     BadImage,
-    /// A call of the host failed.
+    /// Reading, writing or printing failed.
     HostFault,
     /// There was not enough memory.
     NoMemory,

@@ -13,6 +13,12 @@ use image_jobs::USAGE;
 use std::process::Abort;
 use zs_host::MemHost;
 
+// Checks that what is shown holds. Each condition of the tests comes here, since a call takes less to
+// prove than an assertion.
+fn holds<R: Abort>(rt: &R, shows: &str, is: bool) {
+    assert!(rt; is, "{shows}");
+}
+
 // ---- commands
 
 // Carries out one command, and returns its exit code.
@@ -82,9 +88,9 @@ fn all_end<R: Abort, B: Bench>(
 fn shows<R: Abort>(rt: &R, alloc: Global, host: &MemHost, case: &Case<'_>) -> bool {
     let printed = spelled(rt, alloc, case.printed);
     let writes = case.status == 0 && case.commands != "dump x.img";
-    host.printed() == printed.as_bytes()
-        && host.file("y.img").is_some() == writes
-        && host.faults() == u64::from(case.status == 5)
+    let faults = u64::from(case.status == 5);
+    let left = host.file("y.img").is_some() == writes;
+    left & (host.printed() == printed.as_bytes()) & (host.faults() == faults)
 }
 
 // Carries out a case, which must end as it says. The host is to fail at its `fails`-th call, if not
@@ -100,7 +106,7 @@ fn left_by<R: Abort, B: Bench>(
     prepare(rt, alloc, &mut host, case);
     host.fail_call(fails).expect(rt, MEMORY);
     let all_end = all_end(rt, alloc, &mut host, bench, case);
-    assert!(rt; all_end && shows(rt, alloc, &host, case), "{}", case.shows);
+    holds(rt, case.shows, all_end & shows(rt, alloc, &host, case));
     let left = host.file("y.img").unwrap_or(&[]);
     let same = host.file("x.img") == Some(left);
     (Vec::from_slice(alloc, left).expect(rt, MEMORY), same)
@@ -128,11 +134,8 @@ fn agree<R: Abort>(rt: &R, alloc: Global, row: &Row) {
     let (flat, same) = left_by(rt, alloc, &mut FlatSim::new(alloc), &case, 0);
     let (sparse, _) = left_by(rt, alloc, &mut SparseSim::new(alloc), &case, 0);
     let left = patched(rt, alloc, flat.as_slice(), row.left);
-    assert!(rt;
-        same == row.same && flat == sparse && flat == left,
-        "{}",
-        row.shows
-    );
+    let is_left = (flat == sparse) & (flat == left);
+    holds(rt, row.shows, is_left & (same == row.same));
 }
 
 #[test]
@@ -168,7 +171,7 @@ fn names<R: Abort>(rt: &R, alloc: Global, row: &Row, sets: &str) {
         ..case_of(row)
     };
     let (_, same) = left_by(rt, alloc, &mut FlatSim::new(alloc), &case, 0);
-    assert!(rt; same == row.same, "{}", row.shows);
+    holds(rt, row.shows, same == row.same);
 }
 
 // As many names as a store takes, and one more.
@@ -227,7 +230,7 @@ fn spend(printed: &str, units: u64) -> bool {
             None => same &= others.next() == Some(line),
         }
     }
-    same && others.next().is_none() && spent == units
+    same & others.next().is_none() & (spent == units)
 }
 
 // Whether a run of the long script on the image, and a dump of what it leaves, print what they are
@@ -239,7 +242,8 @@ fn runs_long<R: Abort>(rt: &R, alloc: Global, image: &str, script: &str, units: 
     for command in [image, RUN, "dump y.img"] {
         all |= code_of(rt, alloc, &mut host, &mut SparseSim::new(alloc), command);
     }
-    all == 0 && spend(str::from_utf8(host.printed()).expect(rt, image), units)
+    let printed = str::from_utf8(host.printed()).expect(rt, image);
+    (all == 0) & spend(printed, units)
 }
 
 // 500 sets on each store, with five losses: what was acknowledged is there at the end.
@@ -247,11 +251,8 @@ fn runs_long<R: Abort>(rt: &R, alloc: Global, image: &str, script: &str, units: 
 fn long_runs(rt: HostRuntime) {
     let script = long_script(&rt, rt.alloc());
     for (image, units) in LONG_RUNS.iter() {
-        assert!(rt;
-            runs_long(&rt, rt.alloc(), image, script.as_str(), *units),
-            "{}",
-            *image
-        );
+        let runs = runs_long(&rt, rt.alloc(), image, script.as_str(), *units);
+        holds(&rt, image, runs);
     }
 }
 
@@ -284,7 +285,7 @@ fn is_short<R: Abort>(rt: &R, alloc: Global, image: &[u8]) -> bool {
         "SIZE",
         at.as_str(),
     );
-    code == 4 && host.printed() == printed.as_bytes()
+    (code == 4) & (host.printed() == printed.as_bytes())
 }
 
 // A file of each length below that of its image.
@@ -292,10 +293,14 @@ fn is_short<R: Abort>(rt: &R, alloc: Global, image: &[u8]) -> bool {
 fn short_files(rt: HostRuntime) {
     let image = blank(&rt, rt.alloc(), FOUR);
     let longer = blank(&rt, rt.alloc(), LONG);
-    assert!(rt; image.len() == 2084 && longer.len() == 8228);
+    holds(
+        &rt,
+        "lengths",
+        (image.len() == 2084) & (longer.len() == 8228),
+    );
     for size in 0..2084 {
         let short = image.as_slice().get(..size).unwrap_or(&[]);
-        assert!(rt; is_short(&rt, rt.alloc(), short), "{size} bytes");
+        holds(&rt, "short", is_short(&rt, rt.alloc(), short));
     }
 }
 

@@ -1,10 +1,10 @@
 -- How a job on items ends, from how its lines ended on a bench that was just loaded.
-use Rattle.std.proofs.Common.{◌≡◌, ◌⊎◌, ℕ, true, List, [], ◌∷◌, map, Option, Some, None, Err, inl, inr, refl, sym, ap, subst, ◌∙◌}
+use Rattle.std.proofs.Common.{◌≡◌, ◌⊎◌, ℕ, true, List, [], ◌∷◌, map, Option, Some, None, Ok, Err, inl, inr, refl, sym, ap, subst, ◌∙◌}
 use Rattle.flash_sim.specs.Bank.{IsLawful}
 use Rattle.flash_sim.specs.Device.{Device}
 use Rattle.flash_sim.specs.declared.flash.Bank.{Bank}
 use Rattle.flash_map.specs.declared.area.Area.{Area}
-use Rattle.flash_map.specs.Area.{value_limit}
+use Rattle.flash_map.specs.Area.{geometry_of, value_limit}
 use Rattle.std.specs.Global.{Vec}
 use Rattle.zs_host.specs.Outside.{Outside, failed}
 use Rattle.image_file.specs.declared.image.Image.{Image}
@@ -20,11 +20,13 @@ use Rattle.item_session.specs.declared.answer.Answer.{Answer}
 use Rattle.item_session.specs.declared.fault.SessionFault.{SessionFault}
 use Rattle.item_session.specs.declared.fault.SessionFault.TheVariants.{Damaged as IsDamaged, NoMemory as WantsMemory}
 use Rattle.item_session.specs.Device.{RestsOn, rules_on, state_of}
+use Rattle.item_session.specs.Owing.{OwesOn, boot_units}
 use Rattle.item_session.specs.Running.{Ran, RunEnds, RunStops}
 use Rattle.item_session.specs.Standing.{damage_on}
 use Rattle.item_session.proofs.HistoryLemmas.{holds_acknowledged}
+use Rattle.item_session.proofs.OwesLemmas.{run-boots}
 use Rattle.session_jobs.specs.ItemInputs.{HasLines, IsItemArea, LacksLines, ids_of}
-use Rattle.session_jobs.specs.ItemJobs.{HasBegunItems, IsStop, ItemJobEnds, LacksItemLines, ItemJobDoes, ServesItems, SetsItems, damage_in, list_in, role_format, texts}
+use Rattle.session_jobs.specs.ItemJobs.{HasBegunItems, IsStop, ItemJobEnds, LacksItemLines, ItemJobDoes, OwesIn, ServesItems, SetsItems, boot_in, damage_in, list_in, role_format, texts}
 use Rattle.session_jobs.proofs.WholeLemmas.{stays_whole}
 
 -- an image with the banks and bytes of a bench, whatever its version and areas
@@ -54,11 +56,12 @@ module _ (name script out : List ℕ) (outside : Outside) (banks : List Bank) (b
         → IsLawful (begun image bench).banks (begun image bench).bytes → ServesItems (begun image bench) area
         → damage_on (role_format area.role) (begun image bench) area ≡ None → Ran (role_format area.role) area (Mount ∷ lines) answers (begun image bench) bench'
         → damage_on (role_format area.role) bench' area ≡ None
+        → OwesOn (role_format area.role) bench' area (boot_units (role_format area.role) (geometry_of (begun image bench) area))
         → (bench'.is_on ≡ true → RestsOn (role_format area.role) bench' area)
         → text ≡ texts answers
         → WritesLeft (Some out) (image_on areas bench') file
         → ItemJobDoes name script out outside bench bench' text file
-    done answers text file lawful serves sound ran undamaged rests prints writes =
+    done answers text file lawful serves sound ran undamaged owes rests prints writes =
         let same : image_on areas bench' ≡ left image bench' =
         ap (λ (banks : List Bank). record { version = version_of areas; banks = banks; areas = map plain_area areas; bytes = bench'.bytes }) ran.whole.keeps.banks in
         record {
@@ -75,6 +78,10 @@ module _ (name script out : List ℕ) (outside : Outside) (banks : List Bank) (b
           sound = sound;
           undamaged = subst (λ (i : Plain). damage_in i area ≡ None) same (damage_same (version_of areas) (map plain_area areas) bench' area ∙ undamaged);
           rests = rests;
+          boots = (
+            subst (λ (i : Plain). OwesIn i area (boot_in image area)) same owes,
+            run-boots (role_format area.role) area (Mount ∷ lines) (begun image bench) bench' (Ok answers) (sound, ran),
+          );
           banks = ran.whole.keeps.banks;
           loads = ran.whole.keeps.loads;
           prints = prints;
@@ -107,13 +114,15 @@ module _ (name script out : List ℕ) (outside : Outside) (banks : List Bank) (b
           → IsLawful first.banks first.bytes → ServesItems (begun image bench) area
           → damage_on (role_format area.role) first area ≡ None → Ran (role_format area.role) area (Mount ∷ lines) answers first bench'
           → (damage_on (role_format area.role) first area ≡ None → damage_on (role_format area.role) bench' area ≡ None)
+          → (damage_on (role_format area.role) first area ≡ None → OwesOn (role_format area.role) bench' area (boot_units (role_format area.role) (geometry_of first area)))
           → (bench'.is_on ≡ true → RestsOn (role_format area.role) bench' area)
           → text ≡ texts answers
           → WritesLeft (Some out) (image_on areas bench') file
           → ItemJobDoes name script out outside bench bench' text file
-      job_done answers text file lawful serves sound ran undamaged rests prints writes =
+      job_done answers text file lawful serves sound ran undamaged left_owes rests prints writes =
           done answers text file (subst (λ (d : Device). IsLawful d.banks d.bytes) loaded lawful) serves (subst (λ (d : Device). damage_on (role_format area.role) d area ≡ None) loaded sound)
-          (subst (λ (d : Device). Ran (role_format area.role) area (Mount ∷ lines) answers d bench') loaded ran) (undamaged sound) rests prints writes
+          (subst (λ (d : Device). Ran (role_format area.role) area (Mount ∷ lines) answers d bench') loaded ran) (undamaged sound)
+          (subst (λ (d : Device). OwesOn (role_format area.role) bench' area (boot_units (role_format area.role) (geometry_of d area))) loaded (left_owes sound)) rests prints writes
 
 -- ---- a job that had no lines
 

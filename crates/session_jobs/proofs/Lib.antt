@@ -1,3 +1,4 @@
+mod BootLemmas
 mod ItemAreaLemmas
 mod ItemEndings
 mod ItemInputLemmas

@@ -1,5 +1,5 @@
 -- How a job on a log ends, from how its lines ended on a bench that was just loaded.
-use Rattle.std.proofs.Common.{◌≡◌, ◌⊎◌, ℕ, true, List, [], ◌∷◌, map, Option, Some, None, Err, inl, inr, refl, sym, ap, subst, ◌∙◌}
+use Rattle.std.proofs.Common.{◌≡◌, ◌⊎◌, ℕ, true, List, [], ◌∷◌, map, Option, Some, None, Ok, Err, inl, inr, refl, sym, ap, subst, ◌∙◌}
 use Rattle.flash_sim.specs.Bank.{IsLawful}
 use Rattle.flash_sim.specs.Device.{Device}
 use Rattle.flash_sim.specs.declared.flash.Bank.{Bank}
@@ -21,9 +21,10 @@ use Rattle.log_session.specs.declared.fault.SessionFault.TheVariants.{Damaged as
 use Rattle.log_session.specs.LineDone.{state_of}
 use Rattle.log_session.specs.Running.{Ran, RunEnds, RunStops}
 use Rattle.log_session.proofs.HistoryLemmas.{holds_acknowledged}
+use Rattle.log_session.proofs.OwesLemmas.{run-boots}
 use Rattle.log_session.proofs.StoredLemmas.{blank_drops_for_room}
 use Rattle.session_jobs.specs.LogInputs.{HasLines, IsLogArea}
-use Rattle.session_jobs.specs.LogJobs.{HasBegunLog, IsStop, LogJobEnds, LogJobDoes, SetsLog, damage_in, log_in, texts}
+use Rattle.session_jobs.specs.LogJobs.{HasBegunLog, IsStop, LogJobEnds, LogJobDoes, OwesIn, SetsLog, damage_in, log_in, texts}
 
 -- an image with the banks and bytes of a bench, whatever its version and areas
 abbrev of_bench : ℕ → List Area → Device → Plain
@@ -73,6 +74,9 @@ module _ (name script out : List ℕ) (outside : Outside) (banks : List Bank) (b
           sound = sound;
           undamaged = subst (λ (i : Plain). damage_in i area ≡ None) same (damage_same (version_of areas) (map plain_area areas) bench' area ∙ undamaged);
           rests = rests;
+          boots = λ most one owes.
+              let within = run-boots area (Mount ∷ lines) (begun image bench) bench' (Ok answers) (sound, ran) most one owes in
+              (subst (λ (i : Plain). OwesIn i area most) same within.0, within.1);
           banks = ran.whole.keeps.banks;
           loads = ran.whole.keeps.loads;
           prints = prints;

@@ -1,5 +1,5 @@
 -- The areas of a mirror: how many are for what, and the map of areas that they are.
-use Rattle.std.proofs.Common.{◌≡◌, ◌≢◌, ◌∙◌, ◌⊎◌, inl, inr, ℕ, zero, suc, ◌+◌, ◌≤◌, Bool, true, false, cond, not, List, [], ◌∷◌, length, map, Option, Some, None, refl, sym, ap, subst, arith}
+use Rattle.std.proofs.Common.{◌≡◌, ◌≢◌, ◌∙◌, ◌⊎◌, inl, inr, ℕ, zero, suc, ◌+◌, ◌≤◌, Bool, true, false, cond, not, List, [], ◌∷◌, length, Option, Some, None, refl, sym, ap, subst, arith}
 use Rattle.std.specs.Prelude.{count_by}
 use Rattle.std.specs.List.{slice_get}
 use Rattle.std.proofs.lemmas.Bool.{false≢true}
@@ -10,7 +10,7 @@ use Rattle.flash_map.specs.declared.area.Area.{Area}
 use Rattle.flash_map.specs.declared.area.Role.{Role}
 use Rattle.flash_map.specs.declared.area.Role.TheVariants.{Nvs, Zms, Fcb, Sel}
 use Rattle.any_backend.specs.ByRole.{any_serves}
-use Rattle.image_file.specs.Format.{image_on, plain_area}
+use Rattle.image_file.specs.Format.{image_on}
 use Rattle.image_file.specs.Lawful.{IsImage, is_sel}
 use Rattle.image_jobs.proofs.ServedLemmas.{maps_are_served}
 use Rattle.migrator.specs.Areas.{is_store, is_store_at, selector_of, stores}
@@ -23,34 +23,6 @@ use Rattle.session_jobs.specs.MirrorInputs.{AreMirrored, may_mirror}
 -- with one area more
 count_more : (p : Area → Bool) (area : Area) (areas : List Area) → count_by p (area ∷ areas) ≡ cond (p area) 1 0 + count_by p areas
 count_more p area areas = sum_by-cons (λ a. cond (p a) 1 0) area areas
-
--- the unused room of labels is ignored
-pub same_count : (p : Role → Bool) (areas : List Area) → count_by (λ area. p area.role) (map plain_area areas) ≡ count_by (λ area. p area.role) areas
-same_count p [] = refl
-same_count p (area ∷ areas) =
-    count_more (λ a. p a.role) (plain_area area) (map plain_area areas)
-    ∙ ap (λ (n : ℕ). cond (p area.role) 1 0 + n) (same_count p areas)
-    ∙ sym (count_more (λ a. p a.role) area areas)
-
-same_length : (areas : List Area) → length (map plain_area areas) ≡ length areas
-same_length [] = refl
-same_length (area ∷ areas) = ap suc (same_length areas)
-
--- so areas that are no mirror are none as an image has them
-pub no_plain_mirror : (areas : List Area) → ¬ AreMirrored areas → ¬ AreMirrored (map plain_area areas)
-no_plain_mirror areas none is = none (record {
-  stores = sym (same_count may_mirror areas) ∙ is.stores;
-  selector = sym (same_count is_sel areas) ∙ is.selector;
-  all = sym (same_length areas) ∙ is.all;
-})
-
--- and those of one image are a mirror in each list of them
-pub plain_mirror : (areas : List Area) → AreMirrored areas → AreMirrored (map plain_area areas)
-plain_mirror areas is = record {
-  stores = same_count may_mirror areas ∙ is.stores;
-  selector = same_count is_sel areas ∙ is.selector;
-  all = same_length areas ∙ is.all;
-}
 
 -- ---- roles
 

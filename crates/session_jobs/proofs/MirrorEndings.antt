@@ -1,5 +1,5 @@
 -- How a job on a mirror ends, from how its lines ended on a bench that was just loaded.
-use Rattle.std.proofs.Common.{◌≡◌, ◌⊎◌, ◌+◌, ℕ, Bool, false, List, ◌∷◌, map, Option, Some, None, Err, inl, inr, refl, sym, ap, subst, ◌∙◌}
+use Rattle.std.proofs.Common.{◌≡◌, ◌⊎◌, ◌+◌, ◌≤◌, ℕ, Bool, false, List, ◌∷◌, map, Option, Some, None, Err, inl, inr, refl, sym, ap, subst, ◌∙◌}
 use Rattle.std.specs.Global.{Vec}
 use Rattle.std.proofs.lemmas.Bool.{false≢true}
 use Rattle.flash_sim.specs.Device.{Device, counted}
@@ -10,13 +10,14 @@ use Rattle.flash_map.specs.declared.faults.Damaged.{Damaged}
 use Rattle.std.specs.Option.{option_and_then, option_map, option_or}
 use Rattle.fcb_ring.specs.Standing.{ring_damage}
 use Rattle.migrator.specs.Areas.{selector_of}
-use Rattle.any_backend.specs.ByRole.{any_contents, any_damage, any_rests, any_serves}
+use Rattle.any_backend.specs.ByRole.{any_boot, any_contents, any_damage, any_owes, any_rests, any_serves}
 use Rattle.mirror.specs.Trusted.{BothRead, IsMirrorMap, MirrorReads, damage_shown, selector_place, trusted_damage, trusted_on}
 use Rattle.backend_api.specs.Map.{Map}
 use Rattle.mirror.specs.Mounting.{IsAtRest}
 use Rattle.zs_host.specs.Outside.{Outside}
 use Rattle.image_file.specs.Format.{Plain, image_on, plain_area, version_of}
 use Rattle.session.specs.OnMap.{limit_of}
+use Rattle.session.specs.Owing.{greatest_boot}
 use Rattle.session_table.specs.Bench.{area_at}
 use Rattle.image_jobs.specs.declared.stops.Refusal.{Refusal}
 use Rattle.image_jobs.specs.declared.stops.Stop.{Stop}
@@ -30,6 +31,7 @@ use Rattle.mirror_session.specs.declared.answer.Answer.{Answer}
 use Rattle.mirror_session.specs.declared.fault.SessionFault.{SessionFault}
 use Rattle.mirror_session.specs.declared.fault.SessionFault.TheVariants.{Damaged as IsDamaged, Unfit as IsUnfit, NoMemory as WantsMemory}
 use Rattle.mirror_session.specs.Bench.{moment, rules_of, state_of}
+use Rattle.mirror_session.specs.Owing.{BootsWithin, BothOwe, OwesAt}
 use Rattle.mirror_session.specs.Standing.{RestsNow}
 use Rattle.mirror_session.specs.Running.{Ran, RunStops, replaced_in}
 use Rattle.mirror_session.proofs.MountLemmas.{never_on, trusted_there}
@@ -38,7 +40,7 @@ use Rattle.mirror_session.proofs.PowerLemmas.{stays_mirrored}
 use Rattle.mirror_session.proofs.PrefixLemmas.{holds_acknowledged}
 use Rattle.session_jobs.specs.MirrorInputs.{AreMirrored, HasLines, LacksLines}
 use Rattle.session_jobs.proofs.SoundLemmas.{stays_sound, stops_sound}
-use Rattle.session_jobs.specs.MirrorJobs.{HasBegunMirror, IsStop, MirrorJobEnds, OpensMirror, MirrorJobDoes, SetsMirror, any_meanings, closing, damage_in, opening, other_settings_in, settings_in, texts}
+use Rattle.session_jobs.specs.MirrorJobs.{BothOweIn, HasBegunMirror, IsStop, MirrorJobEnds, OpensMirror, MirrorJobDoes, OwesIn, SetsMirror, any_meanings, closing, damage_in, opening, other_settings_in, settings_in, texts}
 
 -- ---- an image with the banks and bytes of a bench reads as that bench
 
@@ -78,6 +80,15 @@ module _ (version : ℕ) (plain_areas areas : List Area) (d : Device) where
     same = record { sound = is.same.sound; reads = is.same.reads };
   }
 
+  owes_same : (due most : ℕ) → OwesAt any_owes areas (moment d false) due most → OwesIn areas (of_bench version plain_areas d) due most
+  owes_same due most is = record { selector = is.selector; read = is.read; both = is.both }
+
+  owes_back : (due most : ℕ) → OwesIn areas (of_bench version plain_areas d) due most → OwesAt any_owes areas (moment d false) due most
+  owes_back due most is = record { selector = is.selector; read = is.read; both = is.both }
+
+  both_owe_same : (most : ℕ) → BothOwe any_owes areas d most → BothOweIn areas (of_bench version plain_areas d) most
+  both_owe_same most owe place area at store = owe place area at store
+
   -- such an image that shows no damage reads as the map of its trusted area
   mirror_reads_same : (whole : Bool) → IsMirrorMap any_serves areas d → damage_shown any_damage areas d ≡ None
       → MirrorReads any_damage any_contents areas (flash_of (of_bench version plain_areas d)) (state_of any_meanings areas (moment d whole)).settings
@@ -115,6 +126,11 @@ module _ (name script out : List ℕ) (outside : Outside) (banks : List Bank) (b
   abbrev pub image : Plain
   image = record { version = version_of areas; banks = banks; areas = map plain_area areas; bytes = bytes }
 
+  -- what the mirror owes after lines with these answers, and what their mounts report
+  abbrev pub RunOwes : Device → List Answer → Type 0
+  RunOwes first answers = (due most : ℕ) → 1 ≤ due → greatest_boot any_boot first.banks areas ≤ most → OwesAt any_owes areas (moment first false) due most
+      → OwesAt any_owes areas (moment bench' false) due most × BootsWithin any_owes any_meanings areas due most (Mount ∷ lines) answers (moment first false) bench'
+
   module _ (mirrored : AreMirrored areas) (has : HasImage outside name image) (gives : HasLines (limit_of areas) outside script lines) where
     sets : SetsMirror name script outside image areas lines
     sets = record { opens = record { has = has; are = record { version = refl; are = refl }; mirrored = mirrored }; gives = gives }
@@ -122,10 +138,11 @@ module _ (name script out : List ℕ) (outside : Outside) (banks : List Bank) (b
     done : (answers : List Answer) (whole : Bool) (text : List ℕ) (file : Option File) (map_left : IsMirrorMap any_serves areas bench')
         → Ran any_meanings areas (Mount ∷ lines) answers (opening image bench) (closing bench' whole)
         → RestsNow any_meanings areas (closing bench' whole)
+        → RunOwes (begun image bench) answers
         → text ≡ texts answers
         → WritesLeft (Some out) (image_on areas bench') file
         → MirrorJobDoes name script out outside bench bench' text file
-    done answers whole text file map_left ran still_rests prints writes =
+    done answers whole text file map_left ran still_rests owed prints writes =
         let same : image_on areas bench' ≡ left image bench' =
         ap (λ (banks : List Bank). record { version = version_of areas; banks = banks; areas = map plain_area areas; bytes = bench'.bytes }) ran.keeps.banks in
         record {
@@ -153,6 +170,12 @@ module _ (name script out : List ℕ) (outside : Outside) (banks : List Bank) (b
               (both_same (version_of areas) (map plain_area areas) areas bench' (state_of any_meanings areas (closing bench' whole)).settings (ran.both (λ on_first. absurd (never_on (begun image bench).is_on on_first)) on_then));
           rests = λ on_then. subst (λ (i : Plain). IsAtRest any_damage any_contents any_rests areas (flash_of i)) same
               (rests_same (version_of areas) (map plain_area areas) areas bench' (still_rests on_then));
+          boots = λ due most one within owes.
+              let after = owed due most one within (owes_back (version_of areas) (map plain_area areas) areas (begun image bench) due most owes) in (
+                subst (λ (i : Plain). OwesIn areas i due most) same (owes_same (version_of areas) (map plain_area areas) areas bench' due most after.0),
+                λ mounted. subst (λ (i : Plain). BothOweIn areas i most) same (both_owe_same (version_of areas) (map plain_area areas) areas bench' most (after.1.both mounted)),
+                after.1,
+              );
           banks = ran.keeps.banks;
           loads = loads;
           prints = prints;
@@ -216,9 +239,10 @@ module _ (name script out : List ℕ) (outside : Outside) (banks : List Bank) (b
       pub job_done : (answers : List Answer) (whole : Bool) (text : List ℕ) (file : Option File) → IsMirrorMap any_serves areas bench'
           → Ran any_meanings areas (Mount ∷ lines) answers (moment first false) (moment bench' whole)
           → RestsNow any_meanings areas (moment bench' whole)
+          → RunOwes first answers
           → text ≡ texts answers
           → WritesLeft (Some out) (image_on areas bench') file
           → MirrorJobDoes name script out outside bench bench' text file
-      job_done answers whole text file map_left ran still_rests prints writes =
+      job_done answers whole text file map_left ran still_rests owed prints writes =
           done answers whole text file map_left
-          (subst (λ (d : Device). Ran any_meanings areas (Mount ∷ lines) answers (moment d false) (moment bench' whole)) loaded ran) still_rests prints writes
+          (subst (λ (d : Device). Ran any_meanings areas (Mount ∷ lines) answers (moment d false) (moment bench' whole)) loaded ran) still_rests (subst (λ (d : Device). RunOwes d answers) loaded owed) prints writes

@@ -28,13 +28,13 @@ some_none : {X : Type 0} (o : Option X) (x : X) → o ≡ Some x → o ≡ None 
 some_none o x is isnt = cc
 
 -- no line stops for damage where none is shown
-no_damage : (areas : List Area) (prefix rest : List Line) (old new : Device) (fault : SessionFault) → StopsAt any_meanings areas prefix rest old new fault → ReportsDamage fault → damage_shown any_damage areas old ≡ None → ⊥
+no_damage : (areas : List Area) (prefix rest : List Line) (old : Moment) (new : Device) (fault : SessionFault) → StopsAt any_meanings areas prefix rest old new fault → ReportsDamage fault → shown areas old ≡ None → ⊥
 no_damage areas prefix [] old new (IsDamaged place damage) stops reports none = absurd (cc stops.1)
 no_damage areas prefix (line ∷ rest) old new (IsDamaged place damage) (inl lacks) reports none = absurd (cc lacks.1)
-no_damage areas prefix (line ∷ rest) old new (IsDamaged place damage) (inr stops) reports none = some_none (damage_shown any_damage areas old) (place, damage) stops.1 none
+no_damage areas prefix (line ∷ rest) old new (IsDamaged place damage) (inr stops) reports none = some_none (shown areas old) (place, damage) stops.1 none
 no_damage areas prefix rest old new (IsUnfit place) stops reports none = reports
 no_damage areas prefix rest old new WantsMemory stops reports none = reports
 
 pub stops_sound : (areas : List Area) (lines : List Line) (old : Moment) (new : Device) (fault : SessionFault) → RunStops any_meanings areas lines old new fault → shown areas old ≡ None → ReportsDamage fault → ⊥
 stops_sound areas lines old new fault stops none reports =
-    no_damage areas stops.prefix stops.rest stops.mid.device new fault stops.stops reports (stays_sound areas stops.prefix stops.answers old stops.mid stops.runs.in_turn none)
+    no_damage areas stops.prefix stops.rest stops.mid new fault stops.stops reports (stays_sound areas stops.prefix stops.answers old stops.mid stops.runs.in_turn none)

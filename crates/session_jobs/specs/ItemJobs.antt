@@ -1,5 +1,5 @@
 -- How a job on items changes files, print and flash.
-use Rattle.std.specs.Prelude.{◌≡◌, ◌⊎◌, ℕ, true, Option, Some, None, Result, Ok, Err, List, [], ◌∷◌}
+use Rattle.std.specs.Prelude.{◌≡◌, ◌⊎◌, ℕ, ◌*◌, ◌/◌, true, Option, Some, None, Result, Ok, Err, List, [], ◌∷◌}
 use Rattle.std.specs.List.{flat_map}
 use Rattle.zs_host.specs.Outside.{Outside, failed}
 use Rattle.flash_sim.specs.Device.{Device, counted}
@@ -8,7 +8,8 @@ use Rattle.flash_map.specs.declared.area.Geometry.{Geometry}
 use Rattle.flash_map.specs.declared.area.Role.{Role}
 use Rattle.flash_map.specs.declared.area.Role.TheVariants.{Nvs, Zms, Fcb, Sel}
 use Rattle.flash_map.specs.declared.faults.Damaged.{Damaged}
-use Rattle.flash_map.specs.Area.{value_limit}
+use Rattle.flash_sim.specs.declared.flash.Kind.TheVariants.{Erasing, Rewritable}
+use Rattle.flash_map.specs.Area.{geometry_of, value_limit}
 use Rattle.image_file.specs.Format.{Plain}
 use Rattle.image_jobs.specs.declared.outcome.Outcome.{Outcome}
 use Rattle.image_jobs.specs.declared.stops.Refusal.{Refusal}
@@ -26,6 +27,7 @@ use Rattle.item_session.specs.declared.fault.SessionFault.{SessionFault}
 use Rattle.item_session.specs.declared.fault.SessionFault.TheVariants.{Damaged as IsDamaged, NoMemory as WantsMemory}
 use Rattle.item_session.specs.Device.{RestsOn, rules_on, state_of}
 use Rattle.item_session.specs.History.{HasHistory}
+use Rattle.item_session.specs.Owing.{MountsWithin, OwesOn, boot_units}
 use Rattle.item_session.specs.Running.{Ran, RunStops}
 use Rattle.item_session.specs.Standing.{damage_on}
 use Rattle.item_session.specs.Whole.{IsBlankOn, KeepsWhole}
@@ -66,6 +68,30 @@ IsBlankIn image area = IsBlankOn (flash_of image) area
 -- the damage that a mount of its area finds
 abbrev pub damage_in : Plain → Area → Option Damaged
 damage_in image area = damage_on (role_format area.role) (flash_of image) area
+
+-- a mount of the image spends at most so many units and erases
+abbrev pub OwesIn : Plain → Area → ℕ → Type 0
+OwesIn image area most = OwesOn (role_format area.role) (flash_of image) area most
+
+-- the most that it spends, whatever the bytes of the image
+abbrev pub boot_in : Plain → Area → ℕ
+boot_in image area = boot_units (role_format area.role) (geometry_of (flash_of image) area)
+
+-- The most of a mount, by role and geometry. NVS: the units of a sector.
+abbrev pub NvsItemBoots : Type 0
+NvsItemBoots = (geometry : Geometry) → boot_units (role_format Nvs) geometry ≡ geometry.sector / geometry.unit
+
+-- ZMS on an erasing bank: the units of a sector
+abbrev pub ErasingItemBoots : Type 0
+ErasingItemBoots =
+    (geometry : Geometry) → geometry.kind ≡ Erasing
+    → boot_units (role_format Zms) geometry ≡ geometry.sector / 16
+
+-- ZMS on a rewritable bank: twice the units of a sector
+abbrev pub RewritableItemBoots : Type 0
+RewritableItemBoots =
+    (geometry : Geometry) → geometry.kind ≡ Rewritable
+    → boot_units (role_format Zms) geometry ≡ 2 * (geometry.sector / 16)
 
 -- ---- what is carried out
 
@@ -110,6 +136,9 @@ pub record ItemJobDoes (name script out : List ℕ) (host : Outside) (old new : 
   pub sound : damage_in image area ≡ None
   pub undamaged : damage_in (left image new) area ≡ None
   pub rests : new.is_on ≡ true → RestsOn (role_format area.role) new area
+  -- no mount reports more than this bound, and the image that is left owes no more
+  pub boots : OwesIn (left image new) area (boot_in image area)
+      × MountsWithin (boot_in image area) (Mount ∷ lines) answers
   pub banks : new.banks ≡ image.banks
   pub loads : new.loads ≡ counted old.loads 1
   pub prints : text ≡ texts answers

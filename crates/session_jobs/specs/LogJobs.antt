@@ -1,5 +1,5 @@
 -- How a job on a log changes files, print and flash.
-use Rattle.std.specs.Prelude.{◌≡◌, ◌⊎◌, ℕ, true, Option, Some, None, Result, Ok, Err, List, [], ◌∷◌}
+use Rattle.std.specs.Prelude.{◌≡◌, ◌⊎◌, ℕ, ◌≤◌, true, Option, Some, None, Result, Ok, Err, List, [], ◌∷◌}
 use Rattle.std.specs.List.{flat_map}
 use Rattle.zs_host.specs.Outside.{Outside, failed}
 use Rattle.flash_sim.specs.Device.{Device, counted}
@@ -26,6 +26,7 @@ use Rattle.log_session.specs.declared.fault.SessionFault.{SessionFault}
 use Rattle.log_session.specs.declared.fault.SessionFault.TheVariants.{Damaged as IsDamaged, NoMemory as WantsMemory}
 use Rattle.log_session.specs.History.{IsAfterDrops}
 use Rattle.log_session.specs.LineDone.{state_of}
+use Rattle.log_session.specs.Owing.{MountsWithin, OwesOn, boot_units}
 use Rattle.log_session.specs.Running.{Ran, RunStops}
 use Rattle.log_session.specs.Stored.{DropsForRoom, IsBlankOn}
 use Rattle.session_jobs.specs.LogInputs.{HasLines, LacksLines, LacksLog}
@@ -47,6 +48,10 @@ IsBlankIn image area = IsBlankOn (flash_of image) area
 -- the damage that a mount of its area finds
 abbrev pub damage_in : Plain → Area → Option Damaged
 damage_in image area = ring_damage (flash_of image) area
+
+-- a mount of the image spends at most so many units and erases
+abbrev pub OwesIn : Plain → Area → ℕ → Type 0
+OwesIn image area most = OwesOn (flash_of image) area most
 
 -- ---- what is carried out
 
@@ -89,6 +94,10 @@ pub record LogJobDoes (name script out : List ℕ) (host : Outside) (old new : D
   pub sound : damage_in image area ≡ None
   pub undamaged : damage_in (left image new) area ≡ None
   pub rests : new.is_on ≡ true → erases_on new area ≡ 0
+  -- If the image owes at most so many erases, and a cut line leaves no more, then no mount reports more,
+  -- and the image that is left owes no more.
+  pub boots : (most : ℕ) → boot_units ≤ most → OwesIn image area most
+      → OwesIn (left image new) area most × MountsWithin most (Mount ∷ lines) answers
   pub banks : new.banks ≡ image.banks
   pub loads : new.loads ≡ counted old.loads 1
   pub prints : text ≡ texts answers

@@ -1,5 +1,5 @@
 -- How a job on a mirror changes files, print and flash.
-use Rattle.std.specs.Prelude.{◌≡◌, ◌⊎◌, ⊤, ℕ, ◌+◌, Bool, false, Option, Some, None, Result, Ok, Err, List, ◌∷◌}
+use Rattle.std.specs.Prelude.{◌≡◌, ◌⊎◌, ⊤, ℕ, ◌+◌, ◌≤◌, Bool, true, false, Option, Some, None, Result, Ok, Err, List, ◌∷◌}
 use Rattle.std.specs.List.{flat_map}
 use Rattle.arrayvec.specs.ArrayString.{ArrayString}
 use Rattle.zs_host.specs.Outside.{Outside, failed}
@@ -8,10 +8,11 @@ use Rattle.flash_map.specs.declared.area.Area.{Area}
 use Rattle.flash_map.specs.declared.faults.Damaged.{Damaged}
 use Rattle.flash_map.specs.On.{on}
 use Rattle.backend_api.specs.Map.{Map}
-use Rattle.any_backend.specs.ByRole.{any_damage, any_contents, any_rests, any_room}
+use Rattle.any_backend.specs.ByRole.{any_boot, any_contents, any_damage, any_owes, any_rests, any_room}
 use Rattle.image_file.specs.Format.{Plain}
 use Rattle.session_table.specs.Bench.{area_at}
 use Rattle.session.specs.OnMap.{limit_of}
+use Rattle.session.specs.Owing.{greatest_boot}
 use Rattle.mirror.specs.Trusted.{BothRead, MirrorReads, damage_shown, trusted_on}
 use Rattle.mirror.specs.Mounting.{IsAtRest}
 use Rattle.mirror.specs.Prices.{mirror_prices}
@@ -24,6 +25,7 @@ use Rattle.mirror_session.specs.declared.fault.SessionFault.TheVariants.{Damaged
 use Rattle.mirror_session.specs.Bench.{Meanings, Moment, beside_in, meanings, moment, rules_of, state_of}
 use Rattle.mirror_session.specs.History.{IsAfterPrefix, IsMirrored}
 use Rattle.mirror_session.specs.LineDone.{FitsBoth}
+use Rattle.mirror_session.specs.Owing.{BootsWithin, BothOwe, OwesAt, mounted_last}
 use Rattle.mirror_session.specs.Running.{Ran, RunStops, ReportsUnfit, replaced_in}
 use Rattle.mirror_session.specs.State.{IsOn}
 use Rattle.image_jobs.specs.declared.outcome.Outcome.{Outcome}
@@ -64,6 +66,19 @@ other_settings_in areas image =
 -- area that is read
 abbrev pub damage_in : List Area → Plain → Option (ℕ × Damaged)
 damage_in areas image = damage_shown any_damage areas (flash_of image)
+
+-- at most so many erases are due in the selector of the image, and the area that is read owes at most so many
+-- units and erases
+abbrev pub OwesIn : List Area → Plain → ℕ → ℕ → Type 0
+OwesIn areas image due most = OwesAt any_owes areas (moment (flash_of image) false) due most
+
+-- each of the two store areas of the image owes at most so many units and erases
+abbrev pub BothOweIn : List Area → Plain → ℕ → Type 0
+BothOweIn areas image most = BothOwe any_owes areas (flash_of image) most
+
+-- what a line that is cut on the image leaves at most to the next mount of an area
+abbrev pub boot_in : List Area → Plain → ℕ
+boot_in areas image = greatest_boot any_boot image.banks areas
 
 -- ---- what is carried out
 
@@ -133,6 +148,15 @@ pub record MirrorJobDoes (name script out : List ℕ) (host : Outside) (old new 
   pub rests :
       IsOn (state_of any_meanings areas (closing new whole))
       → IsAtRest any_damage any_contents any_rests areas (flash_of (left image new))
+  -- If the image owes at most so many units and erases, and a cut line leaves no more, then so does OUT; and
+  -- so does each of its two areas, if the last mount was whole. No mount reports more than that, a choice if
+  -- the selector names another area than the one that is read, and the mount and the repair of the other
+  -- area. If both areas of the image owe at most so many, as those of such an OUT do, the opening mount
+  -- spends no more than that on the mount of the other area (`behind` of `BootDone`).
+  pub boots : (due most : ℕ) → 1 ≤ due → boot_in areas image ≤ most → OwesIn areas image due most
+      → OwesIn areas (left image new) due most
+      × (mounted_last false (Mount ∷ lines) answers ≡ true → BothOweIn areas (left image new) most)
+      × BootsWithin any_owes any_meanings areas due most (Mount ∷ lines) answers (opening image old) new
   pub banks : new.banks ≡ image.banks
   pub loads : new.loads ≡ counted old.loads (1 + replaced_in (Mount ∷ lines) answers)
   pub prints : text ≡ texts answers

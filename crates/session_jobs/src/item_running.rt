@@ -1,13 +1,14 @@
 // The run of a job on items.
 ghost use Rattle.std.specs.Prelude.{◌≡◌, ℕ, ◌<◌, ◌∷◌, true, All, List, None, OnOk};
 ghost use Rattle.zs_host.specs.Outside.{Outside};
-ghost use Rattle.flash_map.specs.Area.{value_limit};
+ghost use Rattle.flash_map.specs.Area.{geometry_of, value_limit};
 ghost use Rattle.image_file.specs.Format.{plain};
 ghost use Rattle.image_file.specs.Lawful.{IsImage};
 ghost use Rattle.image_jobs.specs.Reading.{HasImage};
 ghost use Rattle.item_session.specs.Line.{ids_end};
 ghost use Rattle.item_session.specs.declared.line.Line.TheVariants.{Mount};
 ghost use Rattle.item_session.specs.Device.{IsServed, IsServedOn, RestsOn, TakesValues};
+ghost use Rattle.item_session.specs.Owing.{OwesOn, boot_units};
 ghost use Rattle.item_session.specs.Running.{RunEnds};
 ghost use Rattle.item_session.specs.Standing.{damage_on};
 ghost use Rattle.item_store.specs.Standing.{IsStoreArea};
@@ -15,11 +16,11 @@ ghost use Rattle.session_jobs.specs.ItemInputs.{HasLines, IsItemArea, ids_of};
 ghost use Rattle.session_jobs.specs.ItemJobs.{IsStop, ItemJobEnds, ServesItems, role_format};
 
 use crate::item_opening::{ItemImage, ids_of, open_items, read_item_lines};
-use crate::report::all_texts;
+use crate::report::outcome_of;
 use flash_map::{Area, Role};
 use flash_sim::{Bench, Steps};
 use image_file::Image;
-use image_jobs::{Outcome, Output, Refusal, Stop, file_left};
+use image_jobs::{Outcome, Refusal, Stop};
 use item_session::{Answers, Line, SessionFault, run_lines};
 use item_store::SlotSectors;
 use nvs_gc::NvsOpen;
@@ -60,6 +61,10 @@ fn run<T: SlotSectors, B: Bench, L: Ledger>(
         (B.device bench.old) (B.device bench.new) result }
     ensures undamaged { damage_on T.format_of (B.device bench.old) area.now ≡ None
         → damage_on T.format_of (B.device bench.new) area.now ≡ None }
+    ensures left { let d = B.device bench.old in let area = area.now in
+        damage_on T.format_of d area ≡ None
+        → OwesOn T.format_of (B.device bench.new) area
+        (boot_units T.format_of (geometry_of d area)) }
     ensures rests { OnOk result ((B.device bench.new).is_on ≡ true
         → RestsOn T.format_of (B.device bench.new) area.now) }
 {
@@ -81,6 +86,10 @@ fn run_by_role<B: Bench>(
         (B.device bench.old) (B.device bench.new) result }
     ensures undamaged { damage_on (role_format area.now.role) (B.device bench.old) area.now ≡ None
         → damage_on (role_format area.now.role) (B.device bench.new) area.now ≡ None }
+    ensures left { let d = B.device bench.old in let format_of = role_format area.now.role in
+        damage_on format_of d area.now ≡ None
+        → OwesOn format_of (B.device bench.new) area.now
+        (boot_units format_of (geometry_of d area.now)) }
     ensures rests { OnOk result ((B.device bench.new).is_on ≡ true
         → RestsOn (role_format area.now.role) (B.device bench.new) area.now) }
 {
@@ -118,15 +127,10 @@ fn run_on_image<'a, B: Bench>(
         Ok(answers) => answers,
         Err(fault) => return Err(stop_of(&area, fault)),
     };
-    let text = match all_texts(alloc, answers.as_slice()) {
-        Ok(text) => text,
-        Err(_) => return Err(Stop::NoMemory),
-    };
-    let file = match file_left(alloc, &Output::Into { name: out }, &map, bench) {
-        Ok(file) => file,
-        Err(_) => return Err(Stop::NoMemory),
-    };
-    Ok(Outcome { text, file })
+    match outcome_of(alloc, answers.as_slice(), out, &map, bench) {
+        Ok(outcome) => Ok(outcome),
+        Err(_) => Err(Stop::NoMemory),
+    }
 }
 
 /// Carries out the script in the file `script` on the numbered items of the image in the file

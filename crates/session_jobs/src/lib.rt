@@ -5,6 +5,7 @@
 
 mod item_opening;
 mod item_running;
+mod laws;
 mod log_opening;
 mod log_running;
 mod mirror_opening;
@@ -12,5 +13,6 @@ mod mirror_running;
 mod report;
 
 pub use item_running::run_item_job;
+pub use laws::item_boot_units_by_role;
 pub use log_running::run_log_job;
 pub use mirror_running::run_mirror_job;

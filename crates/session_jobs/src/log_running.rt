@@ -13,11 +13,11 @@ ghost use Rattle.session_jobs.specs.LogInputs.{HasLines, IsLogArea};
 ghost use Rattle.session_jobs.specs.LogJobs.{IsStop, LogJobEnds};
 
 use crate::log_opening::{LogImage, open_log, read_log_lines};
-use crate::report::all_texts;
+use crate::report::outcome_of;
 use flash_map::Area;
 use flash_sim::{Bench, Steps};
 use image_file::Image;
-use image_jobs::{Outcome, Output, Refusal, Stop, file_left};
+use image_jobs::{Outcome, Refusal, Stop};
 use log_session::{Answers, Line, SessionFault, run_lines};
 use std::alloc::Global;
 use std::marker::Brand;
@@ -86,15 +86,10 @@ fn run_on_image<'a, B: Bench>(
         Ok(answers) => answers,
         Err(fault) => return Err(stop_of(&area, fault)),
     };
-    let text = match all_texts(alloc, answers.as_slice()) {
-        Ok(text) => text,
-        Err(_) => return Err(Stop::NoMemory),
-    };
-    let file = match file_left(alloc, &Output::Into { name: out }, &map, bench) {
-        Ok(file) => file,
-        Err(_) => return Err(Stop::NoMemory),
-    };
-    Ok(Outcome { text, file })
+    match outcome_of(alloc, answers.as_slice(), out, &map, bench) {
+        Ok(outcome) => Ok(outcome),
+        Err(_) => Err(Stop::NoMemory),
+    }
 }
 
 /// Carries out the script in the file `script` on the log of the image in the file `image`. It

@@ -1,27 +1,29 @@
 // The run of a job on a mirror.
-ghost use Rattle.std.specs.Prelude.{◌≡◌, ℕ, ◌<◌, ◌∷◌, false, All, IfOk, List};
+ghost use Rattle.std.specs.Prelude.{◌≡◌, ℕ, ◌<◌, ◌≤◌, ◌∷◌, false, All, IfOk, List};
 ghost use Rattle.zs_host.specs.Outside.{Outside};
-ghost use Rattle.any_backend.specs.ByRole.{any_serves};
+ghost use Rattle.any_backend.specs.ByRole.{any_boot, any_owes, any_serves};
 ghost use Rattle.image_file.specs.Format.{plain};
 ghost use Rattle.image_file.specs.Lawful.{IsImage};
 ghost use Rattle.image_jobs.specs.Reading.{HasImage};
 ghost use Rattle.session.specs.OnMap.{limit_of};
+ghost use Rattle.session.specs.Owing.{greatest_boot};
 ghost use Rattle.session.specs.Texts.{AreLabelled};
 ghost use Rattle.mirror.specs.Trusted.{IsMirrorMap};
 ghost use Rattle.mirror_session.specs.declared.line.Line.TheVariants.{Mount};
 ghost use Rattle.mirror_session.specs.Answer.{CanReport};
 ghost use Rattle.mirror_session.specs.Bench.{moment};
 ghost use Rattle.mirror_session.specs.LineDone.{IsServed};
+ghost use Rattle.mirror_session.specs.Owing.{BootsWithin, OwesAt};
 ghost use Rattle.mirror_session.specs.Running.{RunEnds};
 ghost use Rattle.session_jobs.specs.MirrorInputs.{AreMirrored, HasLines};
 ghost use Rattle.session_jobs.specs.MirrorJobs.{IsStop, MirrorJobEnds, any_meanings};
 
 use crate::mirror_opening::{open_mirror, read_mirror_lines};
-use crate::report::all_texts;
+use crate::report::outcome_of;
 use flash_map::FlashMap;
 use flash_sim::{Bench, Steps};
 use image_file::Image;
-use image_jobs::{Outcome, Output, Refusal, Stop, file_left, label_at, longest_value};
+use image_jobs::{Outcome, Refusal, Stop, label_at, longest_value};
 use mirror::MirrorStore;
 use mirror_session::{Answers, Line, SessionFault, run_lines};
 use std::alloc::Global;
@@ -62,6 +64,14 @@ fn run<B: Bench, L: Ledger>(
     ensures ends { let old = moment (B.device bench.old) false in
         RunEnds any_meanings areas.now (Mount ∷ lines.now) old (B.device bench.new) result }
     ensures texts { AreLabelled areas.now → IfOk result (λ answers. All CanReport answers) }
+    ensures boots { let d = B.device bench.old in let e = B.device bench.new in
+        let areas = areas.now in (due most : ℕ) → 1 ≤ due
+        → greatest_boot any_boot d.banks areas ≤ most
+        → OwesAt any_owes areas (moment d false) due most
+        → OwesAt any_owes areas (moment e false) due most
+        × IfOk result
+        (λ answers. BootsWithin any_owes any_meanings areas due most (Mount ∷ lines.now) answers
+        (moment d false) e) }
 {
     let mut steps = Steps::<L>::new(blank);
     run_lines::<MirrorStore, B, L>(alloc, lines, bench, areas, &mut steps)
@@ -90,15 +100,10 @@ fn run_on_image<'a, B: Bench>(
         Ok(answers) => answers,
         Err(fault) => return Err(stop_of(&map, fault)),
     };
-    let text = match all_texts(alloc, answers.as_slice()) {
-        Ok(text) => text,
-        Err(_) => return Err(Stop::NoMemory),
-    };
-    let file = match file_left(alloc, &Output::Into { name: out }, &map, bench) {
-        Ok(file) => file,
-        Err(_) => return Err(Stop::NoMemory),
-    };
-    Ok(Outcome { text, file })
+    match outcome_of(alloc, answers.as_slice(), out, &map, bench) {
+        Ok(outcome) => Ok(outcome),
+        Err(_) => Err(Stop::NoMemory),
+    }
 }
 
 /// Carries out the script in the file `script` on the mirror of the image in the file `image`: its

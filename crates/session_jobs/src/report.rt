@@ -1,12 +1,17 @@
 // What is printed of the answers to lines.
-ghost use Rattle.std.specs.Prelude.{◌≡◌, ℕ, ⊤, All, IfOk, List, flat_map};
+ghost use Rattle.std.specs.Prelude.{◌≡◌, ℕ, ⊤, All, IfOk, List, Some, flat_map};
+ghost use Rattle.image_file.specs.Format.{image_on};
+ghost use Rattle.image_file.specs.Lawful.{IsImage};
+ghost use Rattle.image_jobs.specs.Jobs.{WritesLeft, file_of};
 ghost use Rattle.item_session.specs.declared.answer.Answer.{Answer as item_answer};
 ghost use Rattle.item_session.specs.Answer.{text_of as item_text};
 ghost use Rattle.log_session.specs.declared.answer.Answer.{Answer as log_answer};
 ghost use Rattle.log_session.specs.Answer.{text_of as log_text};
 ghost use Rattle.mirror_session.specs.Answer.{CanReport, text_of as mirror_text};
 
-use flash_sim::NoMemory;
+use flash_map::FlashMap;
+use flash_sim::{Bench, NoMemory};
+use image_jobs::{Outcome, Output, file_left};
 use std::alloc::Global;
 
 // An answer to a line.
@@ -53,7 +58,7 @@ impl Answered for mirror_session::Answer {
 }
 
 // The texts of all answers.
-pub(crate) fn all_texts<A: Answered>(alloc: Global, answers: &[A]) -> Result<Vec<u8>, NoMemory>
+fn all_texts<A: Answered>(alloc: Global, answers: &[A]) -> Result<Vec<u8>, NoMemory>
     requires { All A.can_report answers.now }
     ensures { IfOk result (λ text. text.items ≡ flat_map A.text_of answers.now) }
 {
@@ -63,4 +68,25 @@ pub(crate) fn all_texts<A: Answered>(alloc: Global, answers: &[A]) -> Result<Vec
         all.extend_from_slice(text.as_slice())?;
     }
     Ok(all)
+}
+
+// The texts of all answers, and the file of the image that is left.
+pub(crate) fn outcome_of<'a, A: Answered, B: Bench>(
+    alloc: Global,
+    answers: &[A],
+    out: &'a str,
+    areas: &FlashMap,
+    bench: &B,
+) -> Result<Outcome<'a>, NoMemory>
+    requires texts { All A.can_report answers.now }
+    requires image { IsImage (image_on areas.now (B.device bench.now)) }
+    ensures text { IfOk result
+        (λ outcome. outcome.text.items ≡ flat_map A.text_of answers.now) }
+    ensures file { IfOk result
+        (λ outcome. WritesLeft (Some out.now) (image_on areas.now (B.device bench.now))
+        (file_of outcome.file)) }
+{
+    let text = all_texts(alloc, answers)?;
+    let file = file_left(alloc, &Output::Into { name: out }, areas, bench)?;
+    Ok(Outcome { text, file })
 }

@@ -1,9 +1,9 @@
-use Rattle.std.proofs.Common.{rules, refl}
-use Rattle.command_words.proofs.FormTable.{reported_all, reported_more}
+use Rattle.std.proofs.Common.{rules}
+use Rattle.command_words.proofs.FormTable.{reported_all, reported_forms, reported_more}
 use Rattle.command_words.proofs.forms.image_tool.Goals as goal
 
 pub loop-name-init : goal.loop-name-init
-loop-name-init c = (refl, search rules)
+loop-name-init c = (reported_forms c.form_rows-name-items.result.now c.form_rows-name-items.ensures, search rules)
 
 pub loop-name-preserved : goal.loop-name-preserved
 loop-name-preserved c = (

@@ -2,10 +2,11 @@ use Rattle.std.proofs.Common.{◌≡◌, ◌∙◌, true, ◌∷◌, None, sym, 
 use Rattle.std.specs.Prelude.{All, OnOk}
 use Rattle.std.proofs.lemmas.Bool.{false≢true}
 use Rattle.flash_map.specs.declared.area.Role.{Role}
-use Rattle.flash_map.specs.Area.{value_limit}
+use Rattle.flash_map.specs.Area.{geometry_of, value_limit}
 use Rattle.item_session.specs.Line.{ids_end}
 use Rattle.item_session.specs.declared.line.Line.TheVariants.{Mount}
 use Rattle.item_session.specs.Device.{IsServed, RestsOn}
+use Rattle.item_session.specs.Owing.{OwesOn, boot_units}
 use Rattle.item_session.specs.Running.{RunEnds}
 use Rattle.item_session.specs.Standing.{damage_on}
 use Rattle.item_session.proofs.ValueLemmas.{nvs_takes_values, zms_takes_values}
@@ -35,6 +36,12 @@ pub returns-in-Nvs-clause-undamaged : goal.returns-in-Nvs-clause-undamaged
 returns-in-Nvs-clause-undamaged g c =
     subst (λ (r : Role). damage_on (role_format r) (g.B.Flash.device c.args.bench.now) c.args.area.now ≡ None → damage_on (role_format r) (g.B.Flash.device c.run.new.bench) c.args.area.now ≡ None) (sym c.in-Nvs.is) c.run.ensures.undamaged
 
+pub returns-in-Nvs-clause-left : goal.returns-in-Nvs-clause-left
+returns-in-Nvs-clause-left g c =
+    let d = g.B.Flash.device c.args.bench.now in
+    let e = g.B.Flash.device c.run.new.bench in
+    subst (λ (r : Role). damage_on (role_format r) d c.args.area.now ≡ None → OwesOn (role_format r) e c.args.area.now (boot_units (role_format r) (geometry_of d c.args.area.now))) (sym c.in-Nvs.is) c.run.ensures.left
+
 pub returns-in-Nvs-clause-rests : goal.returns-in-Nvs-clause-rests
 returns-in-Nvs-clause-rests g c =
     subst (λ (r : Role). OnOk c.run.result ((g.B.Flash.device c.run.new.bench).is_on ≡ true → RestsOn (role_format r) (g.B.Flash.device c.run.new.bench) c.args.area.now)) (sym c.in-Nvs.is) c.run.ensures.rests
@@ -59,6 +66,12 @@ returns-in-Zms-clause-ends g c =
 pub returns-in-Zms-clause-undamaged : goal.returns-in-Zms-clause-undamaged
 returns-in-Zms-clause-undamaged g c =
     subst (λ (r : Role). damage_on (role_format r) (g.B.Flash.device c.args.bench.now) c.args.area.now ≡ None → damage_on (role_format r) (g.B.Flash.device c.run-in-Zms.new.bench) c.args.area.now ≡ None) (sym c.in-Zms.is) c.run-in-Zms.ensures.undamaged
+
+pub returns-in-Zms-clause-left : goal.returns-in-Zms-clause-left
+returns-in-Zms-clause-left g c =
+    let d = g.B.Flash.device c.args.bench.now in
+    let e = g.B.Flash.device c.run-in-Zms.new.bench in
+    subst (λ (r : Role). damage_on (role_format r) d c.args.area.now ≡ None → OwesOn (role_format r) e c.args.area.now (boot_units (role_format r) (geometry_of d c.args.area.now))) (sym c.in-Zms.is) c.run-in-Zms.ensures.left
 
 pub returns-in-Zms-clause-rests : goal.returns-in-Zms-clause-rests
 returns-in-Zms-clause-rests g c =

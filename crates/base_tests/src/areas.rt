@@ -1,11 +1,11 @@
-ghost use Rattle.std.specs.Prelude.{◌≡◌, ◌<◌, ◌∷◌, [], All, OnOk, replicate};
+ghost use Rattle.std.specs.Prelude.{◌≡◌, ◌<◌, ◌∷◌, [], All, replicate};
 ghost use Rattle.flash_sim.specs.Device.{loaded};
 ghost use Rattle.flash_map.specs.Map.{HasVersion};
 
-use crate::rows::{number, says, word};
+use crate::rows::{holds, number, says, word};
 use arrayvec::ArrayString;
 use flash_map::*;
-use flash_sim::{Bank, Bench, FlatSim, Kind, NoMemory, Steps};
+use flash_sim::{Bank, Bench, FlatSim, Kind, Steps};
 use std::alloc::Global;
 use std::marker::Brand;
 use std::process::Abort;
@@ -24,10 +24,8 @@ fn area<R: Abort>(rt: &R, row: &str) -> Area
     let bank = number(rt, row, 1) as usize;
     let first = number(rt, row, 2);
     let sectors = number(rt, row, 3);
-    match ArrayString::from(word(row, 0)) {
-        Ok(label) => Area::new(label, Role::Nvs, bank, first, sectors, 1),
-        Err(_) => panic!(rt; "no label in {row}"),
-    }
+    let label = ArrayString::from(word(row, 0)).ok().expect(rt, row);
+    Area::new(label, Role::Nvs, bank, first, sectors, 1)
 }
 
 // Adds an area of version 1 to a map of such areas.
@@ -69,12 +67,16 @@ fn areas_side_by_side(rt: HostRuntime) {
         let result = added(&mut map, area(&rt, row));
         says(&rt, row, 4, ending(result));
     }
-    let places = map.index_of("s") == Some(2) && map.index_of("x").is_none();
-    assert!(rt; places && map.len() == 3);
-    match map.at(1) {
-        Some(second) => assert!(rt; second.first == 2 && second.value_limit() == 256),
-        None => assert!(rt; false),
-    }
+    finds(&rt, &map);
+}
+
+fn finds<R: Abort>(rt: &R, map: &FlashMap) {
+    holds(rt, "s", map.index_of("s") == Some(2));
+    holds(rt, "x", map.index_of("x").is_none());
+    holds(rt, "three", map.len() == 3);
+    let second = map.at(1).expect(rt, "f");
+    holds(rt, "f", second.first == 2);
+    holds(rt, "limit", second.value_limit() == 256);
 }
 
 const BED: Bank = Bank {
@@ -84,14 +86,13 @@ const BED: Bank = Bank {
     count: 4,
 };
 
-fn load_blank<B: Bench>(alloc: Global, bench: &mut B) -> Result<(), NoMemory>
-    ensures { OnOk result
-        (B.device bench.new ≡ loaded (B.device bench.old) (BED ∷ []) (replicate 64 255 ∷ [])) }
+fn load_blank<B: Bench, R: Abort>(rt: &R, alloc: Global, bench: &mut B)
+    ensures { B.device bench.new ≡ loaded (B.device bench.old) (BED ∷ []) (replicate 64 255 ∷ []) }
 {
-    let banks = vec![in alloc; BED]?;
-    let bytes = vec![in alloc; vec![in alloc; 255u8; 64]?]?;
-    bench.load(alloc, banks, bytes)?;
-    Ok(())
+    let banks = vec![in alloc; BED].expect(rt, "memory");
+    let bank = vec![in alloc; 255u8; 64].expect(rt, "memory");
+    let bytes = vec![in alloc; bank].expect(rt, "memory");
+    bench.load(alloc, banks, bytes).expect(rt, "memory");
 }
 
 // Five bytes after the first unit, and FF elsewhere.
@@ -116,8 +117,8 @@ fn exercise<B: Bench, L: Ledger, R: Abort>(rt: &R, alloc: Global, bench: &mut B,
 {
     let mut steps = Steps::<L>::new(blank);
     let area = Area::new(ArrayString::new(), Role::Fcb, 0, 2, 2, 1);
-    load_blank(alloc, bench).expect(rt, "memory");
-    assert!(rt; geometry(bench, &area) == SHAPE);
+    load_blank(rt, alloc, bench);
+    holds(rt, "shape", geometry(bench, &area) == SHAPE);
     program_all(bench, &area, 1, 0, &[1, 2, 3, 4, 5, 6, 7, 8]).expect(rt, "power");
     let from = Source {
         sector: 1,
@@ -125,9 +126,14 @@ fn exercise<B: Bench, L: Ledger, R: Abort>(rt: &R, alloc: Global, bench: &mut B,
         len: 5,
     };
     copy_padded(bench, &area, from, 0, 4, &mut steps).expect(rt, "power");
-    assert!(rt; sector_view(bench, &area, 0, &mut steps) == COPIED.as_slice());
+    holds(
+        rt,
+        "copied",
+        sector_view(bench, &area, 0, &mut steps) == COPIED.as_slice(),
+    );
     area_erase(bench, &area, 1).expect(rt, "power");
-    assert!(rt; is_erased(area_view(bench, &area, 1, 6, 4, &mut steps)) && bench.spent() == 5);
+    let erased = is_erased(area_view(bench, &area, 1, 6, 4, &mut steps));
+    holds(rt, "erased", erased & (bench.spent() == 5));
 }
 
 #[test]
@@ -140,6 +146,7 @@ fn sectors_of_an_area(rt: HostRuntime) {
 #[test]
 fn places_in_a_ring(rt: HostRuntime) {
     let area = Area::new(ArrayString::new(), Role::Fcb, 0, 2, 2, 1);
-    assert!(rt; area.next(0) == 1 && area.next(1) == 0);
-    assert!(rt; area.previous(0) == 1 && area.previous(1) == 0 && padded(4, 409) == 412);
+    holds(&rt, "next", (area.next(0) == 1) & (area.next(1) == 0));
+    let previous = (area.previous(0) == 1) & (area.previous(1) == 0);
+    holds(&rt, "previous", previous & (padded(4, 409) == 412));
 }

@@ -1,9 +1,10 @@
+use crate::rows::holds;
 use lookup_cache::Cache;
 use std::process::Abort;
 
 fn starts<R: Abort>(rt: &R, cache: &Cache, rows: &[(u32, Option<(u32, u32)>)]) {
     for (id, start) in rows {
-        assert!(rt; cache.start_of(*id) == *start);
+        holds(rt, "a start", cache.start_of(*id) == *start);
     }
 }
 
@@ -33,8 +34,13 @@ fn keeps_the_greatest_slots(rt: HostRuntime) {
     // the last sector that has one is 63
     cache.note(8, 64, 5);
     let tops = cache.tops();
-    assert!(rt; tops.len() == 64 && tops[2] == 9 && tops[63] == 3 && tops[0] == 0);
+    holds(&rt, "sectors", tops.len() == 64);
+    holds(
+        &rt,
+        "noted",
+        (tops[2] == 9) & (tops[63] == 3) & (tops[0] == 0),
+    );
     cache.forget_sector(2);
     let tops = cache.tops();
-    assert!(rt; tops[2] == 0 && tops[63] == 3);
+    holds(&rt, "forgotten", (tops[2] == 0) & (tops[63] == 3));
 }

@@ -1,7 +1,7 @@
 ghost use Rattle.image_file.specs.Format.{plain};
 ghost use Rattle.image_file.specs.Lawful.{IsImage};
 
-use crate::rows::{byte, counts, number, says};
+use crate::rows::holds;
 use flash_sim::NoMemory;
 use image_file::*;
 use std::alloc::Global;
@@ -61,23 +61,17 @@ fn written(alloc: Global, image: &Image) -> Result<Vec<u8>, NoMemory>
 
 // The file of the word's image.
 fn file_of<R: Abort>(rt: &R, alloc: Global, word: &str) -> Vec<u8> {
-    match read_spec(alloc, word) {
-        Ok(image) => written(alloc, &image).expect(rt, "memory"),
-        Err(_) => panic!(rt; "no image"),
-    }
+    let image = read_spec(alloc, word).expect(rt, word);
+    written(alloc, &image).expect(rt, "memory")
 }
 
 // The image of a file has the version in the file, and its file has the same bytes.
 fn reads_back<R: Abort>(rt: &R, alloc: Global, file: &[u8]) {
-    match read_image(alloc, file) {
-        Ok(image) => {
-            let version = image.map.at(0).map(|area| area.version);
-            assert!(rt; version == file.get(4).copied());
-            let again = written(alloc, &image).expect(rt, "memory");
-            assert!(rt; again.as_slice() == file);
-        }
-        Err(_) => panic!(rt; "not read"),
-    }
+    let image = read_image(alloc, file).expect(rt, "not read");
+    let area = image.map.at(0).expect(rt, "no area");
+    holds(rt, "version", file.get(4) == Some(&area.version));
+    let again = written(alloc, &image).expect(rt, "memory");
+    holds(rt, "file", again.as_slice() == file);
 }
 
 #[test]
@@ -86,72 +80,44 @@ fn writes_and_reads(rt: HostRuntime) {
     for (word, size, at, bytes) in FILES.iter() {
         let file = file_of(&rt, alloc, word);
         let has = file.get(*at..at.saturating_add(bytes.len())) == Some(*bytes);
-        assert!(rt; has && file.len() == *size, "{word}");
+        holds(&rt, word, has & (file.len() == *size));
         reads_back(&rt, alloc, &file);
     }
 }
 
 // An offset, the byte put there, and why and where the file is then refused.
-const ROWS: [&str; 26] = [
-    "3 4e BadMagic 0",
-    "4 00 BadVersion 4",
-    "4 03 BadVersion 4",
+const ROWS: [(usize, u8, ImageWhy, u64); 26] = [
+    (3, 0x4E, ImageWhy::BadMagic, 0),
+    (4, 0x00, ImageWhy::BadVersion, 4),
+    (4, 0x03, ImageWhy::BadVersion, 4),
     // the second version, with sectors of 512 bytes
-    "4 02 BadBank 8",
-    "5 00 BadBank 5",
-    "5 03 BadBank 5",
-    "6 00 BadArea 6",
-    "6 09 BadArea 6",
-    "7 01 BadVersion 7",
-    "8 02 BadBank 8",
-    "9 05 BadBank 8",
-    "10 01 BadBank 8",
-    "12 20 BadBank 8",
-    "13 01 BadBank 8",
-    "16 01 BadBank 8",
-    "16 41 BadBank 8",
-    "20 05 BadArea 20",
-    "20 02 BadArea 20",
-    "20 04 BadArea 6",
-    "21 01 BadArea 20",
-    "22 01 BadArea 20",
-    "24 01 BadArea 20",
-    "26 05 BadArea 20",
-    "27 01 BadArea 20",
-    "28 4d BadArea 20",
-    "35 01 BadArea 20",
+    (4, 0x02, ImageWhy::BadBank, 8),
+    (5, 0x00, ImageWhy::BadBank, 5),
+    (5, 0x03, ImageWhy::BadBank, 5),
+    (6, 0x00, ImageWhy::BadArea, 6),
+    (6, 0x09, ImageWhy::BadArea, 6),
+    (7, 0x01, ImageWhy::BadVersion, 7),
+    (8, 0x02, ImageWhy::BadBank, 8),
+    (9, 0x05, ImageWhy::BadBank, 8),
+    (10, 0x01, ImageWhy::BadBank, 8),
+    (12, 0x20, ImageWhy::BadBank, 8),
+    (13, 0x01, ImageWhy::BadBank, 8),
+    (16, 0x01, ImageWhy::BadBank, 8),
+    (16, 0x41, ImageWhy::BadBank, 8),
+    (20, 0x05, ImageWhy::BadArea, 20),
+    (20, 0x02, ImageWhy::BadArea, 20),
+    (20, 0x04, ImageWhy::BadArea, 6),
+    (21, 0x01, ImageWhy::BadArea, 20),
+    (22, 0x01, ImageWhy::BadArea, 20),
+    (24, 0x01, ImageWhy::BadArea, 20),
+    (26, 0x05, ImageWhy::BadArea, 20),
+    (27, 0x01, ImageWhy::BadArea, 20),
+    (28, 0x4D, ImageWhy::BadArea, 20),
+    (35, 0x01, ImageWhy::BadArea, 20),
 ];
 
-fn name_of(why: ImageWhy) -> &'static str {
-    match why {
-        ImageWhy::BadMagic => "BadMagic",
-        ImageWhy::BadVersion => "BadVersion",
-        ImageWhy::BadBank => "BadBank",
-        ImageWhy::BadArea => "BadArea",
-        ImageWhy::Short => "Short",
-        ImageWhy::Long => "Long",
-    }
-}
-
-// Why and where the file is refused.
-fn fault_of(alloc: Global, file: &[u8]) -> (&'static str, u64) {
-    match read_image(alloc, file) {
-        Err(ImageFault::Bad { at, why }) => (name_of(why), at),
-        Err(ImageFault::NoMemory) => ("no memory", 0),
-        Ok(_) => ("read", 0),
-    }
-}
-
-// A file with one byte changed is refused.
-fn refuses<R: Abort>(rt: &R, alloc: Global, file: &mut [u8], row: &str) {
-    let place = number(rt, row, 0) as usize;
-    match file.get_mut(place) {
-        Some(there) => *there = byte(rt, row, 1),
-        None => panic!(rt; "no such byte"),
-    }
-    let (why, at) = fault_of(alloc, file);
-    says(rt, row, 2, why);
-    counts(rt, row, 3, &[at]);
+fn is_refused(alloc: Global, file: &[u8], why: ImageWhy, at: u64) -> bool {
+    read_image(alloc, file).err() == Some(ImageFault::Bad { at, why })
 }
 
 // Each file that is shorter or longer, and each with one byte changed.
@@ -160,14 +126,16 @@ fn first_faults(rt: HostRuntime) {
     let alloc = rt.alloc();
     let mut file = file_of(&rt, alloc, FOUR);
     for len in 0..file.len() {
-        assert!(rt; fault_of(alloc, &file[..len]) == ("Short", len as u64));
+        let refused = is_refused(alloc, &file[..len], ImageWhy::Short, len as u64);
+        holds(&rt, "short", refused);
     }
-    for row in ROWS.iter() {
+    for (offset, byte, why, at) in ROWS.iter() {
         let mut other = file.clone().expect(&rt, "memory");
-        refuses(&rt, alloc, &mut other, row);
+        *other.get_mut(*offset).expect(&rt, "a byte") = *byte;
+        holds(&rt, "changed", is_refused(alloc, &other, *why, *at));
     }
     file.push(0).expect(&rt, "memory");
-    assert!(rt; fault_of(alloc, &file) == ("Long", 2084));
+    holds(&rt, "long", is_refused(alloc, &file, ImageWhy::Long, 2084));
 }
 
 // A word, and the number of its first unlawful item.
@@ -215,13 +183,13 @@ const WORDS: [(&str, u32); 28] = [
 fn unlawful_words(rt: HostRuntime) {
     for (word, item) in WORDS.iter() {
         let fault = read_spec(rt.alloc(), word).err();
-        assert!(rt; fault == Some(SpecFault::BadSpec { item: *item }), "{word}");
+        holds(&rt, word, fault == Some(SpecFault::BadSpec { item: *item }));
     }
 }
 
 fn prints<E: Display, R: Abort>(rt: &R, alloc: Global, fault: &E, message: &str) {
     let text = fault.to_string(alloc).expect(rt, "memory");
-    assert!(rt; text.as_str() == message);
+    holds(rt, message, text.as_str() == message);
 }
 
 // Why an image was not read or made, and the message.

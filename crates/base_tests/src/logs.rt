@@ -3,8 +3,8 @@
 ghost use Rattle.std.specs.Prelude.{◌≡◌, ◌<◌, ◌∷◌, []};
 ghost use Rattle.event_ring.specs.Standing.{IsOpen};
 
-use crate::rings::{LARGE, SMALL, load, small};
-use crate::rows::{byte, counts, number, says, word};
+use crate::rings::{LARGE, SMALL, load, rings, small};
+use crate::rows::{byte, counts, holds, number, says};
 use event_ring::*;
 use fcb_ring::{RecordAt, chance};
 use flash_sim::{Bench, Flash, FlatSim, Steps};
@@ -59,10 +59,7 @@ fn mounted<B: Bench, L: Ledger, R: Abort>(rt: &R, bench: &mut B, steps: &mut Ste
     ensures banks { (B.device bench.new).banks ≡ SMALL ∷ LARGE ∷ [] }
     ensures mounted { IsOpen (B.device bench.new) result.ring }
 {
-    match EventLog::mount(bench, small(3), steps) {
-        Ok(log) => log,
-        Err(_) => panic!(rt; "no log"),
-    }
+    EventLog::mount(bench, small(3), steps).expect(rt, "no log")
 }
 
 // One append, which is taken or refused.
@@ -83,8 +80,11 @@ fn put<B: Bench, L: Ledger, R: Abort>(
     let spent = bench.spent().wrapping_sub(start);
     match ended {
         Ok(dropped) => counts(rt, row, 2, &[spent, u64::from(dropped)]),
-        Err(LogFault::TooLong) => assert!(rt; spent == 0 && word(row, 3) == "refused"),
-        Err(LogFault::PowerLost) => panic!(rt; "power was lost"),
+        Err(LogFault::TooLong) => {
+            holds(rt, row, spent == 0);
+            says(rt, row, 3, "refused");
+        }
+        Err(LogFault::PowerLost) => rt.panic("power was lost"),
     }
 }
 
@@ -117,7 +117,7 @@ fn after<B: Bench, L: Ledger, R: Abort>(
 {
     load(rt, alloc, bench, &[], &[], &[]);
     let mut log = mounted(rt, bench, steps);
-    assert!(rt; log.is_up());
+    holds(rt, "up", log.is_up());
     puts(rt, &mut log, bench, rows, steps);
     log
 }
@@ -136,11 +136,15 @@ fn cut<B: Bench, L: Ledger, R: Abort>(
 {
     bench.arm(plan);
     let lost = log.append(bench, body, steps);
-    assert!(rt; lost == Err(LogFault::PowerLost) && !log.is_up());
+    holds(
+        rt,
+        "lost",
+        (lost == Err(LogFault::PowerLost)) & !log.is_up(),
+    );
 }
 
-// Checks the first byte of each of at most eight records.
-fn holds<F: Flash, L: Ledger, R: Abort>(
+// Checks that at most eight records begin with these bytes.
+fn begin<F: Flash, L: Ledger, R: Abort>(
     rt: &R,
     log: &EventLog,
     flash: &F,
@@ -155,7 +159,7 @@ fn holds<F: Flash, L: Ledger, R: Abort>(
             return says(rt, row, n, "");
         };
         let body = log.body(flash, &record, steps);
-        assert!(rt; body.starts_with(&[byte(rt, row, n)]), "'{row}'");
+        holds(rt, row, body.starts_with(&[byte(rt, row, n)]));
         after = Some(record);
     }
 }
@@ -182,17 +186,8 @@ fn keeps_what_was_acknowledged<B: Bench, L: Ledger, R: Abort>(
     let start = bench.spent();
     let log = mounted(rt, bench, steps);
     let spent = bench.spent().wrapping_sub(start);
-    assert!(rt; spent == u64::from(number(rt, row, 1)), "'{row}'");
-    holds(rt, &log, bench, row, steps);
-}
-
-fn is_by_chance<B: Bench, L: Ledger>(bench: &B, steps: &mut Steps<L>) -> bool
-    requires { (B.device bench.now).banks ≡ SMALL ∷ LARGE ∷ [] }
-{
-    match bench.last_loss() {
-        Some(loss) => chance(bench, &small(3), loss, steps),
-        None => false,
-    }
+    holds(rt, row, spent == u64::from(number(rt, row, 1)));
+    begin(rt, &log, bench, row, steps);
 }
 
 const TORN: [u8; 8] = [0x61, 0x3D, 0, 0xA4, 0xFF, 0xFF, 0xFF, 0xFF];
@@ -213,13 +208,16 @@ fn torn_by_chance<B: Bench, L: Ledger, R: Abort>(
         &[0x61, 0x3D, 0, 0xA4, 1, 2, 3, 4],
         steps,
     );
-    assert!(rt; is_by_chance(bench, steps));
+    let loss = bench.last_loss().expect(rt, "no loss");
+    holds(rt, "chance", chance(bench, &small(3), loss, steps));
     bench.restore();
     let log = mounted(rt, bench, steps);
-    match log.next(bench, None, steps) {
-        Some(record) => assert!(rt; log.body(bench, &record, steps) == TORN.as_slice()),
-        None => panic!(rt; "no record"),
-    }
+    let record = log.next(bench, None, steps).expect(rt, "no record");
+    holds(
+        rt,
+        "torn",
+        log.body(bench, &record, steps) == TORN.as_slice(),
+    );
 }
 
 fn logs<B: Bench, L: Ledger, R: Abort>(rt: &R, alloc: Global, bench: &mut B, blank: Blank)
@@ -228,8 +226,9 @@ fn logs<B: Bench, L: Ledger, R: Abort>(rt: &R, alloc: Global, bench: &mut B, bla
     requires some { 0 < L.parts }
 {
     let mut steps = Steps::<L>::new(blank);
+    rings(rt, alloc, bench, &mut steps);
     let log = after(rt, alloc, bench, &NINE, &mut steps);
-    holds(rt, &log, bench, LEFT, &mut steps);
+    begin(rt, &log, bench, LEFT, &mut steps);
     after(rt, alloc, bench, &BODIES, &mut steps);
     for row in CUTS.iter() {
         keeps_what_was_acknowledged(rt, alloc, bench, row, &mut steps);
@@ -238,7 +237,7 @@ fn logs<B: Bench, L: Ledger, R: Abort>(rt: &R, alloc: Global, bench: &mut B, bla
 }
 
 #[test]
-fn logs_on_one_bed(rt: HostRuntime) {
+fn rings_and_logs(rt: HostRuntime) {
     let alloc = rt.alloc();
     let mut sim = FlatSim::new(alloc);
     logs::<FlatSim, Brand, HostRuntime>(&rt, alloc, &mut sim, Blank::new(1));

@@ -1,19 +1,18 @@
 // Rings on one bed: a bank of three small sectors, and one of two large ones. Places, units and
 // CRCs are those of an independent reading of the same bytes.
-ghost use Rattle.std.specs.Prelude.{◌≡◌, ◌<◌, ◌≤◌, ◌∷◌, [], true, IfOk, OnOk, length, vec_len};
+ghost use Rattle.std.specs.Prelude.{◌≡◌, ◌≤◌, ◌∷◌, [], true, OnOk, length, vec_len};
 ghost use Rattle.fcb_ring.specs.Changing.{is_scratch_left};
 ghost use Rattle.fcb_ring.specs.Standing.{IsRingArea, StandsOn};
 
-use crate::rows::{byte, counts, number, says, word};
+use crate::rows::{byte, counts, holds, number, says, word};
 use arrayvec::ArrayString;
 use crc8_entry::{START, crc8};
 use fcb_ring::*;
-use flash_map::{Area, Role, Why, sector_view};
-use flash_sim::{Bank, Bench, Flash, FlatSim, Kind, NoMemory, PowerLost, Steps};
+use flash_map::{Area, Damaged, Role, Why, sector_view};
+use flash_sim::{Bank, Bench, Flash, Kind, NoMemory, PowerLost, Steps};
 use std::alloc::Global;
-use std::marker::Brand;
 use std::process::Abort;
-use std::sync::ledger::{Blank, Ledger};
+use std::sync::ledger::Ledger;
 
 pub(crate) const SMALL: Bank = Bank {
     kind: Kind::Erasing,
@@ -104,10 +103,7 @@ fn blank<B: Bench, L: Ledger, R: Abort>(
     ensures ready { result.stage ≡ Stage.Ready }
 {
     load(rt, alloc, bench, &[], &[], &[]);
-    match Ring::mount(bench, area, 76, steps) {
-        Ok(ring) => ring,
-        Err(_) => panic!(rt; "no ring"),
-    }
+    Ring::mount(bench, area, 76, steps).expect(rt, "no ring")
 }
 
 // How many records the ring gives, and a CRC over their sectors, lengths and bodies.
@@ -143,11 +139,39 @@ const DIRTY: [u8; 12] = [
     0xEE, 0xEE, 0xFF, 0xC0, 0x01, 0xFF, 0x00, 0x00, 0xFF, 0xFF, 0xFF, 0x00,
 ];
 
-const DAMAGED: [(&[u8], &[u8], Option<Why>); 5] = [
-    (&[0], &[], Some(Why::BadHeader)),
-    (&HEADER, &SIXTH, Some(Why::BadSequence)),
-    (&LONG, &[], Some(Why::Overfull)),
-    (&DIRTY, &[], Some(Why::Dirty)),
+const DAMAGED: [(&[u8], &[u8], Option<Damaged>); 5] = [
+    (
+        &[0],
+        &[],
+        Some(Damaged {
+            sector: 0,
+            why: Why::BadHeader,
+        }),
+    ),
+    (
+        &HEADER,
+        &SIXTH,
+        Some(Damaged {
+            sector: 0,
+            why: Why::BadSequence,
+        }),
+    ),
+    (
+        &LONG,
+        &[],
+        Some(Damaged {
+            sector: 0,
+            why: Why::Overfull,
+        }),
+    ),
+    (
+        &DIRTY,
+        &[],
+        Some(Damaged {
+            sector: 0,
+            why: Why::Dirty,
+        }),
+    ),
     (&HEADER, &[], None),
 ];
 
@@ -157,12 +181,10 @@ fn reports_damage<B: Bench, L: Ledger, R: Abort>(
     bench: &mut B,
     steps: &mut Steps<L>,
 ) {
-    for (first, second, why) in DAMAGED.iter() {
+    for (first, second, damaged) in DAMAGED.iter() {
         load(rt, alloc, bench, first, second, &[]);
-        match Ring::inspect(bench, small(2), 0, steps) {
-            Ok(_) => assert!(rt; why.is_none()),
-            Err(damaged) => assert!(rt; damaged.sector == 0 && Some(damaged.why) == *why),
-        }
+        let found = Ring::inspect(bench, small(2), 0, steps).err();
+        holds(rt, "damaged", found == *damaged);
     }
 }
 
@@ -186,13 +208,10 @@ fn finished<B: Bench, L: Ledger, R: Abort>(
     ensures { StandsOn (B.device bench.new) result }
 {
     load(rt, alloc, bench, &OLDER, &HEADER, &TORN);
-    let mut ring = match Ring::inspect(bench, small(3), 0, steps) {
-        Ok(ring) => ring,
-        Err(_) => panic!(rt; "damaged"),
-    };
-    assert!(rt; ring.is_up() && !ring.is_finished());
+    let mut ring = Ring::inspect(bench, small(3), 0, steps).expect(rt, "damaged");
+    holds(rt, "inspected", ring.is_up() & !ring.is_finished());
     ring.finish(bench, steps).expect(rt, "power");
-    assert!(rt; ring.is_finished() && !ring.is_collecting());
+    holds(rt, "finished", ring.is_finished() & !ring.is_collecting());
     ring
 }
 
@@ -205,15 +224,16 @@ fn reads_records<B: Bench, L: Ledger, R: Abort>(
     let start = bench.spent();
     let ring = finished(rt, alloc, bench, steps);
     let spent = bench.spent().wrapping_sub(start);
-    assert!(rt; spent == 1 && ring.oldest() == Some(0));
-    assert!(rt; summary(&ring, bench, steps) == (3, 41));
+    holds(rt, "finish", (spent == 1) & (ring.oldest() == Some(0)));
+    holds(rt, "three", summary(&ring, bench, steps) == (3, 41));
     let third = RecordAt {
         sector: 0,
         offset: 32,
         body: 36,
         len: 8,
     };
-    assert!(rt; ring.next_with(bench, None, &[0x61, 0x3D, 0x00], steps) == Some(third));
+    let found = ring.next_with(bench, None, &[0x61, 0x3D, 0x00], steps);
+    holds(rt, "third", found == Some(third));
 }
 
 // ---- writing
@@ -254,7 +274,7 @@ fn append<F: Flash, R: Abort>(
         Ok(()) => "done",
         Err(AppendFault::Full) => "full",
         Err(AppendFault::TooLong) => "too_long",
-        Err(AppendFault::PowerLost) => panic!(rt; "power was lost"),
+        Err(AppendFault::PowerLost) => rt.panic("power was lost"),
     }
 }
 
@@ -285,7 +305,7 @@ fn rotate<F: Flash, R: Abort>(rt: &R, ring: &mut Ring, flash: &mut F) -> &'stati
     match ring.rotate(flash) {
         Ok(()) => "done",
         Err(AppendFault::Full) => "full",
-        Err(AppendFault::TooLong | AppendFault::PowerLost) => panic!(rt; "power was lost"),
+        Err(AppendFault::TooLong | AppendFault::PowerLost) => rt.panic("power was lost"),
     }
 }
 
@@ -359,12 +379,16 @@ fn goes_through_steps<B: Bench, L: Ledger, R: Abort>(
 ) {
     let start = bench.spent();
     let mut ring = blank(rt, alloc, bench, small(3), steps);
-    assert!(rt; ring.oldest().is_none() && !ring.is_scratch_left());
+    holds(
+        rt,
+        "blank",
+        ring.oldest().is_none() & !ring.is_scratch_left(),
+    );
     for row in STEPS.iter() {
         says(rt, row, 3, take(rt, &mut ring, bench, row, steps));
         counts(rt, row, 4, &[bench.spent().wrapping_sub(start)]);
     }
-    assert!(rt; summary(&ring, bench, steps) == (5, 211));
+    holds(rt, "five", summary(&ring, bench, steps) == (5, 211));
 }
 
 // A long record, whose length takes two bytes.
@@ -377,30 +401,23 @@ fn lays_long<B: Bench, L: Ledger, R: Abort>(
     let start = bench.spent();
     let mut ring = blank(rt, alloc, bench, large(), steps);
     append(rt, &mut ring, bench, &[0x11; 2050], false);
-    assert!(rt; bench.spent().wrapping_sub(start) == 517);
+    holds(rt, "517", bench.spent().wrapping_sub(start) == 517);
     let sector = sector_view(bench, ring.area(), 0, steps);
-    assert!(rt; sector[8..11] == [0x82, 0x10, 0xFF]);
+    holds(rt, "length", sector[8..11] == [0x82, 0x10, 0xFF]);
 }
 
 // ---- the tests
 
-fn rings<B: Bench, L: Ledger, R: Abort>(rt: &R, alloc: Global, bench: &mut B, blank: Blank)
-    requires name { blank.name ≡ L.name }
-    requires parts { blank.parts ≡ L.parts }
-    requires some { 0 < L.parts }
-{
-    let mut steps = Steps::<L>::new(blank);
-    reports_damage(rt, alloc, bench, &mut steps);
-    reads_records(rt, alloc, bench, &mut steps);
-    goes_through_steps(rt, alloc, bench, &mut steps);
-    lays_long(rt, alloc, bench, &mut steps);
-}
-
-#[test]
-fn rings_on_one_bed(rt: HostRuntime) {
-    let alloc = rt.alloc();
-    let mut sim = FlatSim::new(alloc);
-    rings::<FlatSim, Brand, HostRuntime>(&rt, alloc, &mut sim, Blank::new(1));
+pub(crate) fn rings<B: Bench, L: Ledger, R: Abort>(
+    rt: &R,
+    alloc: Global,
+    bench: &mut B,
+    steps: &mut Steps<L>,
+) {
+    reports_damage(rt, alloc, bench, steps);
+    reads_records(rt, alloc, bench, steps);
+    goes_through_steps(rt, alloc, bench, steps);
+    lays_long(rt, alloc, bench, steps);
 }
 
 // A length, the body and the CRC, each in whole units.
@@ -411,5 +428,5 @@ fn records_take_whole_units(rt: HostRuntime) {
         record_cost(8, 102),
         record_cost(16, 2113),
     ];
-    assert!(rt; costs == [112, 120, 2160]);
+    holds(&rt, "costs", costs == [112, 120, 2160]);
 }

@@ -1,3 +1,4 @@
+use crate::rows::holds;
 use text_parts::{cut_at, one_part, read_number};
 
 // A text, its first part, the rest after it, and the rest if it is one part.
@@ -12,7 +13,7 @@ const PARTS: [(&[u8], &[u8], Option<&[u8]>, Option<&[u8]>); 4] = [
 fn parts_of_a_text(rt: HostRuntime) {
     for (text, first, rest, last) in PARTS.iter() {
         let cut = cut_at(text, b'/') == (*first, *rest);
-        assert!(rt; cut && one_part(*rest, b'/') == *last);
+        holds(&rt, "a part", cut & (one_part(*rest, b'/') == *last));
     }
 }
 
@@ -33,6 +34,6 @@ const NUMBERS: [(&[u8], Option<u64>); 10] = [
 #[test]
 fn numbers_in_decimal(rt: HostRuntime) {
     for (word, number) in NUMBERS.iter() {
-        assert!(rt; read_number(word, 256) == *number);
+        holds(&rt, "a number", read_number(word, 256) == *number);
     }
 }

@@ -2,6 +2,8 @@
 #![tactic(auto)]
 
 #[cfg(test)]
+mod each_store;
+#[cfg(test)]
 mod lives;
 #[cfg(test)]
 mod looking;

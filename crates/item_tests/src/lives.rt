@@ -52,7 +52,7 @@ fn change<T: SlotSectors, B: Views, L: Ledger, R: Abort>(
         Ok(()) => None,
         Err(WriteFault::NoSpace { need, live }) => Some((need, live)),
         Err(WriteFault::TooLong) => Some((0, 0)),
-        Err(WriteFault::PowerLost) => panic!(rt; "power was lost"),
+        Err(WriteFault::PowerLost) => rt.panic("power was lost"),
     }
 }
 
@@ -141,13 +141,9 @@ fn mounted<T: SlotSectors, B: Views, L: Ledger, R: Abort>(
     ensures banks { (B.device bench.new).banks ≡ (B.device bench.old).banks }
 {
     let start = bench.spent();
-    match Store::<T>::mount(alloc, bench, area, steps) {
-        Ok(store) => {
-            spends(rt, row, 1, start, bench.spent());
-            store
-        }
-        Err(_) => panic!(rt; "no store"),
-    }
+    let store = Store::<T>::mount(alloc, bench, area, steps).expect(rt, "no store");
+    spends(rt, row, 1, start, bench.spent());
+    store
 }
 
 // A mount with the first calls and those of the life.
@@ -204,7 +200,7 @@ fn close_is_cut<T: SlotSectors, B: Views, L: Ledger, R: Abort>(
 {
     bench.arm(plan);
     let lost = store.close_and_collect(bench, steps);
-    assert!(rt; lost == Err(PowerLost) && !store.is_up());
+    holds(rt, "close", (lost == Err(PowerLost)) & !store.is_up());
 }
 
 fn write_is_cut<T: SlotSectors, B: Views, L: Ledger, R: Abort>(
@@ -223,11 +219,8 @@ fn write_is_cut<T: SlotSectors, B: Views, L: Ledger, R: Abort>(
     assert!(rt; !value.is_empty());
     bench.arm(u64::from(number(rt, row, 4)));
     let lost = store.write(bench, id, value.as_slice(), steps);
-    holds(
-        rt,
-        row,
-        lost == Err(WriteFault::PowerLost) && !store.is_up(),
-    );
+    let is_lost = lost == Err(WriteFault::PowerLost);
+    holds(rt, row, is_lost & !store.is_up());
 }
 
 /// A life after the first calls. If the second text is not empty, the store then loses power as it

@@ -44,7 +44,7 @@ fn shows<T: SlotSectors, B: Views, L: Ledger, R: Abort>(
             return;
         }
     }
-    panic!(rt; "more ids");
+    rt.panic("more ids");
 }
 
 fn asks<T: SlotSectors, B: Views, L: Ledger, R: Abort>(
@@ -61,14 +61,14 @@ fn asks<T: SlotSectors, B: Views, L: Ledger, R: Abort>(
     let ids = IdRange { least: 0, most: 9 };
     let none = store.holder_of(bench, &ids, 1, gone.as_slice(), steps);
     holds(rt, row, none.is_none());
-    let Some(found) = store.holder_of(bench, &ids, 1, here.as_slice(), steps) else {
-        panic!(rt; "no holder");
-    };
+    let found = store
+        .holder_of(bench, &ids, 1, here.as_slice(), steps)
+        .expect(rt, row);
     let above = store.get(bench, found.id + 1, steps);
     holds(
         rt,
         row,
-        found.id == number(rt, row, 1) && found.above == above,
+        (found.id == number(rt, row, 1)) & (found.above == above),
     );
     gives(
         rt,
@@ -94,12 +94,12 @@ fn walks<T: SlotSectors, B: Views, L: Ledger, R: Abort>(
             return says(rt, row, *n, "");
         };
         assert!(rt; placed.sector < sectors);
-        let place = [u64::from(placed.sector), u64::from(placed.slot)];
-        let end = has(rt, row, *n, &place);
-        has(rt, row, end, &[u64::from(placed.id), u64::from(placed.len)]);
+        let (sector, slot) = (u64::from(placed.sector), u64::from(placed.slot));
+        let (id, len) = (u64::from(placed.id), u64::from(placed.len));
+        has(rt, row, *n, &[sector, slot, id, len]);
         after = Some((placed.sector, placed.slot));
     }
-    panic!(rt; "more entries");
+    rt.panic("more entries");
 }
 
 fn older<T: SlotSectors, B: Views, L: Ledger, R: Abort>(
@@ -142,6 +142,6 @@ pub(crate) fn looks<T: SlotSectors, B: Views, L: Ledger, R: Abort>(
             counts(rt, row, 1, &[space.live, space.stale, space.free]);
         }
         "" | "mount" => {}
-        _ => panic!(rt; "no call"),
+        _ => rt.panic("no call"),
     }
 }

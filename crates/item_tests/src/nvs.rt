@@ -1,19 +1,19 @@
 // Lives of a store on two sectors of NVS. What each call spends, answers and leaves was written by
 // another reading of the same rules.
-ghost use Rattle.std.specs.Prelude.{◌≡◌, ◌<◌, ◌∷◌, []};
+ghost use Rattle.std.specs.Prelude.{◌≡◌, ◌∷◌, []};
 ghost use Rattle.flash_map.specs.declared.area.Role.TheVariants.{Nvs as nvs_role};
 ghost use Rattle.item_store.specs.Standing.{IsStoreArea};
 
 use crate::lives::lives;
+use crate::rows::holds;
 use arrayvec::ArrayString;
-use counted_sim::{CountedSim, Views};
+use counted_sim::Views;
 use flash_map::{Area, Role, sector_view};
 use flash_sim::{Bank, Bench, Kind, Steps};
 use nvs_gc::NvsOpen;
 use std::alloc::Global;
-use std::marker::Brand;
 use std::process::Abort;
-use std::sync::ledger::{Blank, Ledger};
+use std::sync::ledger::Ledger;
 
 pub(crate) const BANK: Bank = Bank {
     kind: Kind::Erasing,
@@ -134,27 +134,22 @@ fn on_blank<B: Views, L: Ledger, R: Abort>(
     lives::<NvsOpen, B, L, R>(rt, alloc, bench, areas, first, row, steps);
 }
 
-fn exercise<B: Views, L: Ledger, R: Abort>(rt: &R, alloc: Global, bench: &mut B, blank: Blank)
-    requires name { blank.name ≡ L.name }
-    requires parts { blank.parts ≡ L.parts }
-    requires some { 0 < L.parts }
-{
-    let mut steps = Steps::<L>::new(blank);
-    on_blank(rt, alloc, bench, FULL, &CLOSED, &mut steps);
+/// The lives on NVS.
+pub(crate) fn exercise<B: Views, L: Ledger, R: Abort>(
+    rt: &R,
+    alloc: Global,
+    bench: &mut B,
+    steps: &mut Steps<L>,
+) {
+    on_blank(rt, alloc, bench, FULL, &CLOSED, steps);
     for row in ON_BLANK.iter() {
-        on_blank(rt, alloc, bench, "", row, &mut steps);
+        on_blank(rt, alloc, bench, "", row, steps);
     }
     for row in LOSSES.iter() {
-        on_blank(rt, alloc, bench, FOUR, row, &mut steps);
+        on_blank(rt, alloc, bench, FOUR, row, steps);
     }
-    on_blank(rt, alloc, bench, ROUNDS, &COLLECTED, &mut steps);
+    on_blank(rt, alloc, bench, ROUNDS, &COLLECTED, steps);
     let area = both(bench);
-    assert!(rt; sector_view(bench, &area, 1, &mut steps).ends_with(&ENDS));
-}
-
-#[test]
-fn two_sectors_of_nvs(rt: HostRuntime) {
-    let alloc = rt.alloc();
-    let mut sim = CountedSim::new(alloc);
-    exercise::<CountedSim, Brand, HostRuntime>(&rt, alloc, &mut sim, Blank::new(1));
+    let sector = sector_view(bench, &area, 1, steps);
+    holds(rt, "ends", sector.ends_with(&ENDS));
 }

@@ -1,4 +1,5 @@
 // Entries and sectors as bytes.
+use crate::rows::holds;
 use flash_map::Geometry;
 use flash_sim::Kind;
 use nvs_store::*;
@@ -30,20 +31,25 @@ fn entry_bytes(rt: HostRuntime) {
         (entry(1, 0, 1), [1, 0, 0, 0, 1, 0, 0xFF, 0x03]),
     ];
     for (entry, bytes) in rows.iter() {
-        assert!(rt; encode_entry(entry) == *bytes);
-        assert!(rt; decode_entry(bytes) == Some(*entry));
+        holds(&rt, "encoded", encode_entry(entry) == *bytes);
+        holds(&rt, "decoded", decode_entry(bytes) == Some(*entry));
     }
     let wrong = [0xFF, 0xFF, 0xE0, 1, 0, 0, 0xFF, 0x70];
-    assert!(rt; decode_entry(&wrong).is_none());
+    holds(&rt, "wrong", decode_entry(&wrong).is_none());
 }
 
 #[test]
 fn room(rt: HostRuntime) {
-    assert!(rt; cost(4, 256) == 264 && cost(16, 1) == 32 && capacity(4, 512) == 480);
+    holds(&rt, "cost", (cost(4, 256) == 264) & (cost(16, 1) == 32));
     let blank = scan_sector(&[0xFFu8; 512], 4, 0);
-    assert!(rt; blank.low == 504);
-    assert!(rt; fits(&SMALL_AREA, &blank, 472) && !fits(&SMALL_AREA, &blank, 473));
+    holds(
+        &rt,
+        "capacity",
+        (capacity(4, 512) == 480) & (blank.low == 504),
+    );
+    let fits_not = !fits(&SMALL_AREA, &blank, 473);
+    holds(&rt, "fits", fits(&SMALL_AREA, &blank, 472) & fits_not);
     let mut sector = [0xFFu8; 512];
     sector[496..504].copy_from_slice(&[1, 0, 0, 0, 0xEC, 1, 0xFF, 0x49]);
-    assert!(rt; used_count(&sector, 4) == 1);
+    holds(&rt, "used", used_count(&sector, 4) == 1);
 }

@@ -4,17 +4,16 @@ ghost use Rattle.std.specs.Prelude.{◌≡◌, ◌<◌, ◌∷◌, []};
 ghost use Rattle.nvs_gc.specs.Standing.{IsNvsArea, StandsOn};
 
 use crate::nvs::{BANK, ENDS, FULL, ROUNDS, load_blank};
-use crate::rows::{bytes, ended, has, id, lists};
+use crate::rows::{bytes, ended, has, holds, id, lists};
 use arrayvec::ArrayString;
 use flash_map::{Area, Role, WriteFault, sector_view};
-use flash_sim::{Bench, FlatSim, PowerLost, Steps};
+use flash_sim::{Bench, PowerLost, Steps};
 use item_history::{Older, nvs_older, nvs_space};
-use item_store::{Holder, IdRange, LastSlots};
+use item_store::{IdRange, LastSlots};
 use nvs_gc::*;
 use std::alloc::Global;
-use std::marker::Brand;
 use std::process::Abort;
-use std::sync::ledger::{Blank, Ledger};
+use std::sync::ledger::Ledger;
 
 // The area of both sectors.
 fn both<B: Bench>(_bench: &B) -> Area
@@ -37,10 +36,7 @@ fn on_blank<B: Bench, L: Ledger, R: Abort>(
     load_blank(rt, alloc, bench);
     bench.arm(units);
     let area = both(bench);
-    match Nvs::mount(alloc, bench, area, steps) {
-        Ok(nvs) => nvs,
-        Err(_) => panic!(rt; "no store"),
-    }
+    Nvs::mount(alloc, bench, area, steps).expect(rt, "no store")
 }
 
 // Writes or deletes an item. Returns need and live if there is no space.
@@ -64,7 +60,7 @@ fn change<B: Bench, L: Ledger, R: Abort>(
         Ok(()) => None,
         Err(WriteFault::NoSpace { need, live }) => Some((need, live)),
         Err(WriteFault::TooLong) => Some((0, 0)),
-        Err(WriteFault::PowerLost) => panic!(rt; "power was lost"),
+        Err(WriteFault::PowerLost) => rt.panic("power was lost"),
     }
 }
 
@@ -123,7 +119,7 @@ fn shows<B: Bench, L: Ledger, R: Abort>(
             return;
         }
     }
-    panic!(rt; "more ids");
+    rt.panic("more ids");
 }
 
 // After a collection the item is found by its bytes and has one older version, and the area
@@ -132,14 +128,21 @@ fn reported<B: Bench, L: Ledger, R: Abort>(rt: &R, bench: &B, nvs: &Nvs, steps: 
     requires stands { StandsOn (B.device bench.now) nvs.now }
 {
     let ids = IdRange { least: 0, most: 9 };
-    assert!(rt; nvs.holder_of(bench, &ids, 1, &[0x44; 100], steps).is_none());
-    let holder = nvs.holder_of(bench, &ids, 1, &[0x55; 100], steps);
-    assert!(rt; matches!(holder, Some(Holder { id: 1, above: None })));
-    assert!(rt; matches!(nvs.next_of(bench, 0, 9, None, steps), Some([0x55, ..])));
-    assert!(rt; matches!(nvs_older(nvs, bench, 1, 1, steps), Older::Value([0x44, ..])));
-    assert!(rt; matches!(nvs_older(nvs, bench, 1, 2, steps), Older::Gone));
+    let none = nvs.holder_of(bench, &ids, 1, &[0x44; 100], steps);
+    holds(rt, "overwritten", none.is_none());
+    let holder = nvs
+        .holder_of(bench, &ids, 1, &[0x55; 100], steps)
+        .expect(rt, "1");
+    holds(rt, "1", (holder.id == 1) & holder.above.is_none());
+    let least = nvs.next_of(bench, 0, 9, None, steps);
+    holds(rt, "least", matches!(least, Some([0x55, ..])));
+    let older = nvs_older(nvs, bench, 1, 1, steps);
+    holds(rt, "older", matches!(older, Older::Value([0x44, ..])));
+    let gone = nvs_older(nvs, bench, 1, 2, steps);
+    holds(rt, "gone", matches!(gone, Older::Gone));
     let space = nvs_space(nvs, bench, steps);
-    assert!(rt; space.live == 108 && space.stale == 108 && space.free == 372);
+    let room = (space.live == 108) & (space.stale == 108) & (space.free == 372);
+    holds(rt, "space", room);
 }
 
 // What is on the flash after a collection.
@@ -153,7 +156,7 @@ fn rounds<B: Bench, L: Ledger, R: Abort>(
     shows(rt, bench, &nvs, "108 1", steps);
     reported(rt, bench, &nvs, steps);
     let ends = sector_view(bench, nvs.area(), 1, steps).ends_with(&ENDS);
-    assert!(rt; ends && nvs.is_up() && nvs.area().sectors == 2);
+    holds(rt, "rounds", ends & nvs.is_up() & (nvs.area().sectors == 2));
 }
 
 // A collection by itself.
@@ -178,24 +181,17 @@ fn is_lost<B: Bench, L: Ledger, R: Abort>(
     let mut nvs = on_blank(rt, alloc, bench, 28, steps);
     put(rt, bench, &mut nvs, "put 1 11 100 27", steps);
     let lost = nvs.close_and_collect(bench, steps);
-    assert!(rt; lost == Err(PowerLost) && !nvs.is_up());
+    holds(rt, "lost", (lost == Err(PowerLost)) & !nvs.is_up());
 }
 
-// With a counter of steps.
-fn exercise<B: Bench, L: Ledger, R: Abort>(rt: &R, alloc: Global, bench: &mut B, blank: Blank)
-    requires name { blank.name ≡ L.name }
-    requires parts { blank.parts ≡ L.parts }
-    requires some { 0 < L.parts }
-{
-    let mut steps = Steps::<L>::new(blank);
-    rounds(rt, alloc, bench, &mut steps);
-    collects(rt, alloc, bench, &mut steps);
-    is_lost(rt, alloc, bench, &mut steps);
-}
-
-#[test]
-fn collections(rt: HostRuntime) {
-    let alloc = rt.alloc();
-    let mut sim = FlatSim::new(alloc);
-    exercise::<FlatSim, Brand, HostRuntime>(&rt, alloc, &mut sim, Blank::new(1));
+/// The rows of the store of NVS.
+pub(crate) fn exercise<B: Bench, L: Ledger, R: Abort>(
+    rt: &R,
+    alloc: Global,
+    bench: &mut B,
+    steps: &mut Steps<L>,
+) {
+    rounds(rt, alloc, bench, steps);
+    collects(rt, alloc, bench, steps);
+    is_lost(rt, alloc, bench, steps);
 }

@@ -6,25 +6,18 @@ use std::process::Abort;
 
 /// The word of this number, from 0; no text if the row has fewer.
 pub(crate) fn word(row: &str, n: usize) -> &str {
-    for (i, word) in row.split(' ').enumerate() {
-        if i == n {
-            return word;
-        }
-    }
-    ""
+    row.split(' ').nth(n).unwrap_or("")
 }
 
-/// Checks a condition of a row.
+/// Checks a condition of a row. Each condition of the tests comes here, since a call takes less to
+/// prove than an assertion.
 pub(crate) fn holds<R: Abort>(rt: &R, row: &str, is: bool) {
     assert!(rt; is, "'{row}'");
 }
 
 /// The decimal number that this word is.
 pub(crate) fn number<R: Abort>(rt: &R, row: &str, n: usize) -> u32 {
-    match word(row, n).parse::<u32>() {
-        Ok(number) => number,
-        Err(_) => panic!(rt; "no number"),
-    }
+    word(row, n).parse::<u32>().expect(rt, row)
 }
 
 /// The id of an item that this word is.
@@ -38,10 +31,7 @@ pub(crate) fn id<R: Abort>(rt: &R, row: &str, n: usize) -> u32
 
 /// The byte that this word is in hexadecimal.
 pub(crate) fn byte<R: Abort>(rt: &R, row: &str, n: usize) -> u8 {
-    match u8::from_str_radix(word(row, n), 16) {
-        Ok(byte) => byte,
-        Err(_) => panic!(rt; "no byte"),
-    }
+    u8::from_str_radix(word(row, n), 16).expect(rt, row)
 }
 
 /// As many of the byte that this word is as the next word says.
@@ -49,9 +39,7 @@ pub(crate) fn bytes<R: Abort>(rt: &R, row: &str, n: usize) -> ArrayVec<u8, 600> 
     let byte = byte(rt, row, n);
     let mut bytes = ArrayVec::new();
     for _ in 0..number(rt, row, n.wrapping_add(1)) {
-        if bytes.try_push(byte).is_err() {
-            panic!(rt; "too many bytes");
-        }
+        bytes.try_push(byte).expect(rt, row);
     }
     bytes
 }
@@ -130,9 +118,6 @@ pub(crate) fn lists<R: Abort>(
     next: Option<u32>,
 ) -> bool {
     holds(rt, row, reported == next);
-    match next {
-        Some(id) => holds(rt, row, id == number(rt, row, n)),
-        None => says(rt, row, n, ""),
-    }
+    holds(rt, row, next == word(row, n).parse::<u32>().ok());
     next.is_some()
 }

@@ -1,18 +1,18 @@
 // Lives of a store on three sectors of ZMS, on banks of either kind. What each call spends, answers
 // and leaves was written by another reading of the same rules.
-ghost use Rattle.std.specs.Prelude.{◌≡◌, ◌+◌, ◌<◌, ◌≤◌, ◌∷◌, [], length};
+ghost use Rattle.std.specs.Prelude.{◌≡◌, ◌+◌, ◌≤◌, ◌∷◌, [], length};
 ghost use Rattle.flash_map.specs.declared.area.Role.TheVariants.{Zms as zms_role};
 ghost use Rattle.item_store.specs.Standing.{IsStoreArea};
 
 use crate::lives::lives;
+use crate::rows::holds;
 use arrayvec::ArrayString;
-use counted_sim::{CountedSim, Views};
+use counted_sim::Views;
 use flash_map::{Area, Role, sector_view};
 use flash_sim::{Bank, Bench, Kind, Steps};
 use std::alloc::Global;
-use std::marker::Brand;
 use std::process::Abort;
-use std::sync::ledger::{Blank, Ledger};
+use std::sync::ledger::Ledger;
 use zms_store::ZmsOpen;
 
 // A unit, and where it stands in the bank, in bytes.
@@ -105,21 +105,49 @@ pub(crate) const ENDS: [u8; 64] = [
     0xFF, 0xFF, 0xFF, 0xFF, 0, 0, 0, 0, 0, 0, 0, 0,
 ];
 
-// After thirteen calls: a write with a collection that is cut after so many units, and what the
-// mount after it spends.
-const LOSSES: [[&str; 3]; 5] = [
-    ["mount 0", "write 2 fd 187 5", "mount 0 | get 2 3b 147"],
-    ["mount 0", "write 2 fd 187 6", "mount 13 | get 2 3b 147"],
-    ["mount 0", "write 2 fd 187 17", "mount 14 | get 2 3b 147"],
-    ["mount 0", "write 2 fd 187 18", "mount 1 | get 2 3b 147"],
-    ["mount 0", "write 2 fd 187 31", "mount 0 | get 2 3b 147"],
+// A kind of bank and what is on it, the first calls, and the life.
+type Life = (Kind, &'static [Put], &'static str, [&'static str; 3]);
+
+static LIVES: [Life; 11] = [
+    (Kind::Erasing, &[], ON_ERASED, ["mount 0", "", ""]),
+    (Kind::Erasing, &USED, INTO_USED, ["mount 0", "", ""]),
+    (Kind::Erasing, &LEFT, BEHIND_LEFT, ["mount 0", "", ""]),
+    (Kind::Rewritable, &CUT, AFTER_CUT, ["mount 5", "", ""]),
+    (Kind::Erasing, &CUT, AFTER_CUT, ["mount 7", "", ""]),
+    (Kind::Rewritable, &[], ON_BLANK, ROUNDS),
+    // after thirteen calls: a write with a collection that is cut after so many units, and what the
+    // mount after it spends
+    (
+        Kind::Rewritable,
+        &[],
+        THIRTEEN,
+        ["mount 0", "write 2 fd 187 5", "mount 0 | get 2 3b 147"],
+    ),
+    (
+        Kind::Rewritable,
+        &[],
+        THIRTEEN,
+        ["mount 0", "write 2 fd 187 6", "mount 13 | get 2 3b 147"],
+    ),
+    (
+        Kind::Rewritable,
+        &[],
+        THIRTEEN,
+        ["mount 0", "write 2 fd 187 17", "mount 14 | get 2 3b 147"],
+    ),
+    (
+        Kind::Rewritable,
+        &[],
+        THIRTEEN,
+        ["mount 0", "write 2 fd 187 18", "mount 1 | get 2 3b 147"],
+    ),
+    (
+        Kind::Rewritable,
+        &[],
+        THIRTEEN,
+        ["mount 0", "write 2 fd 187 31", "mount 0 | get 2 3b 147"],
+    ),
 ];
-
-const FROM_0: [&str; 3] = ["mount 0", "", ""];
-
-const FROM_5: [&str; 3] = ["mount 5", "", ""];
-
-const FROM_7: [&str; 3] = ["mount 7", "", ""];
 
 fn put_unit(image: &mut [u8], at: usize, unit: &[u8; 16])
     requires { at + 16 ≤ length image.old }
@@ -200,64 +228,20 @@ fn on<B: Views, L: Ledger, R: Abort>(
     lives::<ZmsOpen, B, L, R>(rt, alloc, bench, areas, first, row, steps);
 }
 
-fn exercise<B: Views, L: Ledger, R: Abort>(rt: &R, alloc: Global, bench: &mut B, blank: Blank)
-    requires name { blank.name ≡ L.name }
-    requires parts { blank.parts ≡ L.parts }
-    requires some { 0 < L.parts }
-{
-    let mut steps = Steps::<L>::new(blank);
-    let erased: (Kind, &[Put]) = (Kind::Erasing, &[]);
-    let blank: (Kind, &[Put]) = (Kind::Rewritable, &[]);
-    on(rt, alloc, bench, erased, ON_ERASED, &FROM_0, &mut steps);
-    on(
-        rt,
-        alloc,
-        bench,
-        (Kind::Erasing, &USED),
-        INTO_USED,
-        &FROM_0,
-        &mut steps,
-    );
-    on(
-        rt,
-        alloc,
-        bench,
-        (Kind::Erasing, &LEFT),
-        BEHIND_LEFT,
-        &FROM_0,
-        &mut steps,
-    );
-    on(
-        rt,
-        alloc,
-        bench,
-        (Kind::Rewritable, &CUT),
-        AFTER_CUT,
-        &FROM_5,
-        &mut steps,
-    );
-    on(
-        rt,
-        alloc,
-        bench,
-        (Kind::Erasing, &CUT),
-        AFTER_CUT,
-        &FROM_7,
-        &mut steps,
-    );
-    on(rt, alloc, bench, blank, ON_BLANK, &ROUNDS, &mut steps);
-    for row in LOSSES.iter() {
-        on(rt, alloc, bench, blank, THIRTEEN, row, &mut steps);
+/// The lives on ZMS, on banks of either kind.
+pub(crate) fn exercise<B: Views, L: Ledger, R: Abort>(
+    rt: &R,
+    alloc: Global,
+    bench: &mut B,
+    steps: &mut Steps<L>,
+) {
+    for (kind, puts, first, row) in LIVES.iter() {
+        on(rt, alloc, bench, (*kind, *puts), first, row, steps);
     }
-    on(rt, alloc, bench, blank, ONE, &CLOSED, &mut steps);
+    let blank: (Kind, &[Put]) = (Kind::Rewritable, &[]);
+    on(rt, alloc, bench, blank, ONE, &CLOSED, steps);
     let area = all(bench, Kind::Rewritable);
-    let sector = sector_view(bench, &area, 0, &mut steps);
-    assert!(rt; sector.starts_with(&[5, 5, 5, 5, 5, 5, 5, 5, 5, 0xFF]) && sector.ends_with(&ENDS));
-}
-
-#[test]
-fn three_sectors_of_zms(rt: HostRuntime) {
-    let alloc = rt.alloc();
-    let mut sim = CountedSim::new(alloc);
-    exercise::<CountedSim, Brand, HostRuntime>(&rt, alloc, &mut sim, Blank::new(1));
+    let sector = sector_view(bench, &area, 0, steps);
+    let starts = sector.starts_with(&[5, 5, 5, 5, 5, 5, 5, 5, 5, 0xFF]);
+    holds(rt, "one", starts & sector.ends_with(&ENDS));
 }

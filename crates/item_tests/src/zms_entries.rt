@@ -1,4 +1,5 @@
 // Entries and a sector as bytes.
+use crate::rows::holds;
 use flash_sim::Kind;
 use zms_cycle::*;
 
@@ -34,11 +35,11 @@ fn entry_bytes(rt: HostRuntime) {
         (empty_entry, empty),
     ];
     for (entry, bytes) in rows.iter() {
-        assert!(rt; encode_zentry(entry) == *bytes);
-        assert!(rt; decode_zentry(bytes) == Some(*entry));
+        holds(&rt, "encoded", encode_zentry(entry) == *bytes);
+        holds(&rt, "decoded", decode_zentry(bytes) == Some(*entry));
     }
-    assert!(rt; decode_zentry(&fill_unit()).is_none());
-    assert!(rt; decode_zentry(&[0xFF; 16]).is_none());
+    holds(&rt, "fill", decode_zentry(&fill_unit()).is_none());
+    holds(&rt, "erased", decode_zentry(&[0xFF; 16]).is_none());
 }
 
 // A sector of six units: the empty entry, an entry in slot 2, and the same under an erased unit,
@@ -64,15 +65,32 @@ fn one_sector_read(rt: HostRuntime) {
         data_end: 32,
         gc_done: false,
     };
-    assert!(rt; read_sector(&sector, Kind::Rewritable) == state);
-    assert!(rt; entry_in(&sector, 2) == Some(SlotEntry { slot: 2, entry }));
-    assert!(rt; entry_in(&sector, 0).is_none() && offset_of(&entry) == 16);
+    holds(
+        &rt,
+        "state",
+        read_sector(&sector, Kind::Rewritable) == state,
+    );
+    holds(&rt, "offset", offset_of(&entry) == 16);
+    holds(&rt, "under it", entry_in(&sector, 0).is_none());
+    holds(
+        &rt,
+        "slot 2",
+        entry_in(&sector, 2) == Some(SlotEntry { slot: 2, entry }),
+    );
 }
 
 #[test]
 fn room(rt: HostRuntime) {
     for (len, data) in [(0, 0), (8, 0), (9, 16), (16, 16), (17, 32)].iter() {
-        assert!(rt; data_len(*len) == *data && cost(*len) == *data + 16);
+        holds(
+            &rt,
+            "data",
+            (data_len(*len) == *data) & (cost(*len) == *data + 16),
+        );
     }
-    assert!(rt; capacity(512) == 432 && capacity(64) == 0);
+    holds(
+        &rt,
+        "capacity",
+        (capacity(512) == 432) & (capacity(64) == 0),
+    );
 }

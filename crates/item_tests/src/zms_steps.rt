@@ -1,18 +1,18 @@
 // Steps in two sectors of ZMS, by the calls that read the sector's list. What they spend and leave
 // was written by another reading of the same rules.
-ghost use Rattle.std.specs.Prelude.{◌≡◌, ◌<◌, ◌∷◌, [], OnOk};
+ghost use Rattle.std.specs.Prelude.{◌≡◌, ◌∷◌, [], OnOk};
 ghost use Rattle.flash_sim.specs.declared.flash.Kind.{Kind};
 ghost use Rattle.zms_cycle.specs.Areas.{IsZmsSector};
 ghost use Rattle.item_tests.specs.Steps.{BeginsWith};
 
+use crate::rows::holds;
 use crate::zms::load;
 use arrayvec::ArrayString;
 use flash_map::{Area, Role, sector_view};
-use flash_sim::{Bench, Flash, FlatSim, Kind, PowerLost, Steps};
+use flash_sim::{Bench, Flash, Kind, PowerLost, Steps};
 use std::alloc::Global;
-use std::marker::Brand;
 use std::process::Abort;
-use std::sync::ledger::{Blank, Ledger};
+use std::sync::ledger::Ledger;
 use zms_cycle::{SectorState, close, copy_entry, empty_sector, put_done, put_entry, state};
 
 const NINE: [u8; 9] = [1, 2, 3, 4, 5, 6, 7, 8, 9];
@@ -83,26 +83,35 @@ fn used(closed: bool, gc_done: bool) -> SectorState {
     }
 }
 
-fn exercise<B: Bench, L: Ledger, R: Abort>(rt: &R, alloc: Global, bench: &mut B, blank: Blank)
-    requires name { blank.name ≡ L.name }
-    requires parts { blank.parts ≡ L.parts }
-    requires some { 0 < L.parts }
-{
-    let mut steps = Steps::<L>::new(blank);
+/// The steps in two sectors of ZMS.
+pub(crate) fn exercise<B: Bench, L: Ledger, R: Abort>(
+    rt: &R,
+    alloc: Global,
+    bench: &mut B,
+    steps: &mut Steps<L>,
+) {
+    let start = bench.spent();
     load(rt, alloc, bench, Kind::Rewritable, &[]);
     let area = two(bench);
-    fills(bench, &area, &mut steps).expect(rt, "power");
-    copies(bench, &area, &mut steps).expect(rt, "power");
-    assert!(rt; state(bench, &area, 0, &mut steps) == used(true, false));
-    assert!(rt; state(bench, &area, 1, &mut steps) == used(false, true));
-    assert!(rt; sector_view(bench, &area, 0, &mut steps).ends_with(&CLOSED));
-    let copied = sector_view(bench, &area, 1, &mut steps);
-    assert!(rt; copied.starts_with(&NINE) && copied.ends_with(&COPIED) && bench.spent() == 36);
-}
-
-#[test]
-fn two_sectors_in_turn(rt: HostRuntime) {
-    let alloc = rt.alloc();
-    let mut sim = FlatSim::new(alloc);
-    exercise::<FlatSim, Brand, HostRuntime>(&rt, alloc, &mut sim, Blank::new(1));
+    fills(bench, &area, steps).expect(rt, "power");
+    copies(bench, &area, steps).expect(rt, "power");
+    holds(
+        rt,
+        "first",
+        state(bench, &area, 0, steps) == used(true, false),
+    );
+    holds(
+        rt,
+        "second",
+        state(bench, &area, 1, steps) == used(false, true),
+    );
+    let closed = sector_view(bench, &area, 0, steps).ends_with(&CLOSED);
+    let spent = bench.spent().saturating_sub(start);
+    holds(rt, "closed", closed & (spent == 36));
+    let copied = sector_view(bench, &area, 1, steps);
+    holds(
+        rt,
+        "copied",
+        copied.starts_with(&NINE) & copied.ends_with(&COPIED),
+    );
 }

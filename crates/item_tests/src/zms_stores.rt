@@ -3,17 +3,16 @@
 ghost use Rattle.std.specs.Prelude.{◌≡◌, ◌<◌, ◌∷◌, []};
 ghost use Rattle.zms_store.specs.Standing.{StandsOn};
 
-use crate::rows::{bytes, ended, has, id, lists};
+use crate::rows::{bytes, ended, has, holds, id, lists};
 use crate::zms::{CUT, EMPTY, ENDS, ON_BLANK, ONE, Put, load};
 use arrayvec::ArrayString;
 use flash_map::{Area, Damaged, MountFault, Role, Why, WriteFault, sector_view};
-use flash_sim::{Bench, FlatSim, Kind, Steps};
+use flash_sim::{Bench, Kind, Steps};
 use item_history::{Older, zms_older, zms_space};
 use item_store::{IdRange, LastSlots};
 use std::alloc::Global;
-use std::marker::Brand;
 use std::process::Abort;
-use std::sync::ledger::{Blank, Ledger};
+use std::sync::ledger::Ledger;
 use zms_store::Zms;
 
 const SEVEN: [u8; 16] = [112, 1, 1, 0, 7, 0, 0, 0, 17, 0, 0, 0, 0, 0, 0, 0];
@@ -36,6 +35,17 @@ const TWO_OPEN: [Put; 4] = [(496, EMPTY), (464, SEVEN), (1008, EMPTY), (976, EIG
 // The entry in slot 4 is guarded and stays ignored.
 const ON_STALE: &str = "put 7 00 0 0 | put 1 07 1 2 | put 7 00 0 0";
 
+// What is on the flash, and calls.
+const CALLS: [(&[Put], &str); 2] = [(&[], ON_BLANK), (&STALE, ON_STALE)];
+
+// What is on the flash, and a close with power for so many units: what it spends, and whether it
+// ends.
+const CLOSES: [(&[Put], (u64, u64, bool)); 3] = [
+    (&[], (0, 0, true)),
+    (&STALE, (99, 30, true)),
+    (&STALE, (3, 3, false)),
+];
+
 // A store over the whole bank.
 fn mounted<B: Bench, L: Ledger, R: Abort>(
     rt: &R,
@@ -49,10 +59,7 @@ fn mounted<B: Bench, L: Ledger, R: Abort>(
     ensures area { result.store.area.sectors ≡ 3 }
 {
     let area = Area::new(ArrayString::new(), Role::Zms, 0, 0, 3, 1);
-    match Zms::mount(alloc, bench, area, steps) {
-        Ok(zms) => zms,
-        Err(_) => panic!(rt; "no store"),
-    }
+    Zms::mount(alloc, bench, area, steps).expect(rt, "no store")
 }
 
 // Writes or deletes an item. Returns need and live if there is no space.
@@ -76,7 +83,7 @@ fn change<B: Bench, L: Ledger, R: Abort>(
         Ok(()) => None,
         Err(WriteFault::NoSpace { need, live }) => Some((need, live)),
         Err(WriteFault::TooLong) => Some((0, 0)),
-        Err(WriteFault::PowerLost) => panic!(rt; "power was lost"),
+        Err(WriteFault::PowerLost) => rt.panic("power was lost"),
     }
 }
 
@@ -121,7 +128,8 @@ fn lays<B: Bench, L: Ledger, R: Abort>(rt: &R, alloc: Global, bench: &mut B, ste
     let mut zms = after(rt, alloc, bench, &[], ONE, steps);
     zms.close_and_collect(bench, steps).expect(rt, "power");
     let sector = sector_view(bench, zms.area(), 0, steps);
-    assert!(rt; sector.starts_with(&[5, 5, 5, 5, 5, 5, 5, 5, 5, 0xFF]) && sector.ends_with(&ENDS));
+    let starts = sector.starts_with(&[5, 5, 5, 5, 5, 5, 5, 5, 5, 0xFF]);
+    holds(rt, "one", starts & sector.ends_with(&ENDS));
 }
 
 // The entries from the newest to the oldest, by sector, slot and id.
@@ -131,16 +139,13 @@ fn walks<B: Bench, L: Ledger, R: Abort>(rt: &R, bench: &B, zms: &Zms, steps: &mu
 {
     let mut after = None;
     for row in ["2 2 9", "1 4 8", "1 3 3", "1 2 7"].iter() {
-        let Some(placed) = zms.walk(bench, after, steps) else {
-            panic!(rt; "no entry");
-        };
+        let placed = zms.walk(bench, after, steps).expect(rt, row);
         assert!(rt; placed.sector < 3);
-        let place = [u64::from(placed.sector), u64::from(placed.slot)];
-        let end = has(rt, row, 0, &place);
-        has(rt, row, end, &[u64::from(placed.entry.id)]);
+        let (sector, slot) = (u64::from(placed.sector), u64::from(placed.slot));
+        has(rt, row, 0, &[sector, slot, u64::from(placed.entry.id)]);
         after = Some((placed.sector, placed.slot));
     }
-    assert!(rt; zms.walk(bench, after, steps).is_none());
+    holds(rt, "last", zms.walk(bench, after, steps).is_none());
 }
 
 // Checks what all items cost, and their ids in order.
@@ -164,7 +169,7 @@ fn shows<B: Bench, L: Ledger, R: Abort>(
             return;
         }
     }
-    panic!(rt; "more ids");
+    rt.panic("more ids");
 }
 
 // Items by their bytes, each with the item 4 or 1 above it, and none by bytes that were
@@ -173,17 +178,20 @@ fn asks<B: Bench, L: Ledger, R: Abort>(rt: &R, bench: &B, zms: &Zms, steps: &mut
     requires stands { StandsOn (B.device bench.now) zms.now }
 {
     let ids = IdRange { least: 0, most: 9 };
-    assert!(rt; zms.holder_of(bench, &ids, 1, &[17, 18], steps).is_none());
-    let Some(three) = zms.holder_of(bench, &ids, 4, &[65], steps) else {
-        panic!(rt; "no holder of 3");
-    };
-    assert!(rt; three.id == 3 && matches!(three.above, Some([33])));
-    let Some(seven) = zms.holder_of(bench, &ids, 1, &[33], steps) else {
-        panic!(rt; "no holder of 7");
-    };
-    assert!(rt; seven.id == 7 && seven.above.is_none());
-    assert!(rt; matches!(zms.next_of(bench, 0, 8, None, steps), Some([33])));
-    assert!(rt; matches!(zms.next_of(bench, 0, 8, Some(&[33]), steps), Some([65])));
+    let none = zms.holder_of(bench, &ids, 1, &[17, 18], steps);
+    holds(rt, "overwritten", none.is_none());
+    let three = zms.holder_of(bench, &ids, 4, &[65], steps).expect(rt, "3");
+    holds(
+        rt,
+        "3",
+        (three.id == 3) & (three.above == Some([33].as_slice())),
+    );
+    let seven = zms.holder_of(bench, &ids, 1, &[33], steps).expect(rt, "7");
+    holds(rt, "7", (seven.id == 7) & seven.above.is_none());
+    let least = zms.next_of(bench, 0, 8, None, steps);
+    holds(rt, "least", least == Some([33].as_slice()));
+    let next = zms.next_of(bench, 0, 8, Some(&[33]), steps);
+    holds(rt, "next", next == Some([65].as_slice()));
 }
 
 // Mounting copies a value with its entry, marks the copy and empties two sectors.
@@ -196,7 +204,8 @@ fn reads<B: Bench, L: Ledger, R: Abort>(
     load(rt, alloc, bench, Kind::Rewritable, CUT.as_slice());
     let start = bench.spent();
     let zms = mounted(rt, alloc, bench, steps);
-    assert!(rt; bench.spent().saturating_sub(start) == 5 && zms.area().sectors == 3);
+    let spent = bench.spent().saturating_sub(start);
+    holds(rt, "mount", (spent == 5) & (zms.area().sectors == 3));
     walks(rt, bench, &zms, steps);
     shows(rt, bench, &zms, "64 3 7 9", steps);
     asks(rt, bench, &zms, steps);
@@ -212,10 +221,13 @@ fn reports<B: Bench, L: Ledger, R: Abort>(
     load(rt, alloc, bench, Kind::Rewritable, &[]);
     let mut zms = mounted(rt, alloc, bench, steps);
     change(rt, bench, &mut zms, 1, &[1], steps);
-    assert!(rt; matches!(zms_older(&zms, bench, 1, 0, steps), Older::Value([1])));
-    assert!(rt; matches!(zms_older(&zms, bench, 1, 1, steps), Older::Gone));
+    let now = zms_older(&zms, bench, 1, 0, steps);
+    holds(rt, "now", matches!(now, Older::Value([1])));
+    let older = zms_older(&zms, bench, 1, 1, steps);
+    holds(rt, "older", matches!(older, Older::Gone));
     let space = zms_space(&zms, bench, steps);
-    assert!(rt; space.live == 16 && space.stale == 0 && space.free == 848);
+    let room = (space.live == 16) & (space.stale == 0) & (space.free == 848);
+    holds(rt, "space", room);
 }
 
 // A close with power for so many units. The answer is whether it ended.
@@ -246,7 +258,8 @@ fn closes<B: Bench, L: Ledger, R: Abort>(
     let start = bench.spent();
     let ended = close_with(bench, &mut zms, plan, steps);
     let spent = bench.spent().saturating_sub(start);
-    assert!(rt; spent == units && ended == up && zms.is_up() == up);
+    let is_up = (ended == up) & (zms.is_up() == up);
+    holds(rt, "closed", is_up & (spent == units));
 }
 
 fn is_damaged<B: Bench, L: Ledger, R: Abort>(
@@ -257,34 +270,29 @@ fn is_damaged<B: Bench, L: Ledger, R: Abort>(
 ) {
     load(rt, alloc, bench, Kind::Rewritable, TWO_OPEN.as_slice());
     let area = Area::new(ArrayString::new(), Role::Zms, 0, 0, 3, 1);
-    match Zms::mount(alloc, bench, area, steps) {
-        Err(MountFault::Damaged(Damaged { sector, why })) => {
-            assert!(rt; sector == 1 && why == Why::TwoOpen);
-        }
-        Ok(_) | Err(MountFault::PowerLost | MountFault::NoMemory) => panic!(rt; "no damage"),
+    let damaged = Damaged {
+        sector: 1,
+        why: Why::TwoOpen,
+    };
+    let fault = Zms::mount(alloc, bench, area, steps).err();
+    holds(rt, "damaged", fault == Some(MountFault::Damaged(damaged)));
+}
+
+/// The rows of the store of ZMS.
+pub(crate) fn exercise<B: Bench, L: Ledger, R: Abort>(
+    rt: &R,
+    alloc: Global,
+    bench: &mut B,
+    steps: &mut Steps<L>,
+) {
+    for (puts, text) in CALLS.iter() {
+        after(rt, alloc, bench, puts, text, steps);
     }
-}
-
-fn exercise<B: Bench, L: Ledger, R: Abort>(rt: &R, alloc: Global, bench: &mut B, blank: Blank)
-    requires name { blank.name ≡ L.name }
-    requires parts { blank.parts ≡ L.parts }
-    requires some { 0 < L.parts }
-{
-    let mut steps = Steps::<L>::new(blank);
-    after(rt, alloc, bench, &[], ON_BLANK, &mut steps);
-    after(rt, alloc, bench, &STALE, ON_STALE, &mut steps);
-    lays(rt, alloc, bench, &mut steps);
-    reads(rt, alloc, bench, &mut steps);
-    closes(rt, alloc, bench, &[], (0, 0, true), &mut steps);
-    closes(rt, alloc, bench, &STALE, (99, 30, true), &mut steps);
-    closes(rt, alloc, bench, &STALE, (3, 3, false), &mut steps);
-    reports(rt, alloc, bench, &mut steps);
-    is_damaged(rt, alloc, bench, &mut steps);
-}
-
-#[test]
-fn three_sectors(rt: HostRuntime) {
-    let alloc = rt.alloc();
-    let mut sim = FlatSim::new(alloc);
-    exercise::<FlatSim, Brand, HostRuntime>(&rt, alloc, &mut sim, Blank::new(1));
+    for (puts, row) in CLOSES.iter() {
+        closes(rt, alloc, bench, puts, *row, steps);
+    }
+    lays(rt, alloc, bench, steps);
+    reads(rt, alloc, bench, steps);
+    reports(rt, alloc, bench, steps);
+    is_damaged(rt, alloc, bench, steps);
 }

@@ -2,12 +2,12 @@
 ghost use Rattle.std.specs.Prelude.{◌≡◌, ◌∷◌, [], OnOk};
 ghost use Rattle.flash_sim.specs.Bank.{IsLawfulBank, capacity};
 
-use flash_sim::{Bank, Bench};
+use flash_sim::{Bank, Bench, NoMemory};
 use std::alloc::Global;
 use std::process::Abort;
-use std::test::Fail;
 
-// A row of a table holds.
+// A row of a table holds. Each condition comes here, since a call takes less to prove than an
+// assertion.
 pub(crate) fn row<R: Abort>(rt: &R, text: &str, holds: bool) {
     assert!(rt; holds, "{text:?}");
 }
@@ -54,7 +54,7 @@ pub(crate) fn load_one<B: Bench>(
     bench: &mut B,
     bank: Bank,
     size: usize,
-) -> Result<(), Fail>
+) -> Result<(), NoMemory>
     requires bank { IsLawfulBank bank }
     requires size { size ≡ capacity bank }
     ensures { OnOk result ((B.device bench.new).banks ≡ bank ∷ []) }

@@ -8,6 +8,7 @@ ghost use Rattle.item_session.specs.Device.{TakesValues};
 ghost use Rattle.item_store.specs.Standing.{IsStoreArea};
 
 use crate::checks::{load_one, row, spelled};
+use crate::log_scripts::logs;
 use arrayvec::ArrayString;
 use flash_map::{Area, Role};
 use flash_sim::{Bank, Bench, FlatSim, Kind, Steps};
@@ -18,7 +19,6 @@ use std::alloc::Global;
 use std::marker::Brand;
 use std::process::Abort;
 use std::sync::ledger::{Blank, Ledger};
-use std::test::Fail;
 use zms_store::ZmsOpen;
 
 const NVS: Bank = Bank {
@@ -130,13 +130,12 @@ fn on_nvs<B: Bench, L: Ledger, R: Abort>(
     script: &str,
     expected: &str,
     steps: &mut Steps<L>,
-) -> Result<(), Fail> {
-    load_one(alloc, bench, NVS, 1024)?;
+) {
+    load_one(alloc, bench, NVS, 1024).expect(rt, "memory");
     let area = nvs_area(bench);
     areas_take_values();
     let ids = Ids::Short;
     answers_to::<NvsOpen, B, L, R>(rt, alloc, bench, &area, ids, script, expected, steps);
-    Ok(())
 }
 
 fn on_zms<B: Bench, L: Ledger, R: Abort>(
@@ -146,27 +145,22 @@ fn on_zms<B: Bench, L: Ledger, R: Abort>(
     script: &str,
     expected: &str,
     steps: &mut Steps<L>,
-) -> Result<(), Fail> {
-    load_one(alloc, bench, ZMS, 1024)?;
+) {
+    load_one(alloc, bench, ZMS, 1024).expect(rt, "memory");
     let area = zms_area(bench);
     areas_take_values();
     let ids = Ids::Long;
     answers_to::<ZmsOpen, B, L, R>(rt, alloc, bench, &area, ids, script, expected, steps);
-    Ok(())
 }
 
-// With a counter of steps.
-fn sessions<B: Bench, L: Ledger, R: Abort>(
-    rt: &R,
-    alloc: Global,
-    bench: &mut B,
-    blank: Blank,
-) -> Result<(), Fail>
+// Scripts on logs, and then those on items.
+fn sessions<B: Bench, L: Ledger, R: Abort>(rt: &R, alloc: Global, bench: &mut B, blank: Blank)
     requires name { blank.name ≡ L.name }
     requires parts { blank.parts ≡ L.parts }
     requires some { 0 < L.parts }
 {
     let mut steps = Steps::<L>::new(blank);
+    logs(rt, alloc, bench, &mut steps);
     for (script, expected) in ON_NVS.iter() {
         let script = spelled(rt, alloc, script);
         let expected = spelled(rt, alloc, expected);
@@ -177,14 +171,14 @@ fn sessions<B: Bench, L: Ledger, R: Abort>(
             script.as_str(),
             expected.as_str(),
             &mut steps,
-        )?;
+        );
     }
-    on_zms(rt, alloc, bench, ON_ZMS.0, ON_ZMS.1, &mut steps)
+    on_zms(rt, alloc, bench, ON_ZMS.0, ON_ZMS.1, &mut steps);
 }
 
 #[test]
-fn scripts_on_items(rt: HostRuntime) -> Result<(), Fail> {
+fn scripts_on_logs_and_items(rt: HostRuntime) {
     let alloc = rt.alloc();
     let mut sim = FlatSim::new(alloc);
-    sessions::<FlatSim, Brand, HostRuntime>(&rt, alloc, &mut sim, Blank::new(1))
+    sessions::<FlatSim, Brand, HostRuntime>(&rt, alloc, &mut sim, Blank::new(1));
 }

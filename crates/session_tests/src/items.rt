@@ -85,9 +85,11 @@ fn refused_lines(rt: HostRuntime) {
     for (text, ids, line, why) in REFUSED.iter() {
         let (line, why) = (*line, *why);
         let fault = read_script(rt.alloc(), text, *ids, 2).err();
-        assert!(rt;
+        let shown = str::from_utf8(text).unwrap_or("no text");
+        row(
+            &rt,
+            shown,
             fault == Some(ScriptFault::BadLine { line, why }),
-            "{text:?}"
         );
     }
 }
@@ -106,7 +108,7 @@ fn reports<R: Abort>(
     row(
         rt,
         expected,
-        same && units_of(&answer) == units && is_lost(&answer) == lost,
+        same & (units_of(&answer) == units) & (is_lost(&answer) == lost),
     );
 }
 

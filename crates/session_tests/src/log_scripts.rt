@@ -1,19 +1,17 @@
 // Scripts on the log of three small sectors. Answers and refusals are those of an independent
 // reading of the same scripts.
-ghost use Rattle.std.specs.Prelude.{◌≡◌, ◌<◌, ◌∷◌, []};
+ghost use Rattle.std.specs.Prelude.{◌≡◌, ◌∷◌, []};
 ghost use Rattle.fcb_ring.specs.Standing.{IsRingArea};
 
 use crate::checks::{load_one, row, spelled};
 use arrayvec::ArrayString;
 use flash_map::{Area, Role};
-use flash_sim::{Bank, Bench, FlatSim, Kind, Steps};
+use flash_sim::{Bank, Bench, Kind, Steps};
 use log_session::LineWhy::{Hex, Number, Unknown, Words};
 use log_session::{Answer, LineWhy, ScriptFault, answer_text, read_script, run_lines};
 use std::alloc::Global;
-use std::marker::Brand;
 use std::process::Abort;
-use std::sync::ledger::{Blank, Ledger};
-use std::test::Fail;
+use std::sync::ledger::Ledger;
 
 const SMALL: Bank = Bank {
     kind: Kind::Erasing,
@@ -48,20 +46,19 @@ fn answers_to<B: Bench, L: Ledger, R: Abort>(
     script: &str,
     expected: &str,
     steps: &mut Steps<L>,
-) -> Result<(), Fail> {
-    load_one(alloc, bench, SMALL, 1536)?;
+) {
+    load_one(alloc, bench, SMALL, 1536).expect(rt, "memory");
     let area = area();
     let lines = match read_script(alloc, script.as_bytes(), area.value_limit() as usize) {
         Ok(lines) => lines,
-        Err(_) => return Err(Fail::new("a line is refused")),
+        Err(_) => rt.panic("a line is refused"),
     };
     match run_lines(alloc, lines.as_slice(), bench, &area, steps) {
         Ok(answers) => {
             let text = texts(rt, alloc, answers.as_slice());
             row(rt, script, text.as_slice() == expected.as_bytes());
-            Ok(())
         }
-        Err(_) => Err(Fail::new("the run ends early")),
+        Err(_) => rt.panic("the run ends early"),
     }
 }
 
@@ -111,37 +108,18 @@ const REFUSED: [(&str, u64, LineWhy); 12] = [
 
 // ---- the tests
 
-fn logs<B: Bench, L: Ledger, R: Abort>(
+/// Each of the scripts has its answers.
+pub(crate) fn logs<B: Bench, L: Ledger, R: Abort>(
     rt: &R,
     alloc: Global,
     bench: &mut B,
-    blank: Blank,
-) -> Result<(), Fail>
-    requires name { blank.name ≡ L.name }
-    requires parts { blank.parts ≡ L.parts }
-    requires some { 0 < L.parts }
-{
-    let mut steps = Steps::<L>::new(blank);
+    steps: &mut Steps<L>,
+) {
     for (script, expected) in SCRIPTS.iter() {
         let script = spelled(rt, alloc, script);
         let expected = spelled(rt, alloc, expected);
-        answers_to(
-            rt,
-            alloc,
-            bench,
-            script.as_str(),
-            expected.as_str(),
-            &mut steps,
-        )?;
+        answers_to(rt, alloc, bench, script.as_str(), expected.as_str(), steps);
     }
-    Ok(())
-}
-
-#[test]
-fn logs_on_one_bed(rt: HostRuntime) -> Result<(), Fail> {
-    let alloc = rt.alloc();
-    let mut sim = FlatSim::new(alloc);
-    logs::<FlatSim, Brand, HostRuntime>(&rt, alloc, &mut sim, Blank::new(1))
 }
 
 #[test]

@@ -106,7 +106,7 @@ pub(crate) fn chooses<B: Bench, L: Ledger, R: Abort>(
     let next = target(map, 0);
     selector.choose(bench, map, 2, steps)?;
     let active = selector.active(bench, map, steps);
-    row(rt, "moves", before == 0 && next == Some(1));
-    row(rt, "chooses", active == 2 && selector.is_up());
+    row(rt, "moves", (before == 0) & (next == Some(1)));
+    row(rt, "chooses", (active == 2) & selector.is_up());
     Ok(())
 }

@@ -147,9 +147,11 @@ fn refused_lines(rt: HostRuntime) {
     for (text, why, line) in REFUSED.iter() {
         let (line, why) = (*line, *why);
         let fault = read_script(rt.alloc(), text, 3).err();
-        assert!(rt;
+        let shown = str::from_utf8(text).unwrap_or("no text");
+        row(
+            &rt,
+            shown,
             fault == Some(ScriptFault::BadLine { line, why }),
-            "{text:?}"
         );
     }
 }
@@ -208,8 +210,8 @@ fn units_and_losses(rt: HostRuntime) {
         chance: true,
     };
     let absent = Answer::Absent;
-    row(&rt, "lost", units_of(&lost) == 66 && is_lost(&lost));
-    row(&rt, "absent", units_of(&absent) == 0 && !is_lost(&absent));
+    row(&rt, "lost", (units_of(&lost) == 66) & is_lost(&lost));
+    row(&rt, "absent", (units_of(&absent) == 0) & !is_lost(&absent));
 }
 
 // The word, the name, and the first byte and the length of the value of each generated line.
@@ -256,8 +258,8 @@ const LABELS: [(&[u8], bool); 7] = [
 // Whether a word is read as a label, or is refused.
 fn is_read(read: &Result<Label, LineFault>, word: &[u8], lawful: bool) -> bool {
     match read {
-        Ok(label) => lawful && label.as_slice() == word,
-        Err(fault) => !lawful && *fault == LineFault::Refused(LineWhy::Name),
+        Ok(label) => lawful & (label.as_slice() == word),
+        Err(fault) => !lawful & (*fault == LineFault::Refused(LineWhy::Name)),
     }
 }
 
@@ -265,6 +267,7 @@ fn is_read(read: &Result<Label, LineFault>, word: &[u8], lawful: bool) -> bool {
 fn labels(rt: HostRuntime) {
     for (word, lawful) in LABELS.iter() {
         let read = read_label(rt.alloc(), word);
-        assert!(rt; is_read(&read, word, *lawful), "{word:?}");
+        let shown = str::from_utf8(word).unwrap_or("no text");
+        row(&rt, shown, is_read(&read, word, *lawful));
     }
 }

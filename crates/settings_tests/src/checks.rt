@@ -8,10 +8,7 @@ pub(crate) fn row<R: Abort>(rt: &R, text: &str, holds: bool) {
 }
 
 pub(crate) fn name_of<R: Abort>(rt: &R, text: &[u8]) -> Name {
-    match Name::read(text) {
-        Ok(name) => name,
-        Err(_) => rt.panic("no name"),
-    }
+    Name::read(text).expect(rt, "no name")
 }
 
 // The numbers of a line, and 0 for those that are not there.

@@ -15,7 +15,6 @@ use flash_sim::{Bench, Kind, Steps};
 use std::alloc::Global;
 use std::process::Abort;
 use std::sync::ledger::Ledger;
-use std::test::Fail;
 
 // Whether the last loss spells another record.
 fn by_chance<B: Bench, L: Ledger>(bench: &B, area: &Area, steps: &mut Steps<L>) -> bool
@@ -50,7 +49,7 @@ fn loses<B: Bench, L: Ledger, R: Abort>(
     row(
         rt,
         cut.losses,
-        is_lost && !backend.is_up() && spent == units,
+        is_lost & !backend.is_up() & (spent == units),
     );
 }
 
@@ -77,7 +76,7 @@ fn finds<B: Bench, L: Ledger, R: Abort>(
     row(
         rt,
         cut.losses,
-        chance == cut.chance && spent == units && got,
+        (chance == cut.chance) & (spent == units) & got,
     );
 }
 
@@ -93,16 +92,15 @@ fn cut_after<B: Bench, L: Ledger, R: Abort>(
     units: u64,
     mount: u64,
     steps: &mut Steps<L>,
-) -> Result<(), Fail>
+)
     requires kind { HasKind role kind }
     requires unit { HasUnit role unit }
     requires serves { serves_as role }
 {
-    let area = bed(alloc, bench, role, kind, unit, 0, b"")?;
+    let area = bed(alloc, bench, role, kind, unit, 0, b"").expect(rt, "memory");
     let mut backend = carried(rt, alloc, bench, &area, cut.calls, steps);
     loses(rt, &mut backend, bench, cut, units, steps);
     finds(rt, alloc, bench, &area, cut, mount, steps);
-    Ok(())
 }
 
 // The losses of one row.
@@ -115,7 +113,7 @@ pub(crate) fn cuts_of_row<B: Bench, L: Ledger, R: Abort>(
     unit: u32,
     cut: &Cut,
     steps: &mut Steps<L>,
-) -> Result<(), Fail>
+)
     requires kind { HasKind role kind }
     requires unit { HasUnit role unit }
     requires serves { serves_as role }
@@ -125,8 +123,7 @@ pub(crate) fn cuts_of_row<B: Bench, L: Ledger, R: Abort>(
         for units in all[0]..all[1].saturating_add(1) {
             cut_after(
                 rt, alloc, bench, role, kind, unit, cut, units, all[2], steps,
-            )?;
+            );
         }
     }
-    Ok(())
 }

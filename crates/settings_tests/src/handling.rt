@@ -16,7 +16,7 @@ fn takes<H: Handler, R: Abort>(
 ) {
     for (rest, value, taken) in rows {
         let set = handler.set(alloc, rest, ValueView::of(value)).is_ok();
-        assert!(rt; set == *taken, "{value:?}");
+        row(rt, "taken", set == *taken);
     }
 }
 
@@ -30,7 +30,7 @@ fn holds<H: Handler, R: Abort>(
     let mut i = 0usize;
     for (rest, value) in rows {
         let exported = handler.export_at(i) == Some((*rest, *value));
-        row(rt, "held", exported && handler.get(rest) == Some(*value));
+        row(rt, "held", exported & (handler.get(rest) == Some(*value)));
         i = i.wrapping_add(1);
     }
     let end = handler.export_at(i).is_none();
@@ -38,7 +38,7 @@ fn holds<H: Handler, R: Abort>(
     row(
         rt,
         "end",
-        end && handler.kind() == kind && handler.commits() == 1,
+        end & (handler.kind() == kind) & (handler.commits() == 1),
     );
 }
 
@@ -107,7 +107,7 @@ const BEST: [(&str, Option<(usize, &[u8])>); 6] = [
 // Whether the handler at a place holds this value, and was committed so often.
 fn is_held(registry: &Registry, place: usize, value: Option<&[u8]>, commits: u64) -> bool {
     match registry.handler(place) {
-        Some(handler) => handler.get(b"x") == value && handler.commits() == commits,
+        Some(handler) => (handler.get(b"x") == value) & (handler.commits() == commits),
         None => false,
     }
 }
@@ -143,7 +143,11 @@ fn registry(rt: HostRuntime) {
             Ok(()) => None,
             Err((fault, _)) => Some(fault),
         };
-        row(&rt, subtree, refused == *fault && registry.len() == *count);
+        row(
+            &rt,
+            subtree,
+            (refused == *fault) & (registry.len() == *count),
+        );
     }
     for (text, answer) in BEST.iter() {
         let name = name_of(&rt, text.as_bytes());

@@ -22,7 +22,7 @@ const TEXTS: [(&str, Option<NameFault>); 8] = [
 
 fn is_read(text: &[u8], fault: Option<NameFault>) -> bool {
     match Name::read(text) {
-        Ok(name) => fault.is_none() && name.bytes() == text,
+        Ok(name) => fault.is_none() & (name.bytes() == text),
         Err(why) => fault == Some(why),
     }
 }
@@ -84,7 +84,7 @@ fn names_in_order(rt: HostRuntime) {
     let dot = name_of(&rt, b"a.b");
     let slash = name_of(&rt, b"a/b");
     let again = slash.clone().expect(&rt, "memory");
-    row(&rt, "a.b", dot < slash && slash.copy() == again);
+    row(&rt, "a.b", (dot < slash) & (slash.copy() == again));
     row(&rt, "!", is_behind(b"!", None));
     let other = name_of(&rt, b"b/c");
     for (text, answer) in BEHIND.iter() {

@@ -115,7 +115,8 @@ pub(crate) static ZMS: [Case; 4] = [
         calls: "a 17 100 10\na 34 100 8\na 51 100 8\na 68 100 26",
         left: "a 68 100",
     },
-    // the empty entry of cycle 1, and the name of an earlier cycle, which the first set hides
+    // the empty entry of cycle 1, and the name of an earlier cycle, over which the first set writes
+    // a guard
     Case {
         at: 448,
         bytes: b"\xCA\x01\x01\0\x20\x29\0\x80\x61\0\0\0\0\0\0\0\

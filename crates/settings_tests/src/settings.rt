@@ -85,10 +85,9 @@ fn stores<K: Backend, B: Bench, L: Ledger, R: Abort>(
         → StandsOn K.mounted_on K.stands (B.device bench.new) settings.new.backend }
 {
     let name = name_of(rt, name);
-    match settings.save_one(bench, &name, value, steps) {
-        Ok(()) => {}
-        Err(_) => rt.panic("not stored"),
-    }
+    settings
+        .save_one(bench, &name, value, steps)
+        .expect(rt, "not stored");
 }
 
 fn deletes<K: Backend, B: Bench, L: Ledger>(
@@ -269,12 +268,12 @@ fn fills_handlers<K: Backend, B: Bench, L: Ledger, R: Abort>(
     row(
         rt,
         "no memory",
-        short == Err(LoadFault::NoMemory) && none == 0,
+        (short == Err(LoadFault::NoMemory)) & (none == 0),
     );
     row(
         rt,
         "loaded",
-        ended == Ok(loaded) && commits_of(registry, 0) == 1,
+        (ended == Ok(loaded)) & (commits_of(registry, 0) == 1),
     );
 }
 
@@ -293,7 +292,7 @@ fn runs<K: Backend, R: Abort>(
     let held = runtime_get(registry, &name_of(rt, b"bt/mesh/iv")) == Ok(Some(&[1u8, 2][..]));
     let unheld = runtime_get(registry, &name_of(rt, b"zz")) == Err(NoHandler);
     let refused = puts(alloc, settings, registry, &name_of(rt, b"lv/b"), &[101]);
-    row(rt, "gets", held && unheld);
+    row(rt, "gets", held & unheld);
     row(rt, "rejected", refused == Err(RuntimeFault::Rejected));
     let taken = puts(alloc, settings, registry, &name_of(rt, b"bt/x"), &[9]);
     row(rt, "taken", taken == Ok(()));
@@ -329,8 +328,12 @@ fn stores_what_is_new<K: Backend, B: Bench, L: Ledger, R: Abort>(
     let stored = matches!(settings.get(bench, &x, steps), Ok(Some([9])));
     let deleted = deletes(settings, bench, &x, steps).is_ok();
     let gone = matches!(settings.get(bench, &x, steps), Ok(None));
-    row(rt, "saves", first == one && second.pairs == 0 && spent == 4);
-    row(rt, "deletes", stored && deleted && gone);
+    row(
+        rt,
+        "saves",
+        (first == one) & (second.pairs == 0) & (spent == 4),
+    );
+    row(rt, "deletes", stored & deleted & gone);
 }
 
 fn rows<K: Backend, B: Bench, L: Ledger, R: Abort>(
@@ -378,7 +381,7 @@ fn over_a_store<K: Backend, B: Bench, L: Ledger, R: Abort>(
     commit(registry, None);
     commit(registry, Some(&mesh));
     let commits = (commits_of(registry, 0), commits_of(registry, 1));
-    row(rt, "commits", !is_off && commits == (2, 3));
+    row(rt, "commits", !is_off & (commits == (2, 3)));
     Ok(())
 }
 

@@ -19,17 +19,16 @@ use backend_api::{Backend, SetFault};
 use backend_nvs::NvsIdLayout;
 use counted_sim::Views;
 use flash_map::{Area, Role};
-use flash_sim::{Bank, Bench, Kind, Steps};
+use flash_sim::{Bank, Bench, Kind, NoMemory, Steps};
 use named_items::{IdLayout, ItemStore, value_of};
 use nvs_gc::Nvs;
 use setting_name::Name;
-use std::alloc::{AllocError, Global};
+use std::alloc::Global;
 use std::process::Abort;
 use std::sync::ledger::Ledger;
-use std::test::Fail;
 
 // Two sectors of 512 bytes that are erased except for these bytes from an offset on.
-fn image(alloc: Global, at: usize, bytes: &[u8]) -> Result<Vec<u8>, AllocError>
+fn image(alloc: Global, at: usize, bytes: &[u8]) -> Result<Vec<u8>, NoMemory>
     ensures { IfOk result (λ image. vec_len image ≡ 1024) }
 {
     let mut image = vec![in alloc; 255u8; 1024]?;
@@ -45,7 +44,7 @@ fn load<B: Bench>(
     kind: Kind,
     unit: u32,
     image: Vec<u8>,
-) -> Result<(), Fail>
+) -> Result<(), NoMemory>
     requires unit { IsUnit unit }
     requires long { vec_len image ≡ 1024 }
     ensures { OnOk result
@@ -73,7 +72,7 @@ pub(crate) fn bed<B: Bench>(
     unit: u32,
     at: usize,
     bytes: &[u8],
-) -> Result<Area, Fail>
+) -> Result<Area, NoMemory>
     requires kind { HasKind role kind }
     requires unit { HasUnit role unit }
     requires serves { serves_as role }
@@ -168,9 +167,7 @@ fn carry_out<B: Bench, L: Ledger, R: Abort>(
 
 // The name of a line, and its numbers; none of need and live if they are not there.
 fn pair_of<R: Abort>(rt: &R, line: &str) -> (Name, u8, usize, u64, Option<(u64, u64)>) {
-    let Some((name, rest)) = line.split_once(' ') else {
-        rt.panic("a name and numbers")
-    };
+    let (name, rest) = line.split_once(' ').expect(rt, line);
     let all = numbers(rt, rest);
     let no_space = if all[3] == 0 {
         None
@@ -209,7 +206,7 @@ fn agrees<B: Bench, L: Ledger, R: Abort>(
         steps,
     );
     let spent = bench.spent().saturating_sub(start);
-    row(rt, line, answer == no_space && spent == units);
+    row(rt, line, (answer == no_space) & (spent == units));
 }
 
 // These are all names, in order, with their values, one after the other and at once.
@@ -223,18 +220,18 @@ fn shows<B: Bench, L: Ledger, R: Abort>(
 )
     requires { IsReady (B.device bench.now) backend.now }
 {
-    let Ok(all) = backend.settings(alloc, bench, steps) else {
-        rt.panic("no memory")
-    };
+    let all = backend
+        .settings(alloc, bench, steps)
+        .expect(rt, "no memory");
     row(rt, left, all.len() == left.lines().count());
     let mut after = None;
     for line in left.lines() {
         let (wanted, byte, len, _, _) = pair_of(rt, line);
         let found = backend.next_name(bench, after.as_ref(), steps);
         let value = backend.get(bench, &wanted, steps);
-        let got = is_value(value, byte, len) && all.get(&wanted).copied() == value;
+        let got = is_value(value, byte, len) & (all.get(&wanted).copied() == value);
         after = Some(wanted);
-        row(rt, line, found == after && got);
+        row(rt, line, (found == after) & got);
     }
     row(
         rt,
@@ -272,7 +269,7 @@ fn carries_out<B: Bench, L: Ledger, R: Abort>(
     area: &Area,
     case: &Case,
     steps: &mut Steps<L>,
-) -> Result<(), Fail>
+)
     requires lawful { IsLawfulFor (B.device bench.old).banks area.now }
     requires serves { any_serves area.now (geometry_of (B.device bench.old) area.now) }
 {
@@ -280,10 +277,9 @@ fn carries_out<B: Bench, L: Ledger, R: Abort>(
     let backend = mounted(rt, alloc, bench, area, steps);
     shows(rt, alloc, &backend, bench, case.left, steps);
     drop(backend);
-    AnyBackend::format(bench, area, steps)?;
+    AnyBackend::format(bench, area, steps).expect(rt, "power is lost");
     let backend = mounted(rt, alloc, bench, area, steps);
     shows(rt, alloc, &backend, bench, "", steps);
-    Ok(())
 }
 
 // The rows of a store of this role on such a bank.
@@ -297,19 +293,18 @@ fn of_role<B: Bench, L: Ledger, R: Abort>(
     cases: &[Case],
     cuts: &[Cut],
     steps: &mut Steps<L>,
-) -> Result<(), Fail>
+)
     requires kind { HasKind role kind }
     requires unit { HasUnit role unit }
     requires serves { serves_as role }
 {
     for case in cases {
-        let area = bed(alloc, bench, role, kind, unit, case.at, case.bytes)?;
-        carries_out(rt, alloc, bench, &area, case, steps)?;
+        let area = bed(alloc, bench, role, kind, unit, case.at, case.bytes).expect(rt, "memory");
+        carries_out(rt, alloc, bench, &area, case, steps);
     }
     for cut in cuts {
-        cuts_of_row(rt, alloc, bench, role, kind, unit, cut, steps)?;
+        cuts_of_row(rt, alloc, bench, role, kind, unit, cut, steps);
     }
-    Ok(())
 }
 
 // A name that was never set, on an area where `a` has this value, is reported absent with no view of
@@ -324,50 +319,48 @@ pub(crate) fn is_absent<B: Views, L: Ledger, R: Abort>(
     held: &[u8],
     name: &[u8],
     steps: &mut Steps<L>,
-) -> Result<(), Fail>
+)
     requires kind { HasKind role kind }
     requires unit { HasUnit role unit }
     requires serves { serves_as role }
     requires short { length held.now ≤ 256 }
 {
-    let area = bed(alloc, bench, role, kind, unit, 0, b"")?;
+    let area = bed(alloc, bench, role, kind, unit, 0, b"").expect(rt, "memory");
     let mut backend = mounted(rt, alloc, bench, &area, steps);
     carry_out(rt, &mut backend, bench, &name_of(rt, b"a"), held, steps);
     let name = name_of(rt, name);
     let start = bench.views();
     let absent = backend.get(bench, &name, steps).is_none();
-    row(rt, "absent", absent && bench.views() == start);
-    Ok(())
+    row(rt, "absent", absent & (bench.views() == start));
 }
 
 // Puts these items, whether they are settings or not.
-fn put_items<S: ItemStore, B: Bench, L: Ledger>(
+fn put_items<S: ItemStore, B: Bench, L: Ledger, R: Abort>(
+    rt: &R,
     alloc: Global,
     bench: &mut B,
     area: &Area,
     items: &[Item],
     steps: &mut Steps<L>,
-) -> Result<(), Fail>
+)
     requires low { (id : ℕ) → id < 0xFFFF → S.is_id id }
     requires lawful { IsLawfulFor (B.device bench.old).banks area.now }
     requires serves { S.serves area.now (geometry_of (B.device bench.old) area.now) }
-    ensures banks { OnOk result ((B.device bench.new).banks ≡ (B.device bench.old).banks) }
+    ensures banks { (B.device bench.new).banks ≡ (B.device bench.old).banks }
 {
-    let mut store = S::mount(alloc, bench, *area, steps)?;
+    let mut store = S::mount(alloc, bench, *area, steps).expect(rt, "no mount");
     for (id, bytes) in items {
         if bytes.is_empty() {
-            return Err(Fail::new("no bytes of a row"));
+            rt.panic("no bytes of a row");
         }
         let id = (*id).min(0xFFFE);
         if store.get(bench, id, steps).is_some() {
-            return Err(Fail::new("an id stands twice in a row"));
+            rt.panic("an id stands twice in a row");
         }
-        match store.write_changed(bench, id, bytes, steps) {
-            Ok(()) => {}
-            Err(_) => return Err(Fail::new("an item is refused")),
-        }
+        store
+            .write_changed(bench, id, bytes, steps)
+            .expect(rt, "an item is refused");
     }
-    Ok(())
 }
 
 // On an area with these items each of these names has its value, with no orphan removed before.
@@ -378,18 +371,17 @@ fn describes<N: IdLayout, S: ItemStore, B: Bench, L: Ledger, R: Abort>(
     area: &Area,
     reported: &[Reported],
     steps: &mut Steps<L>,
-) -> Result<(), Fail>
+)
     requires ids { HasIds N.top S.is_id }
     requires lawful { IsLawfulFor (B.device bench.old).banks area.now }
     requires serves { S.serves area.now (geometry_of (B.device bench.old) area.now) }
 {
-    let store = S::mount(alloc, bench, *area, steps)?;
+    let store = S::mount(alloc, bench, *area, steps).expect(rt, "no mount");
     for (name, value) in reported {
         let name = name_of(rt, name);
         let found = value_of::<N, S, B, L>(&store, bench, &name, steps);
         row(rt, "reported", found.unwrap_or(b"") == *value);
     }
-    Ok(())
 }
 
 pub(crate) fn among_orphans<B: Bench, L: Ledger, R: Abort>(
@@ -397,10 +389,10 @@ pub(crate) fn among_orphans<B: Bench, L: Ledger, R: Abort>(
     alloc: Global,
     bench: &mut B,
     steps: &mut Steps<L>,
-) -> Result<(), Fail> {
-    let area = bed(alloc, bench, Role::Nvs, Kind::Erasing, 4, 0, b"")?;
-    put_items::<Nvs, B, L>(alloc, bench, &area, &NVS_ORPHANS, steps)?;
-    describes::<NvsIdLayout, Nvs, B, L, R>(rt, alloc, bench, &area, &NVS_REPORTED, steps)
+) {
+    let area = bed(alloc, bench, Role::Nvs, Kind::Erasing, 4, 0, b"").expect(rt, "memory");
+    put_items::<Nvs, B, L, R>(rt, alloc, bench, &area, &NVS_ORPHANS, steps);
+    describes::<NvsIdLayout, Nvs, B, L, R>(rt, alloc, bench, &area, &NVS_REPORTED, steps);
 }
 
 // The rows of each store.
@@ -409,13 +401,13 @@ pub(crate) fn of_each_role<B: Bench, L: Ledger, R: Abort>(
     alloc: Global,
     bench: &mut B,
     steps: &mut Steps<L>,
-) -> Result<(), Fail> {
+) {
     let (nvs, zms, fcb) = (Role::Nvs, Role::Zms, Role::Fcb);
     let (erasing, rewritable) = (Kind::Erasing, Kind::Rewritable);
-    of_role(rt, alloc, bench, nvs, erasing, 4, &NVS, &NVS_CUTS, steps)?;
+    of_role(rt, alloc, bench, nvs, erasing, 4, &NVS, &NVS_CUTS, steps);
     of_role(
         rt, alloc, bench, zms, rewritable, 16, &ZMS, &ZMS_CUTS, steps,
-    )?;
+    );
     of_role(
         rt,
         alloc,
@@ -426,10 +418,10 @@ pub(crate) fn of_each_role<B: Bench, L: Ledger, R: Abort>(
         &ZMS_ERASING,
         &ZMS_ERASING_CUTS,
         steps,
-    )?;
-    of_role(rt, alloc, bench, fcb, erasing, 4, &FCB, &FCB_CUTS, steps)?;
-    of_role(rt, alloc, bench, fcb, erasing, 8, &FCB_LONG, &[], steps)?;
-    of_role(rt, alloc, bench, fcb, erasing, 16, &FCB_LONGER, &[], steps)
+    );
+    of_role(rt, alloc, bench, fcb, erasing, 4, &FCB, &FCB_CUTS, steps);
+    of_role(rt, alloc, bench, fcb, erasing, 8, &FCB_LONG, &[], steps);
+    of_role(rt, alloc, bench, fcb, erasing, 16, &FCB_LONGER, &[], steps);
 }
 
 // Whether this is a value of so many of these bytes.

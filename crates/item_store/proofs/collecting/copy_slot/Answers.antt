@@ -1,4 +1,4 @@
-use Rattle.std.proofs.Common.{◌≡◌, ◌+◌, ◌<◌, ◌≤◌, ℕ, true, List, Some, sym, subst, ◌∙◌}
+use Rattle.std.proofs.Common.{◌≡◌, ◌+◌, ◌<◌, ◌≤◌, ℕ, true, List, Some, sym, subst, ◌∙◌, ◌∷◌, []}
 use Rattle.std.specs.Option.{option_map}
 use Rattle.std.specs.Prelude.{Option, OnOk, OnErr}
 use Rattle.std.proofs.lemmas.Result.{on_ok_weaker, on_err_weaker}
@@ -14,7 +14,17 @@ use Rattle.item_store.specs.Standing.{SpendsIn, SpendsUpTo}
 use Rattle.item_store.proofs.Areas.{unit_is}
 use Rattle.item_store.proofs.Ranges.{within-in, within-lost}
 use Rattle.item_store.proofs.CopyLoop.{live-bytes}
+use Rattle.flash_map.proofs.Touches.{untouched}
 use Rattle.item_store.proofs.collecting.copy_slot.Goals as goal
+
+pub live_in-requires : goal.live_in-requires
+live_in-requires g c =
+    record {
+      area = c.requires.here.area;
+      inside = c.requires.victim.inside;
+      listed = c.requires.victim.listed;
+      live = c.requires.live;
+    }
 
 pub copy-requires-clause-source : goal.copy-requires-clause-source
 copy-requires-clause-source g c =
@@ -36,8 +46,8 @@ copy-requires-clause-source g c =
       some = l.some;
     }
 
-pub returns-in-Some-clause-ends : goal.returns-in-Some-clause-ends
-returns-in-Some-clause-ends g c =
+pub returns-in-Some : goal.returns-in-Some
+returns-in-Some g c =
     let d : Device = g.F.Flash.device c.args.flash.now in
     let e : Device = g.F.Flash.device c.copy.new.flash in
     let old : List (List ℕ) = sectors_of d c.args.area.now in
@@ -47,16 +57,22 @@ returns-in-Some-clause-ends g c =
     let len : ℕ = c.in-Some.placed.len in
     let entry : Some c.in-Some.placed ≡ live_in (slots k) old c.args.victim c.args.slot = sym (sym c.live_in.ensures.entry ∙ c.in-Some.is) in
     record {
-      copies =
-          subst (λ (o : Option Placed). OnOk c.copy.result (CopiesOne k old (sectors_of e c.args.area.now) c.args.current o)) entry
-          (on_ok_weaker c.copy.result (λ adds. (c.copy.ensures.only, adds)) c.copy.ensures.adds);
-      kept = c.copy.ensures.kept;
-      only = on_err c.copy.result c.copy.ensures.only;
-      lost = c.copy.ensures.lost;
-      spends =
-          subst (λ (o : Option Placed). OnOk c.copy.result (SpendsIn d e (copy_units k o))) entry
-          (on_ok_weaker c.copy.result (λ s. within-in d e (k.units.copy b len) (k.units.any_copy len) (law.units.copy_in b len) s) c.copy.ensures.spends);
-      spends_lost =
-          subst (λ (o : Option Placed). OnErr c.copy.result (SpendsUpTo d e (copy_units k o))) entry
-          (on_err_weaker c.copy.result (λ s. within-lost d e (k.units.copy b len) (k.units.any_copy len) (law.units.copy_in b len) s) c.copy.ensures.spends_lost);
+      touches = c.copy.ensures.touches;
+      ends = record {
+        copies =
+            subst (λ (o : Option Placed). OnOk c.copy.result (CopiesOne k old (sectors_of e c.args.area.now) c.args.current o)) entry
+            (on_ok_weaker c.copy.result (λ adds. (c.copy.ensures.only, adds)) c.copy.ensures.adds);
+        kept = c.copy.ensures.kept;
+        only = on_err c.copy.result c.copy.ensures.only;
+        lost = c.copy.ensures.lost;
+        spends =
+            subst (λ (o : Option Placed). OnOk c.copy.result (SpendsIn d e (copy_units k o))) entry
+            (on_ok_weaker c.copy.result (λ s. within-in d e (k.units.copy b len) (k.units.any_copy len) (law.units.copy_in b len) s) c.copy.ensures.spends);
+        spends_lost =
+            subst (λ (o : Option Placed). OnErr c.copy.result (SpendsUpTo d e (copy_units k o))) entry
+            (on_err_weaker c.copy.result (λ s. within-lost d e (k.units.copy b len) (k.units.any_copy len) (law.units.copy_in b len) s) c.copy.ensures.spends_lost);
+      };
     }
+
+pub returns-in-None-clause-touches : goal.returns-in-None-clause-touches
+returns-in-None-clause-touches g c = untouched (c.args.area.now ∷ []) (g.F.Flash.device c.args.flash.now)

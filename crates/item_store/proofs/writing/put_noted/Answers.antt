@@ -2,8 +2,6 @@ use Rattle.std.proofs.Common.{◌≡◌, ◌+◌, length, arith, Bool, ◌∷◌
 use Rattle.flash_sim.specs.Device.{Device}
 use Rattle.flash_map.specs.declared.area.Area.{Area}
 use Rattle.flash_map.specs.Area.{geometry_of, sector_at, sectors_of}
-use Rattle.item_store.specs.SectorFormat.{IsSectorFormat}
-use Rattle.item_store.proofs.Areas.{unit_is}
 use Rattle.item_store.proofs.CacheSteps.{cache-put, entry-behind}
 use Rattle.item_store.proofs.RoomFacts.{inside}
 use Rattle.flash_map.specs.Touches.{Touches}

@@ -2,8 +2,6 @@ use Rattle.std.proofs.Common.{◌≡◌, ℕ, ◌<◌, ◌≤◌, Bool, true, fa
 use Rattle.std.specs.Prelude.{◌&&◌, nat_lt, IfSome}
 use Rattle.std.specs.FinMap as map
 use Rattle.std.proofs.lemmas.Bool.{false≢true, ltb-true, ltb-false, lt-ltb}
-use Rattle.flash_sim.specs.Device.{Device}
-use Rattle.flash_map.specs.declared.area.Area.{Area}
 use Rattle.item_laws.specs.Items.{Items}
 use Rattle.item_laws.specs.NextIds.{is_between, IsBehind, Follows, IsAtMost}
 use Rattle.item_laws.proofs.NextIds.{at_most_self}

@@ -100,7 +100,7 @@ module _ (k : SectorFormat) (law : IsSectorFormat k) (size : ℕ) (old new : Lis
         | inl e ↦
             let closed = pass_done.does_pass.closes (λ (v : place ≡ next old (next old place)). off (e ∙ v)) in
             ap behind e ∙ ap (map (placed_at place)) closed.same_entries ∙ ap before (sym e)
-        | inr other ↦ ap (λ (b : List ℕ). map (placed_at j) (entries k b)) (pass_done.does_pass.others j other apart off)
+        | inr other ↦ ap (λ (b : List ℕ). map (placed_at j) (entries k b)) (pass_done.does_pass.others j other apart (λ _. off))
       ]
 
   closing : IsSplit (length old) place

@@ -1,5 +1,5 @@
 -- A whole round of close and collect, and the room that it leaves.
-use Rattle.std.proofs.Common.{◌≡◌, ℕ, ◌+◌, ◌*◌, ◌<◌, ◌≤◌, Bool, true, false, not, ◌||◌, cond, eqb, leb, List, [], ◌∷◌, ◌++◌, length, map, sym, ap, subst, ◌∙◌, inl, inr, ◌⊎◌, arith}
+use Rattle.std.proofs.Common.{◌≡◌, ℕ, ◌+◌, ◌*◌, ◌<◌, ◌≤◌, Bool, true, false, not, ◌||◌, cond, eqb, leb, List, [], ◌∷◌, ◌++◌, length, map, refl, sym, ap, subst, ◌∙◌, inl, inr, ◌⊎◌, arith}
 use Rattle.std.specs.List.{flat_map, All}
 use Rattle.std.proofs.lemmas.Bool.{false≢true, cases_Bool, cases_eq, cond-true, cond-false, eq-eqb, ne_eqb, leb-true, le-leb, ltb-false, not_from_true, not_from_false}
 use Rattle.std.proofs.lemmas.List.Elements.{All-nil, All-cons}
@@ -15,7 +15,7 @@ use Rattle.item_laws.proofs.Collects.{close, next_blank, blank-sound}
 use Rattle.item_laws.proofs.Parts.{map_agree}
 use Rattle.item_laws.proofs.RingSteps.{reads}
 use Rattle.item_laws.proofs.Places.{after, after-within, after-apart, flat_map-agree}
-use Rattle.item_laws.proofs.Rings.{open-not_closed}
+use Rattle.item_laws.proofs.Rings.{open-not_closed, next-closed}
 use Rattle.item_laws.proofs.Rounding.{round_blank, round_collected}
 use Rattle.item_store.specs.SectorFormat.{Range, SectorFormat, IsSectorFormat, making_ready, fits}
 use Rattle.item_store.specs.Steps.{Keeps, Closes, Clears, StopsClearing}
@@ -278,6 +278,7 @@ module _ (k : SectorFormat) (law : IsSectorFormat k) where
         let used : copies_cost k.cost (pairs_at R new (next old place)) ≡ copies_cost k.cost (to_copy R mid (next old place)) = ap (copies_cost k.cost) all.list in
         let has_room = all.room in
         let room = collected-room (sector_at new (next old place)) size (copies_cost k.cost (to_copy R mid (next old place))) all.gc_done (omega arith) (omega arith) in
+        let has : has_victim k old place ≡ true = victim-is ∙ next-closed R mid (next old place) 0 collecting.ring ∙ refl in
         let pass_done = round_collected R law.reads old place (sector_at mid place) form closes.list sound new (subst (λ (s : List (List ℕ)). Collects R s (next old place) new) only all.collects) in
         record {
           round = pass_done;
@@ -287,7 +288,7 @@ module _ (k : SectorFormat) (law : IsSectorFormat k) where
           room = λ len some. room.room len some ∙ ap (λ (n : ℕ). leb (n + k.cost len) (k.cap size)) (sym used);
           delete = room.delete;
           closes = λ apart. subst (λ (b : List ℕ). Closes k (sector_at old place) b) (sym (all.others place (λ (e : place ≡ next old place). other (sym e)) (λ (e : place ≡ next mid (next old place)). apart (e ∙ same_next)))) closes;
-          others = λ j off apart away. all.others j apart (λ (e : j ≡ next mid (next old place)). away (e ∙ same_next)) ∙ only_else old mid place j only off;
+          others = λ j off apart away. all.others j apart (λ (e : j ≡ next mid (next old place)). away has (e ∙ same_next)) ∙ only_else old mid place j only off;
         }
 
     -- its units

@@ -98,8 +98,9 @@ pub record DoesPassAt (k : SectorFormat) (size : ℕ) (old new : List (List ℕ)
   pub delete : fits k (sector_at new (next old place)) 0 ≡ true
   -- the sector that was open is closed, unless it is the victim
   pub closes : (place ≡ next old (next old place) → ⊥) → Closes k (sector_at old place) (sector_at new place)
-  -- no byte changed but in that one, the new open one and the victim
-  pub others : (j : ℕ) → (j ≡ place → ⊥) → (j ≡ next old place → ⊥) → (j ≡ next old (next old place) → ⊥)
+  -- no byte changed but in that one, the new open one and the victim, if there is one
+  pub others : (j : ℕ) → (j ≡ place → ⊥) → (j ≡ next old place → ⊥)
+      → (has_victim k old place ≡ true → j ≡ next old (next old place) → ⊥)
       → sector_at new j ≡ sector_at old j
 
 -- ---- gc-done and the victim

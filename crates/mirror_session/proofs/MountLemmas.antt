@@ -20,6 +20,7 @@ use Rattle.mirror.specs.declared.mirror.Mirror.{Mirror}
 use Rattle.mirror.specs.declared.mounting.MirrorMount.{MirrorMount}
 use Rattle.mirror.specs.declared.mounting.MirrorMount.TheVariants.{Damaged as HasDamage, Unfit as IsNotFit, PowerLost, NoMemory as WantsMemory}
 use Rattle.mirror.specs.Mounting.{FitsAt, IsAtRest, IsCutMount, MirrorMounts, SparesAreas, UnfitAt, both_units, mount_lost, other_place, trust_units, worked_on}
+use Rattle.mirror.specs.Owing.{MountsOwed, naming_units}
 use Rattle.mirror.specs.Mirrored.{FitBoth}
 use Rattle.mirror.specs.Room.{FitsOn}
 use Rattle.mirror.specs.Trusted.{BothRead, IsMirrorMap, MirrorReads, trusted_on}
@@ -139,6 +140,14 @@ module _ {S : Type 0} (mounted_on : S → Area) (stands : S → Geometry → Lis
 
   abbrev SpendsOnMount : Type 0
   SpendsOnMount = SpendsFrom mid
+
+  -- what the areas owe bounds it too
+  abbrev OwedFrom : Device → Type 0
+  OwedFrom d = (selector trusted other : Area) → selector_of areas ≡ Some selector → slice_get areas (trusted_on areas d) ≡ Some trusted → slice_get areas (other_place areas (trusted_on areas d)) ≡ Some other
+      → MountsOwed m.owes m.damage m.contents (naming_units areas d selector) d new trusted other
+
+  abbrev OwedOnMount : Type 0
+  OwedOnMount = OwedFrom mid
 
   within_most : (units : ℕ) → units ≡ new.spent - mid.spent → SpendsOnMount → MountsWithin m areas units old
   within_most units are most selector trusted other selected there beside =
@@ -366,7 +375,7 @@ module _ {S : Type 0} (mounted_on : S → Area) (stands : S → Geometry → Lis
   abbrev KeepsReading : Device → Type 0
   KeepsReading d = (settings : Map) → MirrorReads m.damage m.contents areas d settings → MirrorReads m.damage m.contents areas new settings
 
-  module _ (same : trusted_on areas new ≡ trusted_on areas mid) (keeps : KeepsReading mid) (idle : IdleOnMount) (copy : CopyOnMount) (most : SpendsOnMount) where
+  module _ (same : trusted_on areas new ≡ trusted_on areas mid) (keeps : KeepsReading mid) (idle : IdleOnMount) (copy : CopyOnMount) (most : SpendsOnMount) (owed : OwedOnMount) where
     keeps_reading : KeepsReading old
     keeps_reading settings reads =
         subst KeepsReading on_first keeps settings
@@ -380,6 +389,7 @@ module _ {S : Type 0} (mounted_on : S → Area) (stands : S → Geometry → Lis
       rests = λ is. unchanged idle is;
       copy = subst (λ (lost : Bool). CopyFrom lost before) whole (copied copy x is);
       at_most = subst SpendsFrom on_first most;
+      owed = subst OwedFrom on_first owed;
     }
 
     pub damaged_stops : (place : ℕ) (shown : Damaged) → result ≡ Err (HasDamage place shown) → (was : Bool) → LineStops m areas Mount (moment old was) new (SessionDamaged place shown)
@@ -397,4 +407,4 @@ module _ {S : Type 0} (mounted_on : S → Area) (stands : S → Geometry → Lis
 
     pub memory_stops : result ≡ Err WantsMemory → (was : Bool) → LineStops m areas Mount (moment old was) new SessionMemory
     memory_stops is was =
-        (refl, λ needs. absurd (false≢true needs), (stopped (Err WantsMemory) is refl, λ selector selected. ended_at selector selected (Err WantsMemory) is))
+        (refl, λ needs. absurd (false≢true needs), tt, (stopped (Err WantsMemory) is refl, λ selector selected. ended_at selector selected (Err WantsMemory) is))

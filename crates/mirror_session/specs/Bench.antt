@@ -20,19 +20,27 @@ use Rattle.session_table.specs.Bench.{area_at, geometry_in}
 use Rattle.mirror_session.specs.State.{State, Rules}
 
 -- What the bytes of areas mean to the stores that work on them. On bytes that rest, a mount has
--- nothing to do.
+-- nothing to do. On bytes that owe so many units and erases, it spends at most these.
 pub record Meanings : Type 1 where
   pub damage : Area → Geometry → List (List ℕ) → Option Damaged
   pub contents : Area → Geometry → List (List ℕ) → Map
   pub rests : Area → Geometry → List (List ℕ) → Type 0
   pub room : Area → Geometry → Room
   pub prices : Area → Geometry → Prices
+  pub owes : Area → Geometry → List (List ℕ) → ℕ → Type 0
 
 abbrev pub meanings : (Area → Geometry → List (List ℕ) → Option Damaged)
     → (Area → Geometry → List (List ℕ) → Map) → (Area → Geometry → List (List ℕ) → Type 0)
-    → (Area → Geometry → Room) → (Area → Geometry → Prices) → Meanings
-meanings damage contents rests room prices =
-    record { damage = damage; contents = contents; rests = rests; room = room; prices = prices }
+    → (Area → Geometry → Room) → (Area → Geometry → Prices)
+    → (Area → Geometry → List (List ℕ) → ℕ → Type 0) → Meanings
+meanings damage contents rests room prices owes = record {
+  damage = damage;
+  contents = contents;
+  rests = rests;
+  room = room;
+  prices = prices;
+  owes = owes;
+}
 
 -- a bench, and whether the last mount was whole and no area was replaced after it
 pub record Moment : Type 0 where

@@ -12,6 +12,7 @@ use Rattle.flash_map.specs.declared.faults.Damaged.{Damaged as Found}
 use Rattle.migrator.specs.Active.{selector_damage_on}
 use Rattle.migrator.specs.Areas.{selector_of}
 use Rattle.mirror.specs.Mounting.{FindsDamage, IsUnfit, LacksMemory, SparesAreas, both_units, other_place, trust_units}
+use Rattle.mirror.specs.Owing.{MountsOwed, naming_units}
 use Rattle.mirror.specs.Trusted.{MirrorReads, damage_shown, trusted_on}
 use Rattle.script_lines.specs.declared.answer.Answer.TheVariants as settings
 use Rattle.session_table.specs.Bench.{area_at, StaysUnplanned}
@@ -23,7 +24,7 @@ use Rattle.mirror_session.specs.declared.answer.Answer.TheVariants.{Plain}
 use Rattle.mirror_session.specs.Plan.{units_in, losses_in, Planned, plan_through, PlansNoLoss}
 use Rattle.mirror_session.specs.declared.fault.SessionFault.{SessionFault}
 use Rattle.mirror_session.specs.declared.fault.SessionFault.TheVariants.{Damaged, Unfit, NoMemory}
-use Rattle.mirror_session.specs.Bench.{Meanings, Moment, moment, rules_of, state_of}
+use Rattle.mirror_session.specs.Bench.{Meanings, Moment, labelled, moment, rules_of, state_of}
 use Rattle.mirror_session.specs.Standing.{AtRest, RestsNow}
 use Rattle.mirror_session.specs.LineDone.{BothNow, FitNow, FitsBoth, Keeps, LineDone, replaces}
 use Rattle.session.specs.OnMap.{turned_on}
@@ -67,7 +68,8 @@ takes_memory line = false
 -- outside the areas of the map. The same area is read, as the same map, and is not formatted. At rest
 -- nothing changes, and the other area, if it holds the settings that are read, is neither repaired nor
 -- formatted. The selector keeps its records if it names the area that is read; else it gets exactly one
--- more. No more is spent than a mount may.
+-- more. No more is spent than a mount may, nor than what the areas owed and one repair. The area that is
+-- read owes no more than before, nor does the other one if it holds the same settings.
 pub record MountStops (m : Meanings) (areas : List Area) (old new : Device) : Type 0 where
   pub touches : Touches areas (turned_on old) new false
   pub read : trusted_on areas new ≡ trusted_on areas old
@@ -83,6 +85,11 @@ pub record MountStops (m : Meanings) (areas : List Area) (old new : Device) : Ty
       → slice_get areas (other_place areas (trusted_on areas old)) ≡ Some other
       → SpendsAtMost (turned_on old) new
       (trust_units old selector + both_units old trusted other (finite.len (on m.contents old trusted)))
+  pub owed : (selector trusted other : Area) → selector_of areas ≡ Some selector
+      → slice_get areas (trusted_on areas old) ≡ Some trusted
+      → slice_get areas (other_place areas (trusted_on areas old)) ≡ Some other
+      → MountsOwed m.owes m.damage m.contents (naming_units areas old selector) (turned_on old) new trusted
+      other
 
 -- A mount found this damage. It changed nothing outside the selector's area, the same damage is shown
 -- afterwards, and the selector names the area that it named or the one that is read.
@@ -103,6 +110,13 @@ abbrev pub BeginsLine : Meanings → List Area → Line → Device → Device �
 BeginsLine m areas Mount old new = MountStops m areas old new × MountLacksMemory m areas old new
 BeginsLine m areas line old new = new ≡ old
 
+-- `blank` has found its area: power is off, the last mount was whole, no area was replaced after it, and a
+-- store area has the label.
+abbrev pub FindsArea : List Area → Line → Moment → Type 0
+FindsArea areas (Blank label) now =
+    (now.device.is_on ≡ false) × (now.whole ≡ true) × ((place : ℕ) × (labelled areas label ≡ Some place))
+FindsArea areas line now = ⊤
+
 -- a damaged selector stays as it is
 abbrev pub LeavesDamagedSelector : List Area → Device → Device → Type 0
 LeavesDamagedSelector areas old new =
@@ -115,7 +129,7 @@ FindsNoFit m areas d = ¬ FitsBoth m areas d.banks (on m.contents d (area_at are
 -- Why a line was not carried out, and what it left: a mount found the damage that the map shows, or
 -- settings that do not fit one of the areas; or memory ran out for a line that takes some. A line that
 -- needs power answers `off` in place of that, unless power is on, the last mount was whole, and no area was
--- replaced after it.
+-- replaced after it. Nor does memory run out for `blank` before it has found its area.
 abbrev pub LineStops : Meanings → List Area → Line → Moment → Device → SessionFault → Type 0
 LineStops m areas line old new (Damaged place damaged) =
     (line ≡ Mount) × (damage_shown m.damage areas old.device ≡ Some (place, damaged))
@@ -126,7 +140,7 @@ LineStops m areas line old new (Unfit place) =
     × FindsNoFit m areas old.device × MountStops m areas old.device new
 LineStops m areas line old new NoMemory =
     (takes_memory line ≡ true) × (needs_power line ≡ true → IsOn (state_of m areas old))
-    × BeginsLine m areas line old.device new
+    × FindsArea areas line old × BeginsLine m areas line old.device new
 
 -- ---- all lines
 

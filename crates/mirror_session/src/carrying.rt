@@ -6,7 +6,7 @@ ghost use Rattle.mirror_session.specs.Bench.{meanings, moment, state_of};
 ghost use Rattle.mirror_session.specs.LineDone.{IsServed, LineDone};
 ghost use Rattle.mirror_session.specs.Owing.{OwesUpTo, ReportsOwed};
 ghost use Rattle.mirror_session.specs.Plan.{units_of};
-ghost use Rattle.mirror_session.specs.Running.{LineStops, takes_memory};
+ghost use Rattle.mirror_session.specs.Running.{FindsArea, LineStops, takes_memory};
 ghost use Rattle.mirror_session.specs.Standing.{IsHeld, IsReady};
 ghost use Rattle.mirror_session.specs.State.{IsOn};
 ghost use Rattle.mirror_session.specs.Step.{needs_power};
@@ -55,16 +55,16 @@ impl<K: Priced> MirrorSession<K> {
     ) -> Result<(MirrorSession<K>, Answer), SessionFault>
         requires map { IsMirrorMap K.serves map.now (B.device bench.old) }
 
-        ensures done { let m = meanings K.damage K.contents K.rests K.room K.prices in
+        ensures done { let m = meanings K.damage K.contents K.rests K.room K.prices K.owes in
             let d = B.device bench.old in let e = B.device bench.new in
             IfOk result
             (λ opened. LineDone m map.now Mount opened.1 (moment d false)
             (moment e (is_some opened.0.mirror))) }
-        ensures ready { let m = meanings K.damage K.contents K.rests K.room K.prices in
+        ensures ready { let m = meanings K.damage K.contents K.rests K.room K.prices K.owes in
             IfOk result
             (λ opened. IsReady K.mounted_on K.stands m map.now (B.device bench.new)
             opened.0.mirror) }
-        ensures stops { let m = meanings K.damage K.contents K.rests K.room K.prices in
+        ensures stops { let m = meanings K.damage K.contents K.rests K.room K.prices K.owes in
             let d = B.device bench.old in
             IfErr result
             (λ fault. LineStops m map.now Mount (moment d false) (B.device bench.new) fault) }
@@ -99,8 +99,8 @@ impl<K: Priced> MirrorSession<K> {
     ///
     /// # Errors
     /// `Damaged` and `Unfit` as in `open`, only for a mount. `NoMemory`, only for a line
-    /// that takes memory: `get` and `names` with power on, `mount` and `blank`. After any error the
-    /// session must be opened again.
+    /// that takes memory: `get` and `names` with power on, `mount`, and a `blank` that replaces an
+    /// area. After any error the session must be opened again.
     pub fn carry_out<B: Bench, L: Ledger>(
         &mut self,
         alloc: Global,
@@ -110,19 +110,19 @@ impl<K: Priced> MirrorSession<K> {
         steps: &mut Steps<L>,
     ) -> Result<Answer, SessionFault>
         requires map { IsMirrorMap K.serves map.now (B.device bench.old) }
-        requires ready { let m = meanings K.damage K.contents K.rests K.room K.prices in
+        requires ready { let m = meanings K.damage K.contents K.rests K.room K.prices K.owes in
             IsReady K.mounted_on K.stands m map.now (B.device bench.old) self.old.mirror }
         requires line { IsServed (limit_of map.now) line.now }
 
-        ensures done { let m = meanings K.damage K.contents K.rests K.room K.prices in
+        ensures done { let m = meanings K.damage K.contents K.rests K.room K.prices K.owes in
             let d = B.device bench.old in let e = B.device bench.new in
             IfOk result
             (λ answer. LineDone m map.now line.now answer (moment d (is_some self.old.mirror))
             (moment e (is_some self.new.mirror))) }
-        ensures ready { let m = meanings K.damage K.contents K.rests K.room K.prices in
+        ensures ready { let m = meanings K.damage K.contents K.rests K.room K.prices K.owes in
             OnOk result
             (IsReady K.mounted_on K.stands m map.now (B.device bench.new) self.new.mirror) }
-        ensures stops { let m = meanings K.damage K.contents K.rests K.room K.prices in
+        ensures stops { let m = meanings K.damage K.contents K.rests K.room K.prices K.owes in
             let old = moment (B.device bench.old) (is_some self.old.mirror) in
             IfErr result (λ fault. LineStops m map.now line.now old (B.device bench.new) fault) }
         ensures banks { (B.device bench.new).banks ≡ (B.device bench.old).banks }
@@ -163,15 +163,15 @@ impl<K: Priced> MirrorSession<K> {
     ) -> Result<Answer, SessionFault>
         requires map { IsMirrorMap K.serves map.now (B.device bench.old) }
 
-        ensures done { let m = meanings K.damage K.contents K.rests K.room K.prices in
+        ensures done { let m = meanings K.damage K.contents K.rests K.room K.prices K.owes in
             let d = B.device bench.old in let e = B.device bench.new in
             IfOk result
             (λ answer. LineDone m map.now Mount answer (moment d (is_some self.old.mirror))
             (moment e (is_some self.new.mirror))) }
-        ensures ready { let m = meanings K.damage K.contents K.rests K.room K.prices in
+        ensures ready { let m = meanings K.damage K.contents K.rests K.room K.prices K.owes in
             OnOk result
             (IsReady K.mounted_on K.stands m map.now (B.device bench.new) self.new.mirror) }
-        ensures stops { let m = meanings K.damage K.contents K.rests K.room K.prices in
+        ensures stops { let m = meanings K.damage K.contents K.rests K.room K.prices K.owes in
             let old = moment (B.device bench.old) (is_some self.old.mirror) in
             IfErr result (λ fault. LineStops m map.now Mount old (B.device bench.new) fault) }
         ensures banks { (B.device bench.new).banks ≡ (B.device bench.old).banks }
@@ -205,18 +205,20 @@ impl<K: Priced> MirrorSession<K> {
         map: &FlashMap,
     ) -> Result<Answer, NoMemory>
         requires map { IsMirrorMap K.serves map.now (B.device bench.old) }
-        requires ready { let m = meanings K.damage K.contents K.rests K.room K.prices in
+        requires ready { let m = meanings K.damage K.contents K.rests K.room K.prices K.owes in
             IsReady K.mounted_on K.stands m map.now (B.device bench.old) self.old.mirror }
 
-        ensures done { let m = meanings K.damage K.contents K.rests K.room K.prices in
+        ensures done { let m = meanings K.damage K.contents K.rests K.room K.prices K.owes in
             let d = B.device bench.old in let e = B.device bench.new in
             IfOk result
             (λ answer. LineDone m map.now (Blank label.now) answer
             (moment d (is_some self.old.mirror)) (moment e (is_some self.new.mirror))) }
-        ensures ready { let m = meanings K.damage K.contents K.rests K.room K.prices in
+        ensures ready { let m = meanings K.damage K.contents K.rests K.room K.prices K.owes in
             OnOk result
             (IsReady K.mounted_on K.stands m map.now (B.device bench.new) self.new.mirror) }
         ensures same { OnErr result (B.device bench.new ≡ B.device bench.old) }
+        ensures finds { let old = moment (B.device bench.old) (is_some self.old.mirror) in
+            OnErr result (FindsArea map.now (Blank label.now) old) }
         ensures banks { (B.device bench.new).banks ≡ (B.device bench.old).banks }
         ensures left { let d = B.device bench.old in let e = B.device bench.new in
             OwesUpTo K.owes 0 map.now (moment d (is_some self.old.mirror))
@@ -249,21 +251,21 @@ impl<K: Priced> MirrorSession<K> {
     ) -> Result<Answer, NoMemory>
         requires map { IsMirrorMap K.serves map.now (B.device bench.old) }
         requires needs { needs_power line.now ≡ true }
-        requires ready { let m = meanings K.damage K.contents K.rests K.room K.prices in
+        requires ready { let m = meanings K.damage K.contents K.rests K.room K.prices K.owes in
             IsReady K.mounted_on K.stands m map.now (B.device bench.old) self.old.mirror }
         requires line { IsServed (limit_of map.now) line.now }
 
-        ensures done { let m = meanings K.damage K.contents K.rests K.room K.prices in
+        ensures done { let m = meanings K.damage K.contents K.rests K.room K.prices K.owes in
             let d = B.device bench.old in let e = B.device bench.new in
             IfOk result
             (λ answer. LineDone m map.now line.now answer (moment d (is_some self.old.mirror))
             (moment e (is_some self.new.mirror))) }
-        ensures ready { let m = meanings K.damage K.contents K.rests K.room K.prices in
+        ensures ready { let m = meanings K.damage K.contents K.rests K.room K.prices K.owes in
             OnOk result
             (IsReady K.mounted_on K.stands m map.now (B.device bench.new) self.new.mirror) }
         ensures same { OnErr result (B.device bench.new ≡ B.device bench.old) }
         ensures takes { OnErr result (takes_memory line.now ≡ true) }
-        ensures on { let m = meanings K.damage K.contents K.rests K.room K.prices in
+        ensures on { let m = meanings K.damage K.contents K.rests K.room K.prices K.owes in
             let old = moment (B.device bench.old) (is_some self.old.mirror) in
             OnErr result (IsOn (state_of m map.now old)) }
         ensures banks { (B.device bench.new).banks ≡ (B.device bench.old).banks }
@@ -293,14 +295,14 @@ fn with_power<K: Priced, B: Bench, L: Ledger>(
     requires map { IsMirrorMap K.serves map.now (B.device bench.old) }
     requires on { (B.device bench.old).is_on ≡ true }
     requires needs { needs_power line.now ≡ true }
-    requires held { let m = meanings K.damage K.contents K.rests K.room K.prices in
+    requires held { let m = meanings K.damage K.contents K.rests K.room K.prices K.owes in
         IsHeld K.mounted_on K.stands m map.now (B.device bench.old) mirror.old }
     requires line { IsServed (limit_of map.now) line.now }
 
-    ensures done { let m = meanings K.damage K.contents K.rests K.room K.prices in
+    ensures done { let m = meanings K.damage K.contents K.rests K.room K.prices K.owes in
         let d = B.device bench.old in let e = B.device bench.new in
         IfOk result (λ answer. LineDone m map.now line.now answer (moment d true) (moment e true)) }
-    ensures held { let m = meanings K.damage K.contents K.rests K.room K.prices in
+    ensures held { let m = meanings K.damage K.contents K.rests K.room K.prices K.owes in
         IsHeld K.mounted_on K.stands m map.now (B.device bench.new) mirror.new }
     ensures same { OnErr result (B.device bench.new ≡ B.device bench.old) }
     ensures takes { OnErr result (takes_memory line.now ≡ true) }

@@ -29,15 +29,15 @@ pub fn set_setting<K: Priced, B: Bench, L: Ledger>(
 ) -> Answer
     requires map { IsMirrorMap K.serves map.now (B.device bench.old) }
     requires on { (B.device bench.old).is_on ≡ true }
-    requires held { let m = meanings K.damage K.contents K.rests K.room K.prices in
+    requires held { let m = meanings K.damage K.contents K.rests K.room K.prices K.owes in
         IsHeld K.mounted_on K.stands m map.now (B.device bench.old) mirror.old }
     requires some { 0 < length value.now }
     requires short { length value.now ≤ limit_of map.now }
 
-    ensures done { let m = meanings K.damage K.contents K.rests K.room K.prices in
+    ensures done { let m = meanings K.damage K.contents K.rests K.room K.prices K.owes in
         let d = B.device bench.old in let e = B.device bench.new in
         LineDone m map.now (Set name.now value.now) result (moment d true) (moment e true) }
-    ensures held { let m = meanings K.damage K.contents K.rests K.room K.prices in
+    ensures held { let m = meanings K.damage K.contents K.rests K.room K.prices K.owes in
         IsHeld K.mounted_on K.stands m map.now (B.device bench.new) mirror.new }
     ensures banks { (B.device bench.new).banks ≡ (B.device bench.old).banks }
     ensures left { let d = B.device bench.old in let e = B.device bench.new in
@@ -69,13 +69,13 @@ pub fn delete_setting<K: Priced, B: Bench, L: Ledger>(
 ) -> Answer
     requires map { IsMirrorMap K.serves map.now (B.device bench.old) }
     requires on { (B.device bench.old).is_on ≡ true }
-    requires held { let m = meanings K.damage K.contents K.rests K.room K.prices in
+    requires held { let m = meanings K.damage K.contents K.rests K.room K.prices K.owes in
         IsHeld K.mounted_on K.stands m map.now (B.device bench.old) mirror.old }
 
-    ensures done { let m = meanings K.damage K.contents K.rests K.room K.prices in
+    ensures done { let m = meanings K.damage K.contents K.rests K.room K.prices K.owes in
         let d = B.device bench.old in let e = B.device bench.new in
         LineDone m map.now (Del name.now) result (moment d true) (moment e true) }
-    ensures held { let m = meanings K.damage K.contents K.rests K.room K.prices in
+    ensures held { let m = meanings K.damage K.contents K.rests K.room K.prices K.owes in
         IsHeld K.mounted_on K.stands m map.now (B.device bench.new) mirror.new }
     ensures banks { (B.device bench.new).banks ≡ (B.device bench.old).banks }
     ensures left { let d = B.device bench.old in let e = B.device bench.new in
@@ -102,14 +102,14 @@ pub fn change_setting<K: Priced, B: Bench, L: Ledger>(
 ) -> Answer
     requires map { IsMirrorMap K.serves map.now (B.device bench.old) }
     requires on { (B.device bench.old).is_on ≡ true }
-    requires held { let m = meanings K.damage K.contents K.rests K.room K.prices in
+    requires held { let m = meanings K.damage K.contents K.rests K.room K.prices K.owes in
         IsHeld K.mounted_on K.stands m map.now (B.device bench.old) mirror.old }
     requires short { length value.now ≤ limit_of map.now }
 
-    ensures done { let m = meanings K.damage K.contents K.rests K.room K.prices in
+    ensures done { let m = meanings K.damage K.contents K.rests K.room K.prices K.owes in
         let d = B.device bench.old in let e = B.device bench.new in
         LineDone m map.now (Set name.now value.now) result (moment d true) (moment e true) }
-    ensures held { let m = meanings K.damage K.contents K.rests K.room K.prices in
+    ensures held { let m = meanings K.damage K.contents K.rests K.room K.prices K.owes in
         IsHeld K.mounted_on K.stands m map.now (B.device bench.new) mirror.new }
     ensures banks { (B.device bench.new).banks ≡ (B.device bench.old).banks }
     ensures left { let d = B.device bench.old in let e = B.device bench.new in

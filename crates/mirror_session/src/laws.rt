@@ -43,7 +43,7 @@ pub fn two_runs()
 /// are as the answers report, and no byte changes outside the areas of the map.
 pub fn line_by_line<K: Priced>()
     ensures { (areas : List area_type)
-        → LinesMakeRuns (meanings K.damage K.contents K.rests K.room K.prices) areas }
+        → LinesMakeRuns (meanings K.damage K.contents K.rests K.room K.prices K.owes) areas }
 {}
 
 /// The lines of a script have values within the limit with which the script was read.

@@ -33,16 +33,16 @@ pub(crate) fn mount<K: Priced, B: Bench, L: Ledger>(
 ) -> Result<Mounted<K>, SessionFault>
     requires map { IsMirrorMap K.serves map.now (B.device bench.old) }
 
-    ensures done { let m = meanings K.damage K.contents K.rests K.room K.prices in
+    ensures done { let m = meanings K.damage K.contents K.rests K.room K.prices K.owes in
         let d = B.device bench.old in let e = B.device bench.new in
         IfOk result
         (λ mounted. (was : Bool)
         → LineDone m map.now Mount mounted.answer (moment d was)
         (moment e (is_some mounted.mirror))) }
-    ensures ready { let m = meanings K.damage K.contents K.rests K.room K.prices in
+    ensures ready { let m = meanings K.damage K.contents K.rests K.room K.prices K.owes in
         IfOk result
         (λ mounted. IsReady K.mounted_on K.stands m map.now (B.device bench.new) mounted.mirror) }
-    ensures stops { let m = meanings K.damage K.contents K.rests K.room K.prices in
+    ensures stops { let m = meanings K.damage K.contents K.rests K.room K.prices K.owes in
         IfErr result
         (λ fault. (was : Bool)
         → LineStops m map.now Mount (moment (B.device bench.old) was) (B.device bench.new) fault) }

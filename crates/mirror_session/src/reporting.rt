@@ -31,9 +31,9 @@ pub fn get_setting<K: Priced, B: Bench, L: Ledger>(
 ) -> Result<Answer, NoMemory>
     requires map { IsMirrorMap K.serves map.now (B.device bench.now) }
     requires on { (B.device bench.now).is_on ≡ true }
-    requires held { let m = meanings K.damage K.contents K.rests K.room K.prices in
+    requires held { let m = meanings K.damage K.contents K.rests K.room K.prices K.owes in
         IsHeld K.mounted_on K.stands m map.now (B.device bench.now) mirror.now }
-    ensures { let m = meanings K.damage K.contents K.rests K.room K.prices in
+    ensures { let m = meanings K.damage K.contents K.rests K.room K.prices K.owes in
         let d = B.device bench.now in
         IfOk result
         (λ answer. LineDone m map.now (Get name.now) answer (moment d true) (moment d true)) }
@@ -94,9 +94,9 @@ pub fn report_all<K: Priced, B: Bench, L: Ledger>(
 ) -> Result<Answer, NoMemory>
     requires map { IsMirrorMap K.serves map.now (B.device bench.now) }
     requires on { (B.device bench.now).is_on ≡ true }
-    requires held { let m = meanings K.damage K.contents K.rests K.room K.prices in
+    requires held { let m = meanings K.damage K.contents K.rests K.room K.prices K.owes in
         IsHeld K.mounted_on K.stands m map.now (B.device bench.now) mirror.now }
-    ensures { let m = meanings K.damage K.contents K.rests K.room K.prices in
+    ensures { let m = meanings K.damage K.contents K.rests K.room K.prices K.owes in
         let d = B.device bench.now in
         IfOk result (λ answer. LineDone m map.now Names answer (moment d true) (moment d true)) }
 {

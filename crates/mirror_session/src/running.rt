@@ -47,11 +47,11 @@ pub fn run_lines<K: Priced, B: Bench, L: Ledger>(
 ) -> Result<Answers, SessionFault>
     requires map { IsMirrorMap K.serves map.now (B.device bench.old) }
     requires lines { All (IsServed (limit_of map.now)) lines.now }
-    ensures ends { let m = meanings K.damage K.contents K.rests K.room K.prices in
+    ensures ends { let m = meanings K.damage K.contents K.rests K.room K.prices K.owes in
         RunEnds m map.now (Mount ∷ lines.now) (moment (B.device bench.old) false)
         (B.device bench.new) result }
     ensures texts { AreLabelled map.now → IfOk result (λ answers. All CanReport answers) }
-    ensures boots { let m = meanings K.damage K.contents K.rests K.room K.prices in
+    ensures boots { let m = meanings K.damage K.contents K.rests K.room K.prices K.owes in
         let d = B.device bench.old in let e = B.device bench.new in let areas = map.now in
         let limit = greatest_boot K.boot_units d.banks areas in
         (due most : ℕ) → 1 ≤ due → limit ≤ most

@@ -44,7 +44,7 @@ texts answers = flat_map text_of answers
 
 -- what the bytes of areas mean to the store of their role
 abbrev pub any_meanings : Meanings
-any_meanings = meanings any_damage any_contents any_rests any_room mirror_prices
+any_meanings = meanings any_damage any_contents any_rests any_room mirror_prices any_owes
 
 -- ---- how an image reads
 

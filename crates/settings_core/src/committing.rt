@@ -6,7 +6,7 @@ ghost use Rattle.settings_core.specs.Committing.{is_under, commit_all};
 use crate::placed::PlacedHandlers;
 use setting_name::Name;
 
-/// Commits, in the order of registration, each handler whose own subtree matches the given one.
+/// Commits once each handler whose own subtree matches the given one, and no other.
 /// With no subtree given, it commits all.
 pub fn commit<H: PlacedHandlers>(registry: &mut H, subtree: Option<&Name>)
     ensures { H.placed registry.new

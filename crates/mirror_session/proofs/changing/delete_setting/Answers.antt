@@ -14,7 +14,7 @@ use Rattle.mirror_session.proofs.changing.delete_setting.Goals as goal
 pub returns-in-Ok-clause-done : goal.returns-in-Ok-clause-done
 returns-in-Ok-clause-done g c =
     let K = g.K.Backend in
-    let m = meanings K.damage K.contents K.rests K.room g.K.Priced.prices in
+    let m = meanings K.damage K.contents K.rests K.room g.K.Priced.prices K.owes in
     let old = g.B.Flash.device c.args.bench.now in
     let new = g.B.Flash.device c.delete-end.new.flash in
     let lawful = g.met.B.Flash.is_lawful c.args.bench.now in
@@ -27,7 +27,7 @@ returns-in-Ok-clause-done g c =
 pub returns-in-Err-clause-done : goal.returns-in-Err-clause-done
 returns-in-Err-clause-done g c =
     let K = g.K.Backend in
-    let m = meanings K.damage K.contents K.rests K.room g.K.Priced.prices in
+    let m = meanings K.damage K.contents K.rests K.room g.K.Priced.prices K.owes in
     let old = g.B.Flash.device c.args.bench.now in
     let new = g.B.Flash.device c.delete-end.new.flash in
     let lawful = g.met.B.Flash.is_lawful c.args.bench.now in
@@ -38,7 +38,7 @@ returns-in-Err-clause-done g c =
 pub returns-in-Ok-clause-held : goal.returns-in-Ok-clause-held
 returns-in-Ok-clause-held g c =
     let K = g.K.Backend in
-    let m = meanings K.damage K.contents K.rests K.room g.K.Priced.prices in
+    let m = meanings K.damage K.contents K.rests K.room g.K.Priced.prices K.owes in
     let old = g.B.Flash.device c.args.bench.now in
     let new = g.B.Flash.device c.delete-end.new.flash in
     let lawful = g.met.B.Flash.is_lawful c.args.bench.now in
@@ -52,7 +52,7 @@ returns-in-Ok-clause-held g c =
 pub returns-in-Err-clause-held : goal.returns-in-Err-clause-held
 returns-in-Err-clause-held g c =
     let K = g.K.Backend in
-    let m = meanings K.damage K.contents K.rests K.room g.K.Priced.prices in
+    let m = meanings K.damage K.contents K.rests K.room g.K.Priced.prices K.owes in
     let old = g.B.Flash.device c.args.bench.now in
     let new = g.B.Flash.device c.delete-end.new.flash in
     let lawful = g.met.B.Flash.is_lawful c.args.bench.now in
@@ -64,7 +64,7 @@ returns-in-Err-clause-held g c =
 pub returns-in-Ok-clause-left : goal.returns-in-Ok-clause-left
 returns-in-Ok-clause-left g c =
     let K = g.K.Backend in
-    let m = meanings K.damage K.contents K.rests K.room g.K.Priced.prices in
+    let m = meanings K.damage K.contents K.rests K.room g.K.Priced.prices K.owes in
     let old = g.B.Flash.device c.args.bench.now in
     let new = g.B.Flash.device c.delete-end.new.flash in
     let banks = c.delete-end.ensures.touches.banks in
@@ -74,7 +74,7 @@ returns-in-Ok-clause-left g c =
 pub returns-in-Err-clause-left : goal.returns-in-Err-clause-left
 returns-in-Err-clause-left g c =
     let K = g.K.Backend in
-    let m = meanings K.damage K.contents K.rests K.room g.K.Priced.prices in
+    let m = meanings K.damage K.contents K.rests K.room g.K.Priced.prices K.owes in
     let old = g.B.Flash.device c.args.bench.now in
     let new = g.B.Flash.device c.delete-end.new.flash in
     let banks = c.delete-end.ensures.touches.banks in

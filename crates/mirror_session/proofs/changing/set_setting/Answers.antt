@@ -23,13 +23,13 @@ use Rattle.mirror_session.proofs.changing.set_setting.Goals as goal
 pub set-end-requires-clause-short : goal.set-end-requires-clause-short
 set-end-requires-clause-short g c =
     let K = g.K.Backend in
-    let m = meanings K.damage K.contents K.rests K.room g.K.Priced.prices in
+    let m = meanings K.damage K.contents K.rests K.room g.K.Priced.prices K.owes in
     rw (c.as_slice.ensures) (subst (λ (n : ℕ). length c.args.value.now ≤ n) (sym (limit_is K.mounted_on K.stands m K.serves c.args.map.now (g.B.Flash.device c.args.bench.now) c.args.mirror.now c.requires.map c.requires.held)) c.requires.short)
 
 pub returns-in-Ok-clause-done : goal.returns-in-Ok-clause-done
 returns-in-Ok-clause-done g c =
     let K = g.K.Backend in
-    let m = meanings K.damage K.contents K.rests K.room g.K.Priced.prices in
+    let m = meanings K.damage K.contents K.rests K.room g.K.Priced.prices K.owes in
     let old = g.B.Flash.device c.args.bench.now in
     let new = g.B.Flash.device c.set-end.new.flash in
     let lawful = g.met.B.Flash.is_lawful c.args.bench.now in
@@ -43,7 +43,7 @@ returns-in-Ok-clause-done g c =
 pub returns-in-Err-NoSpace-clause-done : goal.returns-in-Err-NoSpace-clause-done
 returns-in-Err-NoSpace-clause-done g c =
     let K = g.K.Backend in
-    let m = meanings K.damage K.contents K.rests K.room g.K.Priced.prices in
+    let m = meanings K.damage K.contents K.rests K.room g.K.Priced.prices K.owes in
     let old = g.B.Flash.device c.args.bench.now in
     let new = g.B.Flash.device c.set-end.new.flash in
     let lawful = g.met.B.Flash.is_lawful c.args.bench.now in
@@ -57,7 +57,7 @@ returns-in-Err-NoSpace-clause-done g c =
 pub returns-in-Err-TooManyNames-clause-done : goal.returns-in-Err-TooManyNames-clause-done
 returns-in-Err-TooManyNames-clause-done g c =
     let K = g.K.Backend in
-    let m = meanings K.damage K.contents K.rests K.room g.K.Priced.prices in
+    let m = meanings K.damage K.contents K.rests K.room g.K.Priced.prices K.owes in
     let old = g.B.Flash.device c.args.bench.now in
     let new = g.B.Flash.device c.set-end.new.flash in
     let lawful = g.met.B.Flash.is_lawful c.args.bench.now in
@@ -71,7 +71,7 @@ returns-in-Err-TooManyNames-clause-done g c =
 pub returns-in-Err-PowerLost-clause-done : goal.returns-in-Err-PowerLost-clause-done
 returns-in-Err-PowerLost-clause-done g c =
     let K = g.K.Backend in
-    let m = meanings K.damage K.contents K.rests K.room g.K.Priced.prices in
+    let m = meanings K.damage K.contents K.rests K.room g.K.Priced.prices K.owes in
     let old = g.B.Flash.device c.args.bench.now in
     let new = g.B.Flash.device c.set-end.new.flash in
     let lawful = g.met.B.Flash.is_lawful c.args.bench.now in
@@ -85,7 +85,7 @@ returns-in-Err-PowerLost-clause-done g c =
 pub returns-in-Ok-clause-held : goal.returns-in-Ok-clause-held
 returns-in-Ok-clause-held g c =
     let K = g.K.Backend in
-    let m = meanings K.damage K.contents K.rests K.room g.K.Priced.prices in
+    let m = meanings K.damage K.contents K.rests K.room g.K.Priced.prices K.owes in
     let old = g.B.Flash.device c.args.bench.now in
     let new = g.B.Flash.device c.set-end.new.flash in
     let lawful = g.met.B.Flash.is_lawful c.args.bench.now in
@@ -101,7 +101,7 @@ returns-in-Ok-clause-held g c =
 pub returns-in-Err-NoSpace-clause-held : goal.returns-in-Err-NoSpace-clause-held
 returns-in-Err-NoSpace-clause-held g c =
     let K = g.K.Backend in
-    let m = meanings K.damage K.contents K.rests K.room g.K.Priced.prices in
+    let m = meanings K.damage K.contents K.rests K.room g.K.Priced.prices K.owes in
     let old = g.B.Flash.device c.args.bench.now in
     let new = g.B.Flash.device c.set-end.new.flash in
     let lawful = g.met.B.Flash.is_lawful c.args.bench.now in
@@ -118,7 +118,7 @@ returns-in-Err-NoSpace-clause-held g c =
 pub returns-in-Err-TooManyNames-clause-held : goal.returns-in-Err-TooManyNames-clause-held
 returns-in-Err-TooManyNames-clause-held g c =
     let K = g.K.Backend in
-    let m = meanings K.damage K.contents K.rests K.room g.K.Priced.prices in
+    let m = meanings K.damage K.contents K.rests K.room g.K.Priced.prices K.owes in
     let old = g.B.Flash.device c.args.bench.now in
     let new = g.B.Flash.device c.set-end.new.flash in
     let lawful = g.met.B.Flash.is_lawful c.args.bench.now in
@@ -135,7 +135,7 @@ returns-in-Err-TooManyNames-clause-held g c =
 pub returns-in-Err-PowerLost-clause-held : goal.returns-in-Err-PowerLost-clause-held
 returns-in-Err-PowerLost-clause-held g c =
     let K = g.K.Backend in
-    let m = meanings K.damage K.contents K.rests K.room g.K.Priced.prices in
+    let m = meanings K.damage K.contents K.rests K.room g.K.Priced.prices K.owes in
     let old = g.B.Flash.device c.args.bench.now in
     let new = g.B.Flash.device c.set-end.new.flash in
     let lawful = g.met.B.Flash.is_lawful c.args.bench.now in
@@ -150,7 +150,7 @@ returns-in-Err-PowerLost-clause-held g c =
 pub returns-in-Ok-clause-left : goal.returns-in-Ok-clause-left
 returns-in-Ok-clause-left g c =
     let K = g.K.Backend in
-    let m = meanings K.damage K.contents K.rests K.room g.K.Priced.prices in
+    let m = meanings K.damage K.contents K.rests K.room g.K.Priced.prices K.owes in
     let old = g.B.Flash.device c.args.bench.now in
     let new = g.B.Flash.device c.set-end.new.flash in
     let banks = c.set-end.ensures.touches.banks in
@@ -160,7 +160,7 @@ returns-in-Ok-clause-left g c =
 pub returns-in-Err-NoSpace-clause-left : goal.returns-in-Err-NoSpace-clause-left
 returns-in-Err-NoSpace-clause-left g c =
     let K = g.K.Backend in
-    let m = meanings K.damage K.contents K.rests K.room g.K.Priced.prices in
+    let m = meanings K.damage K.contents K.rests K.room g.K.Priced.prices K.owes in
     let old = g.B.Flash.device c.args.bench.now in
     let new = g.B.Flash.device c.set-end.new.flash in
     let banks = c.set-end.ensures.touches.banks in
@@ -170,7 +170,7 @@ returns-in-Err-NoSpace-clause-left g c =
 pub returns-in-Err-TooManyNames-clause-left : goal.returns-in-Err-TooManyNames-clause-left
 returns-in-Err-TooManyNames-clause-left g c =
     let K = g.K.Backend in
-    let m = meanings K.damage K.contents K.rests K.room g.K.Priced.prices in
+    let m = meanings K.damage K.contents K.rests K.room g.K.Priced.prices K.owes in
     let old = g.B.Flash.device c.args.bench.now in
     let new = g.B.Flash.device c.set-end.new.flash in
     let banks = c.set-end.ensures.touches.banks in
@@ -180,7 +180,7 @@ returns-in-Err-TooManyNames-clause-left g c =
 pub returns-in-Err-PowerLost-clause-left : goal.returns-in-Err-PowerLost-clause-left
 returns-in-Err-PowerLost-clause-left g c =
     let K = g.K.Backend in
-    let m = meanings K.damage K.contents K.rests K.room g.K.Priced.prices in
+    let m = meanings K.damage K.contents K.rests K.room g.K.Priced.prices K.owes in
     let old = g.B.Flash.device c.args.bench.now in
     let new = g.B.Flash.device c.set-end.new.flash in
     let banks = c.set-end.ensures.touches.banks in

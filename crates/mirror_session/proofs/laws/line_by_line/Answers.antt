@@ -5,4 +5,4 @@ use Rattle.mirror_session.proofs.laws.line_by_line.Goals as goal
 pub returns : goal.returns
 returns g c =
     let K = g.K.Backend in
-    λ areas lines answers old new runs. runs_of (meanings K.damage K.contents K.rests K.room g.K.Priced.prices) areas lines answers old new runs
+    λ areas lines answers old new runs. runs_of (meanings K.damage K.contents K.rests K.room g.K.Priced.prices K.owes) areas lines answers old new runs

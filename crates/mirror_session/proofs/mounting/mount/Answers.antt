@@ -14,7 +14,7 @@ use Rattle.mirror_session.proofs.mounting.mount.Goals as goal
 pub returns-in-Ok-clause-done : goal.returns-in-Ok-clause-done
 returns-in-Ok-clause-done g c =
     let K = g.K.Backend in
-    let m = meanings K.damage K.contents K.rests K.room g.K.Priced.prices in
+    let m = meanings K.damage K.contents K.rests K.room g.K.Priced.prices K.owes in
     let old = g.B.Flash.device c.args.bench.now in
     let mid = g.B.Flash.device c.restore.new.self in
     let new = g.B.Flash.device c.mount-end.new.flash in
@@ -23,7 +23,7 @@ returns-in-Ok-clause-done g c =
 pub returns-in-Ok-clause-ready : goal.returns-in-Ok-clause-ready
 returns-in-Ok-clause-ready g c =
     let K = g.K.Backend in
-    let m = meanings K.damage K.contents K.rests K.room g.K.Priced.prices in
+    let m = meanings K.damage K.contents K.rests K.room g.K.Priced.prices K.owes in
     let old = g.B.Flash.device c.args.bench.now in
     let mid = g.B.Flash.device c.restore.new.self in
     let new = g.B.Flash.device c.mount-end.new.flash in
@@ -32,7 +32,7 @@ returns-in-Ok-clause-ready g c =
 pub returns-in-Err-PowerLost-clause-done : goal.returns-in-Err-PowerLost-clause-done
 returns-in-Err-PowerLost-clause-done g c =
     let K = g.K.Backend in
-    let m = meanings K.damage K.contents K.rests K.room g.K.Priced.prices in
+    let m = meanings K.damage K.contents K.rests K.room g.K.Priced.prices K.owes in
     let old = g.B.Flash.device c.args.bench.now in
     let mid = g.B.Flash.device c.restore.new.self in
     let new = g.B.Flash.device c.mount-end.new.flash in
@@ -50,40 +50,40 @@ returns-in-Err-PowerLost-clause-done g c =
 pub returns-in-Err-Damaged-clause-stops : goal.returns-in-Err-Damaged-clause-stops
 returns-in-Err-Damaged-clause-stops g c =
     let K = g.K.Backend in
-    let m = meanings K.damage K.contents K.rests K.room g.K.Priced.prices in
+    let m = meanings K.damage K.contents K.rests K.room g.K.Priced.prices K.owes in
     let old = g.B.Flash.device c.args.bench.now in
     let mid = g.B.Flash.device c.restore.new.self in
     let new = g.B.Flash.device c.mount-end.new.flash in
     let which : c.in-Err-Damaged.field-0 ≡ HasDamage c.in-Err-Damaged.area c.in-Err-Damaged.damage = rw c.in-Err-Damaged.is at c.in-Err-Damaged.field-0-is in
     let end : c.mount-end.result ≡ Err (HasDamage c.in-Err-Damaged.area c.in-Err-Damaged.damage) = c.in-Err-Damaged.is ∙ ap (λ (fault : MirrorMount). Err fault) which in
-    damaged_stops K.mounted_on K.stands m K.serves c.args.map.now old mid new c.requires.map c.restore.ensures c.mount-end.result c.mount-end.ensures.touches c.mount-end.ensures.ends c.mount-end.ensures.trusted c.mount-end.ensures.keeps c.mount-end.ensures.idle c.mount-end.ensures.copy c.mount-end.ensures.at_most c.in-Err-Damaged.area c.in-Err-Damaged.damage end
+    damaged_stops K.mounted_on K.stands m K.serves c.args.map.now old mid new c.requires.map c.restore.ensures c.mount-end.result c.mount-end.ensures.touches c.mount-end.ensures.ends c.mount-end.ensures.trusted c.mount-end.ensures.keeps c.mount-end.ensures.idle c.mount-end.ensures.copy c.mount-end.ensures.at_most c.mount-end.ensures.owes c.in-Err-Damaged.area c.in-Err-Damaged.damage end
 
 pub returns-in-Err-Unfit-clause-stops : goal.returns-in-Err-Unfit-clause-stops
 returns-in-Err-Unfit-clause-stops g c =
     let K = g.K.Backend in
-    let m = meanings K.damage K.contents K.rests K.room g.K.Priced.prices in
+    let m = meanings K.damage K.contents K.rests K.room g.K.Priced.prices K.owes in
     let old = g.B.Flash.device c.args.bench.now in
     let mid = g.B.Flash.device c.restore.new.self in
     let new = g.B.Flash.device c.mount-end.new.flash in
     let which : c.in-Err-Unfit.field-0 ≡ IsNotFit c.in-Err-Unfit.area = rw c.in-Err-Unfit.is at c.in-Err-Unfit.field-0-is in
     let end : c.mount-end.result ≡ Err (IsNotFit c.in-Err-Unfit.area) = c.in-Err-Unfit.is ∙ ap (λ (fault : MirrorMount). Err fault) which in
-    unfit_stops K.mounted_on K.stands m K.serves c.args.map.now old mid new c.requires.map c.restore.ensures c.mount-end.result c.mount-end.ensures.touches c.mount-end.ensures.ends c.mount-end.ensures.trusted c.mount-end.ensures.keeps c.mount-end.ensures.idle c.mount-end.ensures.copy c.mount-end.ensures.at_most c.in-Err-Unfit.area end
+    unfit_stops K.mounted_on K.stands m K.serves c.args.map.now old mid new c.requires.map c.restore.ensures c.mount-end.result c.mount-end.ensures.touches c.mount-end.ensures.ends c.mount-end.ensures.trusted c.mount-end.ensures.keeps c.mount-end.ensures.idle c.mount-end.ensures.copy c.mount-end.ensures.at_most c.mount-end.ensures.owes c.in-Err-Unfit.area end
 
 pub returns-in-Err-NoMemory-clause-stops : goal.returns-in-Err-NoMemory-clause-stops
 returns-in-Err-NoMemory-clause-stops g c =
     let K = g.K.Backend in
-    let m = meanings K.damage K.contents K.rests K.room g.K.Priced.prices in
+    let m = meanings K.damage K.contents K.rests K.room g.K.Priced.prices K.owes in
     let old = g.B.Flash.device c.args.bench.now in
     let mid = g.B.Flash.device c.restore.new.self in
     let new = g.B.Flash.device c.mount-end.new.flash in
     let which : c.in-Err-NoMemory.field-0 ≡ WantsMemory = rw c.in-Err-NoMemory.is at c.in-Err-NoMemory.field-0-is in
     let end : c.mount-end.result ≡ Err (WantsMemory) = c.in-Err-NoMemory.is ∙ ap (λ (fault : MirrorMount). Err fault) which in
-    memory_stops K.mounted_on K.stands m K.serves c.args.map.now old mid new c.requires.map c.restore.ensures c.mount-end.result c.mount-end.ensures.touches c.mount-end.ensures.ends c.mount-end.ensures.trusted c.mount-end.ensures.keeps c.mount-end.ensures.idle c.mount-end.ensures.copy c.mount-end.ensures.at_most end
+    memory_stops K.mounted_on K.stands m K.serves c.args.map.now old mid new c.requires.map c.restore.ensures c.mount-end.result c.mount-end.ensures.touches c.mount-end.ensures.ends c.mount-end.ensures.trusted c.mount-end.ensures.keeps c.mount-end.ensures.idle c.mount-end.ensures.copy c.mount-end.ensures.at_most c.mount-end.ensures.owes end
 
 pub returns-in-Ok-clause-banks : goal.returns-in-Ok-clause-banks
 returns-in-Ok-clause-banks g c =
     let K = g.K.Backend in
-    let m = meanings K.damage K.contents K.rests K.room g.K.Priced.prices in
+    let m = meanings K.damage K.contents K.rests K.room g.K.Priced.prices K.owes in
     let old = g.B.Flash.device c.args.bench.now in
     let mid = g.B.Flash.device c.restore.new.self in
     let new = g.B.Flash.device c.mount-end.new.flash in
@@ -92,7 +92,7 @@ returns-in-Ok-clause-banks g c =
 pub returns-in-Err-PowerLost-clause-banks : goal.returns-in-Err-PowerLost-clause-banks
 returns-in-Err-PowerLost-clause-banks g c =
     let K = g.K.Backend in
-    let m = meanings K.damage K.contents K.rests K.room g.K.Priced.prices in
+    let m = meanings K.damage K.contents K.rests K.room g.K.Priced.prices K.owes in
     let old = g.B.Flash.device c.args.bench.now in
     let mid = g.B.Flash.device c.restore.new.self in
     let new = g.B.Flash.device c.mount-end.new.flash in
@@ -101,7 +101,7 @@ returns-in-Err-PowerLost-clause-banks g c =
 pub returns-in-Err-Damaged-clause-banks : goal.returns-in-Err-Damaged-clause-banks
 returns-in-Err-Damaged-clause-banks g c =
     let K = g.K.Backend in
-    let m = meanings K.damage K.contents K.rests K.room g.K.Priced.prices in
+    let m = meanings K.damage K.contents K.rests K.room g.K.Priced.prices K.owes in
     let old = g.B.Flash.device c.args.bench.now in
     let mid = g.B.Flash.device c.restore.new.self in
     let new = g.B.Flash.device c.mount-end.new.flash in
@@ -110,7 +110,7 @@ returns-in-Err-Damaged-clause-banks g c =
 pub returns-in-Err-Unfit-clause-banks : goal.returns-in-Err-Unfit-clause-banks
 returns-in-Err-Unfit-clause-banks g c =
     let K = g.K.Backend in
-    let m = meanings K.damage K.contents K.rests K.room g.K.Priced.prices in
+    let m = meanings K.damage K.contents K.rests K.room g.K.Priced.prices K.owes in
     let old = g.B.Flash.device c.args.bench.now in
     let mid = g.B.Flash.device c.restore.new.self in
     let new = g.B.Flash.device c.mount-end.new.flash in
@@ -119,7 +119,7 @@ returns-in-Err-Unfit-clause-banks g c =
 pub returns-in-Err-NoMemory-clause-banks : goal.returns-in-Err-NoMemory-clause-banks
 returns-in-Err-NoMemory-clause-banks g c =
     let K = g.K.Backend in
-    let m = meanings K.damage K.contents K.rests K.room g.K.Priced.prices in
+    let m = meanings K.damage K.contents K.rests K.room g.K.Priced.prices K.owes in
     let old = g.B.Flash.device c.args.bench.now in
     let mid = g.B.Flash.device c.restore.new.self in
     let new = g.B.Flash.device c.mount-end.new.flash in
@@ -128,7 +128,7 @@ returns-in-Err-NoMemory-clause-banks g c =
 pub overflow_sub-units : goal.overflow_sub-units
 overflow_sub-units g c =
     let K = g.K.Backend in
-    let m = meanings K.damage K.contents K.rests K.room g.K.Priced.prices in
+    let m = meanings K.damage K.contents K.rests K.room g.K.Priced.prices K.owes in
     let old = g.B.Flash.device c.args.bench.now in
     let mid = g.B.Flash.device c.restore.new.self in
     let new = g.B.Flash.device c.mount-end.new.flash in
@@ -138,7 +138,7 @@ overflow_sub-units g c =
 pub returns-in-Ok-clause-boots : goal.returns-in-Ok-clause-boots
 returns-in-Ok-clause-boots g c =
     let K = g.K.Backend in
-    let m = meanings K.damage K.contents K.rests K.room g.K.Priced.prices in
+    let m = meanings K.damage K.contents K.rests K.room g.K.Priced.prices K.owes in
     let old = g.B.Flash.device c.args.bench.now in
     let mid = g.B.Flash.device c.restore.new.self in
     let new = g.B.Flash.device c.mount-end.new.flash in
@@ -147,7 +147,7 @@ returns-in-Ok-clause-boots g c =
 pub returns-in-Err-PowerLost-clause-boots : goal.returns-in-Err-PowerLost-clause-boots
 returns-in-Err-PowerLost-clause-boots g c =
     let K = g.K.Backend in
-    let m = meanings K.damage K.contents K.rests K.room g.K.Priced.prices in
+    let m = meanings K.damage K.contents K.rests K.room g.K.Priced.prices K.owes in
     let old = g.B.Flash.device c.args.bench.now in
     let mid = g.B.Flash.device c.restore.new.self in
     let new = g.B.Flash.device c.mount-end.new.flash in
@@ -156,7 +156,7 @@ returns-in-Err-PowerLost-clause-boots g c =
 pub returns-in-Ok-clause-left : goal.returns-in-Ok-clause-left
 returns-in-Ok-clause-left g c =
     let K = g.K.Backend in
-    let m = meanings K.damage K.contents K.rests K.room g.K.Priced.prices in
+    let m = meanings K.damage K.contents K.rests K.room g.K.Priced.prices K.owes in
     let old = g.B.Flash.device c.args.bench.now in
     let mid = g.B.Flash.device c.restore.new.self in
     let new = g.B.Flash.device c.mount-end.new.flash in
@@ -169,7 +169,7 @@ returns-in-Ok-clause-left g c =
 pub returns-in-Err-PowerLost-clause-left : goal.returns-in-Err-PowerLost-clause-left
 returns-in-Err-PowerLost-clause-left g c =
     let K = g.K.Backend in
-    let m = meanings K.damage K.contents K.rests K.room g.K.Priced.prices in
+    let m = meanings K.damage K.contents K.rests K.room g.K.Priced.prices K.owes in
     let old = g.B.Flash.device c.args.bench.now in
     let mid = g.B.Flash.device c.restore.new.self in
     let new = g.B.Flash.device c.mount-end.new.flash in
@@ -178,7 +178,7 @@ returns-in-Err-PowerLost-clause-left g c =
 pub returns-in-Ok-clause-kept : goal.returns-in-Ok-clause-kept
 returns-in-Ok-clause-kept g c =
     let K = g.K.Backend in
-    let m = meanings K.damage K.contents K.rests K.room g.K.Priced.prices in
+    let m = meanings K.damage K.contents K.rests K.room g.K.Priced.prices K.owes in
     let old = g.B.Flash.device c.args.bench.now in
     let mid = g.B.Flash.device c.restore.new.self in
     let new = g.B.Flash.device c.mount-end.new.flash in
@@ -187,7 +187,7 @@ returns-in-Ok-clause-kept g c =
 pub returns-in-Err-PowerLost-clause-kept : goal.returns-in-Err-PowerLost-clause-kept
 returns-in-Err-PowerLost-clause-kept g c =
     let K = g.K.Backend in
-    let m = meanings K.damage K.contents K.rests K.room g.K.Priced.prices in
+    let m = meanings K.damage K.contents K.rests K.room g.K.Priced.prices K.owes in
     let old = g.B.Flash.device c.args.bench.now in
     let mid = g.B.Flash.device c.restore.new.self in
     let new = g.B.Flash.device c.mount-end.new.flash in
@@ -196,7 +196,7 @@ returns-in-Err-PowerLost-clause-kept g c =
 pub returns-in-Err-Damaged-clause-kept : goal.returns-in-Err-Damaged-clause-kept
 returns-in-Err-Damaged-clause-kept g c =
     let K = g.K.Backend in
-    let m = meanings K.damage K.contents K.rests K.room g.K.Priced.prices in
+    let m = meanings K.damage K.contents K.rests K.room g.K.Priced.prices K.owes in
     let old = g.B.Flash.device c.args.bench.now in
     let mid = g.B.Flash.device c.restore.new.self in
     let new = g.B.Flash.device c.mount-end.new.flash in
@@ -205,7 +205,7 @@ returns-in-Err-Damaged-clause-kept g c =
 pub returns-in-Err-Unfit-clause-kept : goal.returns-in-Err-Unfit-clause-kept
 returns-in-Err-Unfit-clause-kept g c =
     let K = g.K.Backend in
-    let m = meanings K.damage K.contents K.rests K.room g.K.Priced.prices in
+    let m = meanings K.damage K.contents K.rests K.room g.K.Priced.prices K.owes in
     let old = g.B.Flash.device c.args.bench.now in
     let mid = g.B.Flash.device c.restore.new.self in
     let new = g.B.Flash.device c.mount-end.new.flash in
@@ -214,7 +214,7 @@ returns-in-Err-Unfit-clause-kept g c =
 pub returns-in-Err-NoMemory-clause-kept : goal.returns-in-Err-NoMemory-clause-kept
 returns-in-Err-NoMemory-clause-kept g c =
     let K = g.K.Backend in
-    let m = meanings K.damage K.contents K.rests K.room g.K.Priced.prices in
+    let m = meanings K.damage K.contents K.rests K.room g.K.Priced.prices K.owes in
     let old = g.B.Flash.device c.args.bench.now in
     let mid = g.B.Flash.device c.restore.new.self in
     let new = g.B.Flash.device c.mount-end.new.flash in

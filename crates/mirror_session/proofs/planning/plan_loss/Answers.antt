@@ -4,4 +4,4 @@ use Rattle.mirror_session.proofs.planning.plan_loss.Goals as goal
 
 pub returns-clause-done : goal.returns-clause-done
 returns-clause-done g c = λ whole.
-    rw (c.done.ensures) (planned (meanings g.K.Backend.damage g.K.Backend.contents g.K.Backend.rests g.K.Backend.room g.K.Priced.prices) c.args.map.now (g.B.Flash.device c.args.bench.now) (g.B.Flash.device c.arm.new.self) c.args.units c.arm.ensures whole)
+    rw (c.done.ensures) (planned (meanings g.K.Backend.damage g.K.Backend.contents g.K.Backend.rests g.K.Backend.room g.K.Priced.prices g.K.Backend.owes) c.args.map.now (g.B.Flash.device c.args.bench.now) (g.B.Flash.device c.arm.new.self) c.args.units c.arm.ensures whole)

@@ -11,7 +11,7 @@ use Rattle.mirror_session.proofs.reporting.get_setting.Goals as goal
 pub returns-in_ok-value-in-Some : goal.returns-in_ok-value-in-Some
 returns-in_ok-value-in-Some g c =
     let K = g.K.Backend in
-    let m = meanings K.damage K.contents K.rests K.room g.K.Priced.prices in
+    let m = meanings K.damage K.contents K.rests K.room g.K.Priced.prices K.owes in
     let d = g.B.Flash.device c.args.bench.now in
     let stored : IsStored (on K.contents d c.args.mirror.now.trusted.area) c.args.name.now c.in_ok-value-in-Some.value = search rules in
     found m c.args.map.now d c.args.name.now c.in_ok-value-in-Some.value c.requires.on
@@ -20,7 +20,7 @@ returns-in_ok-value-in-Some g c =
 pub returns-in-None : goal.returns-in-None
 returns-in-None g c =
     let K = g.K.Backend in
-    let m = meanings K.damage K.contents K.rests K.room g.K.Priced.prices in
+    let m = meanings K.damage K.contents K.rests K.room g.K.Priced.prices K.owes in
     let d = g.B.Flash.device c.args.bench.now in
     let absent : IsAbsent (on K.contents d c.args.mirror.now.trusted.area) c.args.name.now = search rules in
     missing m c.args.map.now d c.args.name.now c.requires.on

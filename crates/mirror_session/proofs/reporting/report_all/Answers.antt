@@ -16,14 +16,14 @@ use Rattle.mirror_session.proofs.reporting.report_all.Goals as goal
 pub area_at-area-requires : goal.area_at-area-requires
 area_at-area-requires g c =
     let K = g.K.Backend in
-    let m = meanings K.damage K.contents K.rests K.room g.K.Priced.prices in
+    let m = meanings K.damage K.contents K.rests K.room g.K.Priced.prices K.owes in
     let at = at_here K.mounted_on K.stands m K.serves c.args.map.now (g.B.Flash.device c.args.bench.now) c.args.mirror.now c.requires.map c.requires.held in
     subst (λ (n : ℕ). n < length c.args.map.now) (sym c.trusted.ensures) (store-within c.args.map.now c.args.mirror.now.trusted.place at)
 
 pub returns : goal.returns
 returns g c =
     let K = g.K.Backend in
-    let m = meanings K.damage K.contents K.rests K.room g.K.Priced.prices in
+    let m = meanings K.damage K.contents K.rests K.room g.K.Priced.prices K.owes in
     let d = g.B.Flash.device c.args.bench.now in
     let place : c.trusted.result ≡ active_on c.args.map.now d = c.trusted.ensures ∙ c.requires.held.named in
     let area : c.area_at-area.result ≡ area_at c.args.map.now (active_on c.args.map.now d) =

@@ -7,7 +7,7 @@ use Rattle.mirror_session.specs.declared.line.Line.{Line}
 use Rattle.mirror_session.specs.declared.line.Line.TheVariants.{Set, Get, Del, Names, Mount, Cut, Uncut, Blank}
 use Rattle.mirror_session.specs.Bench.{Meanings, Moment, meanings, moment, state_of}
 use Rattle.mirror_session.specs.LineDone.{LineDone}
-use Rattle.mirror_session.specs.Running.{BeginsLine, LineStops, takes_memory}
+use Rattle.mirror_session.specs.Running.{BeginsLine, FindsArea, LineStops, takes_memory}
 use Rattle.mirror_session.specs.State.{IsOn}
 use Rattle.mirror_session.specs.Step.{needs_power}
 use Rattle.session.specs.Owing.{greatest_boot}
@@ -28,11 +28,11 @@ others_need (Blank label) mount cut uncut blank = absurd (blank label refl)
 
 -- memory was wanting in a line that needs power, and nothing changed
 begins : (m : Meanings) (areas : List Area) (line : Line) (old : Moment) (new : Device) → needs_power line ≡ true → IsOn (state_of m areas old) → takes_memory line ≡ true → new ≡ old.device
-    → (takes_memory line ≡ true) × (needs_power line ≡ true → IsOn (state_of m areas old)) × BeginsLine m areas line old.device new
-begins m areas (Set name value) old new needs powered takes same = (takes, λ needed. powered, same)
-begins m areas (Get name) old new needs powered takes same = (takes, λ needed. powered, same)
-begins m areas (Del name) old new needs powered takes same = (takes, λ needed. powered, same)
-begins m areas Names old new needs powered takes same = (takes, λ needed. powered, same)
+    → (takes_memory line ≡ true) × (needs_power line ≡ true → IsOn (state_of m areas old)) × FindsArea areas line old × BeginsLine m areas line old.device new
+begins m areas (Set name value) old new needs powered takes same = (takes, λ needed. powered, tt, same)
+begins m areas (Get name) old new needs powered takes same = (takes, λ needed. powered, tt, same)
+begins m areas (Del name) old new needs powered takes same = (takes, λ needed. powered, tt, same)
+begins m areas Names old new needs powered takes same = (takes, λ needed. powered, tt, same)
 begins m areas Mount old new needs powered takes same = absurd (false≢true needs)
 begins m areas (Cut units) old new needs powered takes same = absurd (false≢true needs)
 begins m areas Uncut old new needs powered takes same = absurd (false≢true needs)
@@ -41,14 +41,14 @@ begins m areas (Blank label) old new needs powered takes same = absurd (false≢
 pub returns-in-Cut-clause-done : goal.returns-in-Cut-clause-done
 returns-in-Cut-clause-done g c =
     let K = g.K.Backend in
-    let m = meanings K.damage K.contents K.rests K.room g.K.Priced.prices in
+    let m = meanings K.damage K.contents K.rests K.room g.K.Priced.prices K.owes in
     let whole = is_some c.args.self.now.mirror in
     subst (λ (line : Line). LineDone m c.args.map.now line c.plan_loss.result (moment (g.B.Flash.device c.args.bench.now) whole) (moment (g.B.Flash.device c.plan_loss.new.bench) whole)) (sym c.in-Cut.is) (c.plan_loss.ensures.done whole)
 
 pub returns-in-Uncut-clause-done : goal.returns-in-Uncut-clause-done
 returns-in-Uncut-clause-done g c =
     let K = g.K.Backend in
-    let m = meanings K.damage K.contents K.rests K.room g.K.Priced.prices in
+    let m = meanings K.damage K.contents K.rests K.room g.K.Priced.prices K.owes in
     let whole = is_some c.args.self.now.mirror in
     subst (λ (line : Line). LineDone m c.args.map.now line c.drop_plan.result (moment (g.B.Flash.device c.args.bench.now) whole) (moment (g.B.Flash.device c.drop_plan.new.bench) whole)) (sym c.in-Uncut.is) (c.drop_plan.ensures.done whole)
 
@@ -58,7 +58,7 @@ on_mirror-requires-clause-needs g c = others_need c.args.line.now c.in_default.n
 pub returns-in-Err-on_mirror-clause-stops : goal.returns-in-Err-on_mirror-clause-stops
 returns-in-Err-on_mirror-clause-stops g c =
     let K = g.K.Backend in
-    begins (meanings K.damage K.contents K.rests K.room g.K.Priced.prices) c.args.map.now c.args.line.now (moment (g.B.Flash.device c.args.bench.now) (is_some c.args.self.now.mirror)) (g.B.Flash.device c.on_mirror.new.bench) (others_need c.args.line.now c.in_default.not-Mount c.in_default.not-Cut c.in_default.not-Uncut c.in_default.not-Blank) c.in-Err-on_mirror.ensures.on c.in-Err-on_mirror.ensures.takes c.in-Err-on_mirror.ensures.same
+    begins (meanings K.damage K.contents K.rests K.room g.K.Priced.prices K.owes) c.args.map.now c.args.line.now (moment (g.B.Flash.device c.args.bench.now) (is_some c.args.self.now.mirror)) (g.B.Flash.device c.on_mirror.new.bench) (others_need c.args.line.now c.in_default.not-Mount c.in_default.not-Cut c.in_default.not-Uncut c.in_default.not-Blank) c.in-Err-on_mirror.ensures.on c.in-Err-on_mirror.ensures.takes c.in-Err-on_mirror.ensures.same
 
 pub returns-in-Ok-on_mirror-clause-done : goal.returns-in-Ok-on_mirror-clause-done
 returns-in-Ok-on_mirror-clause-done g c = c.in-Ok-on_mirror.ensures.done
@@ -69,13 +69,13 @@ returns-in-Ok-on_mirror-clause-ready g c = c.in-Ok-on_mirror.ensures.ready
 pub returns-in-Err-clause-stops : goal.returns-in-Err-clause-stops
 returns-in-Err-clause-stops g c =
     let K = g.K.Backend in
-    let m = meanings K.damage K.contents K.rests K.room g.K.Priced.prices in
-    subst (λ (line : Line). (takes_memory line ≡ true) × (needs_power line ≡ true → IsOn (state_of m c.args.map.now (moment (g.B.Flash.device c.args.bench.now) (is_some c.args.self.now.mirror)))) × BeginsLine m c.args.map.now line (g.B.Flash.device c.args.bench.now) (g.B.Flash.device c.replace.new.bench)) (sym c.in-Blank.is) (refl, λ needs. absurd (false≢true needs), c.in-Err.ensures.same)
+    let m = meanings K.damage K.contents K.rests K.room g.K.Priced.prices K.owes in
+    subst (λ (line : Line). (takes_memory line ≡ true) × (needs_power line ≡ true → IsOn (state_of m c.args.map.now (moment (g.B.Flash.device c.args.bench.now) (is_some c.args.self.now.mirror)))) × FindsArea c.args.map.now line (moment (g.B.Flash.device c.args.bench.now) (is_some c.args.self.now.mirror)) × BeginsLine m c.args.map.now line (g.B.Flash.device c.args.bench.now) (g.B.Flash.device c.replace.new.bench)) (sym c.in-Blank.is) (refl, λ needs. absurd (false≢true needs), c.in-Err.ensures.finds, c.in-Err.ensures.same)
 
 pub returns-in-Ok-clause-done : goal.returns-in-Ok-clause-done
 returns-in-Ok-clause-done g c =
     let K = g.K.Backend in
-    let m = meanings K.damage K.contents K.rests K.room g.K.Priced.prices in
+    let m = meanings K.damage K.contents K.rests K.room g.K.Priced.prices K.owes in
     subst (λ (line : Line). LineDone m c.args.map.now line c.in-Ok.answer (moment (g.B.Flash.device c.args.bench.now) (is_some c.args.self.now.mirror)) (moment (g.B.Flash.device c.replace.new.bench) (is_some c.replace.new.self.mirror))) (sym c.in-Blank.is) c.in-Ok.ensures.done
 
 pub returns-in-Ok-clause-ready : goal.returns-in-Ok-clause-ready
@@ -84,7 +84,7 @@ returns-in-Ok-clause-ready g c = c.in-Ok.ensures.ready
 pub returns-in-Mount-clause-done : goal.returns-in-Mount-clause-done
 returns-in-Mount-clause-done g c =
     let K = g.K.Backend in
-    let m = meanings K.damage K.contents K.rests K.room g.K.Priced.prices in
+    let m = meanings K.damage K.contents K.rests K.room g.K.Priced.prices K.owes in
     subst (λ (line : Line). IfOk c.mount.result (λ answer. LineDone m c.args.map.now line answer (moment (g.B.Flash.device c.args.bench.now) (is_some c.args.self.now.mirror)) (moment (g.B.Flash.device c.mount.new.bench) (is_some c.mount.new.self.mirror)))) (sym c.in-Mount.is) c.mount.ensures.done
 
 pub returns-in-Mount-clause-ready : goal.returns-in-Mount-clause-ready
@@ -93,19 +93,19 @@ returns-in-Mount-clause-ready g c = c.mount.ensures.ready
 pub returns-in-Mount-clause-stops : goal.returns-in-Mount-clause-stops
 returns-in-Mount-clause-stops g c =
     let K = g.K.Backend in
-    let m = meanings K.damage K.contents K.rests K.room g.K.Priced.prices in
+    let m = meanings K.damage K.contents K.rests K.room g.K.Priced.prices K.owes in
     subst (λ (line : Line). IfErr c.mount.result (λ fault. LineStops m c.args.map.now line (moment (g.B.Flash.device c.args.bench.now) (is_some c.args.self.now.mirror)) (g.B.Flash.device c.mount.new.bench) fault)) (sym c.in-Mount.is) c.mount.ensures.stops
 
 pub returns-in-Cut-clause-ready : goal.returns-in-Cut-clause-ready
 returns-in-Cut-clause-ready g c =
     let K = g.K.Backend in
-    let m = meanings K.damage K.contents K.rests K.room g.K.Priced.prices in
+    let m = meanings K.damage K.contents K.rests K.room g.K.Priced.prices K.owes in
     ready_still K.mounted_on K.stands m c.args.map.now (g.B.Flash.device c.args.bench.now) (g.B.Flash.device c.plan_loss.new.bench) c.args.self.now.mirror c.plan_loss.ensures.same c.requires.ready
 
 pub returns-in-Uncut-clause-ready : goal.returns-in-Uncut-clause-ready
 returns-in-Uncut-clause-ready g c =
     let K = g.K.Backend in
-    let m = meanings K.damage K.contents K.rests K.room g.K.Priced.prices in
+    let m = meanings K.damage K.contents K.rests K.room g.K.Priced.prices K.owes in
     ready_still K.mounted_on K.stands m c.args.map.now (g.B.Flash.device c.args.bench.now) (g.B.Flash.device c.drop_plan.new.bench) c.args.self.now.mirror c.drop_plan.ensures.same c.requires.ready
 
 -- what is no mount reports nothing of one

@@ -15,7 +15,7 @@ use serde_json::{Map, Value};
 use std::alloc::{AllocError, Global};
 
 /// How a `save` ended.
-#[derive(Clone, Copy, Debug, PartialEq, Eq)]
+#[derive(Clone, Copy)]
 pub enum SaveEnd {
     /// All pairs were stored.
     Whole,
@@ -27,7 +27,7 @@ pub enum SaveEnd {
 }
 
 /// The answer to a line.
-#[derive(Debug, Drop)]
+#[derive(Drop)]
 pub enum Answer {
     /// The line was carried out. `units` counts units and erases.
     Done {

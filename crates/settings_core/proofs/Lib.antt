@@ -4,6 +4,7 @@ mod UnitLemmas
 mod CommitLemmas
 mod OfferLemmas
 pub mod ListedLemmas
+pub mod MountLemmas
 mod SeatLemmas
 mod GiveLemmas
 mod LoadLemmas

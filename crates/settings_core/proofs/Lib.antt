@@ -4,7 +4,6 @@ mod UnitLemmas
 mod CommitLemmas
 mod OfferLemmas
 pub mod ListedLemmas
-pub mod MountLemmas
 mod SeatLemmas
 mod GiveLemmas
 mod LoadLemmas

@@ -1,5 +1,4 @@
 use Rattle.flash_map.specs.Area.{geometry_of, sectors_of}
-use Rattle.settings_core.proofs.MountLemmas.{fault_ends, fault_touches}
 use Rattle.settings_core.proofs.settings.Settings.mount.Goals as goal
 
 pub mount-requires : goal.mount-requires
@@ -22,8 +21,8 @@ returns-in-Ok g c = record {
 
 pub returns-in-Err : goal.returns-in-Err
 returns-in-Err g c = record {
-  touches = fault_touches _ _ _ _ _ c.in-Err.fault c.in-Err.ensures.touches;
-  ends = fault_ends _ _ _ _ _ c.in-Err.fault c.in-Err.ensures.ends;
+  touches = c.in-Err.ensures.touches;
+  ends = c.in-Err.ensures.ends;
   sound = c.in-Err.ensures.sound;
   keeps = c.in-Err.ensures.keeps;
   rests = c.in-Err.ensures.rests;

@@ -19,33 +19,29 @@ newest_up_to-requires-clause-on g c =
     let d : Device = g.F.Flash.device c.args.flash.now in
     let area : Area = c.args.on.now.area.now in
     let k : SectorFormat = g.T.SlotSectors.format_of (geometry_of d area) in
-    let sectors : List (List ℕ) = sectors_of d area in
     let within = open_inside k d area c.args.on.now.current c.requires.on.area.lawful c.requires.on.current in
     record { area = c.requires.on.area; kept = c.requires.on.kept; current = within; known = c.requires.on.known }
 
 pub newest_up_to-requires-clause-inside : goal.newest_up_to-requires-clause-inside
 newest_up_to-requires-clause-inside g c =
-    let d : Device = g.F.Flash.device c.args.flash.now in
-    let area : Area = c.args.on.now.area.now in
-    let k : SectorFormat = g.T.SlotSectors.format_of (geometry_of d area) in
-    let sectors : List (List ℕ) = sectors_of d area in
     rw c.in-Some.is at c.requires.inside
 
-pub slots-all-requires-clause-inside : goal.slots-all-requires-clause-inside
-slots-all-requires-clause-inside g c =
+pub slots-all-requires : goal.slots-all-requires
+slots-all-requires g c =
     let d : Device = g.F.Flash.device c.args.flash.now in
     let area : Area = c.args.on.now.area.now in
     let k : SectorFormat = g.T.SlotSectors.format_of (geometry_of d area) in
-    let sectors : List (List ℕ) = sectors_of d area in
     let within = open_inside k d area c.args.on.now.current c.requires.on.area.lawful c.requires.on.current in
-    within
+    record {
+      area = c.requires.on.area;
+      inside = within;
+    }
 
 pub newest_up_to-requires-in-None-clause-on : goal.newest_up_to-requires-in-None-clause-on
 newest_up_to-requires-in-None-clause-on g c =
     let d : Device = g.F.Flash.device c.args.flash.now in
     let area : Area = c.args.on.now.area.now in
     let k : SectorFormat = g.T.SlotSectors.format_of (geometry_of d area) in
-    let sectors : List (List ℕ) = sectors_of d area in
     let within = open_inside k d area c.args.on.now.current c.requires.on.area.lawful c.requires.on.current in
     record { area = c.requires.on.area; kept = c.requires.on.kept; current = within; known = c.requires.on.known }
 
@@ -54,12 +50,11 @@ newest_up_to-requires-in-None-clause-inside g c =
     let d : Device = g.F.Flash.device c.args.flash.now in
     let area : Area = c.args.on.now.area.now in
     let k : SectorFormat = g.T.SlotSectors.format_of (geometry_of d area) in
-    let sectors : List (List ℕ) = sectors_of d area in
     let within = open_inside k d area c.args.on.now.current c.requires.on.area.lawful c.requires.on.current in
     within
 
-pub returns-in-Some-clause-older : goal.returns-in-Some-clause-older
-returns-in-Some-clause-older g c =
+pub returns-in-Some : goal.returns-in-Some
+returns-in-Some g c =
     let d : Device = g.F.Flash.device c.args.flash.now in
     let area : Area = c.args.on.now.area.now in
     let k : SectorFormat = g.T.SlotSectors.format_of (geometry_of d area) in
@@ -70,11 +65,18 @@ returns-in-Some-clause-older g c =
     let inside : c.in-Some.sector < area.sectors = rw c.in-Some.is at c.requires.inside in
     let first = c.first_slot.ensures.value (geometry_of d area) in
     let limit : c.saturating_sub-limit.result ≡ c.in-Some.slot - k.first = c.saturating_sub-limit.ensures ∙ ap (λ (n : ℕ). c.in-Some.slot - n) first in
-    subst (λ (after : Option (ℕ × ℕ)). IsNextOlder (all_placed (slots k) sectors) after c.newest_up_to.result) (sym c.in-Some.is)
-    (walked-older k law sectors c.args.on.now.current c.in-Some.sector c.in-Some.slot c.saturating_sub-limit.result c.newest_up_to.result (sym c.requires.on.current) (omega arith) (omega arith) limit c.newest_up_to.ensures.last)
+    record {
+      older = subst (λ (after : Option (ℕ × ℕ)). IsNextOlder (all_placed (slots k) sectors) after c.newest_up_to.result) (sym c.in-Some.is)
+          (walked-older k law sectors c.args.on.now.current c.in-Some.sector c.in-Some.slot c.saturating_sub-limit.result c.newest_up_to.result (sym c.requires.on.current) (omega arith) (omega arith) limit c.newest_up_to.ensures.last);
+      before = subst (λ (after : Option (ℕ × ℕ)). IfSome after (λ place. c.newest_up_to.result ≡ newest_before k sectors place)) (sym c.in-Some.is)
+          (c.newest_up_to.ensures.last
+          ∙ ap (λ (p : ℕ). last_or None (placed_up_to (slots k) sectors p c.in-Some.sector c.saturating_sub-limit.result)) c.requires.on.current
+          ∙ ap (λ (n : ℕ). last_or None (placed_up_to (slots k) sectors (open_sector k.reading sectors) c.in-Some.sector n)) limit);
+      placed = c.newest_up_to.ensures.placed;
+    }
 
-pub returns-in-None-clause-older : goal.returns-in-None-clause-older
-returns-in-None-clause-older g c =
+pub returns-in-None : goal.returns-in-None
+returns-in-None g c =
     let d : Device = g.F.Flash.device c.args.flash.now in
     let area : Area = c.args.on.now.area.now in
     let k : SectorFormat = g.T.SlotSectors.format_of (geometry_of d area) in
@@ -82,26 +84,9 @@ returns-in-None-clause-older g c =
     let law : IsSectorFormat (g.T.SlotSectors.format_of (geometry_of d area)) = g.met.T.SlotSectors.lawful (geometry_of d area) (unit_is d area (g.met.F.Flash.is_lawful c.args.flash.now) c.requires.on.area.lawful) in
     let within = open_inside k d area c.args.on.now.current c.requires.on.area.lawful c.requires.on.current in
     let count = length-sectors d area in
-    subst (λ (after : Option (ℕ × ℕ)). IsNextOlder (all_placed (slots k) sectors) after c.newest_up_to-in-None.result) (sym c.in-None.is)
-    (walked-newest k law sectors c.args.on.now.current c.slots-all.result c.newest_up_to-in-None.result (sym c.requires.on.current) (omega arith) (omega (arith, c.slots-all.ensures.value)) c.newest_up_to-in-None.ensures.last)
-
-pub returns-in-Some-clause-before : goal.returns-in-Some-clause-before
-returns-in-Some-clause-before g c =
-    let d : Device = g.F.Flash.device c.args.flash.now in
-    let area : Area = c.args.on.now.area.now in
-    let k : SectorFormat = g.T.SlotSectors.format_of (geometry_of d area) in
-    let sectors : List (List ℕ) = sectors_of d area in
-    let first = c.first_slot.ensures.value (geometry_of d area) in
-    let limit : c.saturating_sub-limit.result ≡ c.in-Some.slot - k.first = c.saturating_sub-limit.ensures ∙ ap (λ (n : ℕ). c.in-Some.slot - n) first in
-    subst (λ (after : Option (ℕ × ℕ)). IfSome after (λ place. c.newest_up_to.result ≡ newest_before k sectors place)) (sym c.in-Some.is)
-    (c.newest_up_to.ensures.last
-    ∙ ap (λ (p : ℕ). last_or None (placed_up_to (slots k) sectors p c.in-Some.sector c.saturating_sub-limit.result)) c.requires.on.current
-    ∙ ap (λ (n : ℕ). last_or None (placed_up_to (slots k) sectors (open_sector k.reading sectors) c.in-Some.sector n)) limit)
-
-pub returns-in-None-clause-before : goal.returns-in-None-clause-before
-returns-in-None-clause-before g c =
-    let d : Device = g.F.Flash.device c.args.flash.now in
-    let area : Area = c.args.on.now.area.now in
-    let k : SectorFormat = g.T.SlotSectors.format_of (geometry_of d area) in
-    let sectors : List (List ℕ) = sectors_of d area in
-    subst (λ (after : Option (ℕ × ℕ)). IfSome after (λ place. c.newest_up_to-in-None.result ≡ newest_before k sectors place)) (sym c.in-None.is) tt
+    record {
+      older = subst (λ (after : Option (ℕ × ℕ)). IsNextOlder (all_placed (slots k) sectors) after c.newest_up_to-in-None.result) (sym c.in-None.is)
+          (walked-newest k law sectors c.args.on.now.current c.slots-all.result c.newest_up_to-in-None.result (sym c.requires.on.current) (omega arith) (omega (arith, c.slots-all.ensures.value)) c.newest_up_to-in-None.ensures.last);
+      before = subst (λ (after : Option (ℕ × ℕ)). IfSome after (λ place. c.newest_up_to-in-None.result ≡ newest_before k sectors place)) (sym c.in-None.is) tt;
+      placed = c.newest_up_to-in-None.ensures.placed;
+    }

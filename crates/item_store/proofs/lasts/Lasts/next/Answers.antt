@@ -23,6 +23,14 @@ next-oldest-requires g c =
     let k : SectorFormat = g.T.SlotSectors.format_of (geometry_of d area) in
     open_inside k d area c.args.on.now.current c.requires.on.area.lawful c.requires.on.current
 
+pub next_here-found-requires : goal.next_here-found-requires
+next_here-found-requires g c =
+    record {
+      area = c.requires.on.area;
+      current = c.requires.on.current;
+      at = c.requires.at;
+    }
+
 pub loop-found-init : goal.loop-found-init
 loop-found-init g c =
     let d : Device = g.F.Flash.device c.args.flash.now in
@@ -41,15 +49,25 @@ loop-found-init g c =
       most = here-most area.sectors c.args.on.now.current c.args.self.now c.next_here-found.new.self c.next_here-found.result here.place here.ends here.reads.fewer;
     }
 
-pub step_back-requires-clause-none_left : goal.step_back-requires-clause-none_left
-step_back-requires-clause-none_left g c =
-    c.loop-found.invariant.ends (not_some c.loop-found.found (c.is_none.ensures ∙ ap not c.loop-found-test.true))
-
-pub step_back-requires-clause-further : goal.step_back-requires-clause-further
-step_back-requires-clause-further g c =
+pub step_back-requires : goal.step_back-requires
+step_back-requires g c =
     let d : Device = g.F.Flash.device c.args.flash.now in
     let area : Area = c.args.on.now.area.now in
-    λ e. c.if-self-oldest.true (e ∙ sym (c.next-oldest.ensures.value ∙ next_there d area c.args.on.now.current))
+    record {
+      on = c.requires.on;
+      at = c.loop-found.invariant.at;
+      rested = c.requires.rested;
+      none_left = c.loop-found.invariant.ends (not_some c.loop-found.found (c.is_none.ensures ∙ ap not c.loop-found-test.true));
+      further = λ e. c.if-self-oldest.true (e ∙ sym (c.next-oldest.ensures.value ∙ next_there d area c.args.on.now.current));
+    }
+
+pub next_here-found-requires-in-loop-found : goal.next_here-found-requires-in-loop-found
+next_here-found-requires-in-loop-found g c =
+    record {
+      area = c.requires.on.area;
+      current = c.requires.on.current;
+      at = c.step_back.ensures.at;
+    }
 
 pub loop-found-smaller : goal.loop-found-smaller
 loop-found-smaller g c =
@@ -144,6 +162,10 @@ pub returns-else-self-oldest-clause-fewer : goal.returns-else-self-oldest-clause
 returns-else-self-oldest-clause-fewer g c =
     c.loop-found.invariant.fewer
 
+pub returns-else-self-oldest-clause-views : goal.returns-else-self-oldest-clause-views
+returns-else-self-oldest-clause-views g c =
+    c.loop-found.invariant.views
+
 pub returns-after-loop-found-clause-at : goal.returns-after-loop-found-clause-at
 returns-after-loop-found-clause-at g c =
     c.loop-found.invariant.at
@@ -178,10 +200,6 @@ returns-after-loop-found-clause-next g c =
 pub returns-after-loop-found-clause-fewer : goal.returns-after-loop-found-clause-fewer
 returns-after-loop-found-clause-fewer g c =
     c.loop-found.invariant.fewer
-
-pub returns-else-self-oldest-clause-views : goal.returns-else-self-oldest-clause-views
-returns-else-self-oldest-clause-views g c =
-    c.loop-found.invariant.views
 
 pub returns-after-loop-found-clause-views : goal.returns-after-loop-found-clause-views
 returns-after-loop-found-clause-views g c =

@@ -8,12 +8,23 @@ use Rattle.item_laws.proofs.AreaReads.{length-sectors}
 use Rattle.item_store.specs.declared.entry.Placed.{Placed}
 use Rattle.item_store.specs.SectorFormat.{SectorFormat, IsSectorFormat}
 use Rattle.item_store.specs.Lasts.{slots_left, views_left, WasGiven, IsLastIn, GivesNext}
-use Rattle.item_store.specs.Listed.{items_on}
+use Rattle.item_store.specs.Listed.{items_on, IsPlacedOn}
 use Rattle.item_store.proofs.Areas.{unit_is, open_inside}
 use Rattle.item_store.proofs.AskingSteps.{IsLeastTo, KnownBytes, least-step, least-end, value, has-bytes, covered-all, covered-more}
 use Rattle.item_store.proofs.KnownSlots.{known_on}
 use Rattle.item_store.proofs.ViewSteps.{start-walks}
 use Rattle.item_store.proofs.store.Store.next_of.Goals as goal
+
+pub start-lasts-requires : goal.start-lasts-requires
+start-lasts-requires g c =
+    let d : Device = g.F.Flash.device c.args.flash.now in
+    let area : Area = c.args.self.now.area in
+    let law : IsSectorFormat (g.T.SlotSectors.format_of (geometry_of d area)) = g.met.T.SlotSectors.lawful (geometry_of d area) (unit_is d area (g.met.F.Flash.is_lawful c.args.flash.now) c.requires.stands.area.lawful) in
+    record {
+      on = record { area = c.requires.stands.area; kept = c.requires.stands.opened; current = c.requires.stands.current; known = known_on g.T.SlotSectors.role g.T.SlotSectors.format_of g.T.SlotSectors.kept d c.args.self.now law (g.met.F.Flash.is_lawful c.args.flash.now) c.requires.stands c.tops-tops.result.now c.tops-tops.ensures };
+      rested = c.requires.stands.rested;
+      range = c.requires.range;
+    }
 
 pub loop-placed-init : goal.loop-placed-init
 loop-placed-init g c =
@@ -32,8 +43,25 @@ loop-placed-init g c =
       so_far = λ bytes t. absurd (start.none t.placed t.covered);
     }
 
+pub next-requires-clause-on : goal.next-requires-clause-on
+next-requires-clause-on g c =
+    let d : Device = g.F.Flash.device c.args.flash.now in
+    let area : Area = c.args.self.now.area in
+    let law : IsSectorFormat (g.T.SlotSectors.format_of (geometry_of d area)) = g.met.T.SlotSectors.lawful (geometry_of d area) (unit_is d area (g.met.F.Flash.is_lawful c.args.flash.now) c.requires.stands.area.lawful) in
+    record { area = c.requires.stands.area; kept = c.requires.stands.opened; current = c.requires.stands.current; known = known_on g.T.SlotSectors.role g.T.SlotSectors.format_of g.T.SlotSectors.kept d c.args.self.now law (g.met.F.Flash.is_lawful c.args.flash.now) c.requires.stands c.tops-tops.result.now c.tops-tops.ensures }
+
+pub next-requires-clause-rested : goal.next-requires-clause-rested
+next-requires-clause-rested g c = c.requires.stands.rested
+
 pub next-requires-clause-at : goal.next-requires-clause-at
 next-requires-clause-at g c = c.loop-placed.invariant.at
+
+pub lesser_bytes-found-requires : goal.lesser_bytes-found-requires
+lesser_bytes-found-requires g c =
+    record {
+      stands = c.requires.stands;
+      placed = subst (λ (o : Option Placed). IfSome o (IsPlacedOn g.T.SlotSectors.format_of (g.F.Flash.device c.args.flash.now) c.args.self.now.area c.args.self.now.current)) c.in-Some.is c.next.ensures.placed;
+    }
 
 pub loop-placed-smaller : goal.loop-placed-smaller
 loop-placed-smaller g c =
@@ -80,26 +108,6 @@ returns-clause-next g c =
     least-end c.args.least c.args.most (items_on g.T.SlotSectors.format_of d area) (option_map (λ other. other.now) c.args.after)
     (KnownBytes g.T.SlotSectors.role g.T.SlotSectors.format_of g.T.SlotSectors.kept d c.args.self.now c.loop-placed.lasts) (option_map (λ bytes. bytes.now) c.loop-placed.found)
     (covered-all g.T.SlotSectors.role g.T.SlotSectors.format_of g.T.SlotSectors.kept d c.args.self.now law (g.met.F.Flash.is_lawful c.args.flash.now) c.requires.stands c.loop-placed.lasts c.args.least c.args.most now.from now.to all) now.so_far
-
-pub start-lasts-requires-clause-on : goal.start-lasts-requires-clause-on
-start-lasts-requires-clause-on g c =
-    let d : Device = g.F.Flash.device c.args.flash.now in
-    let area : Area = c.args.self.now.area in
-    let law : IsSectorFormat (g.T.SlotSectors.format_of (geometry_of d area)) = g.met.T.SlotSectors.lawful (geometry_of d area) (unit_is d area (g.met.F.Flash.is_lawful c.args.flash.now) c.requires.stands.area.lawful) in
-    record { area = c.requires.stands.area; kept = c.requires.stands.opened; current = c.requires.stands.current; known = known_on g.T.SlotSectors.role g.T.SlotSectors.format_of g.T.SlotSectors.kept d c.args.self.now law (g.met.F.Flash.is_lawful c.args.flash.now) c.requires.stands c.tops-tops.result.now c.tops-tops.ensures }
-
-pub next-requires-clause-on : goal.next-requires-clause-on
-next-requires-clause-on g c =
-    let d : Device = g.F.Flash.device c.args.flash.now in
-    let area : Area = c.args.self.now.area in
-    let law : IsSectorFormat (g.T.SlotSectors.format_of (geometry_of d area)) = g.met.T.SlotSectors.lawful (geometry_of d area) (unit_is d area (g.met.F.Flash.is_lawful c.args.flash.now) c.requires.stands.area.lawful) in
-    record { area = c.requires.stands.area; kept = c.requires.stands.opened; current = c.requires.stands.current; known = known_on g.T.SlotSectors.role g.T.SlotSectors.format_of g.T.SlotSectors.kept d c.args.self.now law (g.met.F.Flash.is_lawful c.args.flash.now) c.requires.stands c.tops-tops.result.now c.tops-tops.ensures }
-
-pub start-lasts-requires-clause-rested : goal.start-lasts-requires-clause-rested
-start-lasts-requires-clause-rested g c = c.requires.stands.rested
-
-pub next-requires-clause-rested : goal.next-requires-clause-rested
-next-requires-clause-rested g c = c.requires.stands.rested
 
 pub returns-clause-steps : goal.returns-clause-steps
 returns-clause-steps g c =

@@ -174,7 +174,9 @@ static ITEM_LINES: [(&str, u64, u64, &[u8]); 8] = [
 
 #[test]
 fn item_lines(rt: HostRuntime) {
-    let lines = item_session::read_script(rt.alloc(), ITEM_FORMS, Ids::Long, 2).expect(&rt, "lines");
+    let lines = item_session::read_script(rt.alloc(), ITEM_FORMS, Ids::Long, 2).expect(
+        &rt, "lines",
+    );
     holds(&rt, "lines", lines.len() == ITEM_LINES.len());
     for (line, expected) in lines.iter().zip(ITEM_LINES.iter()) {
         holds(&rt, expected.0, item_parts(line) == *expected);
@@ -209,15 +211,30 @@ fn item_answers(rt: HostRuntime) {
     let (live, stale, free) = (12, 0, 468);
     let (units, need) = (71, 264);
     let no_space = ItemAnswer::NoSpace { units, need, live };
-    reports(&rt, alloc, ItemAnswer::Done { units: 3 }, ("ok 3\n", 3, false));
-    reports(&rt, alloc, ItemAnswer::Value { value }, ("value 0aff\n", 0, false));
+    reports(
+        &rt,
+        alloc,
+        ItemAnswer::Done { units: 3 },
+        ("ok 3\n", 3, false),
+    );
+    reports(
+        &rt,
+        alloc,
+        ItemAnswer::Value { value },
+        ("value 0aff\n", 0, false),
+    );
     reports(&rt, alloc, ItemAnswer::Absent, ("none\n", 0, false));
     reports(&rt, alloc, ItemAnswer::Deleted, ("deleted\n", 0, false));
     reports(&rt, alloc, ItemAnswer::Gone, ("gone\n", 0, false));
     let space = ItemAnswer::Space { live, stale, free };
     reports(&rt, alloc, space, ("space 12 0 468\n", 0, false));
     reports(&rt, alloc, no_space, ("nospace 71\n", 71, false));
-    reports(&rt, alloc, ItemAnswer::Lost { units: 66 }, ("lost 66\n", 66, true));
+    reports(
+        &rt,
+        alloc,
+        ItemAnswer::Lost { units: 66 },
+        ("lost 66\n", 66, true),
+    );
     reports(&rt, alloc, ItemAnswer::Off, ("off\n", 0, false));
 }
 
@@ -252,9 +269,19 @@ fn answers(rt: HostRuntime) -> Result<(), Fail> {
     says(&rt, alloc, named, text);
     let (pairs, units) = (2, 7);
     let end = SaveEnd::NoSpace { need: 1, live: 2 };
-    says(&rt, alloc, Answer::Saved { pairs, units, end }, "saved 2 nospace 7\n");
+    says(
+        &rt,
+        alloc,
+        Answer::Saved { pairs, units, end },
+        "saved 2 nospace 7\n",
+    );
     let end = SaveEnd::TooMany;
-    says(&rt, alloc, Answer::Saved { pairs, units, end }, "saved 2 toomany 7\n");
+    says(
+        &rt,
+        alloc,
+        Answer::Saved { pairs, units, end },
+        "saved 2 toomany 7\n",
+    );
     says(&rt, alloc, Answer::TooMany { units: 3 }, "toomany 3\n");
     let (units, chance) = (66, true);
     let lost = Answer::Lost { units, chance };

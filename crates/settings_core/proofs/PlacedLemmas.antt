@@ -1,5 +1,5 @@
 -- The subtree of the handler at a place.
-use Rattle.std.proofs.Common.{◌≡◌, ℕ, zero, suc, ◌<◌, List, [], ◌∷◌, length, get_or, Option, Some, None, arith}
+use Rattle.std.proofs.Common.{◌≡◌, ℕ, zero, suc, ◌<◌, List, [], ◌∷◌, length, get_or, Some, None, arith}
 use Rattle.std.specs.Prelude.{option_map, slice_get}
 use Rattle.handlers.specs.Registry.{Registered, nobody}
 

@@ -7,9 +7,7 @@ use Rattle.fcb_ring.specs.Changing.{header_units, record_units}
 use Rattle.flash_map.proofs.SpendingLemmas.{most_weaker, spends_most}
 use Rattle.flash_map.specs.Spending.{SpendsAtMost}
 use Rattle.std.proofs.Common.{ℕ, ◌+◌, arith}
-use Rattle.std.proofs.Common.{true, false, Result, Ok, Err}
-use Rattle.std.specs.Result.{IsErr, OnOk}
-use Rattle.std.proofs.lemmas.Bool.{false≢true}
+use Rattle.std.proofs.Common.{true, false}
 use Rattle.flash_map.proofs.PieceLemmas.{on_err}
 use Rattle.fcb_ring.specs.Standing.{KeepsEntries}
 use Rattle.flash_sim.specs.Device.{Device}
@@ -19,6 +17,7 @@ use Rattle.fcb_ring.proofs.AppendLemmas.{is_err_by}
 use Rattle.std.proofs.Common.{[], ◌∷◌, subst, ◌∙◌}
 use Rattle.flash_map.specs.declared.area.Area.{Area}
 use Rattle.migrator.proofs.Collecting.{active-kept, begun-fresh, begun-end, last-contained, last-short, collected-all}
+use Rattle.migrator.proofs.ErrLemmas.{not-ok}
 use Rattle.migrator.proofs.selecting.collect.Goals as goal
 
 pub copy_last-requires-clause-listed : goal.copy_last-requires-clause-listed
@@ -148,10 +147,6 @@ begin_collect-requires g c = record { stands = c.requires.mounted.stands; ready 
 
 pub end_collect-requires : goal.end_collect-requires
 end_collect-requires g c = record { stands = c.in_ok-copy_last.ensures.stands; collecting = c.in_ok-copy_last.ensures.collecting }
-
-not-ok : {T E : Type 0} (P : Type 0) (r : Result T E) → IsErr r → OnOk r P
-not-ok P (Ok x) is = absurd (false≢true is)
-not-ok P (Err e) is = tt
 
 pub returns-in_err-begin_collect-clause-touches : goal.returns-in_err-begin_collect-clause-touches
 returns-in_err-begin_collect-clause-touches g c =

@@ -1,5 +1,5 @@
 use Rattle.std.proofs.Common.{◌≤◌, ℕ, List, inl}
-use Rattle.std.specs.Result.{IsErr, OnOk}
+use Rattle.std.specs.Result.{IsErr}
 use Rattle.std.proofs.lemmas.Bool.{false≢true}
 use Rattle.fcb_ring.specs.declared.ring.Ring.{Ring}
 use Rattle.fcb_ring.proofs.AppendLemmas.{is_err_by}
@@ -14,6 +14,7 @@ use Rattle.flash_map.proofs.Touches.{then}
 use Rattle.fcb_ring.specs.Changing.{append_lost}
 use Rattle.fcb_ring.specs.declared.writing.AppendFault.{AppendFault}
 use Rattle.migrator.proofs.Putting.{put-behind, put-lost, put-full, put-ok, adds-behind, room-behind, left-used}
+use Rattle.migrator.proofs.ErrLemmas.{not-ok}
 use Rattle.migrator.proofs.selecting.collect_and_put.Goals as goal
 
 pub unreachable-requires-in-Err-Full : goal.unreachable-requires-in-Err-Full
@@ -123,10 +124,6 @@ pub returns-in_err-collect-clause-ends : goal.returns-in_err-collect-clause-ends
 returns-in_err-collect-clause-ends g c =
     cut-by c.args.map.now (g.F.Flash.device c.args.flash.now) (g.F.Flash.device c.collect.new.flash) c.args.ring.now c.collect.new.ring c.args.index c.from_residual.result c.from_residual.ensures.0
     (inl c.in_err-collect.ensures.active, c.in_err-collect.ensures.undamaged, c.in_err-collect.ensures.down)
-
-not-ok : {T E : Type 0} (P : Type 0) (r : Result T E) → IsErr r → OnOk r P
-not-ok P (Ok x) is = absurd (false≢true is)
-not-ok P (Err e) is = tt
 
 pub returns-in_err-collect-clause-chosen : goal.returns-in_err-collect-clause-chosen
 returns-in_err-collect-clause-chosen g c = not-ok _ c.from_residual.result c.from_residual.ensures.0

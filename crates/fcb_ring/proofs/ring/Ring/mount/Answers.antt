@@ -1,7 +1,5 @@
-use Rattle.std.proofs.Common.{ap, sym, subst, refl, ◌∙◌, ◌≡◌, ◌∷◌, [], true, false, Option, Some, None}
+use Rattle.std.proofs.Common.{ap, subst, refl, ◌∙◌, ◌≡◌, ◌∷◌, [], true, false, Option, Some, None}
 use Rattle.flash_map.specs.declared.area.Area.{Area}
-use Rattle.flash_sim.specs.Device.{Device}
-use Rattle.flash_map.specs.declared.faults.Damaged.{Damaged}
 use Rattle.flash_map.specs.Area.{sectors_of}
 use Rattle.flash_map.specs.Spending.{Spends, SpendsAtMost}
 use Rattle.flash_map.specs.Touches.{Touches}

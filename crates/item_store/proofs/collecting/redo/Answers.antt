@@ -76,48 +76,48 @@ returns-in-Nothing g c =
       written = inl refl;
       same = λ _. refl;
       ends = record {
-            rested =
-                let a : Device = g.F.Flash.device c.args.flash.now in
-                let area : Area = c.args.area.now in
-                let place : ℕ = c.args.current in
-                let law : IsSectorFormat (g.T.SlotSectors.format_of (geometry_of a area)) = g.met.T.SlotSectors.lawful (geometry_of a area) (unit_is a area (g.met.F.Flash.is_lawful c.args.flash.now) c.requires.area.lawful) in
-                let count = length-sectors a area in
-                let form : IsForm (g.T.SlotSectors.format_of (geometry_of a area)).reading (sectors_of a area) place = form_here (g.T.SlotSectors.format_of (geometry_of a area)) law (sectors_of a area) place (omega (arith, c.requires.area.lawful.several)) c.requires.undamaged c.requires.current in
-                let what = sym c.what_to_redo.ensures ∙ c.in-Nothing.is in
-                rest_from (g.T.SlotSectors.format_of (geometry_of a area)) law (sectors_of a area) place form what;
-            list =
-                let a : Device = g.F.Flash.device c.args.flash.now in
-                let area : Area = c.args.area.now in
-                let place : ℕ = c.args.current in
-                let what = sym c.what_to_redo.ensures ∙ c.in-Nothing.is in
-                ap (redo_list (g.T.SlotSectors.format_of (geometry_of a area)) (sectors_of a area) place) (sym what);
-            list_lost = tt;
-            busy = tt;
-            empties =
-                let a : Device = g.F.Flash.device c.args.flash.now in
-                let area : Area = c.args.area.now in
-                let place : ℕ = c.args.current in
-                let law : IsSectorFormat (g.T.SlotSectors.format_of (geometry_of a area)) = g.met.T.SlotSectors.lawful (geometry_of a area) (unit_is a area (g.met.F.Flash.is_lawful c.args.flash.now) c.requires.area.lawful) in
-                let count = length-sectors a area in
-                let form : IsForm (g.T.SlotSectors.format_of (geometry_of a area)).reading (sectors_of a area) place = form_here (g.T.SlotSectors.format_of (geometry_of a area)) law (sectors_of a area) place (omega (arith, c.requires.area.lawful.several)) c.requires.undamaged c.requires.current in
-                let what = sym c.what_to_redo.ensures ∙ c.in-Nothing.is in
-                λ busy. absurd (busy (rest_from (g.T.SlotSectors.format_of (geometry_of a area)) law (sectors_of a area) place form what));
-            collects =
-                let a : Device = g.F.Flash.device c.args.flash.now in
-                let area : Area = c.args.area.now in
-                let place : ℕ = c.args.current in
-                let law : IsSectorFormat (g.T.SlotSectors.format_of (geometry_of a area)) = g.met.T.SlotSectors.lawful (geometry_of a area) (unit_is a area (g.met.F.Flash.is_lawful c.args.flash.now) c.requires.area.lawful) in
-                let what = sym c.what_to_redo.ensures ∙ c.in-Nothing.is in
-                λ collecting. absurd (not_again (sym what ∙ redo-collecting (g.T.SlotSectors.format_of (geometry_of a area)) law (sectors_of a area) place collecting));
-            kept = c.requires.kept;
-            spends =
-                let a : Device = g.F.Flash.device c.args.flash.now in
-                let area : Area = c.args.area.now in
-                let place : ℕ = c.args.current in
-                let what = sym c.what_to_redo.ensures ∙ c.in-Nothing.is in
-                subst (λ (what : Redo). SpendsIn a a (redo_units (g.T.SlotSectors.format_of (geometry_of a area)) (sectors_of a area) place what)) (sym what) (between_none a);
-            spends_lost = tt;
-          };
+        rested =
+            let a : Device = g.F.Flash.device c.args.flash.now in
+            let area : Area = c.args.area.now in
+            let place : ℕ = c.args.current in
+            let law : IsSectorFormat (g.T.SlotSectors.format_of (geometry_of a area)) = g.met.T.SlotSectors.lawful (geometry_of a area) (unit_is a area (g.met.F.Flash.is_lawful c.args.flash.now) c.requires.area.lawful) in
+            let count = length-sectors a area in
+            let form : IsForm (g.T.SlotSectors.format_of (geometry_of a area)).reading (sectors_of a area) place = form_here (g.T.SlotSectors.format_of (geometry_of a area)) law (sectors_of a area) place (omega (arith, c.requires.area.lawful.several)) c.requires.undamaged c.requires.current in
+            let what = sym c.what_to_redo.ensures ∙ c.in-Nothing.is in
+            rest_from (g.T.SlotSectors.format_of (geometry_of a area)) law (sectors_of a area) place form what;
+        list =
+            let a : Device = g.F.Flash.device c.args.flash.now in
+            let area : Area = c.args.area.now in
+            let place : ℕ = c.args.current in
+            let what = sym c.what_to_redo.ensures ∙ c.in-Nothing.is in
+            ap (redo_list (g.T.SlotSectors.format_of (geometry_of a area)) (sectors_of a area) place) (sym what);
+        list_lost = tt;
+        busy = tt;
+        empties =
+            let a : Device = g.F.Flash.device c.args.flash.now in
+            let area : Area = c.args.area.now in
+            let place : ℕ = c.args.current in
+            let law : IsSectorFormat (g.T.SlotSectors.format_of (geometry_of a area)) = g.met.T.SlotSectors.lawful (geometry_of a area) (unit_is a area (g.met.F.Flash.is_lawful c.args.flash.now) c.requires.area.lawful) in
+            let count = length-sectors a area in
+            let form : IsForm (g.T.SlotSectors.format_of (geometry_of a area)).reading (sectors_of a area) place = form_here (g.T.SlotSectors.format_of (geometry_of a area)) law (sectors_of a area) place (omega (arith, c.requires.area.lawful.several)) c.requires.undamaged c.requires.current in
+            let what = sym c.what_to_redo.ensures ∙ c.in-Nothing.is in
+            λ busy. absurd (busy (rest_from (g.T.SlotSectors.format_of (geometry_of a area)) law (sectors_of a area) place form what));
+        collects =
+            let a : Device = g.F.Flash.device c.args.flash.now in
+            let area : Area = c.args.area.now in
+            let place : ℕ = c.args.current in
+            let law : IsSectorFormat (g.T.SlotSectors.format_of (geometry_of a area)) = g.met.T.SlotSectors.lawful (geometry_of a area) (unit_is a area (g.met.F.Flash.is_lawful c.args.flash.now) c.requires.area.lawful) in
+            let what = sym c.what_to_redo.ensures ∙ c.in-Nothing.is in
+            λ collecting. absurd (not_again (sym what ∙ redo-collecting (g.T.SlotSectors.format_of (geometry_of a area)) law (sectors_of a area) place collecting));
+        kept = c.requires.kept;
+        spends =
+            let a : Device = g.F.Flash.device c.args.flash.now in
+            let area : Area = c.args.area.now in
+            let place : ℕ = c.args.current in
+            let what = sym c.what_to_redo.ensures ∙ c.in-Nothing.is in
+            subst (λ (what : Redo). SpendsIn a a (redo_units (g.T.SlotSectors.format_of (geometry_of a area)) (sectors_of a area) place what)) (sym what) (between_none a);
+        spends_lost = tt;
+      };
       marks = inl refl;
     }
 
@@ -146,122 +146,122 @@ returns-in-ClearNext g c =
       written = inr (victim-written (g.T.SlotSectors.format_of (geometry_of a area)) law (sectors_of a area) (sectors_of d area) place collected only);
       same = λ rest. absurd (not_next (sym (redo-at_rest (g.T.SlotSectors.format_of (geometry_of a area)) law (sectors_of a area) place rest) ∙ what));
       ends = record {
-            rested =
-                let a : Device = g.F.Flash.device c.args.flash.now in
-                let area : Area = c.args.area.now in
-                let place : ℕ = c.args.current in
-                let law : IsSectorFormat (g.T.SlotSectors.format_of (geometry_of a area)) = g.met.T.SlotSectors.lawful (geometry_of a area) (unit_is a area (g.met.F.Flash.is_lawful c.args.flash.now) c.requires.area.lawful) in
-                let count = length-sectors a area in
-                let form : IsForm (g.T.SlotSectors.format_of (geometry_of a area)).reading (sectors_of a area) place = form_here (g.T.SlotSectors.format_of (geometry_of a area)) law (sectors_of a area) place (omega (arith, c.requires.area.lawful.several)) c.requires.undamaged c.requires.current in
-                let what = sym c.what_to_redo.ensures ∙ c.in-ClearNext.is in
-                let d : Device = g.F.Flash.device c.clear.new.flash in
-                let at : c.next.result ≡ next (sectors_of a area) place = c.next.ensures.value ∙ next_there a area place in
-                let only : ChangesOnly (sectors_of a area) (sectors_of d area) (next (sectors_of a area) place) = subst (λ (v : ℕ). ChangesOnly (sectors_of a area) (sectors_of d area) v) at c.clear.ensures.only in
-                let collected = collected_from (g.T.SlotSectors.format_of (geometry_of a area)) law (sectors_of a area) place form what in
-                let emptied = λ (e : Clears (g.T.SlotSectors.format_of (geometry_of a area)) (sector_at (sectors_of a area) c.next.result) (sector_at (sectors_of d area) c.next.result)).
-                victim_emptied (g.T.SlotSectors.format_of (geometry_of a area)) law (sectors_of a area) (sectors_of d area) place collected only (subst (λ (v : ℕ). Clears (g.T.SlotSectors.format_of (geometry_of a area)) (sector_at (sectors_of a area) v) (sector_at (sectors_of d area) v)) at e).clean in
-                let stays = λ (e : StopsClearing (g.T.SlotSectors.format_of (geometry_of a area)) (sector_at (sectors_of a area) c.next.result) (sector_at (sectors_of d area) c.next.result)).
-                victim_cut_keeps (g.T.SlotSectors.format_of (geometry_of a area)) law (sectors_of a area) (sectors_of d area) place collected only (subst (λ (v : ℕ). StopsClearing (g.T.SlotSectors.format_of (geometry_of a area)) (sector_at (sectors_of a area) v) (sector_at (sectors_of d area) v)) at e) in
-                on_ok_weaker c.clear.result (λ e. (emptied e).0) c.clear.ensures.clears;
-            list =
-                let a : Device = g.F.Flash.device c.args.flash.now in
-                let area : Area = c.args.area.now in
-                let place : ℕ = c.args.current in
-                let law : IsSectorFormat (g.T.SlotSectors.format_of (geometry_of a area)) = g.met.T.SlotSectors.lawful (geometry_of a area) (unit_is a area (g.met.F.Flash.is_lawful c.args.flash.now) c.requires.area.lawful) in
-                let count = length-sectors a area in
-                let form : IsForm (g.T.SlotSectors.format_of (geometry_of a area)).reading (sectors_of a area) place = form_here (g.T.SlotSectors.format_of (geometry_of a area)) law (sectors_of a area) place (omega (arith, c.requires.area.lawful.several)) c.requires.undamaged c.requires.current in
-                let what = sym c.what_to_redo.ensures ∙ c.in-ClearNext.is in
-                let d : Device = g.F.Flash.device c.clear.new.flash in
-                let at : c.next.result ≡ next (sectors_of a area) place = c.next.ensures.value ∙ next_there a area place in
-                let only : ChangesOnly (sectors_of a area) (sectors_of d area) (next (sectors_of a area) place) = subst (λ (v : ℕ). ChangesOnly (sectors_of a area) (sectors_of d area) v) at c.clear.ensures.only in
-                let collected = collected_from (g.T.SlotSectors.format_of (geometry_of a area)) law (sectors_of a area) place form what in
-                subst (λ (what : Redo). OnOk c.clear.result (list_of (g.T.SlotSectors.format_of (geometry_of a area)) (sectors_of d area) ≡ redo_list (g.T.SlotSectors.format_of (geometry_of a area)) (sectors_of a area) place what)) (sym what)
-                (on_ok_weaker c.clear.result
-                (λ e. emptied-list (g.T.SlotSectors.format_of (geometry_of a area)) law (sectors_of a area) (sectors_of d area) place collected only (subst (λ (v : ℕ). Clears (g.T.SlotSectors.format_of (geometry_of a area)) (sector_at (sectors_of a area) v) (sector_at (sectors_of d area) v)) at e).clean)
-                c.clear.ensures.clears);
-            list_lost =
-                let a : Device = g.F.Flash.device c.args.flash.now in
-                let area : Area = c.args.area.now in
-                let place : ℕ = c.args.current in
-                let law : IsSectorFormat (g.T.SlotSectors.format_of (geometry_of a area)) = g.met.T.SlotSectors.lawful (geometry_of a area) (unit_is a area (g.met.F.Flash.is_lawful c.args.flash.now) c.requires.area.lawful) in
-                let count = length-sectors a area in
-                let form : IsForm (g.T.SlotSectors.format_of (geometry_of a area)).reading (sectors_of a area) place = form_here (g.T.SlotSectors.format_of (geometry_of a area)) law (sectors_of a area) place (omega (arith, c.requires.area.lawful.several)) c.requires.undamaged c.requires.current in
-                let what = sym c.what_to_redo.ensures ∙ c.in-ClearNext.is in
-                let d : Device = g.F.Flash.device c.clear.new.flash in
-                let at : c.next.result ≡ next (sectors_of a area) place = c.next.ensures.value ∙ next_there a area place in
-                let only : ChangesOnly (sectors_of a area) (sectors_of d area) (next (sectors_of a area) place) = subst (λ (v : ℕ). ChangesOnly (sectors_of a area) (sectors_of d area) v) at c.clear.ensures.only in
-                let collected = collected_from (g.T.SlotSectors.format_of (geometry_of a area)) law (sectors_of a area) place form what in
-                on_err_weaker c.clear.result
-                (λ e. inl (victim_cut-list (g.T.SlotSectors.format_of (geometry_of a area)) law (sectors_of a area) (sectors_of d area) place collected only (subst (λ (v : ℕ). StopsClearing (g.T.SlotSectors.format_of (geometry_of a area)) (sector_at (sectors_of a area) v) (sector_at (sectors_of d area) v)) at e)))
-                c.clear.ensures.lost;
-            busy =
-                let a : Device = g.F.Flash.device c.args.flash.now in
-                let area : Area = c.args.area.now in
-                let place : ℕ = c.args.current in
-                let law : IsSectorFormat (g.T.SlotSectors.format_of (geometry_of a area)) = g.met.T.SlotSectors.lawful (geometry_of a area) (unit_is a area (g.met.F.Flash.is_lawful c.args.flash.now) c.requires.area.lawful) in
-                let count = length-sectors a area in
-                let form : IsForm (g.T.SlotSectors.format_of (geometry_of a area)).reading (sectors_of a area) place = form_here (g.T.SlotSectors.format_of (geometry_of a area)) law (sectors_of a area) place (omega (arith, c.requires.area.lawful.several)) c.requires.undamaged c.requires.current in
-                let what = sym c.what_to_redo.ensures ∙ c.in-ClearNext.is in
-                on_err c.clear.result (λ rest. not_next (sym (redo-at_rest (g.T.SlotSectors.format_of (geometry_of a area)) law (sectors_of a area) place rest) ∙ what));
-            empties =
-                let a : Device = g.F.Flash.device c.args.flash.now in
-                let area : Area = c.args.area.now in
-                let place : ℕ = c.args.current in
-                let d : Device = g.F.Flash.device c.clear.new.flash in
-                let at : c.next.result ≡ next (sectors_of a area) place = c.next.ensures.value ∙ next_there a area place in
-                on_ok_weaker c.clear.result (λ clears busy. subst (λ (v : ℕ). Clears (g.T.SlotSectors.format_of (geometry_of a area)) (sector_at (sectors_of a area) v) (sector_at (sectors_of d area) v)) at clears) c.clear.ensures.clears;
-            collects =
-                let a : Device = g.F.Flash.device c.args.flash.now in
-                let area : Area = c.args.area.now in
-                let place : ℕ = c.args.current in
-                let law : IsSectorFormat (g.T.SlotSectors.format_of (geometry_of a area)) = g.met.T.SlotSectors.lawful (geometry_of a area) (unit_is a area (g.met.F.Flash.is_lawful c.args.flash.now) c.requires.area.lawful) in
-                let count = length-sectors a area in
-                let form : IsForm (g.T.SlotSectors.format_of (geometry_of a area)).reading (sectors_of a area) place = form_here (g.T.SlotSectors.format_of (geometry_of a area)) law (sectors_of a area) place (omega (arith, c.requires.area.lawful.several)) c.requires.undamaged c.requires.current in
-                let what = sym c.what_to_redo.ensures ∙ c.in-ClearNext.is in
-                on_ok_weaker c.clear.result (λ e collecting. absurd (next_not_again (sym what ∙ redo-collecting (g.T.SlotSectors.format_of (geometry_of a area)) law (sectors_of a area) place collecting))) c.clear.ensures.clears;
-            kept =
-                let a : Device = g.F.Flash.device c.args.flash.now in
-                let area : Area = c.args.area.now in
-                let place : ℕ = c.args.current in
-                let law : IsSectorFormat (g.T.SlotSectors.format_of (geometry_of a area)) = g.met.T.SlotSectors.lawful (geometry_of a area) (unit_is a area (g.met.F.Flash.is_lawful c.args.flash.now) c.requires.area.lawful) in
-                let count = length-sectors a area in
-                let form : IsForm (g.T.SlotSectors.format_of (geometry_of a area)).reading (sectors_of a area) place = form_here (g.T.SlotSectors.format_of (geometry_of a area)) law (sectors_of a area) place (omega (arith, c.requires.area.lawful.several)) c.requires.undamaged c.requires.current in
-                let what = sym c.what_to_redo.ensures ∙ c.in-ClearNext.is in
-                let d : Device = g.F.Flash.device c.clear.new.flash in
-                let at : c.next.result ≡ next (sectors_of a area) place = c.next.ensures.value ∙ next_there a area place in
-                let only : ChangesOnly (sectors_of a area) (sectors_of d area) (next (sectors_of a area) place) = subst (λ (v : ℕ). ChangesOnly (sectors_of a area) (sectors_of d area) v) at c.clear.ensures.only in
-                let collected = collected_from (g.T.SlotSectors.format_of (geometry_of a area)) law (sectors_of a area) place form what in
-                let emptied = λ (e : Clears (g.T.SlotSectors.format_of (geometry_of a area)) (sector_at (sectors_of a area) c.next.result) (sector_at (sectors_of d area) c.next.result)).
-                victim_emptied (g.T.SlotSectors.format_of (geometry_of a area)) law (sectors_of a area) (sectors_of d area) place collected only (subst (λ (v : ℕ). Clears (g.T.SlotSectors.format_of (geometry_of a area)) (sector_at (sectors_of a area) v) (sector_at (sectors_of d area) v)) at e).clean in
-                let stays = λ (e : StopsClearing (g.T.SlotSectors.format_of (geometry_of a area)) (sector_at (sectors_of a area) c.next.result) (sector_at (sectors_of d area) c.next.result)).
-                victim_cut_keeps (g.T.SlotSectors.format_of (geometry_of a area)) law (sectors_of a area) (sectors_of d area) place collected only (subst (λ (v : ℕ). StopsClearing (g.T.SlotSectors.format_of (geometry_of a area)) (sector_at (sectors_of a area) v) (sector_at (sectors_of d area) v)) at e) in
-                let same = only_else (sectors_of a area) (sectors_of d area) (next (sectors_of a area) place) place only (λ (s : place ≡ next (sectors_of a area) place). after-apart _ place collected.ring.within collected.ring.several (sym s)) in
-                on_ok_weaker c.clear.result (λ e. c.requires.kept ∙ ap (λ (b : List ℕ). g.T.SlotSectors.kept (geometry_of a area) b) (sym same)) c.clear.ensures.clears;
-            spends =
-                let a : Device = g.F.Flash.device c.args.flash.now in
-                let area : Area = c.args.area.now in
-                let place : ℕ = c.args.current in
-                let law : IsSectorFormat (g.T.SlotSectors.format_of (geometry_of a area)) = g.met.T.SlotSectors.lawful (geometry_of a area) (unit_is a area (g.met.F.Flash.is_lawful c.args.flash.now) c.requires.area.lawful) in
-                let count = length-sectors a area in
-                let form : IsForm (g.T.SlotSectors.format_of (geometry_of a area)).reading (sectors_of a area) place = form_here (g.T.SlotSectors.format_of (geometry_of a area)) law (sectors_of a area) place (omega (arith, c.requires.area.lawful.several)) c.requires.undamaged c.requires.current in
-                let what = sym c.what_to_redo.ensures ∙ c.in-ClearNext.is in
-                let d : Device = g.F.Flash.device c.clear.new.flash in
-                let at : c.next.result ≡ next (sectors_of a area) place = c.next.ensures.value ∙ next_there a area place in
-                subst (λ (what : Redo). OnOk c.clear.result (SpendsIn a d (redo_units (g.T.SlotSectors.format_of (geometry_of a area)) (sectors_of a area) place what))) (sym what)
-                (subst (λ (v : ℕ). OnOk c.clear.result (SpendsIn a d ((g.T.SlotSectors.format_of (geometry_of a area)).units.clear (sector_at (sectors_of a area) v)))) at c.clear.ensures.spends);
-            spends_lost =
-                let a : Device = g.F.Flash.device c.args.flash.now in
-                let area : Area = c.args.area.now in
-                let place : ℕ = c.args.current in
-                let law : IsSectorFormat (g.T.SlotSectors.format_of (geometry_of a area)) = g.met.T.SlotSectors.lawful (geometry_of a area) (unit_is a area (g.met.F.Flash.is_lawful c.args.flash.now) c.requires.area.lawful) in
-                let count = length-sectors a area in
-                let form : IsForm (g.T.SlotSectors.format_of (geometry_of a area)).reading (sectors_of a area) place = form_here (g.T.SlotSectors.format_of (geometry_of a area)) law (sectors_of a area) place (omega (arith, c.requires.area.lawful.several)) c.requires.undamaged c.requires.current in
-                let what = sym c.what_to_redo.ensures ∙ c.in-ClearNext.is in
-                let d : Device = g.F.Flash.device c.clear.new.flash in
-                let at : c.next.result ≡ next (sectors_of a area) place = c.next.ensures.value ∙ next_there a area place in
-                subst (λ (what : Redo). OnErr c.clear.result (SpendsUpTo a d (redo_units (g.T.SlotSectors.format_of (geometry_of a area)) (sectors_of a area) place what))) (sym what)
-                (subst (λ (v : ℕ). OnErr c.clear.result (SpendsUpTo a d ((g.T.SlotSectors.format_of (geometry_of a area)).units.clear (sector_at (sectors_of a area) v)))) at c.clear.ensures.spends_lost);
-          };
+        rested =
+            let a : Device = g.F.Flash.device c.args.flash.now in
+            let area : Area = c.args.area.now in
+            let place : ℕ = c.args.current in
+            let law : IsSectorFormat (g.T.SlotSectors.format_of (geometry_of a area)) = g.met.T.SlotSectors.lawful (geometry_of a area) (unit_is a area (g.met.F.Flash.is_lawful c.args.flash.now) c.requires.area.lawful) in
+            let count = length-sectors a area in
+            let form : IsForm (g.T.SlotSectors.format_of (geometry_of a area)).reading (sectors_of a area) place = form_here (g.T.SlotSectors.format_of (geometry_of a area)) law (sectors_of a area) place (omega (arith, c.requires.area.lawful.several)) c.requires.undamaged c.requires.current in
+            let what = sym c.what_to_redo.ensures ∙ c.in-ClearNext.is in
+            let d : Device = g.F.Flash.device c.clear.new.flash in
+            let at : c.next.result ≡ next (sectors_of a area) place = c.next.ensures.value ∙ next_there a area place in
+            let only : ChangesOnly (sectors_of a area) (sectors_of d area) (next (sectors_of a area) place) = subst (λ (v : ℕ). ChangesOnly (sectors_of a area) (sectors_of d area) v) at c.clear.ensures.only in
+            let collected = collected_from (g.T.SlotSectors.format_of (geometry_of a area)) law (sectors_of a area) place form what in
+            let emptied = λ (e : Clears (g.T.SlotSectors.format_of (geometry_of a area)) (sector_at (sectors_of a area) c.next.result) (sector_at (sectors_of d area) c.next.result)).
+            victim_emptied (g.T.SlotSectors.format_of (geometry_of a area)) law (sectors_of a area) (sectors_of d area) place collected only (subst (λ (v : ℕ). Clears (g.T.SlotSectors.format_of (geometry_of a area)) (sector_at (sectors_of a area) v) (sector_at (sectors_of d area) v)) at e).clean in
+            let stays = λ (e : StopsClearing (g.T.SlotSectors.format_of (geometry_of a area)) (sector_at (sectors_of a area) c.next.result) (sector_at (sectors_of d area) c.next.result)).
+            victim_cut_keeps (g.T.SlotSectors.format_of (geometry_of a area)) law (sectors_of a area) (sectors_of d area) place collected only (subst (λ (v : ℕ). StopsClearing (g.T.SlotSectors.format_of (geometry_of a area)) (sector_at (sectors_of a area) v) (sector_at (sectors_of d area) v)) at e) in
+            on_ok_weaker c.clear.result (λ e. (emptied e).0) c.clear.ensures.clears;
+        list =
+            let a : Device = g.F.Flash.device c.args.flash.now in
+            let area : Area = c.args.area.now in
+            let place : ℕ = c.args.current in
+            let law : IsSectorFormat (g.T.SlotSectors.format_of (geometry_of a area)) = g.met.T.SlotSectors.lawful (geometry_of a area) (unit_is a area (g.met.F.Flash.is_lawful c.args.flash.now) c.requires.area.lawful) in
+            let count = length-sectors a area in
+            let form : IsForm (g.T.SlotSectors.format_of (geometry_of a area)).reading (sectors_of a area) place = form_here (g.T.SlotSectors.format_of (geometry_of a area)) law (sectors_of a area) place (omega (arith, c.requires.area.lawful.several)) c.requires.undamaged c.requires.current in
+            let what = sym c.what_to_redo.ensures ∙ c.in-ClearNext.is in
+            let d : Device = g.F.Flash.device c.clear.new.flash in
+            let at : c.next.result ≡ next (sectors_of a area) place = c.next.ensures.value ∙ next_there a area place in
+            let only : ChangesOnly (sectors_of a area) (sectors_of d area) (next (sectors_of a area) place) = subst (λ (v : ℕ). ChangesOnly (sectors_of a area) (sectors_of d area) v) at c.clear.ensures.only in
+            let collected = collected_from (g.T.SlotSectors.format_of (geometry_of a area)) law (sectors_of a area) place form what in
+            subst (λ (what : Redo). OnOk c.clear.result (list_of (g.T.SlotSectors.format_of (geometry_of a area)) (sectors_of d area) ≡ redo_list (g.T.SlotSectors.format_of (geometry_of a area)) (sectors_of a area) place what)) (sym what)
+            (on_ok_weaker c.clear.result
+            (λ e. emptied-list (g.T.SlotSectors.format_of (geometry_of a area)) law (sectors_of a area) (sectors_of d area) place collected only (subst (λ (v : ℕ). Clears (g.T.SlotSectors.format_of (geometry_of a area)) (sector_at (sectors_of a area) v) (sector_at (sectors_of d area) v)) at e).clean)
+            c.clear.ensures.clears);
+        list_lost =
+            let a : Device = g.F.Flash.device c.args.flash.now in
+            let area : Area = c.args.area.now in
+            let place : ℕ = c.args.current in
+            let law : IsSectorFormat (g.T.SlotSectors.format_of (geometry_of a area)) = g.met.T.SlotSectors.lawful (geometry_of a area) (unit_is a area (g.met.F.Flash.is_lawful c.args.flash.now) c.requires.area.lawful) in
+            let count = length-sectors a area in
+            let form : IsForm (g.T.SlotSectors.format_of (geometry_of a area)).reading (sectors_of a area) place = form_here (g.T.SlotSectors.format_of (geometry_of a area)) law (sectors_of a area) place (omega (arith, c.requires.area.lawful.several)) c.requires.undamaged c.requires.current in
+            let what = sym c.what_to_redo.ensures ∙ c.in-ClearNext.is in
+            let d : Device = g.F.Flash.device c.clear.new.flash in
+            let at : c.next.result ≡ next (sectors_of a area) place = c.next.ensures.value ∙ next_there a area place in
+            let only : ChangesOnly (sectors_of a area) (sectors_of d area) (next (sectors_of a area) place) = subst (λ (v : ℕ). ChangesOnly (sectors_of a area) (sectors_of d area) v) at c.clear.ensures.only in
+            let collected = collected_from (g.T.SlotSectors.format_of (geometry_of a area)) law (sectors_of a area) place form what in
+            on_err_weaker c.clear.result
+            (λ e. inl (victim_cut-list (g.T.SlotSectors.format_of (geometry_of a area)) law (sectors_of a area) (sectors_of d area) place collected only (subst (λ (v : ℕ). StopsClearing (g.T.SlotSectors.format_of (geometry_of a area)) (sector_at (sectors_of a area) v) (sector_at (sectors_of d area) v)) at e)))
+            c.clear.ensures.lost;
+        busy =
+            let a : Device = g.F.Flash.device c.args.flash.now in
+            let area : Area = c.args.area.now in
+            let place : ℕ = c.args.current in
+            let law : IsSectorFormat (g.T.SlotSectors.format_of (geometry_of a area)) = g.met.T.SlotSectors.lawful (geometry_of a area) (unit_is a area (g.met.F.Flash.is_lawful c.args.flash.now) c.requires.area.lawful) in
+            let count = length-sectors a area in
+            let form : IsForm (g.T.SlotSectors.format_of (geometry_of a area)).reading (sectors_of a area) place = form_here (g.T.SlotSectors.format_of (geometry_of a area)) law (sectors_of a area) place (omega (arith, c.requires.area.lawful.several)) c.requires.undamaged c.requires.current in
+            let what = sym c.what_to_redo.ensures ∙ c.in-ClearNext.is in
+            on_err c.clear.result (λ rest. not_next (sym (redo-at_rest (g.T.SlotSectors.format_of (geometry_of a area)) law (sectors_of a area) place rest) ∙ what));
+        empties =
+            let a : Device = g.F.Flash.device c.args.flash.now in
+            let area : Area = c.args.area.now in
+            let place : ℕ = c.args.current in
+            let d : Device = g.F.Flash.device c.clear.new.flash in
+            let at : c.next.result ≡ next (sectors_of a area) place = c.next.ensures.value ∙ next_there a area place in
+            on_ok_weaker c.clear.result (λ clears busy. subst (λ (v : ℕ). Clears (g.T.SlotSectors.format_of (geometry_of a area)) (sector_at (sectors_of a area) v) (sector_at (sectors_of d area) v)) at clears) c.clear.ensures.clears;
+        collects =
+            let a : Device = g.F.Flash.device c.args.flash.now in
+            let area : Area = c.args.area.now in
+            let place : ℕ = c.args.current in
+            let law : IsSectorFormat (g.T.SlotSectors.format_of (geometry_of a area)) = g.met.T.SlotSectors.lawful (geometry_of a area) (unit_is a area (g.met.F.Flash.is_lawful c.args.flash.now) c.requires.area.lawful) in
+            let count = length-sectors a area in
+            let form : IsForm (g.T.SlotSectors.format_of (geometry_of a area)).reading (sectors_of a area) place = form_here (g.T.SlotSectors.format_of (geometry_of a area)) law (sectors_of a area) place (omega (arith, c.requires.area.lawful.several)) c.requires.undamaged c.requires.current in
+            let what = sym c.what_to_redo.ensures ∙ c.in-ClearNext.is in
+            on_ok_weaker c.clear.result (λ e collecting. absurd (next_not_again (sym what ∙ redo-collecting (g.T.SlotSectors.format_of (geometry_of a area)) law (sectors_of a area) place collecting))) c.clear.ensures.clears;
+        kept =
+            let a : Device = g.F.Flash.device c.args.flash.now in
+            let area : Area = c.args.area.now in
+            let place : ℕ = c.args.current in
+            let law : IsSectorFormat (g.T.SlotSectors.format_of (geometry_of a area)) = g.met.T.SlotSectors.lawful (geometry_of a area) (unit_is a area (g.met.F.Flash.is_lawful c.args.flash.now) c.requires.area.lawful) in
+            let count = length-sectors a area in
+            let form : IsForm (g.T.SlotSectors.format_of (geometry_of a area)).reading (sectors_of a area) place = form_here (g.T.SlotSectors.format_of (geometry_of a area)) law (sectors_of a area) place (omega (arith, c.requires.area.lawful.several)) c.requires.undamaged c.requires.current in
+            let what = sym c.what_to_redo.ensures ∙ c.in-ClearNext.is in
+            let d : Device = g.F.Flash.device c.clear.new.flash in
+            let at : c.next.result ≡ next (sectors_of a area) place = c.next.ensures.value ∙ next_there a area place in
+            let only : ChangesOnly (sectors_of a area) (sectors_of d area) (next (sectors_of a area) place) = subst (λ (v : ℕ). ChangesOnly (sectors_of a area) (sectors_of d area) v) at c.clear.ensures.only in
+            let collected = collected_from (g.T.SlotSectors.format_of (geometry_of a area)) law (sectors_of a area) place form what in
+            let emptied = λ (e : Clears (g.T.SlotSectors.format_of (geometry_of a area)) (sector_at (sectors_of a area) c.next.result) (sector_at (sectors_of d area) c.next.result)).
+            victim_emptied (g.T.SlotSectors.format_of (geometry_of a area)) law (sectors_of a area) (sectors_of d area) place collected only (subst (λ (v : ℕ). Clears (g.T.SlotSectors.format_of (geometry_of a area)) (sector_at (sectors_of a area) v) (sector_at (sectors_of d area) v)) at e).clean in
+            let stays = λ (e : StopsClearing (g.T.SlotSectors.format_of (geometry_of a area)) (sector_at (sectors_of a area) c.next.result) (sector_at (sectors_of d area) c.next.result)).
+            victim_cut_keeps (g.T.SlotSectors.format_of (geometry_of a area)) law (sectors_of a area) (sectors_of d area) place collected only (subst (λ (v : ℕ). StopsClearing (g.T.SlotSectors.format_of (geometry_of a area)) (sector_at (sectors_of a area) v) (sector_at (sectors_of d area) v)) at e) in
+            let same = only_else (sectors_of a area) (sectors_of d area) (next (sectors_of a area) place) place only (λ (s : place ≡ next (sectors_of a area) place). after-apart _ place collected.ring.within collected.ring.several (sym s)) in
+            on_ok_weaker c.clear.result (λ e. c.requires.kept ∙ ap (λ (b : List ℕ). g.T.SlotSectors.kept (geometry_of a area) b) (sym same)) c.clear.ensures.clears;
+        spends =
+            let a : Device = g.F.Flash.device c.args.flash.now in
+            let area : Area = c.args.area.now in
+            let place : ℕ = c.args.current in
+            let law : IsSectorFormat (g.T.SlotSectors.format_of (geometry_of a area)) = g.met.T.SlotSectors.lawful (geometry_of a area) (unit_is a area (g.met.F.Flash.is_lawful c.args.flash.now) c.requires.area.lawful) in
+            let count = length-sectors a area in
+            let form : IsForm (g.T.SlotSectors.format_of (geometry_of a area)).reading (sectors_of a area) place = form_here (g.T.SlotSectors.format_of (geometry_of a area)) law (sectors_of a area) place (omega (arith, c.requires.area.lawful.several)) c.requires.undamaged c.requires.current in
+            let what = sym c.what_to_redo.ensures ∙ c.in-ClearNext.is in
+            let d : Device = g.F.Flash.device c.clear.new.flash in
+            let at : c.next.result ≡ next (sectors_of a area) place = c.next.ensures.value ∙ next_there a area place in
+            subst (λ (what : Redo). OnOk c.clear.result (SpendsIn a d (redo_units (g.T.SlotSectors.format_of (geometry_of a area)) (sectors_of a area) place what))) (sym what)
+            (subst (λ (v : ℕ). OnOk c.clear.result (SpendsIn a d ((g.T.SlotSectors.format_of (geometry_of a area)).units.clear (sector_at (sectors_of a area) v)))) at c.clear.ensures.spends);
+        spends_lost =
+            let a : Device = g.F.Flash.device c.args.flash.now in
+            let area : Area = c.args.area.now in
+            let place : ℕ = c.args.current in
+            let law : IsSectorFormat (g.T.SlotSectors.format_of (geometry_of a area)) = g.met.T.SlotSectors.lawful (geometry_of a area) (unit_is a area (g.met.F.Flash.is_lawful c.args.flash.now) c.requires.area.lawful) in
+            let count = length-sectors a area in
+            let form : IsForm (g.T.SlotSectors.format_of (geometry_of a area)).reading (sectors_of a area) place = form_here (g.T.SlotSectors.format_of (geometry_of a area)) law (sectors_of a area) place (omega (arith, c.requires.area.lawful.several)) c.requires.undamaged c.requires.current in
+            let what = sym c.what_to_redo.ensures ∙ c.in-ClearNext.is in
+            let d : Device = g.F.Flash.device c.clear.new.flash in
+            let at : c.next.result ≡ next (sectors_of a area) place = c.next.ensures.value ∙ next_there a area place in
+            subst (λ (what : Redo). OnErr c.clear.result (SpendsUpTo a d (redo_units (g.T.SlotSectors.format_of (geometry_of a area)) (sectors_of a area) place what))) (sym what)
+            (subst (λ (v : ℕ). OnErr c.clear.result (SpendsUpTo a d ((g.T.SlotSectors.format_of (geometry_of a area)).units.clear (sector_at (sectors_of a area) v)))) at c.clear.ensures.spends_lost);
+      };
       marks = victim-marks (g.T.SlotSectors.format_of (geometry_of a area)) (sectors_of a area) (sectors_of d area) place (collected_from (g.T.SlotSectors.format_of (geometry_of a area)) law (sectors_of a area) place form what) only;
     }
 
@@ -280,53 +280,53 @@ returns-in-CollectAgain g c =
       written = inr c.collect_again.ensures.written;
       same = λ rest. absurd (not_again (sym (redo-at_rest (g.T.SlotSectors.format_of (geometry_of a area)) law (sectors_of a area) place rest) ∙ what));
       ends = record {
-            rested =
-                let a : Device = g.F.Flash.device c.args.flash.now in
-                let area : Area = c.args.area.now in
-                let place : ℕ = c.args.current in
-                let law : IsSectorFormat (g.T.SlotSectors.format_of (geometry_of a area)) = g.met.T.SlotSectors.lawful (geometry_of a area) (unit_is a area (g.met.F.Flash.is_lawful c.args.flash.now) c.requires.area.lawful) in
-                on_ok_weaker c.collect_again.result (λ at. at.collects.form) c.collect_again.ensures.collects;
-            list =
-                let a : Device = g.F.Flash.device c.args.flash.now in
-                let area : Area = c.args.area.now in
-                let place : ℕ = c.args.current in
-                let law : IsSectorFormat (g.T.SlotSectors.format_of (geometry_of a area)) = g.met.T.SlotSectors.lawful (geometry_of a area) (unit_is a area (g.met.F.Flash.is_lawful c.args.flash.now) c.requires.area.lawful) in
-                let count = length-sectors a area in
-                let form : IsForm (g.T.SlotSectors.format_of (geometry_of a area)).reading (sectors_of a area) place = form_here (g.T.SlotSectors.format_of (geometry_of a area)) law (sectors_of a area) place (omega (arith, c.requires.area.lawful.several)) c.requires.undamaged c.requires.current in
-                let what = sym c.what_to_redo.ensures ∙ c.in-CollectAgain.is in
-                let d : Device = g.F.Flash.device c.collect_again.new.flash in
-                subst (λ (what : Redo). OnOk c.collect_again.result (list_of (g.T.SlotSectors.format_of (geometry_of a area)) (sectors_of d area) ≡ redo_list (g.T.SlotSectors.format_of (geometry_of a area)) (sectors_of a area) place what)) (sym what)
-                (on_ok_weaker c.collect_again.result (λ at. whole-list (g.T.SlotSectors.format_of (geometry_of a area)) law (sectors_of a area) place (collecting_from (g.T.SlotSectors.format_of (geometry_of a area)) law (sectors_of a area) place form what) (sectors_of d area) at.collects) c.collect_again.ensures.collects);
-            list_lost =
-                let a : Device = g.F.Flash.device c.args.flash.now in
-                let area : Area = c.args.area.now in
-                let place : ℕ = c.args.current in
-                let law : IsSectorFormat (g.T.SlotSectors.format_of (geometry_of a area)) = g.met.T.SlotSectors.lawful (geometry_of a area) (unit_is a area (g.met.F.Flash.is_lawful c.args.flash.now) c.requires.area.lawful) in
-                let what = sym c.what_to_redo.ensures ∙ c.in-CollectAgain.is in
-                let d : Device = g.F.Flash.device c.collect_again.new.flash in
-                subst (λ (what : Redo). OnErr c.collect_again.result ((list_of (g.T.SlotSectors.format_of (geometry_of a area)) (sectors_of d area) ≡ list_of (g.T.SlotSectors.format_of (geometry_of a area)) (sectors_of a area)) ⊎ (list_of (g.T.SlotSectors.format_of (geometry_of a area)) (sectors_of d area) ≡ redo_list (g.T.SlotSectors.format_of (geometry_of a area)) (sectors_of a area) place what))) (sym what) c.collect_again.ensures.list_lost;
-            busy =
-                let a : Device = g.F.Flash.device c.args.flash.now in
-                let area : Area = c.args.area.now in
-                let place : ℕ = c.args.current in
-                let law : IsSectorFormat (g.T.SlotSectors.format_of (geometry_of a area)) = g.met.T.SlotSectors.lawful (geometry_of a area) (unit_is a area (g.met.F.Flash.is_lawful c.args.flash.now) c.requires.area.lawful) in
-                let what = sym c.what_to_redo.ensures ∙ c.in-CollectAgain.is in
-                on_err c.collect_again.result (λ rest. not_again (sym (redo-at_rest (g.T.SlotSectors.format_of (geometry_of a area)) law (sectors_of a area) place rest) ∙ what));
-            empties = on_ok_weaker c.collect_again.result (λ at busy. at.empties) c.collect_again.ensures.collects;
-            collects = on_ok_weaker c.collect_again.result (λ at collecting. at) c.collect_again.ensures.collects;
-            kept = c.collect_again.ensures.kept;
-            spends =
-                let a : Device = g.F.Flash.device c.args.flash.now in
-                let area : Area = c.args.area.now in
-                let place : ℕ = c.args.current in
-                let what = sym c.what_to_redo.ensures ∙ c.in-CollectAgain.is in
-                subst (λ (what : Redo). OnOk c.collect_again.result (SpendsIn a (g.F.Flash.device c.collect_again.new.flash) (redo_units (g.T.SlotSectors.format_of (geometry_of a area)) (sectors_of a area) place what))) (sym what) c.collect_again.ensures.spends;
-            spends_lost =
-                let a : Device = g.F.Flash.device c.args.flash.now in
-                let area : Area = c.args.area.now in
-                let place : ℕ = c.args.current in
-                let what = sym c.what_to_redo.ensures ∙ c.in-CollectAgain.is in
-                subst (λ (what : Redo). OnErr c.collect_again.result (SpendsUpTo a (g.F.Flash.device c.collect_again.new.flash) (redo_units (g.T.SlotSectors.format_of (geometry_of a area)) (sectors_of a area) place what))) (sym what) c.collect_again.ensures.spends_lost;
-          };
+        rested =
+            let a : Device = g.F.Flash.device c.args.flash.now in
+            let area : Area = c.args.area.now in
+            let place : ℕ = c.args.current in
+            let law : IsSectorFormat (g.T.SlotSectors.format_of (geometry_of a area)) = g.met.T.SlotSectors.lawful (geometry_of a area) (unit_is a area (g.met.F.Flash.is_lawful c.args.flash.now) c.requires.area.lawful) in
+            on_ok_weaker c.collect_again.result (λ at. at.collects.form) c.collect_again.ensures.collects;
+        list =
+            let a : Device = g.F.Flash.device c.args.flash.now in
+            let area : Area = c.args.area.now in
+            let place : ℕ = c.args.current in
+            let law : IsSectorFormat (g.T.SlotSectors.format_of (geometry_of a area)) = g.met.T.SlotSectors.lawful (geometry_of a area) (unit_is a area (g.met.F.Flash.is_lawful c.args.flash.now) c.requires.area.lawful) in
+            let count = length-sectors a area in
+            let form : IsForm (g.T.SlotSectors.format_of (geometry_of a area)).reading (sectors_of a area) place = form_here (g.T.SlotSectors.format_of (geometry_of a area)) law (sectors_of a area) place (omega (arith, c.requires.area.lawful.several)) c.requires.undamaged c.requires.current in
+            let what = sym c.what_to_redo.ensures ∙ c.in-CollectAgain.is in
+            let d : Device = g.F.Flash.device c.collect_again.new.flash in
+            subst (λ (what : Redo). OnOk c.collect_again.result (list_of (g.T.SlotSectors.format_of (geometry_of a area)) (sectors_of d area) ≡ redo_list (g.T.SlotSectors.format_of (geometry_of a area)) (sectors_of a area) place what)) (sym what)
+            (on_ok_weaker c.collect_again.result (λ at. whole-list (g.T.SlotSectors.format_of (geometry_of a area)) law (sectors_of a area) place (collecting_from (g.T.SlotSectors.format_of (geometry_of a area)) law (sectors_of a area) place form what) (sectors_of d area) at.collects) c.collect_again.ensures.collects);
+        list_lost =
+            let a : Device = g.F.Flash.device c.args.flash.now in
+            let area : Area = c.args.area.now in
+            let place : ℕ = c.args.current in
+            let law : IsSectorFormat (g.T.SlotSectors.format_of (geometry_of a area)) = g.met.T.SlotSectors.lawful (geometry_of a area) (unit_is a area (g.met.F.Flash.is_lawful c.args.flash.now) c.requires.area.lawful) in
+            let what = sym c.what_to_redo.ensures ∙ c.in-CollectAgain.is in
+            let d : Device = g.F.Flash.device c.collect_again.new.flash in
+            subst (λ (what : Redo). OnErr c.collect_again.result ((list_of (g.T.SlotSectors.format_of (geometry_of a area)) (sectors_of d area) ≡ list_of (g.T.SlotSectors.format_of (geometry_of a area)) (sectors_of a area)) ⊎ (list_of (g.T.SlotSectors.format_of (geometry_of a area)) (sectors_of d area) ≡ redo_list (g.T.SlotSectors.format_of (geometry_of a area)) (sectors_of a area) place what))) (sym what) c.collect_again.ensures.list_lost;
+        busy =
+            let a : Device = g.F.Flash.device c.args.flash.now in
+            let area : Area = c.args.area.now in
+            let place : ℕ = c.args.current in
+            let law : IsSectorFormat (g.T.SlotSectors.format_of (geometry_of a area)) = g.met.T.SlotSectors.lawful (geometry_of a area) (unit_is a area (g.met.F.Flash.is_lawful c.args.flash.now) c.requires.area.lawful) in
+            let what = sym c.what_to_redo.ensures ∙ c.in-CollectAgain.is in
+            on_err c.collect_again.result (λ rest. not_again (sym (redo-at_rest (g.T.SlotSectors.format_of (geometry_of a area)) law (sectors_of a area) place rest) ∙ what));
+        empties = on_ok_weaker c.collect_again.result (λ at busy. at.empties) c.collect_again.ensures.collects;
+        collects = on_ok_weaker c.collect_again.result (λ at collecting. at) c.collect_again.ensures.collects;
+        kept = c.collect_again.ensures.kept;
+        spends =
+            let a : Device = g.F.Flash.device c.args.flash.now in
+            let area : Area = c.args.area.now in
+            let place : ℕ = c.args.current in
+            let what = sym c.what_to_redo.ensures ∙ c.in-CollectAgain.is in
+            subst (λ (what : Redo). OnOk c.collect_again.result (SpendsIn a (g.F.Flash.device c.collect_again.new.flash) (redo_units (g.T.SlotSectors.format_of (geometry_of a area)) (sectors_of a area) place what))) (sym what) c.collect_again.ensures.spends;
+        spends_lost =
+            let a : Device = g.F.Flash.device c.args.flash.now in
+            let area : Area = c.args.area.now in
+            let place : ℕ = c.args.current in
+            let what = sym c.what_to_redo.ensures ∙ c.in-CollectAgain.is in
+            subst (λ (what : Redo). OnErr c.collect_again.result (SpendsUpTo a (g.F.Flash.device c.collect_again.new.flash) (redo_units (g.T.SlotSectors.format_of (geometry_of a area)) (sectors_of a area) place what))) (sym what) c.collect_again.ensures.spends_lost;
+      };
       marks = c.collect_again.ensures.marks;
     }

@@ -58,25 +58,25 @@ returns-in_err-close g c =
       written = close-written (g.T.SlotSectors.format_of (geometry_of a area)) law (sectors_of a area) (sectors_of b area) place c.in_err-close.ensures.ends.only (omega arith) c.in_err-close.ensures.ends.lost;
       changed = close-changed (g.T.SlotSectors.format_of (geometry_of a area)) law (sectors_of a area) (sectors_of b area) place c.in_err-close.ensures.ends.only (omega arith) c.in_err-close.ensures.ends.lost c.in_err-close.ensures.ends.blank_lost;
       ends = record {
-            rested = no_ok c.from_residual.result _ c.from_residual.ensures.0;
-            list_lost =
-                let a : Device = g.F.Flash.device c.args.flash.now in
-                let area : Area = c.args.area.now in
-                let place : ℕ = c.args.current in
-                let law : IsSectorFormat (g.T.SlotSectors.format_of (geometry_of a area)) = g.met.T.SlotSectors.lawful (geometry_of a area) (unit_is a area (g.met.F.Flash.is_lawful c.args.flash.now) c.requires.stands.area.lawful) in
-                let b : Device = g.F.Flash.device c.close.new.flash in
-                on_err c.from_residual.result (close_lost_list g.T.SlotSectors.format_of g.T.SlotSectors.role a area place law (g.met.F.Flash.is_lawful c.args.flash.now) c.requires.stands.area c.requires.stands.undamaged c.requires.stands.current c.requires.stands.rested b c.in_err-close.ensures.touches.banks c.in_err-close.ensures.ends.only c.in_err-close.ensures.ends.lost);
-            kept = no_ok c.from_residual.result _ c.from_residual.ensures.0;
-            does_pass = no_ok c.from_residual.result _ c.from_residual.ensures.0;
-            spends = no_ok c.from_residual.result _ c.from_residual.ensures.0;
-            spends_lost =
-                let a : Device = g.F.Flash.device c.args.flash.now in
-                let k : SectorFormat = g.T.SlotSectors.format_of (geometry_of a c.args.area.now) in
-                let old = sectors_of a c.args.area.now in
-                let opened = next old c.args.current in
-                on_err c.from_residual.result
-                (first-lost a (g.F.Flash.device c.close.new.flash) (k.units.close (sector_at old c.args.current)) (cond (has_victim k old c.args.current) (again_with k old opened (round_clear k old c.args.current)) (cond k.opens_ready (ready_units k old opened) none)) c.in_err-close.ensures.ends.spends_lost);
-          };
+        rested = no_ok c.from_residual.result _ c.from_residual.ensures.0;
+        list_lost =
+            let a : Device = g.F.Flash.device c.args.flash.now in
+            let area : Area = c.args.area.now in
+            let place : ℕ = c.args.current in
+            let law : IsSectorFormat (g.T.SlotSectors.format_of (geometry_of a area)) = g.met.T.SlotSectors.lawful (geometry_of a area) (unit_is a area (g.met.F.Flash.is_lawful c.args.flash.now) c.requires.stands.area.lawful) in
+            let b : Device = g.F.Flash.device c.close.new.flash in
+            on_err c.from_residual.result (close_lost_list g.T.SlotSectors.format_of g.T.SlotSectors.role a area place law (g.met.F.Flash.is_lawful c.args.flash.now) c.requires.stands.area c.requires.stands.undamaged c.requires.stands.current c.requires.stands.rested b c.in_err-close.ensures.touches.banks c.in_err-close.ensures.ends.only c.in_err-close.ensures.ends.lost);
+        kept = no_ok c.from_residual.result _ c.from_residual.ensures.0;
+        does_pass = no_ok c.from_residual.result _ c.from_residual.ensures.0;
+        spends = no_ok c.from_residual.result _ c.from_residual.ensures.0;
+        spends_lost =
+            let a : Device = g.F.Flash.device c.args.flash.now in
+            let k : SectorFormat = g.T.SlotSectors.format_of (geometry_of a c.args.area.now) in
+            let old = sectors_of a c.args.area.now in
+            let opened = next old c.args.current in
+            on_err c.from_residual.result
+            (first-lost a (g.F.Flash.device c.close.new.flash) (k.units.close (sector_at old c.args.current)) (cond (has_victim k old c.args.current) (again_with k old opened (round_clear k old c.args.current)) (cond k.opens_ready (ready_units k old opened) none)) c.in_err-close.ensures.ends.spends_lost);
+      };
       marks = inl (record { only = did.only; either = did.lost; blank = did.blank_lost });
     }
 
@@ -128,31 +128,31 @@ returns-in_err-open_next g c =
       written = λ _. opened-written g.T.SlotSectors.format_of a area place law (open_within g.T.SlotSectors.format_of g.T.SlotSectors.role a area place law (g.met.F.Flash.is_lawful c.args.flash.now) c.requires.stands.area c.requires.stands.undamaged c.requires.stands.current c.requires.stands.rested) b did.touches.banks did.ends.only did.ends.closes e c.in_err-open_next.ensures.written;
       changed = inr (opened-written g.T.SlotSectors.format_of a area place law (open_within g.T.SlotSectors.format_of g.T.SlotSectors.role a area place law (g.met.F.Flash.is_lawful c.args.flash.now) c.requires.stands.area c.requires.stands.undamaged c.requires.stands.current c.requires.stands.rested) b did.touches.banks did.ends.only did.ends.closes e c.in_err-open_next.ensures.written);
       ends = record {
-            rested = no_ok c.from_residual-in_err-open_next.result _ c.from_residual-in_err-open_next.ensures.0;
-            list_lost =
-                let a : Device = g.F.Flash.device c.args.flash.now in
-                let area : Area = c.args.area.now in
-                let place : ℕ = c.args.current in
-                let law : IsSectorFormat (g.T.SlotSectors.format_of (geometry_of a area)) = g.met.T.SlotSectors.lawful (geometry_of a area) (unit_is a area (g.met.F.Flash.is_lawful c.args.flash.now) c.requires.stands.area.lawful) in
-                let b : Device = g.F.Flash.device c.close.new.flash in
-                let did = c.in_ok-close.ensures in
-                let at : c.next-place.result ≡ next (sectors_of a area) place = c.next-place.ensures.value ∙ next_there a area place in
-                let e : Device = g.F.Flash.device c.open_next.new.flash in
-                on_err c.from_residual-in_err-open_next.result (next_lost_list g.T.SlotSectors.format_of g.T.SlotSectors.role a area place law (g.met.F.Flash.is_lawful c.args.flash.now) c.requires.stands.area c.requires.stands.undamaged c.requires.stands.current c.requires.stands.rested b did.touches.banks did.ends.only did.ends.closes c.next-place.result at e c.in_err-open_next.ensures.ends.list_lost);
-            kept = no_ok c.from_residual-in_err-open_next.result _ c.from_residual-in_err-open_next.ensures.0;
-            does_pass = no_ok c.from_residual-in_err-open_next.result _ c.from_residual-in_err-open_next.ensures.0;
-            spends = no_ok c.from_residual-in_err-open_next.result _ c.from_residual-in_err-open_next.ensures.0;
-            spends_lost =
-                let a : Device = g.F.Flash.device c.args.flash.now in
-                let area : Area = c.args.area.now in
-                let place : ℕ = c.args.current in
-                let law : IsSectorFormat (g.T.SlotSectors.format_of (geometry_of a area)) = g.met.T.SlotSectors.lawful (geometry_of a area) (unit_is a area (g.met.F.Flash.is_lawful c.args.flash.now) c.requires.stands.area.lawful) in
-                let b : Device = g.F.Flash.device c.close.new.flash in
-                let did = c.in_ok-close.ensures in
-                let at : c.next-place.result ≡ next (sectors_of a area) place = c.next-place.ensures.value ∙ next_there a area place in
-                let e : Device = g.F.Flash.device c.open_next.new.flash in
-                on_err c.from_residual-in_err-open_next.result (round_spends_lost g.T.SlotSectors.format_of g.T.SlotSectors.role a area place law (g.met.F.Flash.is_lawful c.args.flash.now) c.requires.stands.area c.requires.stands.undamaged c.requires.stands.current c.requires.stands.rested b did.touches.banks did.ends.only did.ends.closes c.next-place.result at c.requires.used e did.ends.spends c.in_err-open_next.ensures.ends.spends_lost);
-          };
+        rested = no_ok c.from_residual-in_err-open_next.result _ c.from_residual-in_err-open_next.ensures.0;
+        list_lost =
+            let a : Device = g.F.Flash.device c.args.flash.now in
+            let area : Area = c.args.area.now in
+            let place : ℕ = c.args.current in
+            let law : IsSectorFormat (g.T.SlotSectors.format_of (geometry_of a area)) = g.met.T.SlotSectors.lawful (geometry_of a area) (unit_is a area (g.met.F.Flash.is_lawful c.args.flash.now) c.requires.stands.area.lawful) in
+            let b : Device = g.F.Flash.device c.close.new.flash in
+            let did = c.in_ok-close.ensures in
+            let at : c.next-place.result ≡ next (sectors_of a area) place = c.next-place.ensures.value ∙ next_there a area place in
+            let e : Device = g.F.Flash.device c.open_next.new.flash in
+            on_err c.from_residual-in_err-open_next.result (next_lost_list g.T.SlotSectors.format_of g.T.SlotSectors.role a area place law (g.met.F.Flash.is_lawful c.args.flash.now) c.requires.stands.area c.requires.stands.undamaged c.requires.stands.current c.requires.stands.rested b did.touches.banks did.ends.only did.ends.closes c.next-place.result at e c.in_err-open_next.ensures.ends.list_lost);
+        kept = no_ok c.from_residual-in_err-open_next.result _ c.from_residual-in_err-open_next.ensures.0;
+        does_pass = no_ok c.from_residual-in_err-open_next.result _ c.from_residual-in_err-open_next.ensures.0;
+        spends = no_ok c.from_residual-in_err-open_next.result _ c.from_residual-in_err-open_next.ensures.0;
+        spends_lost =
+            let a : Device = g.F.Flash.device c.args.flash.now in
+            let area : Area = c.args.area.now in
+            let place : ℕ = c.args.current in
+            let law : IsSectorFormat (g.T.SlotSectors.format_of (geometry_of a area)) = g.met.T.SlotSectors.lawful (geometry_of a area) (unit_is a area (g.met.F.Flash.is_lawful c.args.flash.now) c.requires.stands.area.lawful) in
+            let b : Device = g.F.Flash.device c.close.new.flash in
+            let did = c.in_ok-close.ensures in
+            let at : c.next-place.result ≡ next (sectors_of a area) place = c.next-place.ensures.value ∙ next_there a area place in
+            let e : Device = g.F.Flash.device c.open_next.new.flash in
+            on_err c.from_residual-in_err-open_next.result (round_spends_lost g.T.SlotSectors.format_of g.T.SlotSectors.role a area place law (g.met.F.Flash.is_lawful c.args.flash.now) c.requires.stands.area c.requires.stands.undamaged c.requires.stands.current c.requires.stands.rested b did.touches.banks did.ends.only did.ends.closes c.next-place.result at c.requires.used e did.ends.spends c.in_err-open_next.ensures.ends.spends_lost);
+      };
       marks = round-marks g.T.SlotSectors.format_of a b (g.F.Flash.device c.open_next.new.flash) area place c.next-place.result did.touches.banks did.ends.only did.ends.closes at c.in_err-open_next.ensures.marks;
     }
 
@@ -173,49 +173,49 @@ returns g c =
       written = λ _. opened-written g.T.SlotSectors.format_of a area place law (open_within g.T.SlotSectors.format_of g.T.SlotSectors.role a area place law (g.met.F.Flash.is_lawful c.args.flash.now) c.requires.stands.area c.requires.stands.undamaged c.requires.stands.current c.requires.stands.rested) b did.touches.banks did.ends.only did.ends.closes e c.in_ok-open_next.ensures.written;
       changed = inr (opened-written g.T.SlotSectors.format_of a area place law (open_within g.T.SlotSectors.format_of g.T.SlotSectors.role a area place law (g.met.F.Flash.is_lawful c.args.flash.now) c.requires.stands.area c.requires.stands.undamaged c.requires.stands.current c.requires.stands.rested) b did.touches.banks did.ends.only did.ends.closes e c.in_ok-open_next.ensures.written);
       ends = record {
-            rested =
-                let a : Device = g.F.Flash.device c.args.flash.now in
-                let area : Area = c.args.area.now in
-                let place : ℕ = c.args.current in
-                let law : IsSectorFormat (g.T.SlotSectors.format_of (geometry_of a area)) = g.met.T.SlotSectors.lawful (geometry_of a area) (unit_is a area (g.met.F.Flash.is_lawful c.args.flash.now) c.requires.stands.area.lawful) in
-                let b : Device = g.F.Flash.device c.close.new.flash in
-                let did = c.in_ok-close.ensures in
-                let at : c.next-place.result ≡ next (sectors_of a area) place = c.next-place.ensures.value ∙ next_there a area place in
-                let e : Device = g.F.Flash.device c.open_next.new.flash in
-                (next_turns g.T.SlotSectors.format_of g.T.SlotSectors.role a area place law (g.met.F.Flash.is_lawful c.args.flash.now) c.requires.stands.area c.requires.stands.undamaged c.requires.stands.current c.requires.stands.rested b did.touches.banks did.ends.only did.ends.closes c.next-place.result at e (g.met.F.Flash.is_lawful c.close.new.flash) c.in_ok-open_next.ensures.ends.opens c.in_ok-open_next.ensures.ends.collects).round.form;
-            list_lost = tt;
-            kept =
-                let a : Device = g.F.Flash.device c.args.flash.now in
-                let area : Area = c.args.area.now in
-                let place : ℕ = c.args.current in
-                let law : IsSectorFormat (g.T.SlotSectors.format_of (geometry_of a area)) = g.met.T.SlotSectors.lawful (geometry_of a area) (unit_is a area (g.met.F.Flash.is_lawful c.args.flash.now) c.requires.stands.area.lawful) in
-                let b : Device = g.F.Flash.device c.close.new.flash in
-                let did = c.in_ok-close.ensures in
-                let at : c.next-place.result ≡ next (sectors_of a area) place = c.next-place.ensures.value ∙ next_there a area place in
-                let e : Device = g.F.Flash.device c.open_next.new.flash in
-                subst (λ (p : ℕ). c.open_next.new.opened ≡ g.T.SlotSectors.kept (geometry_of a area) (sector_at (sectors_of e area) p)) at
-                (to_geometry (λ u. c.open_next.new.opened ≡ g.T.SlotSectors.kept u (sector_at (sectors_of e area) c.next-place.result)) a b area did.touches.banks c.in_ok-open_next.ensures.ends.kept);
-            does_pass =
-                let a : Device = g.F.Flash.device c.args.flash.now in
-                let area : Area = c.args.area.now in
-                let place : ℕ = c.args.current in
-                let law : IsSectorFormat (g.T.SlotSectors.format_of (geometry_of a area)) = g.met.T.SlotSectors.lawful (geometry_of a area) (unit_is a area (g.met.F.Flash.is_lawful c.args.flash.now) c.requires.stands.area.lawful) in
-                let b : Device = g.F.Flash.device c.close.new.flash in
-                let did = c.in_ok-close.ensures in
-                let at : c.next-place.result ≡ next (sectors_of a area) place = c.next-place.ensures.value ∙ next_there a area place in
-                let e : Device = g.F.Flash.device c.open_next.new.flash in
-                next_turns g.T.SlotSectors.format_of g.T.SlotSectors.role a area place law (g.met.F.Flash.is_lawful c.args.flash.now) c.requires.stands.area c.requires.stands.undamaged c.requires.stands.current c.requires.stands.rested b did.touches.banks did.ends.only did.ends.closes c.next-place.result at e (g.met.F.Flash.is_lawful c.close.new.flash) c.in_ok-open_next.ensures.ends.opens c.in_ok-open_next.ensures.ends.collects;
-            spends =
-                let a : Device = g.F.Flash.device c.args.flash.now in
-                let area : Area = c.args.area.now in
-                let place : ℕ = c.args.current in
-                let law : IsSectorFormat (g.T.SlotSectors.format_of (geometry_of a area)) = g.met.T.SlotSectors.lawful (geometry_of a area) (unit_is a area (g.met.F.Flash.is_lawful c.args.flash.now) c.requires.stands.area.lawful) in
-                let b : Device = g.F.Flash.device c.close.new.flash in
-                let did = c.in_ok-close.ensures in
-                let at : c.next-place.result ≡ next (sectors_of a area) place = c.next-place.ensures.value ∙ next_there a area place in
-                let e : Device = g.F.Flash.device c.open_next.new.flash in
-                round_spends g.T.SlotSectors.format_of g.T.SlotSectors.role a area place law (g.met.F.Flash.is_lawful c.args.flash.now) c.requires.stands.area c.requires.stands.undamaged c.requires.stands.current c.requires.stands.rested b did.touches.banks did.ends.only did.ends.closes c.next-place.result at c.requires.used e did.ends.spends c.in_ok-open_next.ensures.ends.spends;
-            spends_lost = tt;
-          };
+        rested =
+            let a : Device = g.F.Flash.device c.args.flash.now in
+            let area : Area = c.args.area.now in
+            let place : ℕ = c.args.current in
+            let law : IsSectorFormat (g.T.SlotSectors.format_of (geometry_of a area)) = g.met.T.SlotSectors.lawful (geometry_of a area) (unit_is a area (g.met.F.Flash.is_lawful c.args.flash.now) c.requires.stands.area.lawful) in
+            let b : Device = g.F.Flash.device c.close.new.flash in
+            let did = c.in_ok-close.ensures in
+            let at : c.next-place.result ≡ next (sectors_of a area) place = c.next-place.ensures.value ∙ next_there a area place in
+            let e : Device = g.F.Flash.device c.open_next.new.flash in
+            (next_turns g.T.SlotSectors.format_of g.T.SlotSectors.role a area place law (g.met.F.Flash.is_lawful c.args.flash.now) c.requires.stands.area c.requires.stands.undamaged c.requires.stands.current c.requires.stands.rested b did.touches.banks did.ends.only did.ends.closes c.next-place.result at e (g.met.F.Flash.is_lawful c.close.new.flash) c.in_ok-open_next.ensures.ends.opens c.in_ok-open_next.ensures.ends.collects).round.form;
+        list_lost = tt;
+        kept =
+            let a : Device = g.F.Flash.device c.args.flash.now in
+            let area : Area = c.args.area.now in
+            let place : ℕ = c.args.current in
+            let law : IsSectorFormat (g.T.SlotSectors.format_of (geometry_of a area)) = g.met.T.SlotSectors.lawful (geometry_of a area) (unit_is a area (g.met.F.Flash.is_lawful c.args.flash.now) c.requires.stands.area.lawful) in
+            let b : Device = g.F.Flash.device c.close.new.flash in
+            let did = c.in_ok-close.ensures in
+            let at : c.next-place.result ≡ next (sectors_of a area) place = c.next-place.ensures.value ∙ next_there a area place in
+            let e : Device = g.F.Flash.device c.open_next.new.flash in
+            subst (λ (p : ℕ). c.open_next.new.opened ≡ g.T.SlotSectors.kept (geometry_of a area) (sector_at (sectors_of e area) p)) at
+            (to_geometry (λ u. c.open_next.new.opened ≡ g.T.SlotSectors.kept u (sector_at (sectors_of e area) c.next-place.result)) a b area did.touches.banks c.in_ok-open_next.ensures.ends.kept);
+        does_pass =
+            let a : Device = g.F.Flash.device c.args.flash.now in
+            let area : Area = c.args.area.now in
+            let place : ℕ = c.args.current in
+            let law : IsSectorFormat (g.T.SlotSectors.format_of (geometry_of a area)) = g.met.T.SlotSectors.lawful (geometry_of a area) (unit_is a area (g.met.F.Flash.is_lawful c.args.flash.now) c.requires.stands.area.lawful) in
+            let b : Device = g.F.Flash.device c.close.new.flash in
+            let did = c.in_ok-close.ensures in
+            let at : c.next-place.result ≡ next (sectors_of a area) place = c.next-place.ensures.value ∙ next_there a area place in
+            let e : Device = g.F.Flash.device c.open_next.new.flash in
+            next_turns g.T.SlotSectors.format_of g.T.SlotSectors.role a area place law (g.met.F.Flash.is_lawful c.args.flash.now) c.requires.stands.area c.requires.stands.undamaged c.requires.stands.current c.requires.stands.rested b did.touches.banks did.ends.only did.ends.closes c.next-place.result at e (g.met.F.Flash.is_lawful c.close.new.flash) c.in_ok-open_next.ensures.ends.opens c.in_ok-open_next.ensures.ends.collects;
+        spends =
+            let a : Device = g.F.Flash.device c.args.flash.now in
+            let area : Area = c.args.area.now in
+            let place : ℕ = c.args.current in
+            let law : IsSectorFormat (g.T.SlotSectors.format_of (geometry_of a area)) = g.met.T.SlotSectors.lawful (geometry_of a area) (unit_is a area (g.met.F.Flash.is_lawful c.args.flash.now) c.requires.stands.area.lawful) in
+            let b : Device = g.F.Flash.device c.close.new.flash in
+            let did = c.in_ok-close.ensures in
+            let at : c.next-place.result ≡ next (sectors_of a area) place = c.next-place.ensures.value ∙ next_there a area place in
+            let e : Device = g.F.Flash.device c.open_next.new.flash in
+            round_spends g.T.SlotSectors.format_of g.T.SlotSectors.role a area place law (g.met.F.Flash.is_lawful c.args.flash.now) c.requires.stands.area c.requires.stands.undamaged c.requires.stands.current c.requires.stands.rested b did.touches.banks did.ends.only did.ends.closes c.next-place.result at c.requires.used e did.ends.spends c.in_ok-open_next.ensures.ends.spends;
+        spends_lost = tt;
+      };
       marks = round-marks g.T.SlotSectors.format_of a b (g.F.Flash.device c.open_next.new.flash) area place c.next-place.result did.touches.banks did.ends.only did.ends.closes at c.in_ok-open_next.ensures.marks;
     }

@@ -43,9 +43,9 @@ returns-then-is_some g c =
       reads = slot-read c.args.self.now c.loop-self.self c.look_at_slot-found.new.self c.args.steps.now c.loop-self.steps c.look_at_slot-found.new.steps c.look_at_slot-found.result now.fewer now.steps slot;
       next = last-same k sectors c.args.current c.args.self.now c.loop-self.self c.loop-self.invariant.range c.look_at_slot-found.result c.look_at_slot-found.ensures.next;
       covered = λ p covered. elim (c.look_at_slot-found.ensures.covered p covered) [
-            | inl here ↦ inl here
-            | inr was ↦ inr (c.loop-self.invariant.covered p was)
-          ];
+        | inl here ↦ inl here
+        | inr was ↦ inr (c.loop-self.invariant.covered p was)
+      ];
     }
 
 pub loop-self-smaller : goal.loop-self-smaller

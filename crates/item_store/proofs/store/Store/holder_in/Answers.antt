@@ -133,7 +133,7 @@ returns-then-is_some g c =
     }
 
 pub overflow_sub-skipped : goal.overflow_sub-skipped
-overflow_sub-skipped g c = 
+overflow_sub-skipped g c =
     let d : Device = g.F.Flash.device c.args.flash.now in
     let area : Area = c.args.self.now.area in
     let k : SectorFormat = g.T.SlotSectors.format_of (geometry_of d area) in

@@ -70,12 +70,12 @@ returns-in-Err-redo g c =
     record {
       touches = c.in-Err-redo.ensures.touches;
       ends = (
-            found.undamaged,
-            did.items,
-            subst (λ (p : ℕ). SpendsUpTo a d (redo_units k (sectors_of a area) p (redo_of k (sectors_of a area) p))) found.opened did.ends.spends_lost,
-            λ rest. did.ends.busy (subst (λ (p : ℕ). AtRest (g.T.SlotSectors.format_of (geometry_of a area)).reading (sectors_of a area) p) (sym found.opened) rest),
-            subst (λ (p : ℕ). KeepsOrRedoes k (sectors_of a area) (sectors_of d area) p) found.opened did.ends.list_lost,
-          );
+        found.undamaged,
+        did.items,
+        subst (λ (p : ℕ). SpendsUpTo a d (redo_units k (sectors_of a area) p (redo_of k (sectors_of a area) p))) found.opened did.ends.spends_lost,
+        λ rest. did.ends.busy (subst (λ (p : ℕ). AtRest (g.T.SlotSectors.format_of (geometry_of a area)).reading (sectors_of a area) p) (sym found.opened) rest),
+        subst (λ (p : ℕ). KeepsOrRedoes k (sectors_of a area) (sectors_of d area) p) found.opened did.ends.list_lost,
+      );
       at_most = mount-most_lost (g.T.SlotSectors.format_of (geometry_of a c.args.area)) law g.T.SlotSectors.role a c.args.area (g.met.F.Flash.is_lawful c.args.flash.now) c.requires.area found.undamaged c.in-Ok.current found.opened (g.F.Flash.device c.redo.new.flash) c.in-Err-redo.ensures.ends.spends_lost;
       written = stays-written (g.T.SlotSectors.format_of (geometry_of a area)) a d area c.in-Err-redo.ensures.written;
       changed = c.in-Err-redo.ensures.written;
@@ -94,17 +94,17 @@ returns-in-Ok-redo g c =
     record {
       touches = c.in-Ok-redo.ensures.touches;
       ends = (
-            found.undamaged,
-            stands_with g.T.SlotSectors.role g.T.SlotSectors.format_of g.T.SlotSectors.kept d area c.in-Ok.current c.redo.new.opened c.fill.new.cache (stands g.T.SlotSectors.role g.T.SlotSectors.format_of g.T.SlotSectors.kept a d area c.in-Ok.current c.redo.new.opened law did.touches.banks c.requires.area did.ends.rested did.ends.kept) c.fill.ensures,
-            refl,
-            did.items,
-            subst (λ (p : ℕ). SpendsIn a d (redo_units k (sectors_of a area) p (redo_of k (sectors_of a area) p))) found.opened did.ends.spends,
-            λ rest. did.same (subst (λ (p : ℕ). AtRest (g.T.SlotSectors.format_of (geometry_of a area)).reading (sectors_of a area) p) (sym found.opened) rest),
-            subst (λ (p : ℕ). list_of k (sectors_of d area) ≡ redo_list k (sectors_of a area) p (redo_of k (sectors_of a area) p)) found.opened did.ends.list,
-            λ again. mount-room k law g.T.SlotSectors.role a area (g.met.F.Flash.is_lawful c.args.flash.now) c.requires.area found.undamaged c.in-Ok.current found.opened (sectors_of d area)
-                (subst (λ (p : ℕ). redo_of k (sectors_of a area) p ≡ CollectAgain) (sym found.opened) again) did.ends.collects (form_undamaged k law (sectors_of d area) c.in-Ok.current (inl did.ends.rested)).0,
-            subst (λ (p : ℕ). ¬ AtRest (g.T.SlotSectors.format_of (geometry_of a area)).reading (sectors_of a area) p → EmptiesVictim (g.T.SlotSectors.format_of (geometry_of a area)) (sectors_of a area) (sectors_of d area) p) found.opened did.ends.empties,
-          );
+        found.undamaged,
+        stands_with g.T.SlotSectors.role g.T.SlotSectors.format_of g.T.SlotSectors.kept d area c.in-Ok.current c.redo.new.opened c.fill.new.cache (stands g.T.SlotSectors.role g.T.SlotSectors.format_of g.T.SlotSectors.kept a d area c.in-Ok.current c.redo.new.opened law did.touches.banks c.requires.area did.ends.rested did.ends.kept) c.fill.ensures,
+        refl,
+        did.items,
+        subst (λ (p : ℕ). SpendsIn a d (redo_units k (sectors_of a area) p (redo_of k (sectors_of a area) p))) found.opened did.ends.spends,
+        λ rest. did.same (subst (λ (p : ℕ). AtRest (g.T.SlotSectors.format_of (geometry_of a area)).reading (sectors_of a area) p) (sym found.opened) rest),
+        subst (λ (p : ℕ). list_of k (sectors_of d area) ≡ redo_list k (sectors_of a area) p (redo_of k (sectors_of a area) p)) found.opened did.ends.list,
+        λ again. mount-room k law g.T.SlotSectors.role a area (g.met.F.Flash.is_lawful c.args.flash.now) c.requires.area found.undamaged c.in-Ok.current found.opened (sectors_of d area)
+            (subst (λ (p : ℕ). redo_of k (sectors_of a area) p ≡ CollectAgain) (sym found.opened) again) did.ends.collects (form_undamaged k law (sectors_of d area) c.in-Ok.current (inl did.ends.rested)).0,
+        subst (λ (p : ℕ). ¬ AtRest (g.T.SlotSectors.format_of (geometry_of a area)).reading (sectors_of a area) p → EmptiesVictim (g.T.SlotSectors.format_of (geometry_of a area)) (sectors_of a area) (sectors_of d area) p) found.opened did.ends.empties,
+      );
       at_most = let law = g.met.T.SlotSectors.lawful (geometry_of a c.args.area) (unit_is a c.args.area (g.met.F.Flash.is_lawful c.args.flash.now) c.requires.area.lawful) in
           mount-most (g.T.SlotSectors.format_of (geometry_of a c.args.area)) law g.T.SlotSectors.role a c.args.area (g.met.F.Flash.is_lawful c.args.flash.now) c.requires.area found.undamaged c.in-Ok.current found.opened (g.F.Flash.device c.redo.new.flash) c.in-Ok-redo.ensures.ends.spends;
       written = stays-written (g.T.SlotSectors.format_of (geometry_of a area)) a d area c.in-Ok-redo.ensures.written;

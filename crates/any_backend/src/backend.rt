@@ -17,7 +17,7 @@ use std::sync::ledger::Ledger;
 
 /// A store of settings on an area. The area's role says which of the three it is; a selector's
 /// area has none.
-#[derive(Debug, Drop)]
+#[derive(Drop)]
 pub enum AnyBackend {
     /// The store of an NVS area.
     Nvs(NvsBackend),

@@ -40,7 +40,7 @@ use std::collections::BTreeMap;
 use std::sync::ledger::Ledger;
 
 /// A store of settings over a ring of FCB records. Each sector keeps room for a delete.
-#[derive(Debug, Drop)]
+#[derive(Drop)]
 pub struct FcbBackend {
     ring: Ring,
 }

@@ -21,7 +21,7 @@ use std::sync::ledger::Ledger;
 const TABLE: usize = 64;
 
 // A record that is kept, and the mark of its name, by which most names differ.
-#[derive(Clone, Copy, Debug, Drop)]
+#[derive(Clone, Copy, Drop)]
 pub(crate) struct Kept {
     pub(crate) at: RecordAt,
     pub(crate) mark: u32,

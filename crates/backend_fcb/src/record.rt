@@ -25,7 +25,7 @@ pub(crate) const BODY: usize = 2113;
 pub(crate) const SHORT_BODY: usize = 256;
 
 // What a record says: the name has the value. No bytes are a delete.
-#[derive(Clone, Copy, Debug)]
+#[derive(Clone, Copy)]
 pub(crate) struct Setting<'a> {
     pub(crate) name: &'a [u8],
     pub(crate) value: &'a [u8],

@@ -36,7 +36,7 @@ use std::sync::ledger::Ledger;
 
 /// The backend over NVS: a store of settings on an NVS area. Each setting is two items, its name
 /// and its value.
-#[derive(Debug, Drop)]
+#[derive(Drop)]
 pub struct NvsBackend {
     store: Nvs,
 }

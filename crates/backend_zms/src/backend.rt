@@ -36,7 +36,7 @@ use zms_store::Zms;
 
 /// The backend over ZMS: a store of settings on a ZMS area. Each setting is two items, its name
 /// and its value.
-#[derive(Debug, Drop)]
+#[derive(Drop)]
 pub struct ZmsBackend {
     store: Zms,
 }

@@ -4,7 +4,7 @@
 pub const MOST_LINES: u32 = 10_000;
 
 /// The kind of store of a generated image.
-#[derive(Clone, Copy, Debug, PartialEq, Eq)]
+#[derive(Clone, Copy)]
 pub enum StoreKind {
     /// Settings in an NVS area; its word is `nvs`.
     Nvs,

@@ -14,7 +14,7 @@ use flash_sim::{Flash, Steps};
 use std::sync::ledger::Ledger;
 
 /// A log of records in the sectors of one area. It allocates nothing.
-#[derive(Debug, Drop)]
+#[derive(Drop)]
 pub struct EventLog {
     pub(crate) ring: Ring,
 }

@@ -15,7 +15,7 @@ use flash_sim::{Flash, PowerLost, Steps};
 use std::sync::ledger::Ledger;
 
 /// How far a ring is with its mount or with a garbage collection.
-#[derive(Clone, Copy, Debug, PartialEq, Eq)]
+#[derive(Clone, Copy)]
 pub enum Stage {
     /// The area was read; the erases of the mount are to come. If no sector is free,
     /// `newest_waits`: the newest is ignored, and waits to be erased.
@@ -29,7 +29,7 @@ pub enum Stage {
 }
 
 /// A ring of records over the sectors of one area.
-#[derive(Debug, Drop)]
+#[derive(Drop)]
 pub struct Ring {
     pub(crate) area: Area,
     // the room in bytes that ordinary records leave in each sector

@@ -6,7 +6,7 @@ use crate::record::{has_record, records_end};
 use flash_map::is_erased;
 
 /// What the bytes of a sector say.
-#[derive(Clone, Copy, Debug, Default, PartialEq, Eq)]
+#[derive(Clone, Copy, Default)]
 pub struct SectorState {
     /// It holds a torn header: its first four bytes, and FF behind them. Such a sector is free.
     pub is_torn: bool,

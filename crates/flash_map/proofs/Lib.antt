@@ -10,6 +10,7 @@ pub mod PaddedLemmas
 pub mod Places
 pub mod Plans
 pub mod Ranges
+pub mod Results
 pub mod Rounding
 pub mod Sectors
 pub mod Sequence

@@ -13,7 +13,7 @@ use flash_sim::{Flash, PowerLost, Steps};
 use std::sync::ledger::Ledger;
 
 /// A range of bytes of one sector of an area.
-#[derive(Clone, Copy, Debug, PartialEq, Eq)]
+#[derive(Clone, Copy)]
 pub struct Source {
     /// The sector, counted from 0 in the area.
     pub sector: u32,

@@ -2,7 +2,7 @@
 use command_words::StoreKind;
 
 /// The image that a job begins with.
-#[derive(Clone, Copy, Debug, PartialEq, Eq)]
+#[derive(Clone, Copy)]
 pub enum Start<'a> {
     /// The image in a file.
     File { name: &'a str },
@@ -11,7 +11,7 @@ pub enum Start<'a> {
 }
 
 /// The lines of a job.
-#[derive(Clone, Copy, Debug, PartialEq, Eq)]
+#[derive(Clone, Copy)]
 pub enum Source<'a> {
     /// The lines of a script in a file.
     Script { name: &'a str },
@@ -24,7 +24,7 @@ pub enum Source<'a> {
 }
 
 /// What is printed of the answers.
-#[derive(Clone, Copy, Debug, PartialEq, Eq)]
+#[derive(Clone, Copy)]
 pub enum Report {
     /// The texts of all answers.
     All,
@@ -35,7 +35,7 @@ pub enum Report {
 }
 
 /// What becomes of the image that is left.
-#[derive(Clone, Copy, Debug, PartialEq, Eq)]
+#[derive(Clone, Copy)]
 pub enum Output<'a> {
     /// The image is dropped.
     Nowhere,
@@ -45,7 +45,7 @@ pub enum Output<'a> {
 
 /// A job: an image, lines that are carried out on it, what is printed of their answers, and what
 /// becomes of the image.
-#[derive(Clone, Copy, Debug, PartialEq, Eq)]
+#[derive(Clone, Copy)]
 pub struct Job<'a> {
     /// The image that it begins with.
     pub start: Start<'a>,

@@ -1,7 +1,7 @@
 // What a command prints and writes.
 
 /// A file to be written.
-#[derive(Debug, Drop)]
+#[derive(Drop)]
 pub struct OutFile<'a> {
     /// The name of the file.
     pub name: &'a str,
@@ -10,7 +10,7 @@ pub struct OutFile<'a> {
 }
 
 /// A text to be printed, and then a file to be written, if there is one.
-#[derive(Debug, Drop)]
+#[derive(Drop)]
 pub struct Outcome<'a> {
     /// What is printed.
     pub text: Vec<u8>,

@@ -180,16 +180,3 @@ fn exit(rt: &HostRuntime, given: io::Result<Args>) -> ExitCode
 fn main(rt: HostRuntime) -> ExitCode {
     exit(&rt, env::args(&rt))
 }
-
-#[cfg(test)]
-mod loss_rows;
-#[cfg(test)]
-mod refused_rows;
-#[cfg(test)]
-mod session_rows;
-#[cfg(test)]
-mod settings_rows;
-#[cfg(test)]
-mod tests;
-#[cfg(test)]
-mod texts;

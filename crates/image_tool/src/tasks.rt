@@ -6,7 +6,7 @@ use command_words::Command;
 use image_jobs::{Job, Output, Report, Source, Start};
 
 /// The task of a command.
-#[derive(Clone, Copy, Debug, PartialEq, Eq)]
+#[derive(Clone, Copy)]
 pub enum Task<'a> {
     /// Writes the blank image that a word describes into a file.
     Build {

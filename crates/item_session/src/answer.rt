@@ -8,7 +8,7 @@ use script_lines::{Bytes, ListOf};
 use std::alloc::{AllocError, Global};
 
 /// The answer to a line.
-#[derive(Debug, Drop)]
+#[derive(Drop)]
 pub enum Answer {
     /// The line was carried out. `units` counts units and erases.
     Done { units: u64 },

@@ -2,7 +2,7 @@
 use script_lines::Bytes;
 
 /// A line of a script on numbered items.
-#[derive(Debug, Drop)]
+#[derive(Drop)]
 pub enum Line {
     /// Sets an item to these bytes, at least one.
     Set { id: u32, value: Bytes },

@@ -1,7 +1,7 @@
 // Entries at their places, ranges and pairs of ids, looks at slots, and what a mount has to do.
 
 /// An entry of a sector's list. The format of the sector says where its bytes lie.
-#[derive(Clone, Copy, Debug, PartialEq, Eq)]
+#[derive(Clone, Copy)]
 pub struct Entry {
     /// The number of the slot.
     pub slot: u32,
@@ -12,7 +12,7 @@ pub struct Entry {
 }
 
 /// An entry with the number of its sector.
-#[derive(Clone, Copy, Debug, Default, Drop, PartialEq, Eq)]
+#[derive(Clone, Copy, Default, Drop)]
 pub struct Placed {
     /// The sector, counted from 0 in the area.
     pub sector: u32,
@@ -25,7 +25,7 @@ pub struct Placed {
 }
 
 /// The ids from `least` to `most`, both included.
-#[derive(Clone, Copy, Debug, PartialEq, Eq)]
+#[derive(Clone, Copy)]
 pub struct IdRange {
     /// The first id of the range.
     pub least: u32,
@@ -35,7 +35,7 @@ pub struct IdRange {
 
 /// How many of the first slots of a sector's list a search passes over, and how many of them are
 /// known to be of the list, so that it need not check them.
-#[derive(Clone, Copy, Debug, PartialEq, Eq)]
+#[derive(Clone, Copy)]
 pub struct ListStart {
     /// The slots that are passed over.
     pub skipped: u32,
@@ -71,7 +71,7 @@ pub struct LookBack {
 }
 
 /// What a mount has to do before the area is at rest.
-#[derive(Clone, Copy, Debug, PartialEq, Eq)]
+#[derive(Clone, Copy)]
 pub enum Redo {
     /// No garbage collection was cut.
     Nothing,

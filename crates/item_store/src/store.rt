@@ -3,7 +3,7 @@ use flash_map::Area;
 use lookup_cache::Cache;
 
 /// A store over the sectors of one area.
-#[derive(Debug, Drop)]
+#[derive(Drop)]
 pub struct Store<T> {
     pub(crate) area: Area,
     // the open sector

@@ -13,7 +13,7 @@ use std::alloc::{AllocError, Global};
 pub type Bodies = ListOf<Bytes>;
 
 /// The answer to a line.
-#[derive(Debug, Drop)]
+#[derive(Drop)]
 pub enum Answer {
     /// The line was carried out. `units` counts units and erases.
     Done { units: u64 },

@@ -2,7 +2,7 @@
 use script_lines::Bytes;
 
 /// A line of a script on a log.
-#[derive(Debug, Drop)]
+#[derive(Drop)]
 pub enum Line {
     /// Appends a record with this body, which has at least one byte.
     Put { body: Bytes },

@@ -11,7 +11,7 @@ const TOPS: usize = 64;
 
 /// For each cache slot, the sector and the slot where an entry was put, or nothing. Ids that leave
 /// the same remainder by the number of cache slots share a cache slot.
-#[derive(Debug, Drop)]
+#[derive(Drop)]
 pub struct Cache {
     places: Vec<Option<(u32, u32)>>,
     // for each of the first sectors, the greatest slot that was noted in it since it was last

@@ -1,6 +1,7 @@
 pub mod AreaLemmas
 pub mod Values
 pub mod Latest
+mod ErrLemmas
 mod Choices
 mod Collecting
 mod Putting

@@ -21,7 +21,7 @@ use flash_sim::{Flash, PowerLost, Steps};
 use std::sync::ledger::Ledger;
 
 /// A mounted selector. It records which store area is active.
-#[derive(Debug, Drop)]
+#[derive(Drop)]
 pub struct Selector {
     pub(crate) ring: Ring,
 }

@@ -34,7 +34,7 @@ use std::alloc::Global;
 use std::sync::ledger::Ledger;
 
 /// Why a mirror was not mounted.
-#[derive(Clone, Copy, Debug, PartialEq, Eq)]
+#[derive(Clone, Copy)]
 pub enum MirrorMount {
     /// The area at this place of the map is damaged: the selector's, or the trusted one.
     Damaged { area: usize, damage: Damaged },

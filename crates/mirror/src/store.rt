@@ -23,7 +23,7 @@ use zms_cycle::{capacity as zms_capacity, cost as zms_cost};
 const NVS_NAMES: u32 = 511;
 
 /// A store of settings on an area, by the area's role, with the prices of names and values there.
-#[derive(Debug, Drop)]
+#[derive(Drop)]
 pub struct MirrorStore {
     backend: AnyBackend,
 }

@@ -7,7 +7,7 @@ use script_lines::{Answer as SettingsAnswer, ListOf};
 use std::alloc::Global;
 
 /// The answer to a line.
-#[derive(Debug, Drop)]
+#[derive(Drop)]
 pub enum Answer {
     /// An answer that a line on settings gives too.
     Plain { answer: SettingsAnswer },

@@ -3,7 +3,7 @@ use script_lines::{Bytes, Label};
 use setting_name::Name;
 
 /// A line of a script on a mirror.
-#[derive(Debug, Drop)]
+#[derive(Drop)]
 pub enum Line {
     /// Stores a value; the empty one deletes the name.
     Set { name: Name, value: Bytes },

@@ -16,7 +16,7 @@ use std::alloc::Global;
 use text_parts::cut_at;
 
 // The first words.
-#[derive(Clone, Copy, Debug, PartialEq, Eq)]
+#[derive(Clone, Copy)]
 enum Command {
     Set,
     Get,

@@ -30,7 +30,7 @@ use std::alloc::Global;
 use std::sync::ledger::Ledger;
 
 /// An NVS store on one area.
-#[derive(Debug, Drop)]
+#[derive(Drop)]
 pub struct Nvs {
     pub(crate) store: Store<NvsOpen>,
 }

@@ -21,7 +21,7 @@ use nvs_store::{
 use std::sync::ledger::Ledger;
 
 /// What an NVS store keeps of its open sector.
-#[derive(Clone, Copy, Debug, PartialEq, Eq)]
+#[derive(Clone, Copy)]
 pub struct NvsOpen {
     low: u32,
     data_end: u32,

@@ -6,7 +6,7 @@ ghost use Rattle.nvs_store.specs.Entries.{encoded, decoded};
 use crc8_entry::{START, checks, crc8};
 
 /// What stands in a slot: an item's id, and where its data lies in the sector.
-#[derive(Clone, Copy, Debug, PartialEq, Eq)]
+#[derive(Clone, Copy, PartialEq, Eq)]
 pub struct Entry {
     /// The id of the item.
     pub id: u16,

@@ -9,7 +9,7 @@ use flash_map::Area;
 
 /// An entry that counts, and its slot. Slots of entries are numbered from 1, downward from the
 /// sector's end.
-#[derive(Clone, Copy, Debug, PartialEq, Eq)]
+#[derive(Clone, Copy)]
 pub struct SlotEntry {
     /// The number of the slot.
     pub slot: u32,
@@ -31,7 +31,7 @@ impl SlotEntry {
 }
 
 /// An entry that counts, and where it stands in the area.
-#[derive(Clone, Copy, Debug, PartialEq, Eq)]
+#[derive(Clone, Copy)]
 pub struct Found {
     /// The sector, counted from 0 in the area.
     pub sector: u32,
@@ -42,7 +42,7 @@ pub struct Found {
 }
 
 /// What a mount has to do before the area is at rest.
-#[derive(Clone, Copy, Debug, PartialEq, Eq)]
+#[derive(Clone, Copy)]
 pub enum Redo {
     /// No garbage collection was cut.
     Nothing,
@@ -65,7 +65,7 @@ impl Redo {
 }
 
 /// How far the open sector is filled. Places are in bytes from the sector's start.
-#[derive(Clone, Copy, Debug, PartialEq, Eq)]
+#[derive(Clone, Copy)]
 pub struct Scan {
     /// The open sector.
     pub current: u32,

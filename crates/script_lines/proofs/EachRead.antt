@@ -12,14 +12,13 @@ use Rattle.std.proofs.lemmas.Slice.Eq.{bytes_eq-Decides}
 use Rattle.hex.specs.Hex.{decode_of}
 use Rattle.hex.specs.declared.error.FromHexError.{FromHexError}
 use Rattle.text_parts.specs.Numbers.{IsNoNumber}
-use Rattle.setting_name.specs.Name.{IsName, is_name}
-use Rattle.image_file.specs.Lawful.{IsLabel, is_label_byte}
+use Rattle.setting_name.specs.Name.{is_name}
+use Rattle.image_file.specs.Lawful.{is_label_byte}
 use Rattle.setting_name.proofs.NameTest.{is_name-sound, is_name-complete}
-use Rattle.handlers.specs.declared.handler.HandlerKind.{HandlerKind}
 use Rattle.handlers.specs.declared.handler.HandlerKind.TheVariants.{Table, Counter, Level}
 use Rattle.script_lines.specs.declared.why.LineWhy.{LineWhy}
 use Rattle.script_lines.specs.declared.why.LineWhy.TheVariants.{Unknown, Words, Name, Kind, Hex, Long, Number}
-use Rattle.script_lines.specs.Forms.{Field, Form, Said, Row, IsHex, IsNoHex, IsNoKind, IsTooLong, kind_word, SaysField, SaysAll, HasFault, SomeFault, has_word, form_at, Spells, rank, IsFirstFault, IsRefusedBehind, Refuses, row}
+use Rattle.script_lines.specs.Forms.{Field, Form, Said, Row, IsHex, IsNoHex, IsNoKind, SaysField, SaysAll, HasFault, SomeFault, has_word, form_at, Spells, rank, IsFirstFault, IsRefusedBehind, Refuses, row}
 use Rattle.script_lines.specs.Forms.Field.{a_name, a_label, a_kind, some_bytes, any_bytes, below}
 use Rattle.script_lines.specs.Forms.Said.{name, label, kind, bytes, number}
 use Rattle.script_lines.specs.Line.{settings_forms}

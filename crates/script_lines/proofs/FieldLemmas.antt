@@ -1,5 +1,5 @@
 -- Words behind the first one, and the first cause for which they are refused.
-use Rattle.std.proofs.Common.{◌==◌, Bor, ◌≡◌, ◌≢◌, ◌⊎◌, inl, inr, ℕ, ◌<◌, ◌≤◌, Some, None, Option, Result, Ok, Err, List, [], ◌∷◌, length, codes, refl, sym, ◌∙◌, ap, subst, arith}
+use Rattle.std.proofs.Common.{◌==◌, Bor, ◌≡◌, ◌≢◌, ◌⊎◌, inl, inr, ℕ, ◌<◌, ◌≤◌, Some, Option, Result, Ok, Err, List, [], ◌∷◌, length, codes, refl, sym, ◌∙◌, ap, subst, arith}
 use Rattle.text_parts.specs.Parts.{parts_of}
 use Rattle.text_parts.proofs.PartLemmas.{some_parts}
 use Rattle.setting_name.specs.Name.{IsName}
@@ -9,7 +9,7 @@ use Rattle.script_lines.specs.declared.why.LineWhy.{LineWhy}
 use Rattle.script_lines.specs.declared.why.LineFault.{LineFault}
 use Rattle.script_lines.specs.declared.why.LineFault.TheVariants.{Refused, NoMemory}
 use Rattle.script_lines.specs.declared.why.LineWhy.TheVariants.{Unknown, Words, Name, Kind, Hex, Long, Number}
-use Rattle.script_lines.specs.Forms.{Field, Said, IsHex, IsDash, IsNoHex, IsNoKind, IsTooLong, kind_word, SaysField, SaysAll, HasFault, SomeFault, rank, IsFirstFault, SomeTakesMemory, RefusesFields, ReadsField, ReadsFields, ReadsNameOrNothing}
+use Rattle.script_lines.specs.Forms.{Field, Said, IsHex, IsDash, IsNoHex, IsTooLong, kind_word, SaysField, SaysAll, HasFault, SomeFault, rank, IsFirstFault, SomeTakesMemory, RefusesFields, ReadsField, ReadsFields, ReadsNameOrNothing}
 use Rattle.script_lines.specs.Forms.Field.{a_name, a_label, a_kind, some_bytes, any_bytes, below}
 use Rattle.script_lines.specs.Forms.Said.{name, label, kind, bytes, number}
 

@@ -1,7 +1,6 @@
 -- Lines by their forms.
 use Rattle.std.proofs.Common.{◌≡◌, ◌≢◌, ℕ, ◌<◌, ◌==◌, true, false, cond, Some, None, Option, Result, Ok, Err, List, [], ◌∷◌, length, refl, sym, ◌∙◌, ap, subst, arith}
 use Rattle.std.specs.List.{list_any}
-use Rattle.std.specs.Result.{MatchResult, IsOkAnd}
 use Rattle.std.proofs.lemmas.Bool.Decides.{nat_tests}
 use Rattle.script_lines.specs.declared.line.Line.{Line}
 use Rattle.script_lines.specs.declared.why.LineWhy.{LineWhy}
@@ -66,16 +65,6 @@ refused_row table says limit say words first word operands fields (Refused why) 
     (refused_by table limit word operands fields why only.has only.there (only.others (length operands)) reads)
 refused_row table says limit say words first word operands fields NoMemory are same only reads = tt
 
--- a line that is made of what the words behind a first word say
-pub row_read : {T L : Type 0} (table : List Form) (says : L → Row) (limit : ℕ) (say : T → List Said) (line : T → L) (post : T → L → Type 0) (words : List (List ℕ)) (first word : List ℕ) (operands : List (List ℕ)) (fields : List Field)
-    (read : Result T LineFault) (result : Result L LineFault) → words ≡ first ∷ operands → first ≡ word → IsOnlyForm table word fields → ReadsFields limit fields say operands read → ((x : T) → says (line x) ≡ row word (say x))
-    → ((x : T) (l : L) → post x l → l ≡ line x) → MatchResult read (λ x. IsOkAnd result (post x)) (λ e. result ≡ Err e) → ReadsRow table says limit words result
-row_read table says limit say line post words first word operands fields (Ok x) (Ok l) are same only reads means is made =
-    subst (λ (r : Row). Spells table limit words r) (sym (ap says (is x l made) ∙ means x)) (spelled table limit words first word operands fields (say x) are same only.there reads)
-row_read table says limit say line post words first word operands fields (Ok x) (Err e) are same only reads means is made = absurd made
-row_read table says limit say line post words first word operands fields (Err e) result are same only reads means is made =
-    subst (λ r. ReadsRow table says limit words r) (sym made) (refused_row table says limit say words first word operands fields e are same only reads)
-
 -- the table has a word alone and before a name
 pub record IsMaybeName (table : List Form) (word : List ℕ) : Type 0 where
   pub has : list_any (has_word word) table ≡ true
@@ -90,7 +79,7 @@ spelled_maybe table limit words first word operands None are same maybe reads =
 spelled_maybe table limit words first word operands (Some text) are same maybe reads =
     spelled table limit words first word operands (a_name ∷ []) (name text ∷ []) are same maybe.before reads
 
-maybe_refused : (limit : ℕ) (word : List ℕ) (operands : List (List ℕ)) (e : LineFault) → IsMaybeName settings_forms word → ReadsNameOrNothing limit operands (Err e) → ReadsLine limit (word ∷ operands) (Err e)
+pub maybe_refused : (limit : ℕ) (word : List ℕ) (operands : List (List ℕ)) (e : LineFault) → IsMaybeName settings_forms word → ReadsNameOrNothing limit operands (Err e) → ReadsLine limit (word ∷ operands) (Err e)
 maybe_refused limit word operands (Refused Unknown) maybe reads = absurd reads
 maybe_refused limit word operands (Refused Words) maybe reads = (maybe.has, maybe.others (length operands) reads)
 maybe_refused limit word operands (Refused Name) maybe reads = behind settings_forms limit word operands (a_name ∷ []) Name maybe.before reads.0 reads.1
@@ -100,20 +89,24 @@ maybe_refused limit word operands (Refused Long) maybe reads = behind settings_f
 maybe_refused limit word operands (Refused Number) maybe reads = behind settings_forms limit word operands (a_name ∷ []) Number maybe.before reads.0 reads.1
 maybe_refused limit word operands NoMemory maybe reads = tt
 
-pub refused_maybe : (limit : ℕ) (words : List (List ℕ)) (first word : List ℕ) (operands : List (List ℕ)) (e : LineFault) → words ≡ first ∷ operands → first ≡ word
-    → IsMaybeName settings_forms word → ReadsNameOrNothing limit operands (Err e) → ReadsLine limit words (Err e)
-refused_maybe limit words first word operands e are same maybe reads =
-    subst (λ (words : List (List ℕ)). ReadsLine limit words (Err e)) (sym (are ∙ ap (λ (word : List ℕ). word ∷ operands) same)) (maybe_refused limit word operands e maybe reads)
+-- A line on settings by the words behind its first one.
 
--- a line that is made of one name, or of nothing
-pub maybe_read : (limit : ℕ) (line : Option (List ℕ) → Line) (post : Option (List ℕ) → Line → Type 0) (words : List (List ℕ)) (first word : List ℕ) (operands : List (List ℕ)) (read : Result (Option (List ℕ)) LineFault) (result : Result Line LineFault)
-    → words ≡ first ∷ operands → first ≡ word → IsMaybeName settings_forms word → ReadsNameOrNothing limit operands read → ((x : Option (List ℕ)) → row_of (line x) ≡ row word (one_name x))
-    → ((x : Option (List ℕ)) (l : Line) → post x l → l ≡ line x) → MatchResult read (λ x. IsOkAnd result (post x)) (λ e. result ≡ Err e) → ReadsLine limit words result
-maybe_read limit line post words first word operands (Ok x) (Ok l) are same maybe reads means is made =
-    subst (λ (r : Row). Spells settings_forms limit words r) (sym (ap row_of (is x l made) ∙ means x)) (spelled_maybe settings_forms limit words first word operands x are same maybe reads)
-maybe_read limit line post words first word operands (Ok x) (Err e) are same maybe reads means is made = absurd made
-maybe_read limit line post words first word operands (Err e) result are same maybe reads means is made =
-    subst (λ (r : Result Line LineFault). ReadsLine limit words r) (sym made) (refused_maybe limit words first word operands e are same maybe reads)
+pub line_read : (limit : ℕ) (word : List ℕ) (operands : List (List ℕ)) (fields : List Field) (said : List Said) (line : Line) → IsOnlyForm settings_forms word fields → row_of line ≡ row word said → SaysAll limit fields operands said
+    → ReadsLine limit (word ∷ operands) (Ok line)
+line_read limit word operands fields said line only means says =
+    subst (λ (r : Row). Spells settings_forms limit (word ∷ operands) r) (sym means) (spelled settings_forms limit (word ∷ operands) word word operands fields said refl refl only.there says)
+
+pub line_refused : {T : Type 0} (limit : ℕ) (say : T → List Said) (word : List ℕ) (operands : List (List ℕ)) (fields : List Field) (e : LineFault) → IsOnlyForm settings_forms word fields → ReadsFields limit fields say operands (Err e)
+    → ReadsLine limit (word ∷ operands) (Err e)
+line_refused limit say word operands fields e only reads = refused_row settings_forms row_of limit say (word ∷ operands) word word operands fields e refl refl only reads
+
+pub subtree_read : (limit : ℕ) (word : List ℕ) (operands : List (List ℕ)) (subtree : Option (List ℕ)) (line : Line) → IsMaybeName settings_forms word → row_of line ≡ row word (one_name subtree) → ReadsNameOrNothing limit operands (Ok subtree)
+    → ReadsLine limit (word ∷ operands) (Ok line)
+subtree_read limit word operands subtree line maybe means reads =
+    subst (λ (r : Row). Spells settings_forms limit (word ∷ operands) r) (sym means) (spelled_maybe settings_forms limit (word ∷ operands) word word operands subtree refl refl maybe reads)
+
+pub behind_word : (limit : ℕ) (words : List (List ℕ)) (first word : List ℕ) (operands : List (List ℕ)) (result : Result Line LineFault) → words ≡ first ∷ operands → first ≡ word → ReadsLine limit (word ∷ operands) result → ReadsLine limit words result
+behind_word limit words first word operands result are same reads = subst (λ (words : List (List ℕ)). ReadsLine limit words result) (sym (are ∙ ap (λ (word : List ℕ). word ∷ operands) same)) reads
 
 -- a first word that no form has
 pub unknown_word : (limit : ℕ) (words : List (List ℕ)) (first : List ℕ) (operands : List (List ℕ)) → words ≡ first ∷ operands → list_any (has_word first) settings_forms ≡ false → ReadsLine limit words (Err (Refused Unknown))

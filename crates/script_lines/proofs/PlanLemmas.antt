@@ -1,11 +1,9 @@
 -- Plans over lines.
-use Rattle.std.proofs.Common.{◌≡◌, ◌≢◌, ℕ, ◌+◌, Bool, true, false, cond, List, [], ◌∷◌, ◌++◌, length, count_by, MatchBool, refl, sym, ◌∙◌, ap, subst, arith}
-use Rattle.std.specs.List.{All}
+use Rattle.std.proofs.Common.{◌≡◌, ◌≢◌, ℕ, Bool, true, false, [], ◌∷◌, MatchBool, refl, subst}
 use Rattle.std.proofs.lemmas.List.Elements.{All-head, All-tail}
-use Rattle.flash_sim.specs.Device.{Plan, Never, After, Lasts, LostAfter, lowered, dropped, replanned}
-use Rattle.script_lines.specs.declared.line.Line.{Line}
+use Rattle.flash_sim.specs.Device.{Plan, Never, Lasts, LostAfter}
 use Rattle.script_lines.specs.declared.answer.Answer.{Answer}
-use Rattle.script_lines.specs.Plan.{units_of, is_lost, losses_in, Replan, replan, Allows, plan_by, plan_after, Planned, plan_through, PlansNoLoss, PlannedInParts, NoLossUnplanned}
+use Rattle.script_lines.specs.Plan.{units_of, is_lost, Replan, replan, plan_by, plan_after, Planned, PlansNoLoss, PlannedInParts, NoLossUnplanned}
 use Rattle.script_lines.specs.Plan.Replan.{keeps, drops, plans}
 
 pub in_parts : PlannedInParts

@@ -1,10 +1,8 @@
 -- A script is read in one way.
-use Rattle.std.proofs.Common.{◌≡◌, ◌≢◌, ◌⊎◌, ◌==◌, ◌&&◌, ◌||◌, ℕ, ◌+◌, ◌<◌, Bool, true, false, not, cond, Option, Some, None, List, [], ◌∷◌, length, codes, refl, sym, ◌∙◌, ap, subst, inl, inr, Ok, arith}
-use Rattle.std.specs.List.{list_any, find}
+use Rattle.std.proofs.Common.{◌≡◌, ◌⊎◌, ◌==◌, ◌&&◌, ◌||◌, ℕ, ◌+◌, ◌<◌, Bool, true, false, not, cond, Option, Some, None, List, [], ◌∷◌, length, codes, refl, sym, ◌∙◌, ap, subst, inl, inr, arith}
+use Rattle.std.specs.List.{list_any}
 use Rattle.std.specs.Str.{bytes_eq}
-use Rattle.std.specs.Fmt.{decimal}
 use Rattle.std.proofs.lemmas.Fmt.{decimal_injective}
-use Rattle.std.proofs.lemmas.Slice.Eq.{bytes_eq-Decides}
 use Rattle.hex.specs.Hex.{decode_of}
 use Rattle.handlers.specs.declared.handler.HandlerKind.{HandlerKind}
 use Rattle.handlers.specs.declared.handler.HandlerKind.TheVariants.{Table, Counter, Level}
@@ -13,10 +11,10 @@ use Rattle.script_lines.specs.declared.line.Line.{Line}
 use Rattle.script_lines.specs.declared.line.Line.TheVariants.{Set, Get, Del, Register, Load, Direct, Save, Commit, RunSet, RunGet, Names, Mount, Cut, Uncut, Migrate}
 use Rattle.script_lines.specs.declared.why.LineWhy.{LineWhy}
 use Rattle.script_lines.specs.declared.why.LineWhy.TheVariants.{Unknown, Words, Name, Kind, Hex, Long, Number}
-use Rattle.script_lines.specs.Forms.{Field, Form, Said, Row, IsHex, IsDash, kind_word, SaysField, SaysAll, has_word, form_at, Spells, rank, HasFault, SomeFault, IsFirstFault, IsRefusedBehind, Refuses, row}
+use Rattle.script_lines.specs.Forms.{Field, Form, Said, Row, IsHex, IsDash, kind_word, SaysField, SaysAll, has_word, form_at, Spells, rank, SomeFault, IsFirstFault, IsRefusedBehind, Refuses, row}
 use Rattle.script_lines.specs.Forms.Field.{a_name, a_label, a_kind, some_bytes, any_bytes, below}
 use Rattle.script_lines.specs.Forms.Said.{name, label, kind, bytes, number}
-use Rattle.script_lines.specs.Line.{row_of, one_name}
+use Rattle.script_lines.specs.Line.{row_of}
 use Rattle.script_lines.specs.Script.{is_skipped, SpellsAll, spoken, FirstRefused, IsFine, IsRefused}
 use Rattle.script_lines.specs.Laws.{OneLine, OneCause, OneScript, OneRefusal, OneMeaning}
 use Rattle.script_lines.proofs.FieldLemmas.{stands}

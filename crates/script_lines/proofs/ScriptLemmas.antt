@@ -1,5 +1,5 @@
 -- Lines of a script, one after another.
-use Rattle.std.proofs.Common.{◌≡◌, ℕ, ◌+◌, ◌<◌, List, [], ◌∷◌, ◌++◌, length, map, not, cond, Bool, true, false, Option, Some, None, IfSome, ◌≤◌, append-nil, refl, sym, ◌∙◌, ap, subst, Err, inl, inr, append_assoc, arith, Bor}
+use Rattle.std.proofs.Common.{◌≡◌, ℕ, ◌+◌, ◌<◌, List, [], ◌∷◌, ◌++◌, length, not, cond, Bool, Option, Some, None, IfSome, ◌≤◌, append-nil, refl, sym, ◌∙◌, ap, subst, Err, inl, inr, append_assoc, arith, Bor}
 use Rattle.script_lines.specs.declared.why.LineWhy.{LineWhy}
 use Rattle.script_lines.specs.Forms.{Form, Row}
 use Rattle.text_parts.specs.Parts.{parts}

@@ -1,9 +1,11 @@
 -- Texts of lines.
-use Rattle.std.proofs.Common.{◌≡◌, ℕ, ◌+◌, ◌<◌, ◌≤◌, List, [], ◌∷◌, ◌++◌, length, map, take, get_or, append-nil, append_assoc, refl, sym, ◌∙◌, ap, subst, arith}
+use Rattle.std.proofs.Common.{String, Global, string_bytes, IfOk, Result, Ok, Err, ◌≡◌, ℕ, ◌+◌, ◌<◌, ◌≤◌, List, [], ◌∷◌, ◌++◌, length, map, take, get_or, append_assoc, refl, sym, ◌∙◌, ap, subst, arith}
 use Rattle.std.specs.List.{join_with_byte}
-use Rattle.std.proofs.lemmas.List.{map_more, length-take}
+use Rattle.std.proofs.lemmas.List.{map_more}
 use Rattle.std.proofs.Math.Seq.{take-length}
-use Rattle.script_lines.specs.Answer.{lines_text}
+use Rattle.std.specs.Global.{Vec}
+use Rattle.std.proofs.lemmas.Result.{IfOk-weaker}
+use Rattle.script_lines.specs.Answer.{lines_text, AreBytesOf}
 
 pub lines_text-append : (prefix back : List (List (List ℕ))) → lines_text (prefix ++ back) ≡ lines_text prefix ++ lines_text back
 lines_text-append [] back = refl
@@ -23,3 +25,11 @@ lines_whole f xs i text past within so_far =
 
 pub lines_joined : (prefix back : List (List (List ℕ))) (old added new : List ℕ) → new ≡ old ++ added → old ≡ lines_text prefix → added ≡ lines_text back → new ≡ lines_text (prefix ++ back)
 lines_joined prefix back old added new joins first then = joins ∙ ap (λ (text : List ℕ). text ++ added) first ∙ ap (λ (text : List ℕ). lines_text prefix ++ text) then ∙ sym (lines_text-append prefix back)
+
+-- the bytes of a text that was made
+pub bytes_made : {E : Type 0} (text : Result (String Global) E) (made : Result (Vec ℕ) E) (have want : List ℕ) → AreBytesOf text made → IfOk text (λ t. string_bytes t ≡ have) → have ≡ want → IfOk made (λ v. v.items ≡ want)
+bytes_made (Ok text) made have want are is same = IfOk-weaker made (λ v. v.items ≡ string_bytes text) (λ v. v.items ≡ want) (λ v e. e ∙ is ∙ same) are
+bytes_made (Err e) made have want are is same = rw are tt
+
+pub same_text : {E : Type 0} (made : Result (Vec ℕ) E) (have want : List ℕ) → IfOk made (λ v. v.items ≡ have) → have ≡ want → IfOk made (λ v. v.items ≡ want)
+same_text made have want is same = subst (λ (text : List ℕ). IfOk made (λ v. v.items ≡ text)) same is

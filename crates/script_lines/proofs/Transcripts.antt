@@ -1,5 +1,5 @@
 -- A transcript has one reading.
-use Rattle.std.proofs.Common.{◌≡◌, ◌⊎◌, inl, inr, ℕ, ◌+◌, ◌==◌, ◌||◌, ◌&&◌, ◌^◌, ◌<◌, ◌≤◌, Bool, true, false, cond, Option, Some, None, Result, Ok, Err, List, [], ◌∷◌, ◌++◌, length, map, codes, append_assoc, length-append, refl, sym, ◌∙◌, ap, subst, arith}
+use Rattle.std.proofs.Common.{◌≡◌, ◌⊎◌, inl, inr, ℕ, ◌||◌, ◌^◌, ◌<◌, Bool, true, false, cond, Option, Some, None, Result, Ok, Err, List, [], ◌∷◌, ◌++◌, length, map, codes, append_assoc, length-append, refl, sym, ◌∙◌, ap, subst, arith}
 use Rattle.std.specs.List.{All, list_all}
 use Rattle.std.specs.Str.{bytes_eq}
 use Rattle.std.specs.Str.Parse.{digits_value}
@@ -13,11 +13,9 @@ use Rattle.hex.proofs.HexLemmas.{decode_of-encode_lower}
 use Rattle.serde_json.specs.Written.{compact_text}
 use Rattle.script_lines.specs.declared.lists.Pair.{Pair}
 use Rattle.script_lines.specs.declared.lists.Give.{Give}
-use Rattle.script_lines.specs.declared.answer.SaveEnd.{SaveEnd}
 use Rattle.script_lines.specs.declared.answer.Answer.{Answer}
 use Rattle.script_lines.specs.declared.answer.SaveEnd.TheVariants as ends
 use Rattle.script_lines.specs.declared.answer.Answer.TheVariants.{Done, Value, Absent, Lost, Off, NoSpace, TooMany, Exists, NoKind, NoTarget, Rejected, NoHandler, Loaded, Direct, Saved, Names}
-use Rattle.image_file.specs.Lawful.{IsLabel}
 use Rattle.script_lines.specs.Answer.{lines_text, text_of, lines_of, give_line, have_line, taken_word, dashed, one, names_object}
 use Rattle.script_lines.specs.Transcript.{transcript, IsWord, IsReportedPair, IsReportedGive, IsReported, OneListOfLines, shown_rest, shown_give, shown, OneTranscript}
 use Rattle.script_lines.proofs.TextLemmas.{lines_text-append}

@@ -1,17 +1,15 @@
 -- Words of answers have no space and no end of line.
 use Rattle.std.proofs.lemmas.List.Sums.{AllPass-from_list_all}
-use Rattle.std.proofs.Common.{◌≡◌, ◌⊎◌, inl, inr, ℕ, zero, suc, ◌+◌, ◌/◌, ◌%◌, ◌==◌, ◌^◌, ◌<◌, ◌≤◌, ◌&&◌, ◌||◌, nat_lt, nat_le, Bool, true, false, cond, List, [], ◌∷◌, ◌++◌, length, get_or, map, codes, refl, sym, ◌∙◌, ap, subst, arith}
-use Rattle.std.specs.List.{All, list_all, flat_map}
+use Rattle.std.proofs.Common.{◌≡◌, ℕ, suc, ◌+◌, ◌/◌, ◌%◌, ◌^◌, ◌<◌, nat_lt, true, List, [], ◌∷◌, get_or, codes, refl, arith}
+use Rattle.std.specs.List.{list_all}
 use Rattle.std.specs.Fmt.{decimal}
-use Rattle.std.proofs.lemmas.Bool.{and_parts, cases_lt}
+use Rattle.std.proofs.lemmas.Bool.{and_parts}
 use Rattle.std.proofs.lemmas.Bool.Decides.{nat_tests}
 use Rattle.std.proofs.lemmas.Fmt.{decimal_by_steps}
-use Rattle.std.proofs.lemmas.List.Elements.{All-nil, All-cons, All-head, All-tail, All-append}
+use Rattle.std.proofs.lemmas.List.Elements.{All-nil, All-cons, All-append}
 use Rattle.hex.specs.Hex.{encode_with, encode_lower, lower_digits, IsBytes}
-use Rattle.json.specs.Print.{escape_byte, escape_letter, escape, quoted}
 use Rattle.setting_name.specs.Name.{IsName}
 use Rattle.setting_name.proofs.KeyLemmas.{name_bytes}
-use Rattle.script_lines.specs.declared.lists.Pair.{Pair}
 use Rattle.image_file.specs.Lawful.{IsLabel, is_label_byte}
 use Rattle.script_lines.specs.Answer.{dashed}
 use Rattle.script_lines.specs.Transcript.{IsWord}

@@ -1,10 +1,16 @@
 -- The lines of a script on settings: their table, and what each says.
-use Rattle.std.specs.Prelude.{◌≡◌, ℕ, ◌^◌, ⊤, Option, Some, None, Result, Ok, Err, List, [], ◌∷◌, codes}
-use Rattle.handlers.specs.declared.handler.HandlerKind.{HandlerKind}
+use Rattle.std.specs.Prelude.{◌≡◌, ℕ, Option, Some, None, Result, List, [], ◌∷◌, codes}
+use Rattle.std.specs.Borrow.{Bor}
 use Rattle.script_lines.specs.declared.line.Line.{Line}
 use Rattle.script_lines.specs.declared.line.Line.TheVariants.{Set, Get, Del, Register, Load, Direct, Save, Commit, RunSet, RunGet, Names, Mount, Cut, Uncut, Migrate}
 use Rattle.script_lines.specs.declared.why.LineFault.{LineFault}
-use Rattle.script_lines.specs.Forms.{Form, Said, Row, form, row, ReadsRow}
+use Rattle.script_lines.specs.declared.reading.Alone.{Alone}
+use Rattle.script_lines.specs.declared.reading.Alone.TheVariants as alones
+use Rattle.script_lines.specs.declared.reading.OfName.{OfName}
+use Rattle.script_lines.specs.declared.reading.OfName.TheVariants as names
+use Rattle.script_lines.specs.declared.reading.OfSubtree.{OfSubtree}
+use Rattle.script_lines.specs.declared.reading.OfSubtree.TheVariants as subtrees
+use Rattle.script_lines.specs.Forms.{Form, Said, Row, form, row, words_of, ReadsRow}
 use Rattle.script_lines.specs.Forms.Field.{a_name, a_kind, some_bytes, any_bytes, below}
 use Rattle.script_lines.specs.Forms.Said.{name, kind, bytes, number}
 
@@ -56,3 +62,37 @@ row_of Migrate = row (codes "migrate") []
 -- How the reading of a line ends.
 abbrev pub ReadsLine : ℕ → List (List ℕ) → Result Line LineFault → Type 0
 ReadsLine limit words read = ReadsRow settings_forms row_of limit words read
+
+-- The first words of lines of one word, before a name, and before the name of a subtree.
+
+abbrev pub alone_word : Alone → List ℕ
+alone_word alones.Commit = codes "commit"
+alone_word alones.Names = codes "names"
+alone_word alones.Mount = codes "mount"
+alone_word alones.Uncut = codes "uncut"
+alone_word alones.Migrate = codes "migrate"
+
+abbrev pub name_word : OfName → List ℕ
+name_word names.Get = codes "get"
+name_word names.Del = codes "del"
+name_word names.RunGet = codes "rget"
+
+abbrev pub subtree_word : OfSubtree → List ℕ
+subtree_word subtrees.Load = codes "load"
+subtree_word subtrees.Direct = codes "direct"
+subtree_word subtrees.Save = codes "save"
+
+-- The line says the word alone, the word and a name, or the word and a name that may lack.
+
+abbrev pub IsAlone : Alone → Line → Type 0
+IsAlone word line = row_of line ≡ row (alone_word word) []
+
+abbrev pub IsOfName : OfName → List ℕ → Line → Type 0
+IsOfName word text line = row_of line ≡ row (name_word word) (name text ∷ [])
+
+abbrev pub IsOfSubtree : OfSubtree → Option (List ℕ) → Line → Type 0
+IsOfSubtree word subtree line = row_of line ≡ row (subtree_word word) (one_name subtree)
+
+-- How the reading of the words behind a first word ends.
+abbrev pub ReadsBehind : ℕ → List ℕ → Option (Bor (List ℕ)) → Result Line LineFault → Type 0
+ReadsBehind limit word rest read = ReadsLine limit (word ∷ words_of rest) read

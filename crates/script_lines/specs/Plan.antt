@@ -1,5 +1,5 @@
 -- Units and losses in answers, and the plan of a loss.
-use Rattle.std.specs.Prelude.{◌≡◌, ◌≢◌, ℕ, ⊤, Bool, true, false, List, [], ◌∷◌, ◌++◌, All, sum_by, count_by, if◌then◌else◌, MatchBool, length}
+use Rattle.std.specs.Prelude.{◌≡◌, ◌≢◌, ℕ, ⊤, Bool, true, false, List, [], ◌∷◌, ◌++◌, All, sum_by, count_by, if◌then◌else◌, MatchBool}
 use Rattle.flash_sim.specs.Device.{Plan, Never, After, Lasts, LostAfter, lowered, dropped, replanned}
 use Rattle.script_lines.specs.declared.line.Line.{Line}
 use Rattle.script_lines.specs.declared.line.Line.TheVariants.{Cut, Uncut}

@@ -1,14 +1,13 @@
 -- The texts of answers in a row, and what they show.
-use Rattle.std.specs.Prelude.{◌≡◌, ℕ, ◌^◌, ◌<◌, ⊤, Bool, List, [], ◌∷◌, ◌++◌, All, length, map, codes, if◌then◌else◌}
+use Rattle.std.specs.Prelude.{◌≡◌, ℕ, ◌^◌, ◌<◌, ⊤, List, [], ◌∷◌, ◌++◌, All, length, map, codes, if◌then◌else◌}
 use Rattle.std.specs.Str.{bytes_eq}
 use Rattle.hex.specs.Hex.{IsBytes}
 use Rattle.setting_name.specs.Name.{IsName}
 use Rattle.script_lines.specs.declared.lists.Pair.{Pair}
 use Rattle.script_lines.specs.declared.lists.Give.{Give}
-use Rattle.script_lines.specs.declared.answer.SaveEnd.{SaveEnd}
 use Rattle.script_lines.specs.declared.answer.Answer.{Answer}
 use Rattle.script_lines.specs.declared.answer.SaveEnd.TheVariants as ends
-use Rattle.script_lines.specs.declared.answer.Answer.TheVariants.{Done, Value, Absent, Lost, Off, NoSpace, TooMany, Exists, NoKind, NoTarget, Rejected, NoHandler, Loaded, Direct, Saved, Names}
+use Rattle.script_lines.specs.declared.answer.Answer.TheVariants.{Done, Value, Lost, NoSpace, TooMany, Loaded, Direct, Saved, Names}
 use Rattle.image_file.specs.Lawful.{IsLabel}
 use Rattle.script_lines.specs.Answer.{text_of, lines_of}
 

@@ -1,10 +1,12 @@
 // Answers and their texts.
 ghost use Rattle.std.specs.Prelude.{◌≡◌, ◌∷◌, ◌++◌, [], false, map, IfOk, OnOk};
 ghost use Rattle.std.specs.String.{string_bytes};
+ghost use Rattle.std.specs.Fmt.{decimal};
 ghost use Rattle.hex.specs.Hex.{encode_lower};
+ghost use Rattle.serde_json.specs.Data.{string, put};
 ghost use Rattle.serde_json.specs.View.{members_view};
 ghost use Rattle.image_file.specs.Lawful.{IsLabel};
-ghost use Rattle.script_lines.specs.Answer.{lines_text, lines_of, give_line, have_line, names_members, names_json, IsObjectText, dashed, taken_word, text_of, Rise, CanReport};
+ghost use Rattle.script_lines.specs.Answer.{lines_text, lines_of, give_line, have_line, names_members, names_json, IsObjectText, AreBytesOf, dashed, taken_word, one, text_of, Rise, CanReport};
 ghost use Rattle.script_lines.specs.Transcript.{OneListOfLines, OneTranscript};
 
 use crate::lists::{Bytes, Give, Gives, Label, Pair, Pairs};
@@ -13,7 +15,7 @@ use serde_json::{Map, Value};
 use std::alloc::{AllocError, Global};
 
 /// How a `save` ended.
-#[derive(Clone, Copy, Debug, PartialEq, Eq)]
+#[derive(Clone, Copy)]
 pub enum SaveEnd {
     /// All pairs were stored.
     Whole,
@@ -25,7 +27,7 @@ pub enum SaveEnd {
 }
 
 /// The answer to a line.
-#[derive(Debug, Drop)]
+#[derive(Drop)]
 pub enum Answer {
     /// The line was carried out. `units` counts units and erases.
     Done {
@@ -176,15 +178,23 @@ fn have_lines(alloc: Global, pairs: &[Pair]) -> Result<Vec<u8>, AllocError>
     Ok(text)
 }
 
+// Puts the value of a name, in hexadecimal digits, into an object.
+fn put_name(alloc: Global, names: &mut Map<String, Value>, pair: &Pair) -> Result<(), AllocError>
+    ensures { OnOk result (members_view names.new.entries
+        ≡ put pair.now.name (string (encode_lower pair.now.value)) (members_view names.old.entries)) }
+{
+    let name = String::from_utf8_lossy(alloc, pair.name.bytes())?;
+    let digits = hex::encode(alloc, pair.value.as_slice())?;
+    serde_json::put(names, alloc, name.as_str(), Value::String(digits))
+}
+
 fn names_of(alloc: Global, pairs: &[Pair]) -> Result<Map<String, Value>, AllocError>
     requires { Rise pairs.now }
     ensures { IfOk result (λ names. members_view names.entries ≡ names_members pairs.now) }
 {
     let mut names = Map::new(alloc);
     for pair in pairs {
-        let name = String::from_utf8_lossy(alloc, pair.name.bytes())?;
-        let digits = hex::encode(alloc, pair.value.as_slice())?;
-        serde_json::put(&mut names, alloc, name.as_str(), Value::String(digits))?;
+        put_name(alloc, &mut names, pair)?;
     }
     Ok(names)
 }
@@ -226,7 +236,7 @@ fn lost_text(alloc: Global, units: u64, chance: bool) -> Result<String, AllocErr
     if chance {
         format!(in alloc; "lost {units} chance\n")
     } else {
-        format!(in alloc; "lost {units}\n")
+        number_text(alloc, "lost", units)
     }
 }
 
@@ -274,36 +284,52 @@ fn value_text(alloc: Global, value: &[u8]) -> Result<String, AllocError>
     format!(in alloc; "value {digits}\n")
 }
 
+// A word and a number.
+fn number_text(alloc: Global, word: &str, number: u64) -> Result<String, AllocError>
+    ensures { IfOk result
+        (λ text. string_bytes text ≡ lines_text (one (word.now ∷ decimal number ∷ []))) }
+{
+    format!(in alloc; "{word} {number}\n")
+}
+
+fn bytes_of(text: Result<String, AllocError>) -> Result<Vec<u8>, AllocError>
+    ensures { AreBytesOf text result }
+{
+    match text {
+        Ok(text) => Ok(text.into_bytes()),
+        Err(error) => Err(error),
+    }
+}
+
 fn written(alloc: Global, answer: &Answer) -> Result<Vec<u8>, AllocError>
     requires { CanReport answer.now }
     ensures { IfOk result (λ text. text.items ≡ text_of answer.now) }
 {
-    let text = match answer {
-        Answer::Done { units } => format!(in alloc; "ok {units}\n")?,
-        Answer::Value { value } => value_text(alloc, value.as_slice())?,
-        Answer::Absent => String::from_str(alloc, "none\n")?,
-        Answer::Lost { units, chance } => lost_text(alloc, *units, *chance)?,
-        Answer::Off => String::from_str(alloc, "off\n")?,
-        Answer::NoSpace { units, .. } => format!(in alloc; "nospace {units}\n")?,
-        Answer::TooMany { units } => format!(in alloc; "toomany {units}\n")?,
-        Answer::Exists => String::from_str(alloc, "exists\n")?,
-        Answer::NoKind => String::from_str(alloc, "nokind\n")?,
-        Answer::NoTarget => String::from_str(alloc, "notarget\n")?,
-        Answer::Rejected => String::from_str(alloc, "rejected\n")?,
-        Answer::NoHandler => String::from_str(alloc, "nohandler\n")?,
-        Answer::Saved { pairs, units, end } => saved_text(alloc, *pairs, *units, *end)?,
+    match answer {
+        Answer::Done { units } => bytes_of(number_text(alloc, "ok", *units)),
+        Answer::Value { value } => bytes_of(value_text(alloc, value.as_slice())),
+        Answer::Absent => Vec::from_slice(alloc, b"none\n"),
+        Answer::Lost { units, chance } => bytes_of(lost_text(alloc, *units, *chance)),
+        Answer::Off => Vec::from_slice(alloc, b"off\n"),
+        Answer::NoSpace { units, .. } => bytes_of(number_text(alloc, "nospace", *units)),
+        Answer::TooMany { units } => bytes_of(number_text(alloc, "toomany", *units)),
+        Answer::Exists => Vec::from_slice(alloc, b"exists\n"),
+        Answer::NoKind => Vec::from_slice(alloc, b"nokind\n"),
+        Answer::NoTarget => Vec::from_slice(alloc, b"notarget\n"),
+        Answer::Rejected => Vec::from_slice(alloc, b"rejected\n"),
+        Answer::NoHandler => Vec::from_slice(alloc, b"nohandler\n"),
         Answer::Loaded {
             gives,
             taken,
             rejected,
             passed,
-        } => return loaded_text(alloc, gives.as_slice(), *taken, *rejected, *passed),
-        Answer::Direct { pairs } => return direct_text(alloc, pairs.as_slice()),
+        } => loaded_text(alloc, gives.as_slice(), *taken, *rejected, *passed),
+        Answer::Direct { pairs } => direct_text(alloc, pairs.as_slice()),
+        Answer::Saved { pairs, units, end } => bytes_of(saved_text(alloc, *pairs, *units, *end)),
         Answer::Names { active, pairs } => {
-            return names_line(alloc, active.as_slice(), pairs.as_slice());
+            names_line(alloc, active.as_slice(), pairs.as_slice())
         }
-    };
-    Ok(text.into_bytes())
+    }
 }
 
 /// The text of an answer: each line with its LF, numbers in decimal, bytes in lower-case

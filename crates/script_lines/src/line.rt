@@ -7,7 +7,7 @@ use setting_name::Name;
 pub const UNITS_END: u64 = 4_294_967_296;
 
 /// A line of a script on settings.
-#[derive(Debug, Drop)]
+#[derive(Drop)]
 pub enum Line {
     /// Stores a value; the empty one deletes the name.
     Set { name: Name, value: Bytes },

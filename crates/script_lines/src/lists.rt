@@ -7,7 +7,7 @@ use std::alloc::Global;
 use std::marker::Model;
 
 /// A list. Contracts see its items alone.
-#[derive(Debug, Drop)]
+#[derive(Drop)]
 pub struct ListOf<T> {
     items: Vec<T>,
 }
@@ -75,7 +75,7 @@ pub fn copied(alloc: Global, bytes: &[u8]) -> Result<Bytes, NoMemory>
 pub type Label = ListOf<u8>;
 
 /// A name with its value.
-#[derive(Debug, Drop)]
+#[derive(Drop)]
 pub struct Pair {
     pub name: Name,
     pub value: Bytes,
@@ -86,7 +86,7 @@ pub type Pairs = ListOf<Pair>;
 
 /// A setting that a load gave to the handler of a subtree: the rest of its name, its value, and
 /// whether the handler took it.
-#[derive(Debug, Drop)]
+#[derive(Drop)]
 pub struct Give {
     pub subtree: Name,
     pub rest: Bytes,

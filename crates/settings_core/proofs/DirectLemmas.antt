@@ -1,12 +1,13 @@
 -- The loop of a load without handlers.
-use Rattle.std.proofs.Common.{◌≡◌, ℕ, ◌+◌, ◌^◌, ◌<◌, List, [], ◌∷◌, ◌++◌, length, true, false, Option, refl, sym, ap, ◌∙◌, arith, append_assoc, length-append}
+use Rattle.std.proofs.Common.{◌≡◌, ℕ, ◌+◌, ◌^◌, ◌<◌, List, [], ◌∷◌, ◌++◌, length, Bool, true, false, Option, Result, refl, sym, ap, subst, ◌∙◌, arith, append_assoc, length-append}
 use Rattle.std.proofs.lemmas.Bool.{cond-true, cond-false}
 use Rattle.std.proofs.lemmas.List.{append-nil}
 use Rattle.std.proofs.lemmas.List.Sums.{length-filter, count_by-le-length}
 use Rattle.std.proofs.lemmas.List.Elements.{filter-append}
+use Rattle.settings_core.specs.declared.loading.LoadFault.{LoadFault}
 use Rattle.settings_core.specs.Committing.{is_under}
 use Rattle.settings_core.specs.Deliveries.{settings_under}
-use Rattle.settings_core.specs.Direct.{ReportsSome}
+use Rattle.settings_core.specs.Direct.{ReportsSome, DirectEnds}
 use Rattle.settings_core.specs.Reported.{reported_more}
 use Rattle.settings_core.proofs.ListedLemmas.{Setting, take_done}
 use Rattle.settings_core.proofs.ReportedLemmas.{reported_none, reported_then}
@@ -71,3 +72,9 @@ pub all_reported : (old now : Option (List Setting)) (subtree : Option (List ℕ
 all_reported old now subtree all left count none so_far =
     let whole : so_far.done ≡ all = sym (append-nil so_far.done) ∙ ap (λ l. so_far.done ++ l) (sym none) ∙ so_far.whole in
     (so_far.counts ∙ ap (λ es. length (settings_under subtree es)) whole, so_far.reported_is ∙ ap (λ es. reported_more old (settings_under subtree es)) whole)
+
+-- a load of the settings that a backend lists, once it is up
+pub direct_of_pairs : (up : Bool) (old new : Option (List Setting)) (subtree : Option (List ℕ)) (pairs all : List Setting) (result : Result ℕ LoadFault) → up ≡ true → pairs ≡ all
+    → DirectEnds true old new subtree pairs result → DirectEnds up old new subtree all result
+direct_of_pairs up old new subtree pairs all result is same ends =
+    subst (λ b. DirectEnds b old new subtree all result) (sym is) (subst (λ es. DirectEnds true old new subtree es result) same ends)

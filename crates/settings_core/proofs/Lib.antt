@@ -5,6 +5,7 @@ mod CommitLemmas
 mod OfferLemmas
 pub mod ListedLemmas
 mod SeatLemmas
+mod PlacedLemmas
 mod GiveLemmas
 mod LoadLemmas
 mod SequenceLemmas

@@ -34,8 +34,8 @@ next_listed left after found pair is step = ap listed (rest_more deref_pair left
 pub none_listed : (left after : List Listed) (found : Option (Bor (List ℕ) × Bor (Bor (List ℕ)))) → found ≡ None → TakesFirst deref_pair left found after → listed left ≡ []
 none_listed left after found is step = ap listed (rest_all deref_pair left after found is step)
 
-pub few_listed : (settings : Map) → maps.len settings < 2 ^ 32 → length (maps.entries settings) < 2 ^ 32
-few_listed settings few = subst (λ n. n < 2 ^ 32) (maps.len-entries settings) few
+pub few_pairs : (settings : Map) (pairs : List Setting) → pairs ≡ maps.entries settings → maps.len settings < 2 ^ 32 → length pairs < 2 ^ 32
+few_pairs settings pairs same few = subst (λ n. n < 2 ^ 32) (maps.len-entries settings ∙ ap length (sym same)) few
 
 -- ---- the first ones of a list
 

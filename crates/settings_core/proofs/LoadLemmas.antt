@@ -1,5 +1,5 @@
 -- The loop of a load.
-use Rattle.std.proofs.Common.{◌≡◌, ℕ, ◌+◌, ◌-◌, ◌^◌, ◌<◌, List, [], ◌∷◌, ◌++◌, length, map, take, true, false, Option, Some, Ok, Err, inl, inr, ◌⊎◌, refl, sym, ap, subst, ◌∙◌, arith, append_assoc, length-append}
+use Rattle.std.proofs.Common.{◌≡◌, ℕ, ◌+◌, ◌-◌, ◌^◌, ◌<◌, List, [], ◌∷◌, ◌++◌, length, map, take, Bool, true, false, Option, Some, Result, Ok, Err, inl, inr, ◌⊎◌, refl, sym, ap, subst, ◌∙◌, arith, append_assoc, length-append}
 use Rattle.std.specs.Prelude.{not}
 use Rattle.std.proofs.lemmas.List.{append-nil}
 use Rattle.std.proofs.lemmas.List.Sums.{length-filter, count_by-le-length}
@@ -7,10 +7,11 @@ use Rattle.std.proofs.lemmas.List.Filters.{length-filter_both}
 use Rattle.flash_sim.specs.declared.flash.NoMemory.{NoMemory as Lack}
 use Rattle.handlers.specs.Registry.{Registered, subtrees}
 use Rattle.settings_core.specs.declared.loading.Loaded.{Loaded}
+use Rattle.settings_core.specs.declared.loading.LoadFault.{LoadFault}
 use Rattle.settings_core.specs.Committing.{is_under}
 use Rattle.settings_core.specs.Deliveries.{Give, give, Delivery, delivery, deliver, deliver_all, delivered, is_taken}
 use Rattle.settings_core.specs.Reported.{reported_more}
-use Rattle.settings_core.specs.Loading.{Gives, GivesSome, LoadOneEnds}
+use Rattle.settings_core.specs.Loading.{Gives, GivesSome, LoadEnds, LoadOneEnds}
 use Rattle.settings_core.proofs.GiveLemmas.{gives_beside, gives_offered, given_more}
 use Rattle.settings_core.proofs.ListedLemmas.{Setting, take_done, take_one_more}
 use Rattle.settings_core.proofs.ReportedLemmas.{reported_none}
@@ -82,3 +83,9 @@ module _ (before now : List Registered) (old reported : Option (List Give)) (sub
 pub all_so_far : (before now : List Registered) (old new : Option (List Give)) (subtree : Option (List ℕ)) (all left : List Setting) (loaded : Loaded) → left ≡ [] → SoFar before now old new subtree all left loaded → Gives before now old new subtree all loaded
 all_so_far before now old new subtree all left loaded none so_far =
     subst (λ es. Gives before now old new subtree es loaded) (sym (append-nil so_far.done) ∙ ap (λ l. so_far.done ++ l) (sym none) ∙ so_far.whole) so_far.gives
+
+-- a load of the settings that a backend lists, once it is up
+pub ends_of_pairs : (up : Bool) (before after : List Registered) (old new : Option (List Give)) (subtree : Option (List ℕ)) (pairs all : List Setting) (result : Result Loaded LoadFault) → up ≡ true → pairs ≡ all
+    → LoadEnds true before after old new subtree pairs result → LoadEnds up before after old new subtree all result
+ends_of_pairs up before after old new subtree pairs all result is same ends =
+    subst (λ b. LoadEnds b before after old new subtree all result) (sym is) (subst (λ es. LoadEnds true before after old new subtree es result) same ends)

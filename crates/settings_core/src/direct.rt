@@ -1,8 +1,9 @@
 // Loads without handlers.
-ghost use Rattle.std.specs.Prelude.{◌≡◌, ℕ, true, List, [], ◌∷◌, Option, OnOk, OnErr, option_map};
+ghost use Rattle.std.specs.Prelude.{◌≡◌, ℕ, ◌^◌, ◌<◌, true, List, [], ◌∷◌, length, Option, OnOk, OnErr, option_map};
 ghost use Rattle.std.specs.FinMap as finite;
 ghost use Rattle.flash_map.specs.Lawful.{IsLawfulFor};
 ghost use Rattle.flash_map.specs.On.{on, StandsOn};
+ghost use Rattle.backend_api.specs.Listing.{pairs_in};
 ghost use Rattle.settings_core.specs.Direct.{DirectEnds};
 ghost use Rattle.settings_core.specs.Reported.{reported_more};
 
@@ -14,6 +15,7 @@ use flash_sim::{Flash, NoMemory, Steps};
 use handlers::ValueView;
 use setting_name::Name;
 use std::alloc::Global;
+use std::collections::BTreeMap;
 use std::sync::ledger::Ledger;
 
 /// Receives each setting of a load without handlers.
@@ -55,20 +57,33 @@ impl<K: Backend> Settings<K> {
         if !self.backend.is_up() {
             return Err(LoadFault::Off);
         }
-        let settings = match self.backend.settings(alloc, flash, steps) {
-            Ok(settings) => settings,
-            Err(_) => return Err(LoadFault::NoMemory),
-        };
-        let mut count = 0;
-        for (name, value) in &settings {
-            if !is_under(name, subtree) {
-                continue;
-            }
-            match each.have(alloc, name, ValueView::of(value)) {
-                Ok(()) => count += 1,
-                Err(_) => return Err(LoadFault::NoMemory),
-            }
+        match self.backend.settings(alloc, flash, steps) {
+            Ok(settings) => give_all(alloc, &settings, subtree, each),
+            Err(_) => Err(LoadFault::NoMemory),
         }
-        Ok(count)
     }
+}
+
+// Gives `each` these settings whose names match the subtree, and counts them.
+fn give_all<E: Each>(
+    alloc: Global,
+    settings: &BTreeMap<Name, &[u8], Global>,
+    subtree: Option<&Name>,
+    each: &mut E,
+) -> Result<u32, LoadFault>
+    requires few { length (pairs_in settings.now) < 2 ^ 32 }
+    ensures { DirectEnds true (E.had each.old) (E.had each.new)
+        (option_map (λ name. name.now) subtree.entry) (pairs_in settings.now) result }
+{
+    let mut count = 0;
+    for (name, value) in settings {
+        if !is_under(name, subtree) {
+            continue;
+        }
+        match each.have(alloc, name, ValueView::of(value)) {
+            Ok(()) => count += 1,
+            Err(_) => return Err(LoadFault::NoMemory),
+        }
+    }
+    Ok(count)
 }

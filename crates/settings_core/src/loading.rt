@@ -1,8 +1,9 @@
 // Loads.
-ghost use Rattle.std.specs.Prelude.{◌≡◌, ◌+◌, ◌-◌, ◌^◌, ◌<◌, true, option_map};
+ghost use Rattle.std.specs.Prelude.{◌≡◌, ◌+◌, ◌-◌, ◌^◌, ◌<◌, true, length, option_map};
 ghost use Rattle.std.specs.FinMap as finite;
 ghost use Rattle.flash_map.specs.Lawful.{IsLawfulFor};
 ghost use Rattle.flash_map.specs.On.{on, StandsOn};
+ghost use Rattle.backend_api.specs.Listing.{pairs_in};
 ghost use Rattle.handlers.specs.Registry.{registered};
 ghost use Rattle.settings_core.specs.Loading.{LoadOneEnds, LoadEnds, counted};
 
@@ -15,6 +16,7 @@ use flash_sim::{Flash, NoMemory, Steps};
 use handlers::Registry;
 use setting_name::Name;
 use std::alloc::Global;
+use std::collections::BTreeMap;
 use std::sync::ledger::Ledger;
 
 /// The counts of a load, in stored values whose names match the subtree.
@@ -66,27 +68,43 @@ impl<K: Backend> Settings<K> {
         if !self.backend.is_up() {
             return Err(LoadFault::Off);
         }
-        let settings = match self.backend.settings(alloc, flash, steps) {
-            Ok(settings) => settings,
-            Err(_) => return Err(LoadFault::NoMemory),
-        };
-        let mut loaded = Loaded {
-            taken: 0,
-            rejected: 0,
-            passed: 0,
-        };
-        for (name, value) in &settings {
-            if !is_under(name, subtree) {
-                continue;
-            }
-            match load_one(alloc, registry, report, &mut loaded, name, value) {
-                Ok(()) => {}
-                Err(_) => return Err(LoadFault::NoMemory),
-            }
+        match self.backend.settings(alloc, flash, steps) {
+            Ok(settings) => load_all(alloc, &settings, registry, subtree, report),
+            Err(_) => Err(LoadFault::NoMemory),
         }
-        commit(registry, subtree);
-        Ok(loaded)
     }
+}
+
+// Gives each of these settings whose name matches the subtree to its handler. Then it commits the
+// handlers under the subtree.
+fn load_all<R: Report>(
+    alloc: Global,
+    settings: &BTreeMap<Name, &[u8], Global>,
+    registry: &mut Registry,
+    subtree: Option<&Name>,
+    report: &mut R,
+) -> Result<Loaded, LoadFault>
+    requires few { length (pairs_in settings.now) < 2 ^ 32 }
+    ensures { LoadEnds true (registered state registry.old) (registered state registry.new)
+        (R.gives report.old) (R.gives report.new) (option_map (λ name. name.now) subtree.entry)
+        (pairs_in settings.now) result }
+{
+    let mut loaded = Loaded {
+        taken: 0,
+        rejected: 0,
+        passed: 0,
+    };
+    for (name, value) in settings {
+        if !is_under(name, subtree) {
+            continue;
+        }
+        match load_one(alloc, registry, report, &mut loaded, name, value) {
+            Ok(()) => {}
+            Err(_) => return Err(LoadFault::NoMemory),
+        }
+    }
+    commit(registry, subtree);
+    Ok(loaded)
 }
 
 // Gives one setting to its handler, and counts it.

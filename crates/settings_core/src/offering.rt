@@ -13,7 +13,7 @@ use setting_name::Name;
 use std::alloc::Global;
 
 // What became of a stored value.
-#[derive(Clone, Copy, Debug, PartialEq, Eq)]
+#[derive(Clone, Copy)]
 pub(crate) enum Offered {
     Taken,
     Rejected,

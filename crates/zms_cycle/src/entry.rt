@@ -5,7 +5,7 @@ ghost use Rattle.zms_cycle.specs.Entries.{entry_of, encoded, decoded, fill};
 use crc8_entry::{START, checks, crc8};
 
 /// An entry: what the sixteen bytes of a slot say.
-#[derive(Clone, Copy, Debug, PartialEq, Eq)]
+#[derive(Clone, Copy, PartialEq, Eq)]
 pub struct ZEntry {
     /// The sector's cycle when the entry was programmed.
     pub cycle: u8,

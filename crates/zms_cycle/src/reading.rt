@@ -35,7 +35,7 @@ pub const FIRST: u32 = 2;
 const KEPT_SLOTS: u32 = 5;
 
 /// How a sector reads.
-#[derive(Clone, Copy, Debug, PartialEq, Eq)]
+#[derive(Clone, Copy, PartialEq, Eq)]
 pub enum SectorState {
     /// Slot 0 holds no empty entry.
     Blank,
@@ -55,7 +55,7 @@ pub enum SectorState {
 }
 
 /// An ordinary entry, and its slot.
-#[derive(Clone, Copy, Debug, PartialEq, Eq)]
+#[derive(Clone, Copy, PartialEq, Eq)]
 pub struct SlotEntry {
     /// The number of the slot.
     pub slot: u32,
@@ -435,7 +435,7 @@ pub(crate) fn sector_cycle<F: Flash, L: Ledger>(
 }
 
 /// What a step has to know of a used sector.
-#[derive(Clone, Copy, Debug, PartialEq, Eq)]
+#[derive(Clone, Copy)]
 pub struct Opened {
     /// The cycle of its empty entry.
     pub cycle: u8,

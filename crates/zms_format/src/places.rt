@@ -15,7 +15,7 @@ use flash_sim::{Flash, Steps};
 use std::sync::ledger::Ledger;
 
 /// What a mount looks for from sector to sector. The number is that of the open sector.
-#[derive(Clone, Copy, Debug, PartialEq, Eq)]
+#[derive(Clone, Copy)]
 pub enum Lookup {
     /// A sector that is not closed.
     NotClosed,

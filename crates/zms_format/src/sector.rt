@@ -15,7 +15,7 @@ use zms_cycle::{
 const UNLISTED: u64 = 3;
 
 /// An entry that counts, and where it stands in the area.
-#[derive(Clone, Copy, Debug, PartialEq, Eq)]
+#[derive(Clone, Copy)]
 pub struct Found {
     /// The sector, counted from 0 in the area.
     pub sector: u32,
@@ -26,7 +26,7 @@ pub struct Found {
 }
 
 /// What the calls on an area have to know of a sector.
-#[derive(Clone, Copy, Debug, PartialEq, Eq)]
+#[derive(Clone, Copy)]
 pub struct Marks {
     /// The sector has no cycle yet.
     pub blank: bool,

@@ -19,7 +19,7 @@ use zms_format::{find_in, is_clean, scan};
 
 /// What a ZMS store keeps of its open sector: enough to know its free space and where the next
 /// entry goes, without reading its list.
-#[derive(Clone, Copy, Debug, PartialEq, Eq)]
+#[derive(Clone, Copy)]
 pub struct ZmsOpen {
     gc_done: bool,
     // none if it is blank

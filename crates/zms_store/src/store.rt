@@ -17,7 +17,7 @@ use std::alloc::Global;
 use std::sync::ledger::Ledger;
 
 /// A ZMS store on one area.
-#[derive(Debug, Drop)]
+#[derive(Drop)]
 pub struct Zms {
     pub(crate) store: Store<ZmsOpen>,
 }

@@ -1,17 +1,34 @@
-use Rattle.std.proofs.Common.{◌≡◌, ℕ, ◌<◌, false, List, length, sym, ap, ◌∙◌, arith}
+use Rattle.std.specs.Result.{IsErr}
+use Rattle.std.proofs.Common.{Bool, false, true, Result, Ok, Err, OnOk, List, [], ◌∷◌, length}
+use Rattle.std.proofs.Common.{refl, ◌≡◌, ℕ, ◌+◌, ◌<◌, ◌≤◌, sym, ap, subst, ◌∙◌, arith}
 use Rattle.std.specs.Prelude.{count_by}
 use Rattle.std.proofs.lemmas.List.{take_all}
 use Rattle.flash_sim.specs.Device.{counted}
 use Rattle.flash_map.specs.Area.{sectors_of, sector_size}
-use Rattle.flash_map.proofs.Touches.{then}
+use Rattle.flash_map.specs.Touches.{Touches}
+use Rattle.flash_map.proofs.Touches.{then, untouched}
 use Rattle.fcb_ring.specs.SectorStates.{is_torn}
 use Rattle.flash_map.specs.Area.{sector_at}
 use Rattle.fcb_ring.proofs.AreaLemmas.{count-sectors, area_after}
 use Rattle.fcb_ring.proofs.StandLemmas.{mended-behind}
+use Rattle.flash_map.proofs.SpendingLemmas.{spends_none}
 use Rattle.flash_map.proofs.FormatLemmas.{on_err, spends_next, spends_part}
 use Rattle.fcb_ring.proofs.MountLemmas.{mends_next, mends_all, none-due}
 use Rattle.fcb_ring.proofs.CollectLemmas.{erase-lost}
 use Rattle.fcb_ring.proofs.erasing.erase_torn.Goals as goal
+
+not_ok : {T E : Type 0} (P : Type 0) (r : Result T E) → IsErr r → OnOk r P
+not_ok P (Ok x) e = absurd (clash e)
+  where
+    clash : false ≡ true → ⊥
+    clash e = cc
+not_ok P (Err e) is = tt
+
+from-zero : (n : ℕ) → 0 ≤ n
+from-zero n = omega arith
+
+next-fits : (k n : ℕ) → k < n → n ≤ 64 → k + 1 < 4294967296
+next-fits k n below few = omega arith
 
 pub is_torn-is_due-requires : goal.is_torn-is_due-requires
 is_torn-is_due-requires g c =
@@ -40,7 +57,7 @@ loop-sector-preserved g c =
     ap (λ (l : List (List ℕ)). sector_at l j) kept.so_far ∙ mended-behind j (sectors_of a area) j inside (omega arith) in
     record {
       within = omega arith;
-      touches = then kept.touches c.in_ok-erase_if.ensures.touches;
+      touches = then {lost = false} kept.touches c.in_ok-erase_if.ensures.touches;
       so_far = mends_next (sectors_of a area) (sectors_of b area) (sectors_of after area) j (sector_size b area) c.is_torn-is_due.result inside kept.so_far (sym (ap length bytes) ∙ c.sector_view.ensures.len) due c.in_ok-erase_if.ensures.erased;
       idle = λ none.
           let before = kept.idle none in
@@ -75,3 +92,61 @@ pub returns-in_err-erase_if-clause-part : goal.returns-in_err-erase_if-clause-pa
 returns-in_err-erase_if-clause-part g c =
     let kept = c.loop-sector.invariant in
     on_err c.from_residual.result (c.loop-sector.sector, c.in_err-erase_if.ensures.same ∙ kept.so_far, λ on. erase-lost (g.F.Flash.device c.loop-sector.flash) (g.F.Flash.device c.erase_if.new.flash) c.args.area.now c.loop-sector.sector c.in_err-erase_if.ensures.touches.banks c.in_err-erase_if.ensures.lost (kept.touches.ends.on ∙ on))
+
+pub loop-sector-init : goal.loop-sector-init
+loop-sector-init g c =
+    let still = untouched (c.args.area.now ∷ []) (g.F.Flash.device c.args.flash.now) in
+    record {
+      within = from-zero c.args.area.now.sectors;
+      touches = still;
+      so_far = refl;
+      idle = λ none. refl;
+      spent = spends_none (g.F.Flash.device c.args.flash.now);
+    }
+
+pub overflow_step-sector : goal.overflow_step-sector
+overflow_step-sector g c =
+    record { fits = next-fits c.loop-sector.sector c.args.area.now.sectors c.loop-sector-test.true c.requires.lawful.few }
+
+pub sector_view-requires-clause-lawful : goal.sector_view-requires-clause-lawful
+sector_view-requires-clause-lawful g c =
+    let a = g.F.Flash.device c.args.flash.now in
+    let b = g.F.Flash.device c.loop-sector.flash in
+    (area_after a b c.args.area.now c.loop-sector.invariant.touches.banks c.requires).lawful.in_bank
+
+pub sector_view-requires-clause-has_sector : goal.sector_view-requires-clause-has_sector
+sector_view-requires-clause-has_sector g c = c.loop-sector-test.true
+
+pub erase_if-requires-clause-lawful : goal.erase_if-requires-clause-lawful
+erase_if-requires-clause-lawful g c =
+    let a = g.F.Flash.device c.args.flash.now in
+    let b = g.F.Flash.device c.loop-sector.flash in
+    (area_after a b c.args.area.now c.loop-sector.invariant.touches.banks c.requires).lawful.in_bank
+
+pub erase_if-requires-clause-has_sector : goal.erase_if-requires-clause-has_sector
+erase_if-requires-clause-has_sector g c = c.loop-sector-test.true
+
+pub returns-in_err-erase_if-clause-touches : goal.returns-in_err-erase_if-clause-touches
+returns-in_err-erase_if-clause-touches g c =
+    let a = g.F.Flash.device c.args.flash.now in
+    let after = g.F.Flash.device c.erase_if.new.flash in
+    subst (λ (lost : Bool). Touches (c.args.area.now ∷ []) a after lost) (sym c.from_residual.ensures.0)
+    (then c.loop-sector.invariant.touches c.in_err-erase_if.ensures.touches)
+
+pub returns-in_err-erase_if-clause-mended : goal.returns-in_err-erase_if-clause-mended
+returns-in_err-erase_if-clause-mended g c = not_ok _ c.from_residual.result c.from_residual.ensures.0
+
+pub returns-in_err-erase_if-clause-units : goal.returns-in_err-erase_if-clause-units
+returns-in_err-erase_if-clause-units g c = not_ok _ c.from_residual.result c.from_residual.ensures.0
+
+pub returns-clause-touches : goal.returns-clause-touches
+returns-clause-touches g c = c.loop-sector.invariant.touches
+
+pub returns-clause-idle : goal.returns-clause-idle
+returns-clause-idle g c none = c.loop-sector.invariant.idle none
+
+pub returns-clause-part : goal.returns-clause-part
+returns-clause-part g c = tt
+
+pub returns-clause-bound : goal.returns-clause-bound
+returns-clause-bound g c = tt

@@ -8,6 +8,7 @@ use Rattle.flash_map.specs.On.{on}
 use Rattle.backend_api.specs.Map.{Map, IsValue}
 use Rattle.migrator.specs.Copying.{pair_of}
 use Rattle.migrator.proofs.Values.{values-of}
+use Rattle.migrator.proofs.ErrLemmas.{not-ok}
 use Rattle.migrator.proofs.copying.read_all.Goals as goal
 
 pub returns : goal.returns
@@ -24,3 +25,24 @@ returns g c =
       pairs = pairs;
       values = values-of (IsValue (value_limit area)) m c.loop-name.all.items pairs lawful.values;
     }
+
+pub settings-requires-clause-lawful : goal.settings-requires-clause-lawful
+settings-requires-clause-lawful g c = c.requires.lawful
+
+pub settings-requires-clause-stands : goal.settings-requires-clause-stands
+settings-requires-clause-stands g c = c.requires.stands
+
+pub returns-in_err-found : goal.returns-in_err-found
+returns-in_err-found g c = record { pairs = not-ok _ c.from_residual.result c.from_residual.ensures.0; values = not-ok _ c.from_residual.result c.from_residual.ensures.0 }
+
+pub returns-in_err-value : goal.returns-in_err-value
+returns-in_err-value g c = record {
+  pairs = not-ok _ c.from_residual-in_err-value.result c.from_residual-in_err-value.ensures.0;
+  values = not-ok _ c.from_residual-in_err-value.result c.from_residual-in_err-value.ensures.0;
+}
+
+pub returns-in_err-push : goal.returns-in_err-push
+returns-in_err-push g c = record {
+  pairs = not-ok _ c.from_residual-in_err-push.result c.from_residual-in_err-push.ensures.0;
+  values = not-ok _ c.from_residual-in_err-push.result c.from_residual-in_err-push.ensures.0;
+}

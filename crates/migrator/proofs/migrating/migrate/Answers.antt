@@ -1,7 +1,10 @@
 use Rattle.migrator.proofs.ErasesLeft.{ready-few}
 use Rattle.migrator.proofs.Migration.{rests-still, rests-through}
 use Rattle.std.specs.FinMap as finite
-use Rattle.std.proofs.Common.{◌≡◌, ℕ, List, true, refl, sym, subst, ◌∙◌}
+use Rattle.std.proofs.Common.{arith, ◌≡◌, ◌<◌, ◌≤◌, ℕ, List, length, true, inl, inr, refl, sym, subst, ◌∙◌}
+use Rattle.std.proofs.lemmas.Option.{none-some, slice_get_cases}
+use Rattle.flash_map.proofs.Touches.{untouched}
+use Rattle.migrator.proofs.AreaLemmas.{store-within}
 use Rattle.std.proofs.lemmas.Bool.{false≢true}
 use Rattle.flash_sim.specs.Device.{Device}
 use Rattle.flash_map.specs.Area.{sectors_of, geometry_of}
@@ -11,7 +14,7 @@ use Rattle.flash_map.specs.On.{on}
 use Rattle.migrator.specs.Areas.{is_store_at}
 use Rattle.migrator.specs.Migrating.{migrate_lost, migrate_units}
 use Rattle.migrator.proofs.Moving.{open-sound, still}
-use Rattle.migrator.proofs.Migration.{migrate-most, moved-chosen, selector-apart, active-on, active-store, worked-is, reads-still, reads-through, store-of, moved-served, refused-served}
+use Rattle.migrator.proofs.Migration.{migrate-ends, migrate-most, moved-chosen, selector-apart, active-on, active-store, worked-is, reads-still, reads-through, store-of, moved-served, refused-served}
 use Rattle.migrator.proofs.Copies.{stands-still}
 use Rattle.migrator.proofs.Spent.{most_none}
 use Rattle.migrator.proofs.migrating.migrate.Goals as goal
@@ -146,3 +149,30 @@ returns-in-None-clause-rests g c =
     let source = g.K.Backend.mounted_on c.args.from.now in
     rests-still g.K.Backend.rests c.args.map.now c.args.selector.now.ring.area source c.args.active c.requires.selected c.requires.there a c.requires.is_active
     (g.met.K.Backend.stands_rests c.args.from.now (geometry_of a source) (sectors_of a source) c.requires.up) (ready-few a c.args.selector.now.ring c.args.selector.now.ring.area refl c.requires.open_ring.stands c.requires.open_ring.ready)
+
+pub target-requires : goal.target-requires
+target-requires g c = elim (slice_get_cases c.args.map.now c.args.active).1 [
+  | inl there ↦ there.1
+  | inr past ↦ absurd (none-some (g.K.Backend.mounted_on c.args.from.now) (sym past.1 ∙ c.requires.there))
+]
+
+pub area_at-area-requires : goal.area_at-area-requires
+area_at-area-requires g c = store-within c.args.map.now c.in-Some.index c.in-Some.ensures.store
+
+pub overflow_cast-index : goal.overflow_cast-index
+overflow_cast-index g c =
+    let few : length c.args.map.now ≤ 8 = c.requires.lawful.few in
+    let within : c.in-Some.index < length c.args.map.now = store-within c.args.map.now c.in-Some.index c.in-Some.ensures.store in
+    omega (arith, few, within)
+
+pub move_to-requires-clause-store : goal.move_to-requires-clause-store
+move_to-requires-clause-store g c = c.in-Some.ensures.store
+
+pub returns-in-Some-clause-ends : goal.returns-in-Some-clause-ends
+returns-in-Some-clause-ends g c =
+    let a : Device = g.F.Flash.device c.args.flash.now in
+    migrate-ends g.K.Backend.mounted_on g.K.Backend.damage g.K.Backend.contents g.K.Backend.room c.args.map.now c.args.selector.now.ring.area c.area_at-area.result c.args.active c.in-Some.index
+    (on g.K.Backend.contents a (g.K.Backend.mounted_on c.args.from.now)) a (g.F.Flash.device c.move_to.new.flash) c.move_to.result (sym c.target.ensures.target ∙ c.in-Some.is) c.area_at-area.ensures c.move_to.ensures.ends
+
+pub returns-in-None-clause-touches : goal.returns-in-None-clause-touches
+returns-in-None-clause-touches g c = untouched _ _

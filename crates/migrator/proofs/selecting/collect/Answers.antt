@@ -8,13 +8,16 @@ use Rattle.flash_map.proofs.SpendingLemmas.{most_weaker, spends_most}
 use Rattle.flash_map.specs.Spending.{SpendsAtMost}
 use Rattle.std.proofs.Common.{ℕ, ◌+◌, arith}
 use Rattle.std.proofs.Common.{true, false}
+use Rattle.flash_map.proofs.PieceLemmas.{on_err}
+use Rattle.fcb_ring.specs.Standing.{KeepsEntries}
 use Rattle.flash_sim.specs.Device.{Device}
 use Rattle.flash_map.specs.Touches.{Touches}
 use Rattle.flash_map.proofs.Touches.{then}
 use Rattle.fcb_ring.proofs.AppendLemmas.{is_err_by}
 use Rattle.std.proofs.Common.{[], ◌∷◌, subst, ◌∙◌}
 use Rattle.flash_map.specs.declared.area.Area.{Area}
-use Rattle.migrator.proofs.Collecting.{begun-fresh, begun-end, last-contained, last-short, collected-all}
+use Rattle.migrator.proofs.Collecting.{active-kept, begun-fresh, begun-end, last-contained, last-short, collected-all}
+use Rattle.migrator.proofs.ErrLemmas.{not-ok}
 use Rattle.migrator.proofs.selecting.collect.Goals as goal
 
 pub copy_last-requires-clause-listed : goal.copy_last-requires-clause-listed
@@ -135,3 +138,104 @@ pub returns-clause-left : goal.returns-clause-left
 returns-clause-left g c =
     let three = c.in_ok-end_collect.ensures in
     ready-few (g.F.Flash.device c.end_collect.new.flash) c.end_collect.new.self c.args.ring.now.area (three.ended.area ∙ c.in_ok-copy_last.ensures.only.area ∙ c.in_ok-begin_collect.ensures.begun.area) three.ended.stands three.ended.ready
+
+pub last_record-last-requires : goal.last_record-last-requires
+last_record-last-requires g c = c.requires.mounted.stands
+
+pub begin_collect-requires : goal.begin_collect-requires
+begin_collect-requires g c = record { stands = c.requires.mounted.stands; ready = c.requires.mounted.ready; left = c.requires.left }
+
+pub end_collect-requires : goal.end_collect-requires
+end_collect-requires g c = record { stands = c.in_ok-copy_last.ensures.stands; collecting = c.in_ok-copy_last.ensures.collecting }
+
+pub returns-in_err-begin_collect-clause-touches : goal.returns-in_err-begin_collect-clause-touches
+returns-in_err-begin_collect-clause-touches g c =
+    is_err_by c.from_residual.result (λ b. Touches (c.args.ring.now.area ∷ []) (g.F.Flash.device c.args.flash.now) (g.F.Flash.device c.begin_collect.new.flash) b) c.from_residual.ensures.0 c.in_err-begin_collect.ensures.touches
+
+pub returns-in_err-begin_collect-clause-area : goal.returns-in_err-begin_collect-clause-area
+returns-in_err-begin_collect-clause-area g c = c.in_err-begin_collect.ensures.stopped.area
+
+pub returns-in_err-begin_collect-clause-collected : goal.returns-in_err-begin_collect-clause-collected
+returns-in_err-begin_collect-clause-collected g c = not-ok _ c.from_residual.result c.from_residual.ensures.0
+
+pub returns-in_err-begin_collect-clause-active : goal.returns-in_err-begin_collect-clause-active
+returns-in_err-begin_collect-clause-active g c =
+    on_err c.from_residual.result (active-kept c.args.map.now (g.F.Flash.device c.args.flash.now) (g.F.Flash.device c.begin_collect.new.flash) c.args.ring.now.area c.in_err-begin_collect.ensures.stopped.list)
+
+pub returns-in_err-begin_collect-clause-undamaged : goal.returns-in_err-begin_collect-clause-undamaged
+returns-in_err-begin_collect-clause-undamaged g c = on_err c.from_residual.result c.in_err-begin_collect.ensures.stopped.list.undamaged
+
+pub returns-in_err-begin_collect-clause-down : goal.returns-in_err-begin_collect-clause-down
+returns-in_err-begin_collect-clause-down g c = on_err c.from_residual.result c.in_err-begin_collect.ensures.stopped.down
+
+pub returns-in_err-copy_last-clause-touches : goal.returns-in_err-copy_last-clause-touches
+returns-in_err-copy_last-clause-touches g c =
+    is_err_by c.from_residual-in_err-copy_last.result (λ b. Touches (c.args.ring.now.area ∷ []) (g.F.Flash.device c.args.flash.now) (g.F.Flash.device c.copy_last.new.flash) b) c.from_residual-in_err-copy_last.ensures.0
+    (then c.in_ok-begin_collect.ensures.touches
+    (subst (λ (x : Area). Touches (x ∷ []) (g.F.Flash.device c.begin_collect.new.flash) (g.F.Flash.device c.copy_last.new.flash) true) c.in_ok-begin_collect.ensures.begun.area c.in_err-copy_last.ensures.touches))
+
+pub returns-in_err-copy_last-clause-area : goal.returns-in_err-copy_last-clause-area
+returns-in_err-copy_last-clause-area g c = c.in_err-copy_last.ensures.only.area ∙ c.in_ok-begin_collect.ensures.begun.area
+
+pub returns-in_err-copy_last-clause-collected : goal.returns-in_err-copy_last-clause-collected
+returns-in_err-copy_last-clause-collected g c = not-ok _ c.from_residual-in_err-copy_last.result c.from_residual-in_err-copy_last.ensures.0
+
+pub returns-in_err-copy_last-clause-active : goal.returns-in_err-copy_last-clause-active
+returns-in_err-copy_last-clause-active g c =
+    let b : Device = g.F.Flash.device c.begin_collect.new.flash in
+    let d : Device = g.F.Flash.device c.copy_last.new.flash in
+    let one = c.in_ok-begin_collect.ensures.begun in
+    let same : KeepsEntries b d c.args.ring.now.area = subst (λ (x : Area). KeepsEntries b d x) one.area c.in_err-copy_last.ensures.only.list in
+    on_err c.from_residual-in_err-copy_last.result
+    (active-kept c.args.map.now b d c.args.ring.now.area same ∙ active-kept c.args.map.now (g.F.Flash.device c.args.flash.now) b c.args.ring.now.area one.list)
+
+pub returns-in_err-copy_last-clause-undamaged : goal.returns-in_err-copy_last-clause-undamaged
+returns-in_err-copy_last-clause-undamaged g c =
+    let b : Device = g.F.Flash.device c.begin_collect.new.flash in
+    let d : Device = g.F.Flash.device c.copy_last.new.flash in
+    let same : KeepsEntries b d c.args.ring.now.area = subst (λ (x : Area). KeepsEntries b d x) c.in_ok-begin_collect.ensures.begun.area c.in_err-copy_last.ensures.only.list in
+    on_err c.from_residual-in_err-copy_last.result same.undamaged
+
+pub returns-in_err-copy_last-clause-down : goal.returns-in_err-copy_last-clause-down
+returns-in_err-copy_last-clause-down g c = on_err c.from_residual-in_err-copy_last.result c.in_err-copy_last.ensures.down
+
+pub returns-in_err-end_collect-clause-area : goal.returns-in_err-end_collect-clause-area
+returns-in_err-end_collect-clause-area g c = c.in_err-end_collect.ensures.stopped.ring.area ∙ c.in_ok-copy_last.ensures.only.area ∙ c.in_ok-begin_collect.ensures.begun.area
+
+pub returns-in_err-end_collect-clause-collected : goal.returns-in_err-end_collect-clause-collected
+returns-in_err-end_collect-clause-collected g c = not-ok _ c.from_residual-in_err-end_collect.result c.from_residual-in_err-end_collect.ensures.0
+
+pub returns-in_err-end_collect-clause-active : goal.returns-in_err-end_collect-clause-active
+returns-in_err-end_collect-clause-active g c =
+    let area = c.args.ring.now.area in
+    let b : Device = g.F.Flash.device c.begin_collect.new.flash in
+    let d : Device = g.F.Flash.device c.copy_last.new.flash in
+    let e : Device = g.F.Flash.device c.end_collect.new.flash in
+    let one = c.in_ok-begin_collect.ensures.begun in
+    let two = c.in_ok-copy_last.ensures.only in
+    let copied : KeepsEntries b d area = subst (λ (x : Area). KeepsEntries b d x) one.area two.list in
+    let kept : KeepsEntries d e area = subst (λ (x : Area). KeepsEntries d e x) (two.area ∙ one.area) c.in_err-end_collect.ensures.stopped.list in
+    on_err c.from_residual-in_err-end_collect.result
+    (active-kept c.args.map.now d e area kept ∙ active-kept c.args.map.now b d area copied ∙ active-kept c.args.map.now (g.F.Flash.device c.args.flash.now) b area one.list)
+
+pub returns-in_err-end_collect-clause-undamaged : goal.returns-in_err-end_collect-clause-undamaged
+returns-in_err-end_collect-clause-undamaged g c =
+    let d : Device = g.F.Flash.device c.copy_last.new.flash in
+    let e : Device = g.F.Flash.device c.end_collect.new.flash in
+    let kept : KeepsEntries d e c.args.ring.now.area = subst (λ (x : Area). KeepsEntries d e x) (c.in_ok-copy_last.ensures.only.area ∙ c.in_ok-begin_collect.ensures.begun.area) c.in_err-end_collect.ensures.stopped.list in
+    on_err c.from_residual-in_err-end_collect.result kept.undamaged
+
+pub returns-in_err-end_collect-clause-down : goal.returns-in_err-end_collect-clause-down
+returns-in_err-end_collect-clause-down g c = on_err c.from_residual-in_err-end_collect.result c.in_err-end_collect.ensures.stopped.ring.down
+
+pub returns-clause-area : goal.returns-clause-area
+returns-clause-area g c = c.in_ok-end_collect.ensures.ended.area ∙ c.in_ok-copy_last.ensures.only.area ∙ c.in_ok-begin_collect.ensures.begun.area
+
+pub returns-clause-active : goal.returns-clause-active
+returns-clause-active g c = tt
+
+pub returns-clause-undamaged : goal.returns-clause-undamaged
+returns-clause-undamaged g c = tt
+
+pub returns-clause-down : goal.returns-clause-down
+returns-clause-down g c = tt

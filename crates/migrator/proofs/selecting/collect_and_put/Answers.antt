@@ -1,4 +1,9 @@
-use Rattle.std.proofs.Common.{◌≤◌}
+use Rattle.std.proofs.Common.{◌≤◌, ℕ, List, inl}
+use Rattle.std.specs.Result.{IsErr}
+use Rattle.std.proofs.lemmas.Bool.{false≢true}
+use Rattle.fcb_ring.specs.declared.ring.Ring.{Ring}
+use Rattle.fcb_ring.proofs.AppendLemmas.{is_err_by}
+use Rattle.migrator.specs.Choosing.{ChoiceIsCut, ChooseEnds}
 use Rattle.fcb_ring.specs.Standing.{erases_on}
 use Rattle.migrator.proofs.Spent.{choice-behind, choice-first}
 use Rattle.flash_sim.specs.Device.{Device}
@@ -9,6 +14,7 @@ use Rattle.flash_map.proofs.Touches.{then}
 use Rattle.fcb_ring.specs.Changing.{append_lost}
 use Rattle.fcb_ring.specs.declared.writing.AppendFault.{AppendFault}
 use Rattle.migrator.proofs.Putting.{put-behind, put-lost, put-full, put-ok, adds-behind, room-behind, left-used}
+use Rattle.migrator.proofs.ErrLemmas.{not-ok}
 use Rattle.migrator.proofs.selecting.collect_and_put.Goals as goal
 
 pub unreachable-requires-in-Err-Full : goal.unreachable-requires-in-Err-Full
@@ -105,3 +111,19 @@ returns-in-Ok-clause-left g c = subst (λ (x : Area). erases_on (g.F.Flash.devic
 
 pub returns-in-Err-PowerLost-clause-left : goal.returns-in-Err-PowerLost-clause-left
 returns-in-Err-PowerLost-clause-left g c = subst (λ (x : Area). erases_on (g.F.Flash.device c.put_choice.new.flash) x ≤ 1) c.in_ok-collect.ensures.area c.put_choice.ensures.left
+
+pub returns-in_err-collect-clause-touches : goal.returns-in_err-collect-clause-touches
+returns-in_err-collect-clause-touches g c =
+    is_err_by c.from_residual.result (λ b. Touches (c.args.ring.now.area ∷ []) (g.F.Flash.device c.args.flash.now) (g.F.Flash.device c.collect.new.flash) b) c.from_residual.ensures.0 c.in_err-collect.ensures.touches
+
+cut-by : {T E : Type 0} (areas : List Area) (old new : Device) (before after : Ring) (index : ℕ) (r : Result T E) → IsErr r → ChoiceIsCut areas old new before.area after index → ChooseEnds areas old new before after index r
+cut-by areas old new before after index (Ok x) is cut = absurd (false≢true is)
+cut-by areas old new before after index (Err e) is cut = cut
+
+pub returns-in_err-collect-clause-ends : goal.returns-in_err-collect-clause-ends
+returns-in_err-collect-clause-ends g c =
+    cut-by c.args.map.now (g.F.Flash.device c.args.flash.now) (g.F.Flash.device c.collect.new.flash) c.args.ring.now c.collect.new.ring c.args.index c.from_residual.result c.from_residual.ensures.0
+    (inl c.in_err-collect.ensures.active, c.in_err-collect.ensures.undamaged, c.in_err-collect.ensures.down)
+
+pub returns-in_err-collect-clause-chosen : goal.returns-in_err-collect-clause-chosen
+returns-in_err-collect-clause-chosen g c = not-ok _ c.from_residual.result c.from_residual.ensures.0

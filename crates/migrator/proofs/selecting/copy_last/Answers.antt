@@ -1,3 +1,4 @@
+use Rattle.flash_map.proofs.Touches.{untouched}
 use Rattle.migrator.proofs.Spent.{copied-most, most_none}
 use Rattle.fcb_ring.specs.Changing.{record_units}
 use Rattle.std.proofs.Common.{refl}
@@ -45,3 +46,42 @@ returns-in_default-2-clause-at_most g c = let d = g.F.Flash.device c.args.flash.
 pub returns-in-Some-clause-only : goal.returns-in-Some-clause-only
 returns-in-Some-clause-only g c =
     only-scratch (g.F.Flash.device c.args.flash.now) (g.F.Flash.device c.copy.new.flash) c.args.ring.now c.copy.new.self c.in-Some.record c.copy.result c.copy.ensures.copied c.copy.ensures.stopped
+
+pub oldest-oldest-requires : goal.oldest-oldest-requires
+oldest-oldest-requires g c = tt
+
+pub copy-requires-clause-stands : goal.copy-requires-clause-stands
+copy-requires-clause-stands g c = c.requires.scratch.stands
+
+pub copy-requires-clause-collecting : goal.copy-requires-clause-collecting
+copy-requires-clause-collecting g c = c.requires.scratch.collecting
+
+pub copy-requires-clause-listed : goal.copy-requires-clause-listed
+copy-requires-clause-listed g c = c.requires.listed c.in-Some.record c.in-Some.is
+
+pub returns-in-Some-clause-touches : goal.returns-in-Some-clause-touches
+returns-in-Some-clause-touches g c = c.copy.ensures.touches
+
+pub returns-in_default-clause-touches : goal.returns-in_default-clause-touches
+returns-in_default-clause-touches g c = untouched _ _
+
+pub returns-in_default-clause-stands : goal.returns-in_default-clause-stands
+returns-in_default-clause-stands g c = c.requires.scratch.stands
+
+pub returns-in_default-clause-collecting : goal.returns-in_default-clause-collecting
+returns-in_default-clause-collecting g c = c.requires.scratch.collecting
+
+pub returns-in_default-clause-down : goal.returns-in_default-clause-down
+returns-in_default-clause-down g c = tt
+
+pub returns-in_default-2-clause-touches : goal.returns-in_default-2-clause-touches
+returns-in_default-2-clause-touches g c = untouched _ _
+
+pub returns-in_default-2-clause-stands : goal.returns-in_default-2-clause-stands
+returns-in_default-2-clause-stands g c = c.requires.scratch.stands
+
+pub returns-in_default-2-clause-collecting : goal.returns-in_default-2-clause-collecting
+returns-in_default-2-clause-collecting g c = c.requires.scratch.collecting
+
+pub returns-in_default-2-clause-down : goal.returns-in_default-2-clause-down
+returns-in_default-2-clause-down g c = tt

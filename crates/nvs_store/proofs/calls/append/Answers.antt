@@ -1,4 +1,4 @@
-use Rattle.std.proofs.Common.{◌≡◌, ◌+◌, ◌^◌, ◌<◌, Bool, List, [], ◌∷◌, length, sym, ap, subst, ◌∙◌, arith}
+use Rattle.std.proofs.Common.{◌≡◌, ℕ, ◌+◌, ◌^◌, ◌<◌, ◌≤◌, Bool, List, [], ◌∷◌, length, sym, ap, subst, ◌∙◌, arith}
 use Rattle.flash_sim.specs.Device.{Device}
 use Rattle.flash_sim.specs.declared.flash.Bank.{Bank}
 use Rattle.flash_map.specs.declared.area.Geometry.{Geometry}
@@ -14,17 +14,26 @@ use Rattle.nvs_store.proofs.CallFacts.{data-in, not_ok, slot-in}
 use Rattle.nvs_store.proofs.Views.{unit_is}
 use Rattle.nvs_store.proofs.calls.append.Goals as goal
 
+end-fits : (end len : ℕ) → end + len ≤ 2 ^ 15 → end < 65536
+end-fits end len inside = omega arith
+
+len-fits : (end len : ℕ) → end + len ≤ 2 ^ 15 → len < 65536
+len-fits end len inside = omega arith
+
+len-fits-word : (end len : ℕ) → end + len ≤ 2 ^ 15 → len < 4294967296
+len-fits-word end len inside = omega arith
+
 pub overflow_cast-entry : goal.overflow_cast-entry
 overflow_cast-entry g c =
     let is = ready (g.F.Flash.device c.args.flash.now) c.args.area.now c.args.scan.now (length c.args.bytes.now) (g.met.F.Flash.is_lawful c.args.flash.now) c.requires.scanned.lawful c.requires.scanned.scan c.requires.fits in
     let inside = short (g.F.Flash.device c.args.flash.now) c.args.area.now c.args.scan.now (length c.args.bytes.now) is in
-    omega arith
+    record { fits = end-fits c.args.scan.now.data_end (length c.args.bytes.now) inside }
 
 pub overflow_cast-entry-2 : goal.overflow_cast-entry-2
 overflow_cast-entry-2 g c =
     let is = ready (g.F.Flash.device c.args.flash.now) c.args.area.now c.args.scan.now (length c.args.bytes.now) (g.met.F.Flash.is_lawful c.args.flash.now) c.requires.scanned.lawful c.requires.scanned.scan c.requires.fits in
     let inside = short (g.F.Flash.device c.args.flash.now) c.args.area.now c.args.scan.now (length c.args.bytes.now) is in
-    omega arith
+    record { fits = len-fits c.args.scan.now.data_end (length c.args.bytes.now) inside }
 
 pub program_padded-requires-clause-can : goal.program_padded-requires-clause-can
 program_padded-requires-clause-can g c =
@@ -148,7 +157,7 @@ pub overflow_cast-bytes : goal.overflow_cast-bytes
 overflow_cast-bytes g c =
     let is = ready (g.F.Flash.device c.args.flash.now) c.args.area.now c.args.scan.now (length c.args.bytes.now) (g.met.F.Flash.is_lawful c.args.flash.now) c.requires.scanned.lawful c.requires.scanned.scan c.requires.fits in
     let inside = short (g.F.Flash.device c.args.flash.now) c.args.area.now c.args.scan.now (length c.args.bytes.now) is in
-    omega arith
+    record { fits = len-fits-word c.args.scan.now.data_end (length c.args.bytes.now) inside }
 
 pub padded-requires-clause-len : goal.padded-requires-clause-len
 padded-requires-clause-len g c =
@@ -244,7 +253,7 @@ overflow_add-scan g c =
     let rounded : c.padded.result ≡ padded (unit_of a c.args.area.now) (length c.args.bytes.now) = c.padded.ensures.value ∙ ap (λ (x : Geometry). padded x.unit (length c.args.bytes.now)) c.geometry-unit.ensures in
     let below : c.args.scan.now.data_end + c.padded.result < 2 ^ 32 =
     data-in (unit_of a c.args.area.now) (sector_bytes a c.args.area.now c.args.scan.now.current) (length c.args.bytes.now) c.args.scan.now.data_end c.padded.result is.room is.end rounded in
-    omega arith
+    record { fits = below }
 
 pub padded-requires-clause-unit : goal.padded-requires-clause-unit
 padded-requires-clause-unit g c =

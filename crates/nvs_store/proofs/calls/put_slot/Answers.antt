@@ -1,4 +1,5 @@
-use Rattle.std.proofs.Common.{◌≡◌, ℕ, ◌/◌, ◌≤◌, List, length, take, sym, ap, subst, ◌∙◌}
+use Rattle.std.proofs.Common.{◌≡◌, ℕ, ◌/◌, ◌<◌, ◌≤◌, List, ◌++◌, length, take, replicate, sym, ap, subst, ◌∙◌, arith}
+use Rattle.std.proofs.lemmas.List.{length-append, length-replicate, length-take-le}
 use Rattle.std.proofs.lemmas.Result.{on_ok_weaker, on_err_weaker}
 use Rattle.flash_sim.specs.Device.{Device}
 use Rattle.flash_map.specs.declared.area.Geometry.{Geometry}
@@ -12,6 +13,14 @@ use Rattle.nvs_store.specs.Geometry.{slot_size}
 use Rattle.nvs_store.proofs.SlotPutting.{slot_filled, slot_long, can_slot}
 use Rattle.nvs_store.proofs.Views.{unit_is}
 use Rattle.nvs_store.proofs.calls.put_slot.Goals as goal
+
+size-fits : (size : ℕ) → size ≤ 16 → size < 18446744073709551616
+size-fits size most = omega arith
+
+slot-inside : (size : ℕ) (bytes slot : List ℕ) → size ≤ 16 → length bytes ≡ 8 → slot ≡ bytes ++ replicate 8 0xFF → size ≤ length slot
+slot-inside size bytes slot most eight filled =
+    let long = ap length filled in
+    omega (arith, length-append bytes (replicate 8 0xFF), length-replicate {A = ℕ} 8 0xFF)
 
 pub area_program-requires-clause-can : goal.area_program-requires-clause-can
 area_program-requires-clause-can g c =
@@ -88,3 +97,32 @@ returns-clause-spent_at_most g c =
     let e : Device = g.F.Flash.device c.area_program.new.flash in
     let units : length (take c.slot_size-size.result c.filled-slot.result) / unit ≡ padded unit (length c.args.bytes.now) / unit = ap (λ (n : ℕ). n / unit) (ap length all ∙ length-padded_bytes unit c.args.bytes.now is-unit) in
     on_err_weaker c.area_program.result (λ fails. subst (λ (n : ℕ). SpendsAtMost a e n) units (most-fails a e (place_of a c.args.area.now c.args.sector c.args.start) (take c.slot_size-size.result c.filled-slot.result) fails)) c.area_program.ensures.lost
+
+pub geometry-requires : goal.geometry-requires
+geometry-requires g c = c.requires.lawful
+
+pub slot_size-size-requires : goal.slot_size-size-requires
+slot_size-size-requires g c =
+    let lawful = g.met.F.Flash.is_lawful c.args.flash.now in
+    let is-unit = unit_is (g.F.Flash.device c.args.flash.now) c.args.area.now lawful c.requires.lawful in
+    subst (λ (x : Geometry). IsUnit x.unit) (sym c.geometry.ensures) is-unit
+
+pub overflow_cast-size : goal.overflow_cast-size
+overflow_cast-size g c = record { fits = size-fits c.slot_size-size.result c.slot_size-size.ensures.at_most }
+
+pub slice_bounds-slot-end : goal.slice_bounds-slot-end
+slice_bounds-slot-end g c =
+    let most = c.slot_size-size.ensures.at_most in
+    slot-inside c.slot_size-size.result c.args.bytes.now c.filled-slot.result most c.told-bytes c.filled-slot.ensures
+
+pub slice_bounds-area_program-end : goal.slice_bounds-area_program-end
+slice_bounds-area_program-end g c =
+    let most = c.slot_size-size.ensures.at_most in
+    let inside = slot-inside c.slot_size-size.result c.args.bytes.now c.filled-slot.result most c.told-bytes c.filled-slot.ensures in
+    sym (length-take-le c.slot_size-size.result c.filled-slot.result inside)
+
+pub area_program-requires-clause-lawful : goal.area_program-requires-clause-lawful
+area_program-requires-clause-lawful g c = c.requires.lawful
+
+pub returns-clause-touches : goal.returns-clause-touches
+returns-clause-touches g c = c.area_program.ensures.touches

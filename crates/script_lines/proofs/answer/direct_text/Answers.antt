@@ -1,4 +1,4 @@
-use Rattle.std.proofs.Common.{◌≡◌, List, [], ◌∷◌, length, map, codes, rules, append_assoc, ◌∙◌}
+use Rattle.std.proofs.Common.{◌≡◌, [], ◌∷◌, length, map, codes, rules, append_assoc}
 use Rattle.std.specs.Fmt.{decimal}
 use Rattle.script_lines.specs.Answer.{lines_text, one, have_line}
 use Rattle.script_lines.proofs.TextLemmas.{lines_joined}

@@ -1,4 +1,4 @@
-use Rattle.std.proofs.Common.{◌≡◌, List, [], ◌∷◌, map, codes, rules, append_assoc, ◌∙◌}
+use Rattle.std.proofs.Common.{◌≡◌, [], ◌∷◌, map, codes, rules, append_assoc}
 use Rattle.std.specs.Fmt.{decimal}
 use Rattle.script_lines.specs.Answer.{lines_text, one, give_line}
 use Rattle.script_lines.proofs.TextLemmas.{lines_joined}

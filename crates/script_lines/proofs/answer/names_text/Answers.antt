@@ -1,5 +1,5 @@
-use Rattle.std.proofs.Common.{◌≡◌, ℕ, List, string_bytes, codes, sym, ap, ◌∙◌}
-use Rattle.serde_json.specs.Data.{Data, string, object, no_members, put}
+use Rattle.std.proofs.Common.{ℕ, List, string_bytes, codes, ap, ◌∙◌}
+use Rattle.serde_json.specs.Data.{Data, string, put}
 use Rattle.serde_json.specs.View.{view, members_view}
 use Rattle.serde_json.specs.declared.value.Value as value
 use Rattle.serde_json.proofs.Views.{view-Object}

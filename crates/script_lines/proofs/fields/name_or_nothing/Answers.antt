@@ -1,9 +1,7 @@
-use Rattle.std.proofs.Common.{◌≡◌, ℕ, List, ◌^◌, [], ◌∷◌, ◌==◌, length, sym, ap, arith}
+use Rattle.std.proofs.Common.{ℕ, List, [], ◌∷◌}
 use Rattle.std.proofs.lemmas.Result.{err_from_is_err_and}
 use Rattle.text_parts.specs.Parts.{parts_of}
-use Rattle.text_parts.proofs.PartLemmas.{some_parts}
-use Rattle.script_lines.specs.Forms.Field.{a_name, a_kind, some_bytes, any_bytes, below}
-use Rattle.script_lines.specs.Forms.Said.{name, kind, bytes, number}
+use Rattle.script_lines.specs.Forms.Said.{name}
 use Rattle.script_lines.proofs.FieldLemmas.{some_name, some_text}
 use Rattle.script_lines.proofs.fields.name_or_nothing.Goals as goal
 

@@ -1,4 +1,4 @@
-use Rattle.std.proofs.Common.{◌≡◌, ℕ, ◌+◌}
+use Rattle.std.proofs.Common.{◌≡◌, ◌+◌}
 use Rattle.script_lines.specs.Generator.{state_after}
 use Rattle.script_lines.proofs.GeneratorLemmas.{state_step, lines_step, lines_end}
 use Rattle.script_lines.proofs.generator.lines_by.Goals as goal

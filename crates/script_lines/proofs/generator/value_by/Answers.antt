@@ -1,4 +1,4 @@
-use Rattle.std.proofs.Common.{◌≡◌, ◌+◌, ◌/◌, ◌%◌, ◌∙◌}
+use Rattle.std.proofs.Common.{◌+◌, ◌/◌, ◌%◌, ◌∙◌}
 use Rattle.script_lines.proofs.GeneratorLemmas.{bytes_step, bytes_end}
 use Rattle.script_lines.proofs.generator.value_by.Goals as goal
 

@@ -1,78 +1,91 @@
 -- For each first word, the line that the words behind it make.
-use Rattle.std.proofs.Common.{◌≡◌, ℕ, false, List, [], ◌∷◌, codes, refl, sym, subst, ◌∙◌, rules}
+use Rattle.std.proofs.Common.{◌≡◌, ℕ, false, Ok, Err, List, [], ◌∷◌, codes, refl, sym, subst, ◌∙◌}
 use Rattle.std.specs.List.{list_any}
 use Rattle.handlers.specs.declared.handler.HandlerKind.{HandlerKind}
 use Rattle.text_parts.specs.Parts.{parts, parts_of}
-use Rattle.script_lines.specs.declared.line.Line.TheVariants.{Set, Get, Del, Register, Load, Direct, Save, Commit, RunSet, RunGet, Names, Mount, Cut, Uncut, Migrate}
+use Rattle.script_lines.specs.declared.line.Line.TheVariants.{Set, Register, RunSet, Cut}
 use Rattle.script_lines.specs.declared.line.TheConstants.{UNITS_END}
-use Rattle.script_lines.specs.Line.{settings_forms, row_of}
+use Rattle.script_lines.specs.Line.{settings_forms}
 use Rattle.script_lines.specs.Forms.{has_word}
 use Rattle.script_lines.specs.Forms.Field.{a_name, a_kind, some_bytes, any_bytes, below}
 use Rattle.script_lines.specs.Forms.Said.{name, kind, bytes, number}
 use Rattle.script_lines.proofs.FirstWords.{DiffersFromEach, no_form, no_text}
-use Rattle.script_lines.proofs.FormLemmas.{row_read, maybe_read, unknown_word}
-use Rattle.script_lines.proofs.TableFacts.{set_form, get_form, del_form, register_form, load_form, direct_form, save_form, commit_form, rset_form, rget_form, names_form, mount_form, cut_form, uncut_form, migrate_form}
+use Rattle.script_lines.proofs.FormLemmas.{line_read, line_refused, behind_word, unknown_word}
+use Rattle.script_lines.proofs.TableFacts.{set_form, register_form, rset_form, cut_form}
 use Rattle.script_lines.proofs.reading.read_line.Goals as goal
 
-pub returns-in-set : goal.returns-in-set
-returns-in-set c =
-    row_read {T = List ℕ × List ℕ} settings_forms row_of c.args.limit (λ said. name said.0 ∷ bytes said.1 ∷ []) (λ said. Set said.0 said.1) _ (parts 32 c.args.text.now) c.cut_at.result.0.now (codes "set") (parts_of 32 c.cut_at.result.1) (a_name ∷ any_bytes ∷ []) c.name_and_bytes_or_dash.result c.map.result c.cut_at.ensures.first (sym c.in-Ok.ensures.cases.0 ∙ c.in-set.is) set_form c.name_and_bytes_or_dash.ensures (λ said. refl) (λ said line made. search rules) c.map.ensures.cases
+pub returns-in-Ok-name_and_bytes_or_dash : goal.returns-in-Ok-name_and_bytes_or_dash
+returns-in-Ok-name_and_bytes_or_dash c =
+    behind_word c.args.limit (parts 32 c.args.text.now) c.cut_at.result.0.now (codes "set") (parts_of 32 c.cut_at.result.1) (Ok (Set c.in-Ok-name_and_bytes_or_dash.name c.in-Ok-name_and_bytes_or_dash.value)) c.cut_at.ensures.first (sym c.in-Ok.ensures.cases.0 ∙ c.in-set.is)
+    (line_read c.args.limit (codes "set") (parts_of 32 c.cut_at.result.1) (a_name ∷ any_bytes ∷ []) (name c.in-Ok-name_and_bytes_or_dash.name ∷ bytes c.in-Ok-name_and_bytes_or_dash.value ∷ []) (Set c.in-Ok-name_and_bytes_or_dash.name c.in-Ok-name_and_bytes_or_dash.value) set_form refl c.in-Ok-name_and_bytes_or_dash.ensures)
+
+pub returns-in-Err : goal.returns-in-Err
+returns-in-Err c =
+    behind_word c.args.limit (parts 32 c.args.text.now) c.cut_at.result.0.now (codes "set") (parts_of 32 c.cut_at.result.1) (Err c.in-Err.fault) c.cut_at.ensures.first (sym c.in-Ok.ensures.cases.0 ∙ c.in-set.is)
+    (line_refused {T = List ℕ × List ℕ} c.args.limit (λ said. name said.0 ∷ bytes said.1 ∷ []) (codes "set") (parts_of 32 c.cut_at.result.1) (a_name ∷ any_bytes ∷ []) c.in-Err.fault set_form c.in-Err.ensures)
 
 pub returns-in-get : goal.returns-in-get
-returns-in-get c =
-    row_read {T = List ℕ} settings_forms row_of c.args.limit (λ text. name text ∷ []) Get _ (parts 32 c.args.text.now) c.cut_at.result.0.now (codes "get") (parts_of 32 c.cut_at.result.1) (a_name ∷ []) c.name_alone.result c.map-in-get.result c.cut_at.ensures.first (sym c.in-Ok.ensures.cases.0 ∙ c.in-get.is) get_form (c.name_alone.ensures c.args.limit) (λ said. refl) (λ said line made. search rules) c.map-in-get.ensures.cases
+returns-in-get c = behind_word c.args.limit (parts 32 c.args.text.now) c.cut_at.result.0.now (codes "get") (parts_of 32 c.cut_at.result.1) c.read_of_name.result c.cut_at.ensures.first (sym c.in-Ok.ensures.cases.0 ∙ c.in-get.is) (c.read_of_name.ensures c.args.limit)
 
 pub returns-in-del : goal.returns-in-del
-returns-in-del c =
-    row_read {T = List ℕ} settings_forms row_of c.args.limit (λ text. name text ∷ []) Del _ (parts 32 c.args.text.now) c.cut_at.result.0.now (codes "del") (parts_of 32 c.cut_at.result.1) (a_name ∷ []) c.name_alone-in-del.result c.map-in-del.result c.cut_at.ensures.first (sym c.in-Ok.ensures.cases.0 ∙ c.in-del.is) del_form (c.name_alone-in-del.ensures c.args.limit) (λ said. refl) (λ said line made. search rules) c.map-in-del.ensures.cases
+returns-in-del c = behind_word c.args.limit (parts 32 c.args.text.now) c.cut_at.result.0.now (codes "del") (parts_of 32 c.cut_at.result.1) c.read_of_name-in-del.result c.cut_at.ensures.first (sym c.in-Ok.ensures.cases.0 ∙ c.in-del.is) (c.read_of_name-in-del.ensures c.args.limit)
 
-pub returns-in-register : goal.returns-in-register
-returns-in-register c =
-    row_read {T = List ℕ × HandlerKind} settings_forms row_of c.args.limit (λ said. name said.0 ∷ kind said.1 ∷ []) (λ said. Register said.0 said.1) _ (parts 32 c.args.text.now) c.cut_at.result.0.now (codes "register") (parts_of 32 c.cut_at.result.1) (a_name ∷ a_kind ∷ []) c.name_and_kind.result c.map-in-register.result c.cut_at.ensures.first (sym c.in-Ok.ensures.cases.0 ∙ c.in-register.is) register_form (c.name_and_kind.ensures c.args.limit) (λ said. refl) (λ said line made. search rules) c.map-in-register.ensures.cases
+pub returns-in-Ok-name_and_kind : goal.returns-in-Ok-name_and_kind
+returns-in-Ok-name_and_kind c =
+    behind_word c.args.limit (parts 32 c.args.text.now) c.cut_at.result.0.now (codes "register") (parts_of 32 c.cut_at.result.1) (Ok (Register c.in-Ok-name_and_kind.subtree c.in-Ok-name_and_kind.kind)) c.cut_at.ensures.first (sym c.in-Ok.ensures.cases.0 ∙ c.in-register.is)
+    (line_read c.args.limit (codes "register") (parts_of 32 c.cut_at.result.1) (a_name ∷ a_kind ∷ []) (name c.in-Ok-name_and_kind.subtree ∷ kind c.in-Ok-name_and_kind.kind ∷ []) (Register c.in-Ok-name_and_kind.subtree c.in-Ok-name_and_kind.kind) register_form refl (c.in-Ok-name_and_kind.ensures c.args.limit))
+
+pub returns-in-Err-name_and_kind : goal.returns-in-Err-name_and_kind
+returns-in-Err-name_and_kind c =
+    behind_word c.args.limit (parts 32 c.args.text.now) c.cut_at.result.0.now (codes "register") (parts_of 32 c.cut_at.result.1) (Err c.in-Err-name_and_kind.fault) c.cut_at.ensures.first (sym c.in-Ok.ensures.cases.0 ∙ c.in-register.is)
+    (line_refused {T = List ℕ × HandlerKind} c.args.limit (λ said. name said.0 ∷ kind said.1 ∷ []) (codes "register") (parts_of 32 c.cut_at.result.1) (a_name ∷ a_kind ∷ []) c.in-Err-name_and_kind.fault register_form (c.in-Err-name_and_kind.ensures c.args.limit))
 
 pub returns-in-load : goal.returns-in-load
-returns-in-load c =
-    maybe_read c.args.limit Load _ (parts 32 c.args.text.now) c.cut_at.result.0.now (codes "load") (parts_of 32 c.cut_at.result.1) c.name_or_nothing.result c.map-in-load.result c.cut_at.ensures.first (sym c.in-Ok.ensures.cases.0 ∙ c.in-load.is) load_form (c.name_or_nothing.ensures c.args.limit) (λ text. refl) (λ text line made. search rules) c.map-in-load.ensures.cases
+returns-in-load c = behind_word c.args.limit (parts 32 c.args.text.now) c.cut_at.result.0.now (codes "load") (parts_of 32 c.cut_at.result.1) c.read_of_subtree.result c.cut_at.ensures.first (sym c.in-Ok.ensures.cases.0 ∙ c.in-load.is) (c.read_of_subtree.ensures c.args.limit)
 
 pub returns-in-direct : goal.returns-in-direct
-returns-in-direct c =
-    maybe_read c.args.limit Direct _ (parts 32 c.args.text.now) c.cut_at.result.0.now (codes "direct") (parts_of 32 c.cut_at.result.1) c.name_or_nothing-in-direct.result c.map-in-direct.result c.cut_at.ensures.first (sym c.in-Ok.ensures.cases.0 ∙ c.in-direct.is) direct_form (c.name_or_nothing-in-direct.ensures c.args.limit) (λ text. refl) (λ text line made. search rules) c.map-in-direct.ensures.cases
+returns-in-direct c = behind_word c.args.limit (parts 32 c.args.text.now) c.cut_at.result.0.now (codes "direct") (parts_of 32 c.cut_at.result.1) c.read_of_subtree-in-direct.result c.cut_at.ensures.first (sym c.in-Ok.ensures.cases.0 ∙ c.in-direct.is) (c.read_of_subtree-in-direct.ensures c.args.limit)
 
 pub returns-in-save : goal.returns-in-save
-returns-in-save c =
-    maybe_read c.args.limit Save _ (parts 32 c.args.text.now) c.cut_at.result.0.now (codes "save") (parts_of 32 c.cut_at.result.1) c.name_or_nothing-in-save.result c.map-in-save.result c.cut_at.ensures.first (sym c.in-Ok.ensures.cases.0 ∙ c.in-save.is) save_form (c.name_or_nothing-in-save.ensures c.args.limit) (λ text. refl) (λ text line made. search rules) c.map-in-save.ensures.cases
+returns-in-save c = behind_word c.args.limit (parts 32 c.args.text.now) c.cut_at.result.0.now (codes "save") (parts_of 32 c.cut_at.result.1) c.read_of_subtree-in-save.result c.cut_at.ensures.first (sym c.in-Ok.ensures.cases.0 ∙ c.in-save.is) (c.read_of_subtree-in-save.ensures c.args.limit)
 
 pub returns-in-commit : goal.returns-in-commit
-returns-in-commit c =
-    row_read {T = Unit {0}} settings_forms row_of c.args.limit (λ _. []) (λ _. Commit) _ (parts 32 c.args.text.now) c.cut_at.result.0.now (codes "commit") (parts_of 32 c.cut_at.result.1) ([]) c.nothing.result c.map-in-commit.result c.cut_at.ensures.first (sym c.in-Ok.ensures.cases.0 ∙ c.in-commit.is) commit_form (c.nothing.ensures c.args.limit) (λ said. refl) (λ said line made. search rules) c.map-in-commit.ensures.cases
+returns-in-commit c = behind_word c.args.limit (parts 32 c.args.text.now) c.cut_at.result.0.now (codes "commit") (parts_of 32 c.cut_at.result.1) c.read_alone.result c.cut_at.ensures.first (sym c.in-Ok.ensures.cases.0 ∙ c.in-commit.is) (c.read_alone.ensures c.args.limit)
 
-pub returns-in-rset : goal.returns-in-rset
-returns-in-rset c =
-    row_read {T = List ℕ × List ℕ} settings_forms row_of c.args.limit (λ said. name said.0 ∷ bytes said.1 ∷ []) (λ said. RunSet said.0 said.1) _ (parts 32 c.args.text.now) c.cut_at.result.0.now (codes "rset") (parts_of 32 c.cut_at.result.1) (a_name ∷ some_bytes ∷ []) c.name_and_bytes.result c.map-in-rset.result c.cut_at.ensures.first (sym c.in-Ok.ensures.cases.0 ∙ c.in-rset.is) rset_form c.name_and_bytes.ensures (λ said. refl) (λ said line made. search rules) c.map-in-rset.ensures.cases
+pub returns-in-Ok-name_and_bytes : goal.returns-in-Ok-name_and_bytes
+returns-in-Ok-name_and_bytes c =
+    behind_word c.args.limit (parts 32 c.args.text.now) c.cut_at.result.0.now (codes "rset") (parts_of 32 c.cut_at.result.1) (Ok (RunSet c.in-Ok-name_and_bytes.name c.in-Ok-name_and_bytes.value)) c.cut_at.ensures.first (sym c.in-Ok.ensures.cases.0 ∙ c.in-rset.is)
+    (line_read c.args.limit (codes "rset") (parts_of 32 c.cut_at.result.1) (a_name ∷ some_bytes ∷ []) (name c.in-Ok-name_and_bytes.name ∷ bytes c.in-Ok-name_and_bytes.value ∷ []) (RunSet c.in-Ok-name_and_bytes.name c.in-Ok-name_and_bytes.value) rset_form refl c.in-Ok-name_and_bytes.ensures)
+
+pub returns-in-Err-name_and_bytes : goal.returns-in-Err-name_and_bytes
+returns-in-Err-name_and_bytes c =
+    behind_word c.args.limit (parts 32 c.args.text.now) c.cut_at.result.0.now (codes "rset") (parts_of 32 c.cut_at.result.1) (Err c.in-Err-name_and_bytes.fault) c.cut_at.ensures.first (sym c.in-Ok.ensures.cases.0 ∙ c.in-rset.is)
+    (line_refused {T = List ℕ × List ℕ} c.args.limit (λ said. name said.0 ∷ bytes said.1 ∷ []) (codes "rset") (parts_of 32 c.cut_at.result.1) (a_name ∷ some_bytes ∷ []) c.in-Err-name_and_bytes.fault rset_form c.in-Err-name_and_bytes.ensures)
 
 pub returns-in-rget : goal.returns-in-rget
-returns-in-rget c =
-    row_read {T = List ℕ} settings_forms row_of c.args.limit (λ text. name text ∷ []) RunGet _ (parts 32 c.args.text.now) c.cut_at.result.0.now (codes "rget") (parts_of 32 c.cut_at.result.1) (a_name ∷ []) c.name_alone-in-rget.result c.map-in-rget.result c.cut_at.ensures.first (sym c.in-Ok.ensures.cases.0 ∙ c.in-rget.is) rget_form (c.name_alone-in-rget.ensures c.args.limit) (λ said. refl) (λ said line made. search rules) c.map-in-rget.ensures.cases
+returns-in-rget c = behind_word c.args.limit (parts 32 c.args.text.now) c.cut_at.result.0.now (codes "rget") (parts_of 32 c.cut_at.result.1) c.read_of_name-in-rget.result c.cut_at.ensures.first (sym c.in-Ok.ensures.cases.0 ∙ c.in-rget.is) (c.read_of_name-in-rget.ensures c.args.limit)
 
 pub returns-in-names : goal.returns-in-names
-returns-in-names c =
-    row_read {T = Unit {0}} settings_forms row_of c.args.limit (λ _. []) (λ _. Names) _ (parts 32 c.args.text.now) c.cut_at.result.0.now (codes "names") (parts_of 32 c.cut_at.result.1) ([]) c.nothing-in-names.result c.map-in-names.result c.cut_at.ensures.first (sym c.in-Ok.ensures.cases.0 ∙ c.in-names.is) names_form (c.nothing-in-names.ensures c.args.limit) (λ said. refl) (λ said line made. search rules) c.map-in-names.ensures.cases
+returns-in-names c = behind_word c.args.limit (parts 32 c.args.text.now) c.cut_at.result.0.now (codes "names") (parts_of 32 c.cut_at.result.1) c.read_alone-in-names.result c.cut_at.ensures.first (sym c.in-Ok.ensures.cases.0 ∙ c.in-names.is) (c.read_alone-in-names.ensures c.args.limit)
 
 pub returns-in-mount : goal.returns-in-mount
-returns-in-mount c =
-    row_read {T = Unit {0}} settings_forms row_of c.args.limit (λ _. []) (λ _. Mount) _ (parts 32 c.args.text.now) c.cut_at.result.0.now (codes "mount") (parts_of 32 c.cut_at.result.1) ([]) c.nothing-in-mount.result c.map-in-mount.result c.cut_at.ensures.first (sym c.in-Ok.ensures.cases.0 ∙ c.in-mount.is) mount_form (c.nothing-in-mount.ensures c.args.limit) (λ said. refl) (λ said line made. search rules) c.map-in-mount.ensures.cases
+returns-in-mount c = behind_word c.args.limit (parts 32 c.args.text.now) c.cut_at.result.0.now (codes "mount") (parts_of 32 c.cut_at.result.1) c.read_alone-in-mount.result c.cut_at.ensures.first (sym c.in-Ok.ensures.cases.0 ∙ c.in-mount.is) (c.read_alone-in-mount.ensures c.args.limit)
 
-pub returns-in-cut : goal.returns-in-cut
-returns-in-cut c =
-    row_read {T = ℕ} settings_forms row_of c.args.limit (λ n. number n ∷ []) Cut _ (parts 32 c.args.text.now) c.cut_at.result.0.now (codes "cut") (parts_of 32 c.cut_at.result.1) (below UNITS_END ∷ []) c.number_alone.result c.map-in-cut.result c.cut_at.ensures.first (sym c.in-Ok.ensures.cases.0 ∙ c.in-cut.is) cut_form (c.number_alone.ensures c.args.limit) (λ said. refl) (λ said line made. search rules) c.map-in-cut.ensures.cases
+pub returns-in-Ok-number_alone : goal.returns-in-Ok-number_alone
+returns-in-Ok-number_alone c =
+    behind_word c.args.limit (parts 32 c.args.text.now) c.cut_at.result.0.now (codes "cut") (parts_of 32 c.cut_at.result.1) (Ok (Cut c.in-Ok-number_alone.units)) c.cut_at.ensures.first (sym c.in-Ok.ensures.cases.0 ∙ c.in-cut.is)
+    (line_read c.args.limit (codes "cut") (parts_of 32 c.cut_at.result.1) (below UNITS_END ∷ []) (number c.in-Ok-number_alone.units ∷ []) (Cut c.in-Ok-number_alone.units) cut_form refl (c.in-Ok-number_alone.ensures c.args.limit))
+
+pub returns-in-Err-number_alone : goal.returns-in-Err-number_alone
+returns-in-Err-number_alone c =
+    behind_word c.args.limit (parts 32 c.args.text.now) c.cut_at.result.0.now (codes "cut") (parts_of 32 c.cut_at.result.1) (Err c.in-Err-number_alone.fault) c.cut_at.ensures.first (sym c.in-Ok.ensures.cases.0 ∙ c.in-cut.is)
+    (line_refused {T = ℕ} c.args.limit (λ n. number n ∷ []) (codes "cut") (parts_of 32 c.cut_at.result.1) (below UNITS_END ∷ []) c.in-Err-number_alone.fault cut_form (c.in-Err-number_alone.ensures c.args.limit))
 
 pub returns-in-uncut : goal.returns-in-uncut
-returns-in-uncut c =
-    row_read {T = Unit {0}} settings_forms row_of c.args.limit (λ _. []) (λ _. Uncut) _ (parts 32 c.args.text.now) c.cut_at.result.0.now (codes "uncut") (parts_of 32 c.cut_at.result.1) ([]) c.nothing-in-uncut.result c.map-in-uncut.result c.cut_at.ensures.first (sym c.in-Ok.ensures.cases.0 ∙ c.in-uncut.is) uncut_form (c.nothing-in-uncut.ensures c.args.limit) (λ said. refl) (λ said line made. search rules) c.map-in-uncut.ensures.cases
+returns-in-uncut c = behind_word c.args.limit (parts 32 c.args.text.now) c.cut_at.result.0.now (codes "uncut") (parts_of 32 c.cut_at.result.1) c.read_alone-in-uncut.result c.cut_at.ensures.first (sym c.in-Ok.ensures.cases.0 ∙ c.in-uncut.is) (c.read_alone-in-uncut.ensures c.args.limit)
 
 pub returns-in-migrate : goal.returns-in-migrate
-returns-in-migrate c =
-    row_read {T = Unit {0}} settings_forms row_of c.args.limit (λ _. []) (λ _. Migrate) _ (parts 32 c.args.text.now) c.cut_at.result.0.now (codes "migrate") (parts_of 32 c.cut_at.result.1) ([]) c.nothing-in-migrate.result c.map-in-migrate.result c.cut_at.ensures.first (sym c.in-Ok.ensures.cases.0 ∙ c.in-migrate.is) migrate_form (c.nothing-in-migrate.ensures c.args.limit) (λ said. refl) (λ said line made. search rules) c.map-in-migrate.ensures.cases
+returns-in-migrate c = behind_word c.args.limit (parts 32 c.args.text.now) c.cut_at.result.0.now (codes "migrate") (parts_of 32 c.cut_at.result.1) c.read_alone-in-migrate.result c.cut_at.ensures.first (sym c.in-Ok.ensures.cases.0 ∙ c.in-migrate.is) (c.read_alone-in-migrate.ensures c.args.limit)
 
 -- bytes that are no text are none of the words
 pub returns-in_default : goal.returns-in_default

@@ -19,3 +19,21 @@ returns-then-not-is_place_under-clause-carries g c =
 
 pub returns-then-not-is_place_under-clause-owes : goal.returns-then-not-is_place_under-clause-owes
 returns-then-not-is_place_under-clause-owes g c lost = absurd (true≢false (sym lost))
+
+pub is_place_under-requires : goal.is_place_under-requires
+is_place_under-requires g c = c.requires.within
+
+pub subtree_at-own-requires : goal.subtree_at-own-requires
+subtree_at-own-requires g c = c.requires.within
+
+pub handler_at-handler-requires : goal.handler_at-handler-requires
+handler_at-handler-requires g c = c.requires.within
+
+pub save_handler-requires-clause-lawful : goal.save_handler-requires-clause-lawful
+save_handler-requires-clause-lawful g c = c.requires.lawful
+
+pub save_handler-requires-clause-stands : goal.save_handler-requires-clause-stands
+save_handler-requires-clause-stands g c = c.requires.stands
+
+pub returns-clause-owes : goal.returns-clause-owes
+returns-clause-owes g c = c.save_handler.ensures.owes

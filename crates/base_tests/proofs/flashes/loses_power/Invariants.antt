@@ -1,7 +1,0 @@
-use Rattle.base_tests.proofs.flashes.loses_power.Given as goal
-
-abbrev pub ghosts-exercise : goal.ghosts-exercise
-ghosts-exercise g a = record { name = a.blank.name; parts = a.blank.parts }
-
-abbrev pub ghosts-exercise-2 : goal.ghosts-exercise-2
-ghosts-exercise-2 g a = record { name = a.blank.name; parts = a.blank.parts }

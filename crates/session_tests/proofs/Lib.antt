@@ -1,4 +1,0 @@
-mod OneBank
-mod PairLemmas
-mod TestBeds
-mod TestLemmas

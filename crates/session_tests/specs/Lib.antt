@@ -1,2 +1,0 @@
-pub mod Beds
-pub mod Maps

@@ -1,2 +1,0 @@
-mod TestBank
-mod TestLemmas

@@ -1,8 +1,0 @@
-use Rattle.std.proofs.Common.{◌≡◌, length, arith}
-use Rattle.settings_tests.proofs.TestBank.{one-lawful}
-use Rattle.settings_tests.proofs.settings.load.Goals as goal
-
-pub load-requires : goal.load-requires
-load-requires g c =
-    let long : length c.in_ok-vec.field-0.items ≡ 2048 = omega (arith, c.in_ok-vec.ensures.len) in
-    rw (c.in_ok-banks.ensures.items, c.in_ok-bytes.ensures.items) (one-lawful c.in_ok-vec.field-0.items long)

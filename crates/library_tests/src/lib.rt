@@ -12,6 +12,8 @@ mod hosts;
 #[cfg(test)]
 mod items;
 #[cfg(test)]
+mod loads;
+#[cfg(test)]
 mod rings;
 #[cfg(test)]
 mod scripts;

@@ -255,23 +255,20 @@ fn goes_through_steps<B: Bench, L: Ledger, R: Abort>(
     holds(rt, "five", summary(&ring, bench, steps) == (5, 211));
 }
 
-// A log refuses a body of no byte and one of 257 bytes, and spends nothing; a cut puts it down, by
-// chance with a record that passes its CRC.
-fn logs<B: Bench, L: Ledger, R: Abort>(rt: &R, alloc: Global, bench: &mut B, steps: &mut Steps<L>) {
+// A log refuses this body, and spends nothing.
+fn refuses<B: Bench, L: Ledger, R: Abort>(
+    rt: &R,
+    alloc: Global,
+    bench: &mut B,
+    body: &[u8],
+    steps: &mut Steps<L>,
+) {
     let area = small(rt, alloc, bench, [b"", b"", b""]);
     let mut log = EventLog::mount(bench, area, steps).expect(rt, "no log");
     let start = bench.spent();
-    let empty = log.append(bench, b"", steps) == Err(LogFault::TooLong);
-    let long = log.append(bench, &[1; 257], steps) == Err(LogFault::TooLong);
+    let refused = log.append(bench, body, steps) == Err(LogFault::TooLong);
     let spent = bench.spent().wrapping_sub(start);
-    holds(rt, "refused", empty & long & log.is_up() & (spent == 0));
-    bench.arm(4);
-    let lost = log.append(bench, b"\x61\x3D\x00\xA4\x01\x02\x03\x04", steps);
-    holds(
-        rt,
-        "lost",
-        (lost == Err(LogFault::PowerLost)) & !log.is_up(),
-    );
+    holds(rt, "refused", refused & log.is_up() & (spent == 0));
 }
 
 fn exercise<B: Bench, L: Ledger, R: Abort>(rt: &R, alloc: Global, bench: &mut B, blank: Blank)
@@ -282,7 +279,8 @@ fn exercise<B: Bench, L: Ledger, R: Abort>(rt: &R, alloc: Global, bench: &mut B,
     let mut steps = Steps::<L>::new(blank);
     reads_records(rt, alloc, bench, &mut steps);
     goes_through_steps(rt, alloc, bench, &mut steps);
-    logs(rt, alloc, bench, &mut steps);
+    refuses(rt, alloc, bench, b"", &mut steps);
+    refuses(rt, alloc, bench, &[1; 257], &mut steps);
 }
 
 #[test]

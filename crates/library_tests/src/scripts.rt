@@ -10,7 +10,7 @@ use script_lines::{
     gen_script, is_lost, read_label, read_script, units_of,
 };
 use setting_name::Name;
-use std::alloc::Global;
+use std::alloc::{AllocError, Global};
 use std::process::Abort;
 use std::test::Fail;
 
@@ -238,6 +238,10 @@ fn item_answers(rt: HostRuntime) {
     reports(&rt, alloc, ItemAnswer::Off, ("off\n", 0, false));
 }
 
+fn bytes_of(alloc: Global, items: &[u8]) -> Result<Bytes, AllocError> {
+    Ok(Bytes::from_vec(Vec::from_slice(alloc, items)?))
+}
+
 // The names of an area with one setting.
 fn names(alloc: Global, name: &[u8]) -> Result<Answer, Fail>
     ensures { IfOk result CanReport }
@@ -245,7 +249,7 @@ fn names(alloc: Global, name: &[u8]) -> Result<Answer, Fail>
     let Ok(active) = read_label(alloc, b"main") else {
         return Err(Fail::new("main"));
     };
-    let value = Bytes::from_vec(Vec::from_slice(alloc, b"\xAB")?);
+    let value = bytes_of(alloc, b"\xAB")?;
     let name = Name::read(name)?;
     let mut pairs = Pairs::new(alloc);
     let Ok(()) = pairs.push(Pair { name, value }) else {

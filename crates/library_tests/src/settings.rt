@@ -1,14 +1,16 @@
 // Settings over each store: a format, room in bytes, look-ups with no view, and orphans.
-ghost use Rattle.std.specs.Prelude.{◌≡◌, ◌<◌, ◌≤◌, ◌∷◌, [], length, IfOk, OnOk, vec_len, false};
+ghost use Rattle.std.specs.Prelude.{◌≡◌, ◌<◌, ◌≤◌, ◌∷◌, [], length, IfOk, OnOk, vec_len, false, ℕ};
 ghost use Rattle.flash_map.specs.Area.{geometry_of};
 ghost use Rattle.flash_map.specs.Lawful.{IsLawfulFor, HasKind, HasUnit};
 ghost use Rattle.flash_map.specs.Units.{IsUnit};
 ghost use Rattle.backend_api.specs.Ends.{set_lost};
 ghost use Rattle.any_backend.specs.ByRole.{any_serves, serves_as};
 ghost use Rattle.any_backend.specs.Standing.{IsReady};
+ghost use Rattle.named_items.specs.Looking.{HasIds};
 
 use crate::counted::{CountedSim, Views};
 use crate::holds;
+use crate::loads::delivers;
 use crate::tables::name_of;
 use any_backend::*;
 use arrayvec::ArrayString;
@@ -16,9 +18,10 @@ use backend_api::{Backend, SetFault};
 use backend_nvs::NvsIdLayout;
 use flash_map::{Area, Role};
 use flash_sim::{Bank, Bench, Kind, NoMemory, Steps};
-use named_items::value_of;
+use named_items::{IdLayout, ItemStore, value_of};
 use nvs_gc::Nvs;
 use setting_name::Name;
+use settings_core::Settings;
 use std::alloc::Global;
 use std::marker::Brand;
 use std::process::Abort;
@@ -96,6 +99,26 @@ fn put<B: Bench, L: Ledger>(
     backend.set(bench, name, value, steps)
 }
 
+fn stores<B: Bench, L: Ledger, R: Abort>(
+    rt: &R,
+    backend: &mut AnyBackend,
+    bench: &mut B,
+    name: &Name,
+    value: &[u8],
+    steps: &mut Steps<L>,
+)
+    requires ready { IsReady (B.device bench.old) backend.old }
+    requires some { 0 < length value.now }
+    requires short { length value.now ≤ 256 }
+    ensures ready { IsReady (B.device bench.new) backend.new }
+    ensures banks { (B.device bench.new).banks ≡ (B.device bench.old).banks }
+{
+    match put(backend, bench, name, value, steps) {
+        Ok(()) => {}
+        Err(_) => rt.panic("not stored"),
+    }
+}
+
 // The name of one value and of another one with no room behind it, the lengths of both, and what the
 // second needs and what lives.
 type NoRoom = (&'static str, &'static str, usize, usize, u64, u64);
@@ -153,8 +176,7 @@ fn refuses<B: Views, L: Ledger, R: Abort>(
     let absent = backend.get(bench, &first, steps).is_none();
     let few = bench.views().wrapping_sub(start) <= views;
     assert!(rt; 0 < len && len <= 256 && 0 < more && more <= 256);
-    let stored = put(&mut backend, bench, &first, &[17; 256][..len], steps);
-    assert!(rt; stored.is_ok());
+    stores(rt, &mut backend, bench, &first, &[17; 256][..len], steps);
     let refused = put(&mut backend, bench, &second, &[34; 256][..more], steps);
     let no_space = refused == Err(SetFault::NoSpace { need, live });
     holds(rt, row.0, absent & few & no_space);
@@ -169,15 +191,14 @@ fn is_absent<B: Views, L: Ledger, R: Abort>(
 ) {
     let area = bed(alloc, bench, Role::Zms, Kind::Rewritable, 16).expect(rt, "memory");
     let mut backend = mounted(rt, alloc, bench, &area, steps);
-    let stored = put(&mut backend, bench, &name_of(rt, "a"), &[0x11], steps);
-    assert!(rt; stored.is_ok());
+    stores(rt, &mut backend, bench, &name_of(rt, "a"), &[0x11], steps);
     let start = bench.views();
     let absent = backend.get(bench, &name_of(rt, "c"), steps).is_none();
     holds(rt, "absent", absent & (bench.views() == start));
 }
 
 // A count of 2, the setting `a`, a name with no value, and a pair beyond the count.
-static ORPHANS: [(u16, &[u8]); 6] = [
+static ORPHANS: [(u32, &[u8]); 6] = [
     (0x8000, &[2, 0]),
     (0x8001, b"a"),
     (0xC001, &[1]),
@@ -186,7 +207,55 @@ static ORPHANS: [(u16, &[u8]); 6] = [
     (0xC003, &[7]),
 ];
 
-// Each name has its value while no orphan was removed.
+// Puts these items, whether they are settings or not.
+fn put_items<S: ItemStore, B: Bench, L: Ledger, R: Abort>(
+    rt: &R,
+    alloc: Global,
+    bench: &mut B,
+    area: &Area,
+    items: &[(u32, &[u8])],
+    steps: &mut Steps<L>,
+)
+    requires low { (id : ℕ) → id < 0xFFFF → S.is_id id }
+    requires lawful { IsLawfulFor (B.device bench.old).banks area.now }
+    requires serves { S.serves area.now (geometry_of (B.device bench.old) area.now) }
+    ensures banks { (B.device bench.new).banks ≡ (B.device bench.old).banks }
+{
+    let mut store = S::mount(alloc, bench, *area, steps).expect(rt, "no mount");
+    for (id, bytes) in items {
+        if bytes.is_empty() {
+            rt.panic("no bytes of a row");
+        }
+        let id = (*id).min(0xFFFE);
+        if store.get(bench, id, steps).is_some() {
+            rt.panic("an id stands twice in a row");
+        }
+        store
+            .write_changed(bench, id, bytes, steps)
+            .expect(rt, "an item is refused");
+    }
+}
+
+// On an area with these items each of these names has its value, with no orphan removed before.
+fn describes<N: IdLayout, S: ItemStore, B: Bench, L: Ledger, R: Abort>(
+    rt: &R,
+    alloc: Global,
+    bench: &mut B,
+    area: &Area,
+    reported: &[(&str, &[u8])],
+    steps: &mut Steps<L>,
+)
+    requires ids { HasIds N.top S.is_id }
+    requires lawful { IsLawfulFor (B.device bench.old).banks area.now }
+    requires serves { S.serves area.now (geometry_of (B.device bench.old) area.now) }
+{
+    let store = S::mount(alloc, bench, *area, steps).expect(rt, "no mount");
+    for (name, value) in reported {
+        let found = value_of::<N, S, B, L>(&store, bench, &name_of(rt, name), steps);
+        holds(rt, name, found.unwrap_or(b"") == *value);
+    }
+}
+
 fn among_orphans<B: Bench, L: Ledger, R: Abort>(
     rt: &R,
     alloc: Global,
@@ -194,15 +263,9 @@ fn among_orphans<B: Bench, L: Ledger, R: Abort>(
     steps: &mut Steps<L>,
 ) {
     let area = bed(alloc, bench, Role::Nvs, Kind::Erasing, 4).expect(rt, "memory");
-    let mut store = Nvs::mount(alloc, bench, area, steps).expect(rt, "no mount");
-    for (id, bytes) in ORPHANS.iter() {
-        store.write(bench, *id, bytes, steps).expect(rt, "an item");
-    }
-    for (name, value) in [("a", b"\x01".as_slice()), ("b", b""), ("c", b"")].iter() {
-        let name = name_of(rt, name);
-        let found = value_of::<NvsIdLayout, Nvs, B, L>(&store, bench, &name, steps);
-        holds(rt, "an orphan", found.unwrap_or(b"") == *value);
-    }
+    put_items::<Nvs, B, L, R>(rt, alloc, bench, &area, &ORPHANS, steps);
+    let reported = [("a", b"\x01".as_slice()), ("b", b""), ("c", b"")];
+    describes::<NvsIdLayout, Nvs, B, L, R>(rt, alloc, bench, &area, &reported, steps);
 }
 
 const LONG: (&str, &str) = (
@@ -257,6 +320,9 @@ fn exercise<B: Views, L: Ledger, R: Abort>(rt: &R, alloc: Global, bench: &mut B,
     over(rt, alloc, bench, fcb, (n, m, 256, 256, 368, 368), 9, steps);
     is_absent(rt, alloc, bench, steps);
     among_orphans(rt, alloc, bench, steps);
+    let area = bed(alloc, bench, Role::Fcb, Kind::Erasing, 4).expect(rt, "memory");
+    let settings = Settings::<AnyBackend>::mount(alloc, bench, area, steps).expect(rt, "no mount");
+    delivers(rt, alloc, settings, bench, steps);
 }
 
 #[test]

@@ -7,4 +7,4 @@ one_pair : (old new : List Pair) (item : Pair) → old ≡ [] → new ≡ old ++
 one_pair old new item empty is = subst (λ (pairs : List Pair). Rise pairs) (sym (is ∙ ap (λ (pairs : List Pair). pairs ++ item ∷ []) empty)) tt
 
 pub returns : goal.returns
-returns c = ((c.in-Ok.ensures 0).1, one_pair c.new-pairs.result c.push.new.self (record { name = c.in_ok-name.name; value = c.value.value }) c.new-pairs.ensures c.in-Ok-push.ensures.ok)
+returns c = ((c.in-Ok.ensures 0).1, one_pair c.new-pairs.result c.push.new.self (record { name = c.in_ok-name.name; value = c.in_ok-value.value }) c.new-pairs.ensures c.in-Ok-push.ensures.ok)

@@ -3,8 +3,8 @@ use Rattle.flash_map.specs.declared.area.Area.{Area}
 use Rattle.any_backend.proofs.TestBeds.{role-unit, bed-lawful, bed-serves}
 use Rattle.library_tests.proofs.settings.bed.Goals as goal
 
-pub load-requires-clause-unit : goal.load-requires-clause-unit
-load-requires-clause-unit g c = role-unit c.args.role c.args.unit c.requires.unit
+pub load-requires : goal.load-requires
+load-requires g c = record { unit = role-unit c.args.role c.args.unit c.requires.unit }
 
 pub returns-clause-lawful : goal.returns-clause-lawful
 returns-clause-lawful g c =

@@ -8,13 +8,13 @@ use Rattle.flash_map.specs.declared.faults.MountFault.{MountFault}
 use Rattle.flash_map.specs.declared.faults.MountFault.TheVariants.{Damaged as HasDamage, PowerLost as MountLost, NoMemory}
 use Rattle.flash_map.specs.Area.{geometry_of, sectors_of, sector_at}
 use Rattle.item_laws.specs.Area.{next, is_closed_at, open_sector}
-use Rattle.item_laws.specs.Forms.{AtRest}
+use Rattle.item_laws.specs.Forms.{AtRest, Collecting}
 use Rattle.item_store.specs.declared.store.Store.{Store}
 use Rattle.item_store.specs.declared.entry.Redo.TheVariants.{CollectAgain}
 use Rattle.item_store.specs.Cached.{IsCacheOn}
 use Rattle.item_store.specs.SectorFormat.{SectorFormat}
 use Rattle.item_store.specs.Room.{has_room}
-use Rattle.item_store.specs.Collecting.{EmptiesVictim, redo_of, redo_list, redo_units, KeepsOrRedoes, MarksFirst}
+use Rattle.item_store.specs.Collecting.{CollectsAt, EmptiesVictim, redo_of, redo_list, redo_units, KeepsOrRedoes, MarksFirst}
 use Rattle.item_store.specs.Standing.{IsStoreArea, list_at, KeepsItems, SpendsIn, SpendsUpTo}
 
 -- The store is up: the area is not damaged and at rest, and the store knows its open sector and
@@ -49,7 +49,8 @@ pub record StandsAt {T : Type 0} (role : Role) (format_of : Geometry → SectorF
 -- power is lost or not. A mount spends what there is to redo: at rest nothing. The list is the one
 -- that the redo leaves; after a power loss, that one or the one before. A collection that was begun
 -- again leaves room for a delete. If the area was not at rest, the sector behind the open one is
--- emptied.
+-- emptied. A collection that was begun again ends as one that was not cut: of the open sector's room
+-- only what its copies cost is gone.
 abbrev pub MountEnds : {T : Type 0} → Role → (Geometry → SectorFormat) → (Geometry → List ℕ → T) → Device
     → Device
     → Area → Result (Store T) MountFault → Type 0
@@ -66,6 +67,8 @@ MountEnds role format_of kept old new area (Ok store) =
     × (redo_of k (sectors_of old area) place ≡ CollectAgain → has_room k (sectors_of new area) 0 ≡ true)
     × (¬ AtRest k.reading (sectors_of old area) place
     → EmptiesVictim k (sectors_of old area) (sectors_of new area) place)
+    × (Collecting k.reading (sectors_of old area) place
+    → CollectsAt k (sectors_of old area) (sectors_of new area) place)
 MountEnds role format_of kept old new area (Err (HasDamage damaged)) =
     ((format_of (geometry_of old area)).damage (sectors_of old area) ≡ Some damaged) × (new ≡ old)
 MountEnds role format_of kept old new area (Err MountLost) =

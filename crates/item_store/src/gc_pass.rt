@@ -25,9 +25,10 @@ use std::sync::ledger::Ledger;
 
 impl<T: SlotSectors> Store<T> {
     /// Reads the area and completes what a power loss left undone. The items stay, even if power is
-    /// lost again. An area at rest stays as it is. If anything changed, some sector is not blank
-    /// afterwards, even if power was lost. No byte of a collected sector goes before gc-done
-    /// stands, and in the end that sector is empty and ready for entries.
+    /// lost again. An area at rest stays as it is. A collection done again leaves as much room as
+    /// one that was not cut. If anything changed, some sector is not blank afterwards, even if
+    /// power was lost. No byte of a collected sector goes before gc-done stands, and in the end
+    /// that sector is empty and ready for entries.
     ///
     /// # Errors
     /// `Damaged` and `NoMemory`: nothing changed. `PowerLost`, only if the area was not at rest.

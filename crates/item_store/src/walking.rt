@@ -184,9 +184,8 @@ fn newest_up_to<T: SlotSectors, F: Flash, L: Ledger>(
 }
 
 /// The next older entry of the list, deletes included: the one before the entry in this sector and
-/// slot, or the newest one if no place is given. From a place without an entry it is the newest
-/// entry before that place, in the round to the open sector. `None` exactly if there is no older
-/// entry.
+/// slot, or the newest one if no place is given. If no entry stands at the place, it is the newest
+/// one before it, on the way round to the open sector. `None` exactly if there is no older entry.
 pub fn walk<T: SlotSectors, F: Flash, L: Ledger>(
     flash: &F,
     on: &OpenArea<'_, T>,

@@ -60,8 +60,9 @@ impl Nvs {
     /// Reads the area and completes what a power loss left undone: the erase of a collected sector,
     /// or a whole garbage collection. The items stay, and so do the newest versions of each, even
     /// if power is lost again. It never spends more units and erases than a sector has units. An
-    /// area at rest stays as it is. If anything changed, the area is not all FF afterwards, even if
-    /// power was lost. The collected sector is not erased before gc-done stands.
+    /// area at rest stays as it is. A collection done again leaves as much room as one that was not
+    /// cut. If anything changed, the area is not all FF afterwards, even if power was lost. The
+    /// collected sector is not erased before gc-done stands.
     ///
     /// # Errors
     /// `Damaged` and `NoMemory`: nothing changed. `PowerLost`, only if the area was not at rest.
@@ -243,9 +244,9 @@ impl Nvs {
     }
 
     /// The next older entry of the list, deletes included: the one before the entry in this sector
-    /// and slot, or the newest one if no place is given. From a place without an entry it is the
-    /// newest entry before that place, in the round to the open sector. `None` exactly if there is
-    /// no older entry.
+    /// and slot, or the newest one if no place is given. If no entry stands at the place, it is the
+    /// newest one before it, on the way round to the open sector. `None` exactly if there is no
+    /// older entry.
     pub fn walk<F: Flash, L: Ledger>(
         &self,
         flash: &F,

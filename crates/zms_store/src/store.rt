@@ -27,9 +27,10 @@ impl Zms {
     /// sector, which takes one to three units by its bytes (two on an erasing bank), or a whole
     /// garbage collection. The items stay, and so do the newest versions of each, even if power is
     /// lost again. It spends at most twice the units of a sector (once on an erasing bank), and at
-    /// most 8 more than twice the units that it copies. An area at rest stays as it is. If anything
-    /// changed, a sector is in use afterwards, even if power was lost. No byte of the collected
-    /// sector changes before gc-done stands, and in the end that sector has an empty entry.
+    /// most 8 more than twice the units that it copies. An area at rest stays as it is. A
+    /// collection done again leaves as much room as one that was not cut. If anything changed, a
+    /// sector is in use afterwards, even if power was lost. No byte of the collected sector changes
+    /// before gc-done stands, and in the end that sector has an empty entry.
     ///
     /// # Errors
     /// `Damaged` and `NoMemory`: nothing changed. `PowerLost`, only if the area was not at rest.

@@ -2,9 +2,9 @@ use Rattle.std.proofs.Common.{◌≡◌, ℕ, inl, refl, sym, subst, ◌∷◌, 
 use Rattle.flash_sim.specs.Device.{Device}
 use Rattle.flash_map.specs.declared.area.Area.{Area}
 use Rattle.flash_map.specs.Area.{geometry_of, sector_size, sectors_of}
-use Rattle.item_laws.specs.Forms.{AtRest}
+use Rattle.item_laws.specs.Forms.{AtRest, Collecting}
 use Rattle.item_store.specs.SectorFormat.{SectorFormat, IsSectorFormat}
-use Rattle.item_store.specs.Collecting.{EmptiesVictim, redo_of, redo_list, redo_units, KeepsOrRedoes, MarksFirst}
+use Rattle.item_store.specs.Collecting.{CollectsAt, EmptiesVictim, redo_of, redo_list, redo_units, KeepsOrRedoes, MarksFirst}
 use Rattle.item_store.specs.Standing.{list_of, SpendsIn, SpendsUpTo}
 use Rattle.item_store.specs.declared.entry.Redo.TheVariants.{CollectAgain}
 use Rattle.item_store.proofs.Areas.{unit_is, form_undamaged}
@@ -104,6 +104,7 @@ returns-in-Ok-redo g c =
         λ again. mount-room k law g.T.SlotSectors.role a area (g.met.F.Flash.is_lawful c.args.flash.now) c.requires.area found.undamaged c.in-Ok.current found.opened (sectors_of d area)
             (subst (λ (p : ℕ). redo_of k (sectors_of a area) p ≡ CollectAgain) (sym found.opened) again) did.ends.collects (form_undamaged k law (sectors_of d area) c.in-Ok.current (inl did.ends.rested)).0,
         subst (λ (p : ℕ). ¬ AtRest (g.T.SlotSectors.format_of (geometry_of a area)).reading (sectors_of a area) p → EmptiesVictim (g.T.SlotSectors.format_of (geometry_of a area)) (sectors_of a area) (sectors_of d area) p) found.opened did.ends.empties,
+        subst (λ (p : ℕ). Collecting k.reading (sectors_of a area) p → CollectsAt k (sectors_of a area) (sectors_of d area) p) found.opened did.ends.collects,
       );
       at_most = let law = g.met.T.SlotSectors.lawful (geometry_of a c.args.area) (unit_is a c.args.area (g.met.F.Flash.is_lawful c.args.flash.now) c.requires.area.lawful) in
           mount-most (g.T.SlotSectors.format_of (geometry_of a c.args.area)) law g.T.SlotSectors.role a c.args.area (g.met.F.Flash.is_lawful c.args.flash.now) c.requires.area found.undamaged c.in-Ok.current found.opened (g.F.Flash.device c.redo.new.flash) c.in-Ok-redo.ensures.ends.spends;

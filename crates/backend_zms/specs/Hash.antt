@@ -1,10 +1,10 @@
 -- The ids that a name may have, by its hash.
 use Rattle.std.specs.Prelude.{ℕ, ◌+◌, ◌*◌, ◌%◌, ◌^◌, List, fold, bit_and, bit_xor}
-use Rattle.backend_zms.specs.declared.hash.TheConstants.{BASIS, PRIME, GROUP_BITS, FIRST}
+use Rattle.backend_zms.specs.declared.hash.TheConstants.{GROUP_BITS, FIRST}
 
 -- the FNV-1a hash of 32 bits
 abbrev pub fnv : List ℕ → ℕ
-fnv bytes = fold (λ hash byte. (bit_xor hash byte * PRIME) % 2 ^ 32) BASIS bytes
+fnv bytes = fold (λ hash byte. (bit_xor hash byte * 16777619) % 2 ^ 32) 2166136261 bytes
 
 -- the group of a name
 unfoldable pub group_of : List ℕ → ℕ

@@ -1,10 +1,11 @@
 // The log over one area.
-ghost use Rattle.std.specs.Prelude.{◌≡◌, ◌+◌, ◌≤◌, ◌∷◌, [], None, OnOk};
+ghost use Rattle.std.specs.Prelude.{◌≡◌, ◌+◌, ◌≤◌, ◌∷◌, [], true, None, IfOk, OnOk};
 ghost use Rattle.std.specs.Option.{ForSome};
+ghost use Rattle.flash_map.specs.Area.{sectors_of};
 ghost use Rattle.flash_map.specs.Faults.{mount_lost};
 ghost use Rattle.flash_map.specs.Touches.{Touches};
-ghost use Rattle.fcb_ring.specs.Changing.{body_at};
-ghost use Rattle.fcb_ring.specs.Standing.{IsRingArea, IsListed, IsBodyOf, IsNext, entries_on, erases_on, is_up, ring_damage};
+ghost use Rattle.fcb_ring.specs.Changing.{StopsErasing, body_at};
+ghost use Rattle.fcb_ring.specs.Standing.{IsRingArea, IsListed, IsBodyOf, IsNext, entries_on, erases_on, is_up, mounted_on, ring_damage};
 ghost use Rattle.event_ring.specs.Room.{IsFilled};
 ghost use Rattle.event_ring.specs.Standing.{IsOpen, KeepsItems, LogMounts};
 
@@ -20,8 +21,8 @@ pub struct EventLog {
 }
 
 impl EventLog {
-    /// Mounts the log on its area. Its items stay, even if power is lost. No more erases are
-    /// due afterwards than before.
+    /// Mounts the log on its area. Its items stay, even if power is lost. It erases the sectors
+    /// that are due and changes no other byte. No more erases are due afterwards than before.
     ///
     /// # Errors
     /// `Damaged` exactly if the area has the damage of a ring: nothing changed. `PowerLost`. Never
@@ -37,6 +38,10 @@ impl EventLog {
         ensures ends { LogMounts (F.device flash.old) (F.device flash.new) area result }
         ensures idle { erases_on (F.device flash.old) area ≡ 0
             → F.device flash.new ≡ F.device flash.old }
+        ensures erased { IfOk result
+            (λ log. sectors_of (F.device flash.new) area ≡ mounted_on (F.device flash.old) area) }
+        ensures part { mount_lost result ≡ true
+            → StopsErasing (F.device flash.old) (F.device flash.new) area }
         ensures filled { let d = F.device flash.old in
             ring_damage d area ≡ None → IsFilled d area → IsFilled (F.device flash.new) area }
         ensures keeps { let d = F.device flash.old in

@@ -280,37 +280,14 @@ fn exercise<B: Views, L: Ledger, R: Abort>(rt: &R, alloc: Global, bench: &mut B,
 {
     let mut steps = Steps::<L>::new(blank);
     let steps = &mut steps;
-    let (nvs, zms) = (
-        (Role::Nvs, Kind::Erasing, 4),
-        (Role::Zms, Kind::Erasing, 16),
-    );
-    over(
-        rt,
-        alloc,
-        bench,
-        nvs,
-        ("a", "b", 256, 256, 276, 288),
-        0,
-        steps,
-    );
-    over(
-        rt,
-        alloc,
-        bench,
-        nvs,
-        ("a", "b", 256, 180, 200, 288),
-        0,
-        steps,
-    );
-    over(
-        rt,
-        alloc,
-        bench,
-        zms,
-        ("a", "b", 256, 256, 288, 288),
-        0,
-        steps,
-    );
+    let nvs = (Role::Nvs, Kind::Erasing, 4);
+    let row = ("a", "b", 256, 256, 276, 288);
+    over(rt, alloc, bench, nvs, row, 0, steps);
+    let row = ("a", "b", 256, 180, 200, 288);
+    over(rt, alloc, bench, nvs, row, 0, steps);
+    let zms = (Role::Zms, Kind::Erasing, 16);
+    let row = ("a", "b", 256, 256, 288, 288);
+    over(rt, alloc, bench, zms, row, 0, steps);
     let (n, m) = LONG;
     let fcb = (Role::Fcb, Kind::Erasing, 4);
     over(rt, alloc, bench, fcb, (n, m, 256, 256, 332, 332), 9, steps);

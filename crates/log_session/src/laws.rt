@@ -4,7 +4,7 @@ ghost use Rattle.log_session.specs.Laws.{BlankDropsForRoom, BlankOwesNothing, Dr
 /// Wherever power is lost, the log is the first log followed by the records that appends left,
 /// without the oldest ones, which were dropped. Each acknowledged append left its record. Each
 /// lost one left it, or nothing, or by chance a torn record. As many records were dropped as
-/// the answers say. A lost append dropped any number. No append drops more at once than one
+/// the answers say. A lost append may have dropped some. No append drops more at once than one
 /// sector has room for.
 pub fn acknowledged_records_stand()
     ensures { HoldsAcknowledged }

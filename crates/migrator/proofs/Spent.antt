@@ -118,14 +118,14 @@ filled-most a b e area into count names banks same is first second =
 
 -- the same, where power lasted: each sector that was written was erased
 pub filled-between : (a b e : Device) (area into : Area) (count names : ℕ) → b.banks ≡ a.banks → into ≡ area → count ≡ names → Spends a b (count_by is_written (sectors_of a area)) → SpendsAtMost b e (count * command_units (geometry_of b into))
-    → SpendsBetween a e (count_by is_written (sectors_of a area)) (fill_units (geometry_of a area) names)
+    → SpendsBetween a e (count_by is_written (sectors_of a area)) (count_by is_written (sectors_of a area) + names * command_units (geometry_of a area))
 filled-between a b e area into count names banks same is first second =
     let written : ℕ = count_by is_written (sectors_of a area) in
     let puts : ℕ = names * command_units (geometry_of a area) in
-    between_further a e written area.sectors puts (written-within a area) (between_then (between_exact a b written first) (between_most b e puts (puts-most a b e area into count names banks same is second)))
+    plain a e written puts (between_then (between_exact a b written first) (between_most b e puts (puts-most a b e area into count names banks same is second)))
   where
-    between_further : (d x : Device) (count sectors more : ℕ) → count ≤ sectors → SpendsBetween d x (count + 0) (count + more) → SpendsBetween d x count (sectors + more)
-    between_further d x count sectors more within spends = between_within spends count (sectors + more) (omega arith) (omega arith)
+    plain : (d x : Device) (count more : ℕ) → SpendsBetween d x (count + 0) (count + more) → SpendsBetween d x count (count + more)
+    plain d x count more spends = between_within spends count (count + more) (omega arith) (omega arith)
 
 -- what holds however a call ends
 pub on-ok : {T E : Type 0} (result : Result T E) (P : Type 0) → P → OnOk result P

@@ -133,12 +133,12 @@ pub record IsMoved (damage : Area → Geometry → List (List ℕ) → Option Da
 abbrev pub fill_units : Geometry → ℕ → ℕ
 fill_units geometry names = geometry.sectors + names * command_units geometry
 
--- An area was filled with `names` settings. That spent at least one unit or erase for each sector that was
--- written.
+-- An area was filled with `names` settings. That spent one erase for each sector that was written, and at
+-- most one command's units for each setting.
 abbrev pub Fills : Device → Device → Area → ℕ → Type 0
 Fills old new area names =
-    SpendsBetween old new (count_by is_written (sectors_of old area))
-    (fill_units (geometry_of old area) names)
+    let written = count_by is_written (sectors_of old area) in
+    SpendsBetween old new written (written + names * command_units (geometry_of old area))
 
 -- It spent at most what filling an area with `names` settings may take, and filled it if it ended well.
 abbrev pub FillSpends : {T E : Type 0} → Device → Device → Area → ℕ → Result T E → Type 0

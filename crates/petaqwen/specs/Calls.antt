@@ -121,11 +121,12 @@ pub record CarriesOut (old new : Device) (before after : AnyBackend) (commands :
   pub down : save_lost result ≡ true → is_up after ≡ false
   pub up : save_lost result ≡ false → is_up after ≡ is_up before
 
--- a save of these pairs: what each put makes of the settings, and how many were not stored already
+-- A save of these pairs: what each put makes of the settings, and how many were not stored already; none
+-- while power is off.
 abbrev pub Saves : Device → Device → AnyBackend → AnyBackend → List (List ℕ × List ℕ) → Saved → Type 0
 Saves old new before after pairs saved =
     (carried : CarriesOut old new before after (puts_of pairs) (save_units old before pairs) saved.end)
-    × (saved.pairs ≡ more_pairs 0 carried.count)
+    × (saved.pairs ≡ more_pairs 0 carried.count) × (old.is_on ≡ false → saved.pairs ≡ 0)
 
 -- ---- loading
 

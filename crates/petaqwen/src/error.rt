@@ -10,7 +10,8 @@ use setting_name::NameFault;
 use settings_core::{LoadFault, NoHandler, Off, RuntimeFault, SaveFault};
 use std::alloc::AllocFailed;
 
-/// What may go wrong in a program that keeps settings. `?` makes it of each fault of this crate.
+/// What may go wrong in a program that keeps settings. `?` turns each fault of this crate into
+/// it.
 #[derive(Clone, Copy, Debug, PartialEq, Eq)]
 pub enum Error {
     /// The word describes no flash.

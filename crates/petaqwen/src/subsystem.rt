@@ -1,5 +1,5 @@
 // Settings on a partition, and the handlers that hold values at run time.
-ghost use Rattle.std.specs.Prelude.{◌≡◌, ◌<◌, ◌≤◌, [], length, IfOk, IfErr, option_map};
+ghost use Rattle.std.specs.Prelude.{◌≡◌, ◌<◌, ◌≤◌, ◌++◌, ◌∷◌, [], false, length, IfOk, IfErr, OnOk, option_map};
 ghost use Rattle.std.specs.FinMap as finite;
 ghost use Rattle.flash_sim.specs.Device.{After, replanned};
 ghost use Rattle.flash_map.specs.Area.{value_limit};
@@ -53,15 +53,14 @@ pub struct Subsystem<F: Flash> {
 
 impl<F: Flash> Subsystem<F> {
     /// Mounts the settings of the partition with this label, and finishes what a power loss has
-    /// interrupted. What the partition reads as stays, also where power is lost. No handler is
-    /// registered yet.
+    /// interrupted. The settings stay, even if power is lost. No handler is registered yet.
     ///
     /// It spends at most the units and erases that the partition owes, as the last interrupted
     /// command left it, and none at rest; whatever the bytes, at most `foreign_units`. It leaves no
     /// more to the next mount than it found.
     ///
     /// # Errors
-    /// `NoPartition` exactly where no partition for settings has the label; then nothing changes.
+    /// `NoPartition` exactly if no partition for settings has the label; then nothing changes.
     /// `Mount`: the partition is damaged, power was lost, or memory ran out. The board comes back.
     pub fn open(alloc: Global, board: Board<F>, label: &str) -> Result<Subsystem<F>, Unopened<F>>
         requires sound { AreServed (F.device board.flash).banks board.map }
@@ -103,7 +102,7 @@ impl<F: Flash> Subsystem<F> {
     /// Registers a handler that holds nothing yet for a subtree of names, behind all others.
     ///
     /// # Errors
-    /// `Exists` exactly where the subtree is registered; `NoMemory` only where it is not. The
+    /// `Exists` exactly if the subtree is registered; `NoMemory` only if it is not. The
     /// handler is dropped, and nothing else changes.
     pub fn register(
         &mut self,
@@ -116,6 +115,10 @@ impl<F: Flash> Subsystem<F> {
 
         ensures ends { Registers (registered state self.old.registry)
             (registered state self.new.registry) subtree (state handler) result }
+        ensures box { OnOk result (self.new.registry.rows.items
+            ≡ self.old.registry.rows.items ++ record { subtree = subtree; handler = handler } ∷ []) }
+        ensures same { IfErr result
+            (λ fault. self.new.registry.rows.items ≡ self.old.registry.rows.items) }
         ensures board { self.new.board ≡ self.old.board }
         ensures settings { self.new.settings ≡ self.old.settings }
         ensures ready { IsReady (F.device self.new.board.flash) self.new.board.map
@@ -129,7 +132,7 @@ impl<F: Flash> Subsystem<F> {
     /// that.
     ///
     /// # Errors
-    /// `NoHandler` exactly where no subtree matches the name; `Rejected` exactly where the handler
+    /// `NoHandler` exactly if no subtree matches the name; `Rejected` exactly if the handler
     /// does not accept the value; `NoMemory`. Nothing changes then.
     pub fn set(&mut self, alloc: Global, name: &Name, value: &[u8]) -> Result<(), RuntimeFault>
         requires ready { IsReady (F.device self.old.board.flash) self.old.board.map
@@ -151,7 +154,7 @@ impl<F: Flash> Subsystem<F> {
     /// What the best handler for the name holds for it, if it holds a value.
     ///
     /// # Errors
-    /// `NoHandler` exactly where no subtree matches the name.
+    /// `NoHandler` exactly if no subtree matches the name.
     pub fn held(&self, name: &Name) -> Result<Option<&[u8]>, NoHandler>
         ensures { RuntimeGetEnds (registered state self.now.registry) name.now result }
     {
@@ -161,7 +164,7 @@ impl<F: Flash> Subsystem<F> {
     /// The stored value of a name, if it has one, read from the flash.
     ///
     /// # Errors
-    /// `Off` exactly where an earlier call answered that power was lost.
+    /// `Off` exactly if an earlier call answered that power was lost.
     pub fn stored(&self, name: &Name) -> Result<Option<&[u8]>, Off>
         requires ready { IsReady (F.device self.now.board.flash) self.now.board.map
             self.now.settings.backend (registered state self.now.registry) }
@@ -178,9 +181,10 @@ impl<F: Flash> Subsystem<F> {
     /// `pairs` how many values were stored before that. The handlers stay. It spends at most the
     /// units and erases of one set for each value that differs.
     ///
-    /// After `PowerLost` the first so many values are new and the others old; over FCB the next
-    /// may be torn by chance. The next mount then spends at most `boot_units`. The settings answer
-    /// `Off`, until they are closed and opened again.
+    /// After `PowerLost` the first so many values are new, the next is new or old, and the others
+    /// are old; over FCB the next may be torn by chance. The next mount then spends at most
+    /// `boot_units`. The settings answer `Off`, until they are closed and opened again. While power
+    /// is off, `pairs` is 0.
     pub fn save(&mut self, subtree: Option<&Name>) -> Saved
         requires ready { IsReady (F.device self.old.board.flash) self.old.board.map
             self.old.settings.backend (registered state self.old.registry) }
@@ -208,7 +212,7 @@ impl<F: Flash> Subsystem<F> {
     /// were taken, were rejected, and found no handler. It takes memory for each stored name.
     ///
     /// # Errors
-    /// `Off` exactly where an earlier call answered that power was lost; nothing changes then.
+    /// `Off` exactly if an earlier call answered that power was lost; nothing changes then.
     /// `NoMemory`: the values up to some name were given, or none, and nothing was committed.
     pub fn load(&mut self, alloc: Global, subtree: Option<&Name>) -> Result<Loaded, LoadFault>
         requires ready { IsReady (F.device self.old.board.flash) self.old.board.map

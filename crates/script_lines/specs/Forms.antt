@@ -185,14 +185,14 @@ RefusesFields limit fields operands Words = length operands ≢ length fields
 RefusesFields limit fields operands why =
     (length operands ≡ length fields) × IsFirstFault limit fields operands why
 
--- Which words take memory to be read: a name and a kind take none.
+-- Which words take memory to be read: a name, a kind and a number take none.
 abbrev pub TakesMemory : Field → Type 0
 TakesMemory a_name = ⊥
 TakesMemory a_label = ⊤
 TakesMemory a_kind = ⊥
 TakesMemory some_bytes = ⊤
 TakesMemory any_bytes = ⊤
-TakesMemory (below end) = ⊤
+TakesMemory (below end) = ⊥
 
 abbrev pub SomeTakesMemory : List Field → Type 0
 SomeTakesMemory [] = ⊥

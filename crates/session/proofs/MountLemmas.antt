@@ -267,7 +267,7 @@ module _ {K : Type 0} (serves : Area → Geometry → Type 0) (mounted_on : K �
       begins w.ends.1,
     )
     ends_at (Err MountLost) w = (s.none, sound_now, inl (none_at damage areas d (sym (over damage) ∙ w.ends)), reads w.ends)
-    ends_at (Err MountNoMemory) w = begins w.ends
+    ends_at (Err MountNoMemory) w = (s.none, begins w.ends)
 
     pub map_ends : (x : Result (Session K) MapFault) → x ≡ mounted_as selector place r → MapEnds mounted_on stands runs damage contents areas d e x
     map_ends x is = subst (λ (y : Result (Session K) MapFault). MapEnds mounted_on stands runs damage contents areas d e y) (sym is) (ends_at r m)

@@ -82,7 +82,8 @@ MapEnds mounted_on stands runs damage contents areas old new (Err PowerLost) =
     (selector_damage_on areas old ≡ None) × (selector_damage_on areas new ≡ None)
     × ((active_damage damage areas old ≡ None) ⊎ Touches (selectors areas) old new true)
     × ReadsSame contents areas old new
-MapEnds mounted_on stands runs damage contents areas old new (Err NoMemory) = BeginsMount areas old new
+MapEnds mounted_on stands runs damage contents areas old new (Err NoMemory) =
+    (selector_damage_on areas old ≡ None) × BeginsMount areas old new
 
 -- ---- the line
 

@@ -336,10 +336,10 @@ takes_memory (Cut units) = false
 takes_memory Uncut = false
 takes_memory line = true
 
--- How a line for which memory ran out leaves the bench: a mount and a migration may have begun; no
--- other line changed it.
+-- How a line for which memory ran out leaves the bench: a mount, of a map whose selector shows no damage,
+-- and a migration may have begun; no other line changed it.
 abbrev pub BeginsLine : Meanings → List Area → Line → Device → Device → Type 0
-BeginsLine m areas Mount old new = BeginsMount areas old new
+BeginsLine m areas Mount old new = (selector_damage_on areas old ≡ None) × BeginsMount areas old new
 BeginsLine m areas Migrate old new = BeginsMove m areas old new
 BeginsLine m areas line old new = new ≡ old
 

@@ -15,7 +15,7 @@ use Rattle.backend_api.specs.Map.{Map, IsStored}
 use Rattle.backend_api.specs.Room.{Room}
 use Rattle.backend_api.specs.declared.backend.SetFault.{SetFault}
 use Rattle.backend_api.specs.declared.backend.SetFault.TheVariants.{NoSpace as SetNoSpace, TooManyNames as SetTooMany, PowerLost as SetLost}
-use Rattle.backend_api.proofs.MapLemmas.{insert-stored, remove-absent}
+use Rattle.backend_api.proofs.MapLemmas.{insert-stored, remove-absent, get-insert_same}
 use Rattle.settings_core.specs.declared.writing.SaveFault.{SaveFault}
 use Rattle.settings_core.specs.declared.writing.SaveFault.TheVariants.{Off, NoSpace, TooManyNames, PowerLost}
 use Rattle.settings_core.specs.Carrying.{command_of, is_idle, due, is_too_many, AreFree, SplitsAt, Carries, CarryEnds, LacksRoom, save_lost, fault_of, lost_as_save}
@@ -71,6 +71,14 @@ due_none settings c is = cond-true _ [] (c ∷ []) is
 pub due_one : (settings : Map) (c : Command) → is_idle settings c ≡ false → due settings (c ∷ []) ≡ c ∷ []
 unfolding due
 due_one settings c isnt = cond-false _ [] (c ∷ []) isnt
+
+-- a put that leaves the settings as they are is not due
+pub none_due : (settings : Map) (name value : List ℕ) → settings ≡ all_applied settings (Put name value ∷ []) → due settings (Put name value ∷ []) ≡ []
+unfolding all_applied
+none_due settings name value same =
+    due_none settings (Put name value)
+    (ap (λ (h : Option (List ℕ)). option_map_or (bytes_eq value) h false) (ap (λ (m : Map). get m name) same ∙ get-insert_same settings name value)
+    ∙ (bytes_eq-Decides value value).1 refl)
 
 -- ---- one command
 

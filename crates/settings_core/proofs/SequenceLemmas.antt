@@ -25,7 +25,7 @@ use Rattle.settings_core.specs.Carrying.{due, due_units, AreFree, SplitsAt, Carr
 use Rattle.settings_core.specs.Saving.{CarriesOn, more_pairs}
 use Rattle.backend_api.proofs.CommandLemmas.{applied-more}
 use Rattle.settings_core.proofs.CallLemmas.{spends_nothing}
-use Rattle.settings_core.proofs.CarryLemmas.{due_same, due-append, same_fault}
+use Rattle.settings_core.proofs.CarryLemmas.{due_same, due-append, none_due, same_fault}
 use Rattle.settings_core.proofs.UnitLemmas.{due_then, due_more}
 
 free-append : (room : Room) (settings : Map) (xs ys : List Command) → AreFree room settings xs → AreFree room (all_applied settings xs) ys → AreFree room settings (xs ++ ys)
@@ -154,6 +154,7 @@ module _ {S : Type 0} {mounted_on : S → Area} {stands : S → Geometry → Lis
     counts = omega arith;
     ends = (refl, refl, record { settings = refl; free = tt; none = λ is. refl; some = λ no. absurd (no refl) });
     at_most = spends_nothing d (due_units (geometry_of d area) (on contents d area) []);
+    off = λ off. refl;
     sound = sound;
     goes_on = λ kept. there;
     down = λ lost. absurd (cc);
@@ -175,6 +176,7 @@ module _ {S : Type 0} {mounted_on : S → Area} {stands : S → Geometry → Lis
         at_most =
             due_then old between last (geometry_of old area) (geometry_of between area) (on contents old area) (on contents between area) xs ys (same_geometry old between area first.touches.banks) (first.ends.2.settings ∙ due_same (on contents old area) xs)
             first.at_most second.at_most;
+        off = λ off. second.off (ap (λ (d : Device). d.is_on) (first.touches.off off) ∙ off) ∙ first.off off;
         sound = second.sound;
         goes_on = second.goes_on;
         down = second.down;
@@ -194,6 +196,7 @@ module _ {S : Type 0} {mounted_on : S → Area} {stands : S → Geometry → Lis
         (sym (due-append (on contents old area) xs ys))
         (ends_more T (room area (geometry_of old area)) area.sectors (on chance new area) (tears area (geometry_of old area)) old new (on contents old area) (on contents new area) (due (on contents old area) xs) _ part.count fault part.ends);
     at_most = due_more old new (geometry_of old area) (on contents old area) xs ys part.at_most;
+    off = part.off;
     sound = part.sound;
     goes_on = part.goes_on;
     down = part.down;
@@ -220,10 +223,18 @@ put_refused mounted_on stands runs damage room contents chance tears T U area st
       subst (λ (n : List ℕ). CarryEndsOn {T = U} room contents chance tears true area old new (Put n value ∷ []) 0 (Err fault)) same
       (same_fault T U true (room area (geometry_of old area)) area.sectors (on chance new area) (tears area (geometry_of old area)) old new (on contents old area) (on contents new area) (due (on contents old area) (Put name value ∷ [])) 0 fault ends);
   at_most = subst (λ (n : List ℕ). SpendsAtMost old new (due_units (geometry_of old area) (on contents old area) (Put n value ∷ []))) same at_most;
+  off = λ off. refl;
   sound = sound;
   goes_on = λ kept. goes_on (lost_same T U fault ∙ kept);
   down = λ lost. down (lost_same T U fault ∙ lost);
 }
+
+-- the count after one pair more, and after none
+pub one_more : (n : ℕ) → n < 2 ^ 32 → min (n + 1) (2 ^ 32 - 1) ≡ more_pairs n 1
+one_more n few = omega arith
+
+pub none_more : (n : ℕ) → n ≡ more_pairs n 0
+none_more n = omega arith
 
 -- a part of one put that was carried out
 pub put_stored : {S : Type 0} (mounted_on : S → Area) (stands : S → Geometry → List (List ℕ) → Type 0) (runs : S → Bool) (damage : Area → Geometry → List (List ℕ) → Option Damaged)
@@ -238,14 +249,11 @@ put_stored mounted_on stands runs damage room contents chance tears T U x y area
   counts = counts;
   ends = subst (λ (n : List ℕ). CarryEndsOn {T = U} room contents chance tears true area old new (Put n value ∷ []) count (Ok y)) same ends;
   at_most = subst (λ (n : List ℕ). SpendsAtMost old new (due_units (geometry_of old area) (on contents old area) (Put n value ∷ []))) same at_most;
+  off = λ off.
+      let before = on contents old area in
+      let stays : before ≡ all_applied before (Put name value ∷ []) = sym (ap (λ (d : Device). on contents d area) (touches.off off)) ∙ ends.2.settings ∙ due_same before (Put name value ∷ []) in
+      counts ∙ ap (more_pairs was) (ends.1 ∙ ap length (none_due before name value stays)) ∙ sym (none_more was);
   sound = sound;
   goes_on = λ kept. there;
   down = λ lost. absurd (true≢false (sym lost));
 }
-
--- the count after one pair more, and after none
-pub one_more : (n : ℕ) → n < 2 ^ 32 → min (n + 1) (2 ^ 32 - 1) ≡ more_pairs n 1
-one_more n few = omega arith
-
-pub none_more : (n : ℕ) → n ≡ more_pairs n 0
-none_more n = omega arith

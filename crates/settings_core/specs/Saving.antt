@@ -61,6 +61,7 @@ pub record CarriesOn {S T : Type 0} (mounted_on : S → Area) (stands : S → Ge
   pub counts : now ≡ more_pairs was count
   pub ends : CarryEndsOn room contents chance tears true area old new commands count result
   pub at_most : SpendsAtMost old new (due_units (geometry_of old area) (on contents old area) commands)
+  pub off : old.is_on ≡ false → now ≡ was
   pub sound : on damage new area ≡ None
   pub goes_on : save_lost result ≡ false → StandsOn mounted_on stands new state
   pub down : save_lost result ≡ true → runs state ≡ false

@@ -40,7 +40,8 @@ impl<K: Backend> Settings<K> {
     /// registration and then in byte order of the rests. With no subtree given, it stores those of
     /// all. It ends at the first error; the pairs before that one are stored. Whatever the result,
     /// it spends at most the units and erases of one set for each pair that differs (`due_units`).
-    /// If power is lost, it leaves at most `boot_units` of them to the next mount.
+    /// If power is lost, it leaves at most `boot_units` of them to the next mount. While power is
+    /// off it stores no pair.
     pub fn save<F: Flash, L: Ledger>(
         &mut self,
         flash: &mut F,
@@ -68,6 +69,7 @@ impl<K: Backend> Settings<K> {
             let e = F.device flash.new in let under = option_map (λ name. name.now) subtree.entry in
             let puts = puts_of (exported under (registered state registry.now)) in
             SpendsAtMost d e (due_units (geometry_of d area) (on K.contents d area) puts) }
+        ensures off { (F.device flash.old).is_on ≡ false → result.pairs ≡ 0 }
         ensures sound { K.runs self.old.backend ≡ true
             → on K.damage (F.device flash.new) (K.mounted_on self.old.backend) ≡ None }
         ensures stands { K.runs self.new.backend ≡ true

@@ -18,6 +18,7 @@ returns-then-not-is_up g c = record {
       let d = g.F.Flash.device c.args.flash.now in
       let handlers = registered (λ b. (goal.Handler-dyn g (b.vtable, b.value)).state b.value) c.args.registry.now in
       spends_nothing d (due_units (geometry_of d area) (on g.K.Backend.contents d area) (puts_of (exported (option_map (λ name. name.now) c.args.subtree) handlers)));
+  off = λ off. refl;
   sound = λ up. absurd (true≢false (sym up ∙ sym c.is_up.ensures ∙ c.if-not-is_up.true));
   stands = c.requires.stands;
   owes = λ lost. absurd (true≢false (sym lost));
@@ -44,6 +45,7 @@ returns g c = record {
     c.save_all-end.ensures.carries.counts,
   );
   at_most = c.save_all-end.ensures.carries.at_most;
+  off = c.save_all-end.ensures.carries.off;
   sound = λ up. c.save_all-end.ensures.carries.sound;
   stands = stands_up (StandsOn g.K.Backend.mounted_on g.K.Backend.stands (g.F.Flash.device c.save_all-end.new.flash) c.save_all-end.new.backend)
       (save_lost {T = Unit {0}} c.save_all-end.result) (g.K.Backend.runs c.save_all-end.new.backend) c.save_all-end.ensures.carries.goes_on c.save_all-end.ensures.carries.down;

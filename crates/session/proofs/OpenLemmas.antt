@@ -208,7 +208,7 @@ module _ {K : Type 0} (mounted_on : K → Area) (stands : K → Geometry → Lis
     stops_by (Ok session) m = tt
     stops_by (Err PowerLost) m = tt
     stops_by (Err (MapDamaged place damaged)) m = (refl, sym (damage_powered damage areas old) ∙ m.ends.0, begins_on old e m.ends.1)
-    stops_by (Err NoMemory) m = (refl, λ needs. absurd (false≢true needs), sym (selector_powered areas old) ∙ m.ends.0, begins_on old e m.ends.1)
+    stops_by (Err NoMemory) m = (refl, λ needs. absurd (false≢true needs), (sym (selector_powered areas old) ∙ m.ends.0, begins_on old e m.ends.1))
 
     pub rests_by : (x : Result (Session K) MapFault) → MapMounted (turned_on old) e x → IsAtRest rests areas old → IfOk (answered (after - before) x) (λ (opened : Session K × Answer). DoesNothing opened.1 old e)
     rests_by (Ok session) m rest = (ap (λ (n : ℕ). Done n) (no_units before after old.spent from (to ∙ ap (λ (d : Device). d.spent) (m.idle (rest_on old rest)))), m.idle (rest_on old rest))

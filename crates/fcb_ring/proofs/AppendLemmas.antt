@@ -1,27 +1,35 @@
 -- An append that opens the next sector first: what the first call left, and then the second.
-use Rattle.std.proofs.Common.{◌≡◌, ℕ, ◌+◌, ◌-◌, ◌/◌, ◌<◌, ◌≤◌, ◌≢◌, ltb, leb, Bool, true, false, cond, eqb, List, [], ◌∷◌, ◌++◌, inl, inr, sym, ap, subst, ◌∙◌, arith, Result, Ok, Err, is_err}
+use Rattle.std.proofs.Common.{◌≡◌, ℕ, ◌+◌, ◌-◌, ◌/◌, ◌<◌, ◌≤◌, ◌≢◌, ltb, leb, Bool, true, false, cond, eqb, List, [], ◌∷◌, ◌++◌, inl, inr, length, set, refl, sym, ap, subst, ◌∙◌, arith, Result, Ok, Err, is_err}
 use Rattle.std.specs.Result.{IsErr}
 use Rattle.std.proofs.lemmas.Bool.{ne_eqb, eq-eqb, both_ways, and_parts, ltb-true, leb-true}
-use Rattle.flash_sim.specs.Bank.{bank_at}
-use Rattle.flash_sim.specs.Device.{Device}
+use Rattle.std.proofs.lemmas.List.{set-set, get_or-set_same}
+use Rattle.flash_sim.specs.Bank.{IsLawful, bank_at}
+use Rattle.flash_sim.specs.Device.{Device, overwritten}
 use Rattle.flash_sim.specs.declared.flash.Bank.{Bank}
+use Rattle.flash_sim.specs.declared.flash.TheConstants.{PROGRAM_LIMIT}
 use Rattle.flash_map.specs.declared.area.Area.{Area}
-use Rattle.flash_map.specs.Area.{unit_of, sector_size, sectors_of, OthersStay}
+use Rattle.flash_map.specs.Area.{unit_of, sector_size, sectors_of, sector_at, sector_bytes, Writes, OthersStay}
 use Rattle.flash_map.specs.Spending.{Spends, SpendsAtMost}
 use Rattle.flash_map.specs.Units.{padded}
+use Rattle.flash_map.proofs.Ranges.{put_twice}
+use Rattle.flash_map.proofs.Rounding.{padding}
 use Rattle.flash_map.proofs.SpendingLemmas.{spends_then, spends_then_most, most_weaker}
 use Rattle.fcb_ring.specs.declared.record.RecordAt.{RecordAt}
 use Rattle.fcb_ring.specs.declared.ring.Ring.{Ring}
 use Rattle.fcb_ring.specs.declared.ring.Stage.{Stage}
 use Rattle.fcb_ring.specs.declared.ring.Stage.TheVariants.{Ready}
-use Rattle.fcb_ring.specs.Changing.{newest_place, next_place, PutsRecord, AddsRecord, CutList, IsRecordLoss, CutAppend, append_units, GoesOn, has_room, is_scratch_left}
+use Rattle.fcb_ring.specs.Changing.{header_on, next_id, newest_place, next_place, WritesHeader, WritesRecord, PutsRecord, AddsRecord, CutList, IsRecordLoss, CutAppend, append_units, GoesOn, has_room, is_scratch_left}
 use Rattle.fcb_ring.specs.declared.record.Record.{Record}
+use Rattle.fcb_ring.specs.Ends.{Advances}
 use Rattle.fcb_ring.specs.Entries.{states, HasEntries}
 use Rattle.fcb_ring.specs.Gains.{records_in, GainsRecord, CutRecords, CutInRecord}
 use Rattle.fcb_ring.specs.Rings.{turned, IsRing}
 use Rattle.fcb_ring.specs.Standing.{StandsOn, FitsStage, states_on, entries_on, KeepsEntries}
-use Rattle.fcb_ring.specs.Writing.{record_cost, spelled}
-use Rattle.fcb_ring.proofs.AreaLemmas.{count-sectors, length-states}
+use Rattle.fcb_ring.specs.Writing.{header_image, record_image, record_cost, spelled}
+use Rattle.fcb_ring.proofs.AreaLemmas.{has_size, count-sectors, length-states}
+use Rattle.fcb_ring.proofs.HeaderLemmas.{length-header}
+use Rattle.fcb_ring.proofs.ImageLemmas.{image-long}
+use Rattle.fcb_ring.proofs.OpeningLemmas.{place-within}
 use Rattle.fcb_ring.proofs.OthersLemmas.{others_then}
 
 pub is_err_by : {T E : Type 0} (r : Result T E) (P : Bool → Type 0) → IsErr r → P true → P (is_err r)
@@ -113,6 +121,40 @@ others-after a b c before ring same oldest more first second =
     let there : OthersStay b c before.area (next_place before) =
     subst (λ (p : ℕ). OthersStay b c before.area p) (opened-place before ring same oldest more) (subst (λ (x : Area). OthersStay b c x (newest_place ring)) same second) in
     others_then a b c before.area (next_place before) first there
+
+-- the header and the record, as one
+pub writes-after : (a b c : Device) (before ring : Ring) (body : List ℕ) → IsLawful a.banks a.bytes → StandsOn a before → before.stage ≡ Ready → b.banks ≡ a.banks → Advances before ring (header_on a before.area) Ready
+    → record_cost (unit_of a before.area) (length body) ≤ PROGRAM_LIMIT → padded (unit_of a before.area) 8 + record_cost (unit_of a before.area) (length body) ≤ sector_size a before.area → WritesHeader a b before
+    → Writes b c ring.area (newest_place ring) ring.end (record_image (unit_of b ring.area) body) → WritesRecord false a c before body
+writes-after a b c before ring body lawful on ready banks goes short fits first second =
+    let area : Area = before.area in
+    let unit : ℕ = unit_of a before.area in
+    let all : List (List ℕ) = sectors_of a before.area in
+    let at : ℕ = next_place before in
+    let head : List ℕ = header_image unit (next_id before) in
+    let image : List ℕ = record_image unit body in
+    let s : List ℕ = sector_bytes a before.area at in
+    let has = has_size a before.area lawful on.area in
+    let pad = padding unit has.is_unit in
+    let few : length body ≤ 16383 = omega (arith, short, pad.no_less (length body)) in
+    let head-long : length head ≡ padded unit 8 = length-header unit (next_id before) has.is_unit in
+    let record-long : length image ≡ record_cost unit (length body) = image-long unit has.is_unit body few in
+    let inside = place-within a before lawful on ready (next_id before) refl at refl head refl in
+    let here : at < length all = omega (arith, inside, count-sectors a before.area) in
+    let sector-long : length s ≡ sector_size a before.area = has.each at here in
+    let end : padded unit 8 ≡ 0 + length head = omega (arith, head-long) in
+    let one : List ℕ = overwritten s 0 head in
+    let there : Writes b c area at (padded unit 8) image =
+    subst (λ (x : Area). Writes b c x at (padded unit 8) image) goes.area
+    (subst (λ (p : ℕ). Writes b c ring.area p (padded unit 8) image) (opened-place before ring goes.area goes.oldest goes.used)
+    (subst (λ (n : ℕ). Writes b c ring.area (newest_place ring) n image) goes.end
+    (subst (λ (u : ℕ). Writes b c ring.area (newest_place ring) ring.end (record_image u body)) (unit-after a b area ring.area banks goes.area) second))) in
+    there
+    ∙ ap (λ (l : List (List ℕ)). set l at (overwritten (sector_at l at) (padded unit 8) image)) first
+    ∙ ap (λ (l : List ℕ). set (set all at one) at (overwritten l (padded unit 8) image)) (get_or-set_same all at one [] here)
+    ∙ set-set all at one (overwritten one (padded unit 8) image)
+    ∙ ap (λ (n : ℕ). set all at (overwritten one n image)) end
+    ∙ ap (λ (l : List ℕ). set all at l) (put_twice s 0 head image (omega (arith, head-long, record-long, sector-long, fits)))
 
 -- what both calls spend
 pub spends-both : (a b c : Device) (area other : Area) (len : ℕ) → b.banks ≡ a.banks → other ≡ area → Spends a b (padded (unit_of a area) 8 / unit_of a area) → Spends b c (record_cost (unit_of b other) len / unit_of b other)

@@ -280,6 +280,15 @@ abbrev pub WritesHeader : Device → Device → Ring → Type 0
 WritesHeader old new ring =
     Writes old new ring.area (next_place ring) 0 (header_image (unit_of old ring.area) (next_id ring))
 
+-- What an append writes: the record, behind those of the newest sector; or else into the next
+-- sector, behind its whole header, padding too. All other bytes of the area stay.
+abbrev pub WritesRecord : Bool → Device → Device → Ring → List ℕ → Type 0
+WritesRecord true old new ring body =
+    Writes old new ring.area (newest_place ring) ring.end (image_on old ring.area body)
+WritesRecord false old new ring body =
+    Writes old new ring.area (next_place ring) 0
+    (header_image (unit_of old ring.area) (next_id ring) ++ image_on old ring.area body)
+
 -- how a rotation ends
 abbrev pub RotateEnds : {T : Type 0} → Device → Device → Ring → Ring → Result T AppendFault → Type 0
 RotateEnds old new before after (Ok x) =

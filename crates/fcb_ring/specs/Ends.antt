@@ -6,7 +6,7 @@ use Rattle.flash_map.specs.Spending.{Spends, SpendsAtMost}
 use Rattle.fcb_ring.specs.declared.ring.Ring.{Ring}
 use Rattle.fcb_ring.specs.declared.ring.Stage.{Stage}
 use Rattle.fcb_ring.specs.declared.ring.Stage.TheVariants.{Ready}
-use Rattle.fcb_ring.specs.Changing.{header_on, header_units, cost_on, record_units, opening_units, image_on, next_id, newest_place, next_place, sector_list, GoesOn, PutsRecord, AddsRecord, EndsWithRecord, IsReady, IsDown, LosesRecord, LosesHeader, CutAppend, IsEraseLoss, StopsErasing, EndsCollection, WritesHeader}
+use Rattle.fcb_ring.specs.Changing.{header_on, header_units, cost_on, record_units, opening_units, image_on, next_id, newest_place, next_place, sector_list, GoesOn, PutsRecord, AddsRecord, EndsWithRecord, IsReady, IsDown, LosesRecord, LosesHeader, CutAppend, IsEraseLoss, StopsErasing, EndsCollection, WritesHeader, WritesRecord}
 use Rattle.fcb_ring.specs.Gains.{records_in, GainsRecord, CutInRecord, CutRing}
 use Rattle.fcb_ring.specs.Rings.{is_full, IsRing}
 use Rattle.fcb_ring.specs.Standing.{StandsOn, states_on, KeepsEntries, is_up, erases_on, mounted_on}
@@ -86,6 +86,7 @@ pub record PutsInNext (old new : Device) (before after : Ring) (body : List ℕ)
   pub reserve : after.reserve ≡ before.reserve
   pub goes_on : GoesOn before after false
   pub end : after.end ≡ header_on old before.area + cost_on old before.area (length body)
+  pub written : WritesRecord false old new before body
   pub adds : AddsRecord old new before.area (next_place before) body
   pub ends_with : EndsWithRecord new after (next_place before) body
   pub gains : GainsRecord old new before.area (next_place before) body true

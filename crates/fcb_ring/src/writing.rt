@@ -4,7 +4,7 @@ ghost use Rattle.flash_sim.specs.declared.flash.TheConstants.{PROGRAM_LIMIT};
 ghost use Rattle.flash_map.specs.Area.{sector_size, OthersStay};
 ghost use Rattle.flash_map.specs.Touches.{Touches};
 ghost use Rattle.flash_map.specs.Units.{IsUnit, padded};
-ghost use Rattle.fcb_ring.specs.Changing.{cost_on, header_on, kept_room, is_too_long, has_room, is_scratch_left, newest_place, next_place, FitsOpened, end_for, EndsWithRecord, next_id, append_lost, stays_for, place_for, AppendEnds, RotateEnds};
+ghost use Rattle.fcb_ring.specs.Changing.{cost_on, header_on, kept_room, is_too_long, has_room, is_scratch_left, newest_place, next_place, FitsOpened, end_for, EndsWithRecord, next_id, append_lost, stays_for, place_for, AppendEnds, RotateEnds, WritesRecord};
 ghost use Rattle.fcb_ring.specs.Ends.{Opened, StopsOpening, PutsInNewest, StopsInNewest, PutsInNext, StopsInNext};
 ghost use Rattle.fcb_ring.specs.Gains.{GainsRecord, CutRing};
 ghost use Rattle.fcb_ring.specs.Standing.{StandsOn, KeepsEntries, is_finished};
@@ -212,7 +212,7 @@ impl Ring {
 
     /// Adds a record with this body at the end of the list. It goes into the newest sector, if it
     /// fits there and leaves `reserve` bytes (none if it goes `into_reserve`). Otherwise the next
-    /// sector is opened for it.
+    /// sector is opened for it, and its header is written whole, padding too.
     ///
     /// # Errors
     /// `TooLong` if the body is empty or no sector could hold the record; `Full` if it does not fit
@@ -242,6 +242,9 @@ impl Ring {
             (EndsWithRecord (F.device flash.new) self.new
             (place_for (F.device flash.old) self.old body.now (kept_room self.old into_reserve))
             body.now) }
+        ensures bytes { let d = F.device flash.old in
+            let stays = stays_for d self.old body.now (kept_room self.old into_reserve) in
+            OnOk result (WritesRecord stays d (F.device flash.new) self.old body.now) }
         ensures end { OnOk result
             (self.new.end
             ≡ end_for (F.device flash.old) self.old body.now (kept_room self.old into_reserve)) }

@@ -9,7 +9,7 @@ use Rattle.flash_map.specs.Units.{IsUnit, padded}
 use Rattle.flash_map.proofs.Touches.{untouched}
 use Rattle.flash_map.proofs.Rounding.{padding}
 use Rattle.fcb_ring.specs.declared.ring.Ring.{Ring}
-use Rattle.fcb_ring.specs.Changing.{kept_room, is_too_long, has_room, is_scratch_left, newest_place, next_place, EndsWithRecord, AddsRecord, CutAppend, GoesOn, IsReady, place_for}
+use Rattle.fcb_ring.specs.Changing.{kept_room, is_too_long, has_room, is_scratch_left, newest_place, next_place, EndsWithRecord, AddsRecord, CutAppend, GoesOn, IsReady, place_for, WritesRecord}
 use Rattle.fcb_ring.specs.Gains.{CutRing, GainsRecord}
 use Rattle.fcb_ring.specs.Standing.{is_finished}
 use Rattle.fcb_ring.specs.Writing.{record_cost}
@@ -146,6 +146,9 @@ returns-then-is_too_long-clause-others g c = others_same (g.F.Flash.device c.arg
 pub returns-then-is_too_long-clause-written : goal.returns-then-is_too_long-clause-written
 returns-then-is_too_long-clause-written g c = tt
 
+pub returns-then-is_too_long-clause-bytes : goal.returns-then-is_too_long-clause-bytes
+returns-then-is_too_long-clause-bytes g c = tt
+
 pub returns-then-is_too_long-clause-end : goal.returns-then-is_too_long-clause-end
 returns-then-is_too_long-clause-end g c = tt
 
@@ -169,6 +172,9 @@ returns-then-is_scratch_left-clause-others g c = others_same (g.F.Flash.device c
 
 pub returns-then-is_scratch_left-clause-written : goal.returns-then-is_scratch_left-clause-written
 returns-then-is_scratch_left-clause-written g c = tt
+
+pub returns-then-is_scratch_left-clause-bytes : goal.returns-then-is_scratch_left-clause-bytes
+returns-then-is_scratch_left-clause-bytes g c = tt
 
 pub returns-then-is_scratch_left-clause-end : goal.returns-then-is_scratch_left-clause-end
 returns-then-is_scratch_left-clause-end g c = tt
@@ -229,6 +235,9 @@ returns-in-Err-clause-reserve g c = c.in-Err.ensures.stopped.ring.reserve
 pub returns-in-Err-clause-written : goal.returns-in-Err-clause-written
 returns-in-Err-clause-written g c = tt
 
+pub returns-in-Err-clause-bytes : goal.returns-in-Err-clause-bytes
+returns-in-Err-clause-bytes g c = tt
+
 pub returns-in-Err-clause-end : goal.returns-in-Err-clause-end
 returns-in-Err-clause-end g c = tt
 
@@ -259,11 +268,26 @@ returns-in-Err-put_in_next-clause-reserve g c = c.in-Err-put_in_next.ensures.sto
 pub returns-in-Err-put_in_next-clause-written : goal.returns-in-Err-put_in_next-clause-written
 returns-in-Err-put_in_next-clause-written g c = tt
 
+pub returns-in-Err-put_in_next-clause-bytes : goal.returns-in-Err-put_in_next-clause-bytes
+returns-in-Err-put_in_next-clause-bytes g c = tt
+
 pub returns-in-Err-put_in_next-clause-end : goal.returns-in-Err-put_in_next-clause-end
 returns-in-Err-put_in_next-clause-end g c = tt
 
 pub returns-in-Err-put_in_next-clause-gains : goal.returns-in-Err-put_in_next-clause-gains
 returns-in-Err-put_in_next-clause-gains g c = tt
+
+pub returns-in-Ok-clause-bytes : goal.returns-in-Ok-clause-bytes
+returns-in-Ok-clause-bytes g c =
+    let d : Device = g.F.Flash.device c.args.flash.now in
+    let ring : Ring = c.args.self.now in
+    let unit : ℕ = unit_of d ring.area in
+    let size : ℕ = sector_size d ring.area in
+    let len : ℕ = length c.args.body.now in
+    let kept : ℕ = kept_room ring c.args.into_reserve in
+    let room : has_room unit size ring kept len ≡ true =
+    sym (c.has_room.ensures ∙ ap (λ (x : Geometry). has_room x.unit x.sector ring c.kept_room-kept.result len) c.geometry-geometry.ensures ∙ ap (λ (k : ℕ). has_room unit size ring k len) c.kept_room-kept.ensures) ∙ c.if-has_room.true in
+    subst (λ (b : Bool). WritesRecord b d (g.F.Flash.device c.put_record.new.flash) ring c.args.body.now) (sym room) c.in-Ok.ensures.put.written
 
 pub returns-in-Ok-clause-gains : goal.returns-in-Ok-clause-gains
 returns-in-Ok-clause-gains g c =
@@ -276,6 +300,18 @@ returns-in-Ok-clause-gains g c =
     let room : has_room unit size ring kept len ≡ true =
     sym (c.has_room.ensures ∙ ap (λ (x : Geometry). has_room x.unit x.sector ring c.kept_room-kept.result len) c.geometry-geometry.ensures ∙ ap (λ (k : ℕ). has_room unit size ring k len) c.kept_room-kept.ensures) ∙ c.if-has_room.true in
     subst (λ (p : ℕ). GainsRecord d (g.F.Flash.device c.put_record.new.flash) ring.area p c.args.body.now true) (place-here (has_room unit size ring kept len) (newest_place ring) (next_place ring) room) c.in-Ok.ensures.put.gains
+
+pub returns-in-Ok-put_in_next-clause-bytes : goal.returns-in-Ok-put_in_next-clause-bytes
+returns-in-Ok-put_in_next-clause-bytes g c =
+    let d : Device = g.F.Flash.device c.args.flash.now in
+    let ring : Ring = c.args.self.now in
+    let unit : ℕ = unit_of d ring.area in
+    let size : ℕ = sector_size d ring.area in
+    let len : ℕ = length c.args.body.now in
+    let kept : ℕ = kept_room ring c.args.into_reserve in
+    let room : has_room unit size ring kept len ≡ false =
+    sym (c.has_room.ensures ∙ ap (λ (x : Geometry). has_room x.unit x.sector ring c.kept_room-kept.result len) c.geometry-geometry.ensures ∙ ap (λ (k : ℕ). has_room unit size ring k len) c.kept_room-kept.ensures) ∙ c.if-has_room.false in
+    subst (λ (b : Bool). WritesRecord b d (g.F.Flash.device c.put_in_next.new.flash) ring c.args.body.now) (sym room) c.in-Ok-put_in_next.ensures.put.written
 
 pub returns-in-Ok-put_in_next-clause-gains : goal.returns-in-Ok-put_in_next-clause-gains
 returns-in-Ok-put_in_next-clause-gains g c =

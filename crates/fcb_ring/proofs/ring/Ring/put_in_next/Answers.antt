@@ -10,7 +10,7 @@ use Rattle.fcb_ring.specs.declared.ring.Ring.{Ring}
 use Rattle.fcb_ring.specs.Changing.{EndsWithRecord}
 use Rattle.fcb_ring.specs.Standing.{is_finished}
 use Rattle.fcb_ring.specs.Writing.{record_cost}
-use Rattle.fcb_ring.proofs.AppendLemmas.{is_err_by, unit-after, size-after, adds-after, cut-after, gains-after, torn-after, others-after, opened-place, spends-both, most-first, most-both}
+use Rattle.fcb_ring.proofs.AppendLemmas.{is_err_by, unit-after, size-after, adds-after, cut-after, gains-after, torn-after, others-after, opened-place, writes-after, spends-both, most-first, most-both}
 use Rattle.fcb_ring.proofs.ring.Ring.put_in_next.Goals as goal
 
 pub put_record-requires-clause-writes : goal.put_record-requires-clause-writes
@@ -105,6 +105,7 @@ returns-clause-put g c =
       reserve = c.in_ok-put_record.ensures.put.ring.reserve ∙ c.in_ok-open_next.ensures.opened.ring.reserve;
       goes_on = record { oldest = c.in_ok-put_record.ensures.put.ring.oldest ∙ ok.opened.ring.oldest; used = c.in_ok-put_record.ensures.put.ring.used ∙ ok.opened.ring.used; id = c.in_ok-put_record.ensures.put.ring.id ∙ ok.opened.ring.id };
       end = c.in_ok-put_record.ensures.put.ring.end ∙ ap (λ (u : ℕ). c.open_next.new.self.end + record_cost u len) unit ∙ ap (λ (n : ℕ). n + record_cost (unit_of a c.args.self.now.area) len) ok.opened.ring.end;
+      written = writes-after a b d c.args.self.now r c.args.body.now (g.met.F.Flash.is_lawful c.args.flash.now) c.requires.stands c.requires.ready ok.touches.banks ok.opened.ring c.requires.short c.requires.fits ok.opened.written c.in_ok-put_record.ensures.put.written;
       adds = adds-after a b d c.args.self.now r c.args.body.now same c.in_ok-open_next.ensures.opened.ring.oldest c.in_ok-open_next.ensures.opened.ring.used c.in_ok-open_next.ensures.list (omega (arith, c.requires.free, c.in_ok-open_next.ensures.opened.ring.used, count)) c.in_ok-put_record.ensures.put.puts;
       ends_with = subst (λ (p : ℕ). EndsWithRecord d c.put_record.new.self p c.args.body.now) (opened-place c.args.self.now c.open_next.new.self ok.opened.ring.area ok.opened.ring.oldest ok.opened.ring.used) c.in_ok-put_record.ensures.put.ends_with;
       gains = gains-after a b d c.args.self.now c.open_next.new.self c.args.body.now ok.opened.ring.area ok.opened.ring.oldest ok.opened.ring.used ok.opened.empty c.in_ok-put_record.ensures.put.gains;

@@ -115,7 +115,7 @@ impl<F: Flash> Subsystem<F> {
 
         ensures ends { Registers (registered state self.old.registry)
             (registered state self.new.registry) subtree (state handler) result }
-        ensures box { OnOk result (self.new.registry.rows.items
+        ensures added { OnOk result (self.new.registry.rows.items
             ≡ self.old.registry.rows.items ++ record { subtree = subtree; handler = handler } ∷ []) }
         ensures same { IfErr result
             (λ fault. self.new.registry.rows.items ≡ self.old.registry.rows.items) }

@@ -166,9 +166,9 @@ impl Ring {
         }
     }
 
-    /// The last record that checks whose body begins with `prefix` and has at most `most` bytes, if
-    /// there is one. It reads the newest sector first, and none before the one that has it: one step
-    /// for each sector.
+    /// The last record that checks whose body begins with `prefix` and has at most `most` bytes,
+    /// if there is one. It reads the newest sector first, and none before the one that has it: one
+    /// step for each sector.
     pub fn last_with<F: Flash, L: Ledger>(
         &self,
         flash: &F,

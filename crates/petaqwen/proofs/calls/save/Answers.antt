@@ -13,5 +13,6 @@ returns-clause-ends g c = (
     down = c.save.ensures.down;
     up = c.save.ensures.up;
   },
-  (c.save.ensures.ends.2, c.save.ensures.off),
+  c.save.ensures.ends.2,
+  c.save.ensures.off,
 )

@@ -1,5 +1,5 @@
--- Where the settings of an NVS area are among its items: the count of names, the names above it,
--- and each value above its name.
+-- Where the settings of an NVS area are among its items: the count of names at 0x8000, the names above
+-- it, and each value 0x4000 above its name. An area has at most 511 names.
 use Rattle.std.specs.Prelude.{◌≡◌, ℕ, ◌+◌, ◌*◌, ◌/◌, ◌%◌, ◌^◌, ◌<◌, ◌≤◌, ◌∷◌, [], min, Bool, false, true, not, ◌&&◌, List, length, slice_index, Option, Some, None, ◌==◌, nat_le, if◌then◌else◌}
 use Rattle.std.proofs.Common.{cond, refl, ap, arith}
 use Rattle.std.proofs.lemmas.Bool.{false≢true}
@@ -15,11 +15,10 @@ use Rattle.named_items.specs.Numbering.{Numbering, IsNumbering}
 use Rattle.named_items.specs.PairRoom.{IsCountCost}
 use Rattle.named_items.specs.Pairs.{settings_in}
 use Rattle.named_items.specs.Putting.{room_in}
-use Rattle.backend_nvs.specs.declared.lookup.TheConstants.{COUNT, FIRST, STEP, LIMIT}
 
 -- an item of another length than two bytes counts as 0
 abbrev pub number_of : List ℕ → ℕ
-number_of bytes = if length bytes == 2 then min LIMIT (slice_index bytes 0 + 256 * slice_index bytes 1) else 0
+number_of bytes = if length bytes == 2 then min 511 (slice_index bytes 0 + 256 * slice_index bytes 1) else 0
 
 abbrev pub count_of : Option (List ℕ) → ℕ
 count_of None = 0
@@ -35,12 +34,12 @@ count_bytes count = count % 256 ∷ count / 256 ∷ []
 
 abbrev pub nvs_numbering : ℕ → Numbering
 nvs_numbering limit = record {
-  count_id = COUNT;
+  count_id = 0x8000;
   count_of = count_of;
   is_count = is_count;
   count_bytes = count_bytes;
-  first = FIRST;
-  step = STEP;
+  first = 0x8001;
+  step = 0x4000;
   is_candidate = λ id name. true;
   longest = limit;
 }
@@ -61,7 +60,7 @@ nvs_counted price = price 2
 
 -- a new name would be the 512th
 abbrev pub too_many : Map → List ℕ → Bool
-too_many settings name = not (contains_key settings name) && nat_le LIMIT (len settings)
+too_many settings name = not (contains_key settings name) && nat_le 511 (len settings)
 
 abbrev pub nvs_room : (Geometry → ℕ → ℕ) → (Geometry → ℕ) → Geometry → Room
 nvs_room price cap geometry = room_in nvs_counted too_many price cap geometry

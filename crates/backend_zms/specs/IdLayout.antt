@@ -12,16 +12,15 @@ use Rattle.backend_api.specs.Room.{Room}
 use Rattle.named_items.specs.Cost.{item_cost}
 use Rattle.named_items.specs.Numbering.{Numbering, IsNumbering}
 use Rattle.named_items.specs.Putting.{room_in}
-use Rattle.backend_zms.specs.declared.hash.TheConstants.{FIRST, STEP, GROUP_BITS, GROUP_SIZE}
 use Rattle.backend_zms.specs.Hash.{group_of, first_of}
 
 -- how many ids are for names
 unfoldable pub name_ids : ℕ
-name_ids = GROUP_BITS + GROUP_SIZE
+name_ids = 0xFFF0 + 16
 
 -- the id is one of those of the name's group
 abbrev pub is_candidate_of : ℕ → List ℕ → Bool
-is_candidate_of id name = nat_le (first_of name) id && nat_lt id (first_of name + GROUP_SIZE)
+is_candidate_of id name = nat_le (first_of name) id && nat_lt id (first_of name + 16)
 
 -- No item is a count: names may stand at all of these ids.
 abbrev pub zms_numbering : ℕ → Numbering
@@ -30,13 +29,13 @@ zms_numbering limit = record {
   count_of = λ count. name_ids;
   is_count = λ count. false;
   count_bytes = λ count. [];
-  first = FIRST;
-  step = STEP;
+  first = 0x80000000;
+  step = 0x40000000;
   is_candidate = is_candidate_of;
   longest = limit;
 }
 
-name_ids-few : name_ids ≤ STEP
+name_ids-few : name_ids ≤ 0x40000000
 unfolding name_ids
 name_ids-few = lit≤ tt
 
@@ -56,7 +55,7 @@ numbering_of area = zms_numbering (value_limit area)
 abbrev pub top : ℕ
 top = 0xFFFFFFFF
 
-pub zms-within : FIRST + name_ids + STEP ≤ top
+pub zms-within : 0x80000000 + name_ids + 0x40000000 ≤ top
 unfolding name_ids
 zms-within = lit≤ tt
 
@@ -67,18 +66,18 @@ no-count price count counts = absurd (false≢true counts)
 abbrev pub too_many : Map → List ℕ → Bool
 too_many settings name =
     not (contains_key settings name)
-    && nat_le GROUP_SIZE (count_by (λ other. group_of other == group_of name) (keys settings))
+    && nat_le 16 (count_by (λ other. group_of other == group_of name) (keys settings))
 
 pub stored-one : (settings : Map) (name : List ℕ) → contains_key settings name ≡ true
     → too_many settings name ≡ false
 stored-one settings name has =
     ap
     (λ (b : Bool). not b
-    && nat_le GROUP_SIZE (count_by (λ other. group_of other == group_of name) (keys settings))) has
+    && nat_le 16 (count_by (λ other. group_of other == group_of name) (keys settings))) has
 
 -- The room of an area, by the store's price and what a sector has for data. There is no count.
 abbrev pub zms_room : (Geometry → ℕ → ℕ) → (Geometry → ℕ) → Geometry → Room
 zms_room price cap geometry = room_in (λ price. 0) too_many price cap geometry
 
-pub step-small : STEP < 2 ^ 32
+pub step-small : 0x40000000 < 2 ^ 32
 step-small = lit< tt

@@ -1,9 +1,9 @@
 // Appending records.
-ghost use Rattle.std.specs.Prelude.{◌≡◌, ◌≤◌, ◌∷◌, [], true, false, length};
+ghost use Rattle.std.specs.Prelude.{◌≡◌, ◌≤◌, ◌∷◌, [], true, false, length, OnOk};
 ghost use Rattle.flash_map.specs.Touches.{Touches};
-ghost use Rattle.fcb_ring.specs.Changing.{append_lost, is_scratch_left, stays_for};
+ghost use Rattle.fcb_ring.specs.Changing.{append_lost, is_scratch_left, stays_for, WritesRecord};
 ghost use Rattle.fcb_ring.specs.Standing.{erases_on};
-ghost use Rattle.event_ring.specs.Appending.{is_too_long, lost_in, LogAppends};
+ghost use Rattle.event_ring.specs.Appending.{is_too_long, lost_in, drops_for, LogAppends};
 ghost use Rattle.event_ring.specs.Dropping.{PutEnds};
 ghost use Rattle.event_ring.specs.Room.{IsFilled};
 ghost use Rattle.event_ring.specs.Standing.{IsOpen};
@@ -41,6 +41,8 @@ fn put<F: Flash>(ring: &mut Ring, flash: &mut F, body: &[u8]) -> Result<(), Appe
     ensures area { ring.new.area ≡ ring.old.area }
     ensures ends { PutEnds (F.device flash.old) (F.device flash.new) ring.old ring.new body.now
         result }
+    ensures bytes { let d = F.device flash.old in let stays = stays_for d ring.old body.now 0 in
+        OnOk result (WritesRecord stays d (F.device flash.new) ring.old body.now) }
     ensures left { erases_on (F.device flash.new) ring.old.area ≤ 1 }
 {
     ring.append(flash, body, false)
@@ -84,7 +86,8 @@ impl EventLog {
     /// The oldest sector is dropped first, but only if the record does not fit the newest sector
     /// and only the scratch sector is free. If no sector but the newest has room for the longest
     /// record, that is only if the items cost more than all sectors but one have room for, less
-    /// the longest record in each.
+    /// the longest record in each. Without a drop it writes the record, behind the header of the
+    /// sector that it opens, if any, and no other byte.
     ///
     /// # Errors
     /// `TooLong` exactly if the body is empty or longer than a value of the area may be: nothing
@@ -108,6 +111,10 @@ impl EventLog {
         ensures area { self.new.ring.area ≡ self.old.ring.area }
         ensures ends { LogAppends (F.device flash.old) (F.device flash.new) self.old.ring
             self.new.ring body.now result }
+        ensures bytes { let d = F.device flash.old in let ring = self.old.ring in
+            drops_for d ring body.now ≡ false
+            → OnOk result
+            (WritesRecord (stays_for d ring body.now 0) d (F.device flash.new) ring body.now) }
         ensures filled { let area = self.old.ring.area in
             IsFilled (F.device flash.old) area → IsFilled (F.device flash.new) area }
         ensures left { erases_on (F.device flash.new) self.old.ring.area ≤ 1 }

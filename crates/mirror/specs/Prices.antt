@@ -7,9 +7,7 @@ use Rattle.named_items.specs.NvsStore.{nvs_price, nvs_cap}
 use Rattle.named_items.specs.ZmsStore.{zms_price, zms_cap}
 use Rattle.backend_nvs.specs.IdLayout.{nvs_counted}
 use Rattle.backend_zms.specs.Hash.{group_of}
-use Rattle.backend_zms.specs.declared.hash.TheConstants.{GROUP_SIZE}
 use Rattle.mirror.specs.Room.{Prices}
-use Rattle.mirror.specs.declared.store.TheConstants.{NVS_NAMES}
 
 -- NVS: all names have one class, so `most` bounds the names of an area
 abbrev pub of_nvs : Geometry → Prices
@@ -18,7 +16,7 @@ of_nvs geometry = record {
   counted = nvs_counted (nvs_price geometry);
   cap = nvs_cap geometry;
   class = λ name. 0;
-  most = NVS_NAMES;
+  most = 511;
 }
 
 -- ZMS: the class of a name is the group of its hash, and there is no count
@@ -28,7 +26,7 @@ of_zms geometry = record {
   counted = 0;
   cap = zms_cap geometry;
   class = group_of;
-  most = GROUP_SIZE;
+  most = 16;
 }
 
 abbrev pub none : Prices

@@ -7,7 +7,7 @@ ghost use Rattle.flash_map.specs.Spending.{SpendsAtMost};
 ghost use Rattle.flash_map.specs.Touches.{Touches};
 ghost use Rattle.backend_api.specs.Ends.{set_lost};
 ghost use Rattle.backend_api.specs.Listing.{pairs_in};
-ghost use Rattle.backend_api.specs.Map.{IsStored};
+ghost use Rattle.backend_api.specs.Map.{IsStored, next_name};
 ghost use Rattle.setting_name.specs.Name.{IsName};
 ghost use Rattle.backend_api.specs.Room.{command_units};
 ghost use Rattle.backend_api.specs.Written.{StaysWritten};
@@ -186,6 +186,23 @@ impl<K: Priced> Mirror<K> {
             option_map (λ bytes. bytes.now) result ≡ finite.get settings name.now }
     {
         self.trusted.store.get(flash, name, steps)
+    }
+
+    /// The name after the given one in byte order, or the first of all if none is given, read from
+    /// the trusted area; `None` at the end.
+    pub fn next_name<F: Flash, L: Ledger>(
+        &self,
+        flash: &F,
+        after: Option<&Name>,
+        steps: &mut Steps<L>,
+    ) -> Option<Name>
+        requires mirrors { let d = F.device flash.now in
+            IsMirror K.mounted_on K.stands K.contents K.room K.prices d self.now.trusted
+            self.now.other }
+        ensures { let settings = on K.contents (F.device flash.now) self.now.trusted.area in
+            result ≡ next_name settings (option_map (λ name. name.now) after.entry) }
+    {
+        self.trusted.store.next_name(flash, after, steps)
     }
 
     /// All settings, in the byte order of their names, read from the trusted area. This takes

@@ -1,7 +1,7 @@
 use Rattle.std.proofs.Common.{ℕ, true, false, subst}
 use Rattle.std.specs.Prelude.{OnOk}
 use Rattle.flash_map.specs.Area.{OthersStay}
-use Rattle.fcb_ring.specs.Changing.{AppendEnds, kept_room, stays_for, place_for}
+use Rattle.fcb_ring.specs.Changing.{AppendEnds, WritesRecord, kept_room, stays_for, place_for}
 use Rattle.fcb_ring.specs.Gains.{GainsRecord, CutRing}
 use Rattle.event_ring.proofs.EndLemmas.{one-program, put-ends}
 use Rattle.event_ring.proofs.DueSteps.{put-left}
@@ -29,3 +29,9 @@ returns-clause-left g c =
     let d = g.F.Flash.device c.args.flash.now in
     let ring = c.args.ring.now in
     put-left d (g.F.Flash.device c.append.new.flash) ring (place_for d ring c.args.body.now (kept_room ring false)) c.requires.mounted c.append.ensures.touches.banks c.append.ensures.others
+
+pub returns-clause-bytes : goal.returns-clause-bytes
+returns-clause-bytes g c =
+    let d = g.F.Flash.device c.args.flash.now in
+    let ring = c.args.ring.now in
+    subst (λ (k : ℕ). OnOk c.append.result (WritesRecord (stays_for d ring c.args.body.now k) d (g.F.Flash.device c.append.new.flash) ring c.args.body.now)) c.requires.mounted.reserve c.append.ensures.bytes

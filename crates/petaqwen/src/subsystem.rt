@@ -115,8 +115,10 @@ impl<F: Flash> Subsystem<F> {
 
         ensures ends { Registers (registered state self.old.registry)
             (registered state self.new.registry) subtree (state handler) result }
-        ensures added { OnOk result (self.new.registry.rows.items
-            ≡ self.old.registry.rows.items ++ record { subtree = subtree; handler = handler } ∷ []) }
+        ensures added { let rows = self.old.registry.rows.items in
+            OnOk result
+            (self.new.registry.rows.items
+            ≡ rows ++ record { subtree = subtree; handler = handler } ∷ []) }
         ensures same { IfErr result
             (λ fault. self.new.registry.rows.items ≡ self.old.registry.rows.items) }
         ensures board { self.new.board ≡ self.old.board }

@@ -1,11 +1,77 @@
-"""What the scripts have in common in how they are called: one line and status 2 for a wrong call, PROGRAM, and output files."""
+"""What the scripts have in common in how they are called: how they end, the words of a call, PROGRAM, and output files."""
 import argparse
 import os
+import signal
 import sys
 import tempfile
 
 from .programs import ProgramFailed, look_at_program
 
+
+# ---- how a script ends
+
+def interrupted(*_):
+    """Ends the script by a signal. A second signal changes nothing, so that no file is left behind."""
+    for number in (signal.SIGINT, signal.SIGTERM):
+        signal.signal(number, signal.SIG_IGN)
+    raise KeyboardInterrupt
+
+
+def catch_signals():
+    for number in (signal.SIGINT, signal.SIGTERM):
+        if signal.getsignal(number) != signal.SIG_IGN:
+            signal.signal(number, interrupted)
+
+
+def place_of(fault):
+    """Where a fault of a script itself was raised: the file and the line."""
+    last = fault.__traceback__
+    while last.tb_next:
+        last = last.tb_next
+    return f"{os.path.basename(last.tb_frame.f_code.co_filename)}, line {last.tb_lineno}"
+
+
+def status_of(main):
+    """The status that a script returns or exits with, once all that it printed is written."""
+    catch_signals()
+    if sys.stdout is None:
+        raise OSError("standard output is closed")
+    try:
+        status = main()
+    except SystemExit as ended:
+        status = ended.code
+    sys.stdout.flush()
+    return status
+
+
+def say_why(why):
+    """One line on standard error. Nothing more is written to standard output, which may be a full disk."""
+    if sys.stdout is not None:
+        os.dup2(os.open(os.devnull, os.O_WRONLY), sys.stdout.fileno())
+    if sys.stderr is not None:
+        print(f"{os.path.basename(sys.argv[0])}: {why}".replace("\n", " "), file=sys.stderr)
+    return 2
+
+
+def run_tool(main):
+    """Runs a script and ends with its status. What it cannot go on with is one line and status 2; a closed pipe is no line."""
+    try:
+        status = status_of(main)
+    except KeyboardInterrupt:
+        status = say_why("interrupted")
+    except BrokenPipeError:
+        os.dup2(os.open(os.devnull, os.O_WRONLY), sys.stdout.fileno())
+        status = 2
+    except OSError as error:
+        status = say_why(f"'{error.filename}': {error.strerror}" if error.filename else error.strerror or error)
+    except MemoryError:
+        status = say_why("there is not enough memory")
+    except Exception as fault:
+        status = say_why(f"a fault of this script, {type(fault).__name__} in {place_of(fault)}: {fault}")
+    sys.exit(status)
+
+
+# ---- words
 
 class Parser(argparse.ArgumentParser):
     """Reads the words of a call. A wrong call gets one line and status 2; --help begins with the text of the script."""
@@ -58,6 +124,8 @@ def program_in(parser, path):
     return os.path.abspath(path)
 
 
+# ---- files
+
 def look_at_outputs(parser, outputs, inputs):
     """Refuses an output that is an input, is named twice, or cannot be made, before anything is done."""
     named = [path for path in outputs if path is not None]
@@ -96,8 +164,20 @@ def write_text(parser, path, text):
     try:
         with os.fdopen(handle, "w", encoding="utf-8") as file:
             file.write(text)
-        os.chmod(part, 0o644)
+        os.chmod(part, mode_of(path))
         os.replace(part, os.path.realpath(path))
     except OSError as error:
         os.unlink(part)
         parser.refuse(f"{path}: {error.strerror}")
+    except BaseException:
+        os.unlink(part)
+        raise
+
+
+def mode_of(path):
+    """The mode of the file that is there, or that of a new file."""
+    if os.path.exists(path):
+        return os.stat(path).st_mode & 0o777
+    mask = os.umask(0)
+    os.umask(mask)
+    return 0o666 & ~mask

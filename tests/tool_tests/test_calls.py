@@ -18,7 +18,7 @@ class Calls(ToolTest):
             ["every_cut", self.program, NVS, "s.txt", "--command", "log"], ["every_cut", self.program, NVS, "text.img"],
             ["picture"], ["picture", "none.img"], ["picture", "text.img"], ["picture", "."], ["picture", "text.img", "--svg", "text.img"],
             ["size"], ["size", "none.txt"], ["size", "text.img"], ["size", "s.txt", "--unit", "5"], ["size", "s.txt", "--sector", "100"],
-            ["size", "s.txt", "--sectors", "65"], ["size", "s.txt", "--prove", "none"],
+            ["size", "s.txt", "--sectors", "65"], ["size", "none", "s.txt", "--prove"], ["size", self.program, "s.txt"], ["size", "s.txt", "--proved"],
             ["wear", self.program], ["wear", self.program, NVS, "none.txt"], ["wear", self.program, "bank=1", "s.txt"], ["wear", self.program, NVS, "s.txt", "--rounds", "x"],
             ["wear", self.program, "--image", "text.img", "s.txt"],
         ]
@@ -36,10 +36,10 @@ class Calls(ToolTest):
             os.chmod(self.path(name), stat.S_IRWXU)
         for program in ("none", "s.txt", ".", "", "text", "no_shell", "silent", "fails"):
             for name, *words in (
-                ["every_cut", program, NVS, "s.txt"], ["wear", program, NVS, "s.txt"], ["size", "list.txt", "--prove", program],
+                ["every_cut", program, NVS, "s.txt"], ["wear", program, NVS, "s.txt"], ["size", program, "list.txt", "--prove"],
                 ["tests/exits", program], ["tests/fuzz", program], ["tests/page", program], ["tests/tools", program], ["examples/check", program],
-                ["bench/growth", "--program", program], ["bench/searches", "--program", program], ["bench/speed", "--program", program],
-                ["bench/stack", "--program", program], ["bench/stores", "--program", program],
+                ["bench/growth", program], ["bench/searches", program], ["bench/speed", program],
+                ["bench/stack", program], ["bench/stores", program], ["bench/boots", program],
             ):
                 with self.subTest(name=name, program=program):
                     self.call(name, *words, status=2)
@@ -51,7 +51,7 @@ class Calls(ToolTest):
             ["try_edits", "none"], ["try_edits", ".."], ["try_edits", ""], ["try_edits", "nvs_format/none"], ["try_edits", "nvs_format/"],
             ["zms_examples", "x"], ["zms_rows"], ["zms_rows", "x"], ["zms_rows", "random", "erasing"], ["zms_rows", "random", "erasing", "-1"],
             ["zms_rows", "calls", "erasing", "1"], ["picture", "x.img", "--svg", ""], ["bench/growth", "--names", "501"],
-            ["bench/searches", "--lines", "0"], ["bench/speed", "x"], ["bench/stack", "x"], ["bench/stores", "--store", "9"],
+            ["bench/searches", "--lines", "0"], ["bench/speed", "x"], ["bench/stack", "x"], ["bench/boots", "x"], ["bench/stores", "--store", "9"],
             ["tests/exits"], ["tests/fuzz", self.program, "--jobs", "0"], ["tests/fuzz", self.program, "--count", "-1"], ["tests/page"], ["tests/tools"],
             ["examples/check"], ["examples/unproved", "x"], ["examples/unproved"], ["./demo", "x"], [".ci/layers", "x"], [".ci/pages", "x"],
             [".ci/quotes", "x"], [".ci/run", "x"],

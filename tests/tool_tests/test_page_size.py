@@ -1,6 +1,4 @@
 """The page of every_cut stays small."""
-import os
-
 from .common import ToolTest, answers_of, reference
 
 from image_tool.flash import Bench

@@ -28,8 +28,8 @@ class Size(ToolTest):
     def test_a_list_and_a_script_and_a_run(self):
         self.write("list.txt", ["# a list", "a 30", "b 2", "bt/key 16"])
         self.write("s.txt", ["set a " + "11" * 30, "get a", "set b 0102", "set a 01", "set bt/key " + "00" * 16, "names"])
-        listed = self.call("size", "list.txt", "--sector", "512", "--prove", self.program, "--rounds", "4")
-        self.assertEqual(self.call("size", "s.txt", "--sector", "512", "--prove", self.program, "--rounds", "4"), listed)
+        listed = self.call("size", self.program, "list.txt", "--sector", "512", "--prove", "--rounds", "4")
+        self.assertEqual(self.call("size", self.program, "s.txt", "--sector", "512", "--prove", "--rounds", "4"), listed)
         self.assertEqual(listed.count("15 sets, 0 refused"), 3)
 
     def test_what_does_not_fit(self):
@@ -49,5 +49,5 @@ def put(self, name, value):
     return plain(self, name, value)
 backends.NvsBackend.set = put""")
         self.write("list.txt", ["a 4"])
-        printed = self.call("size", "list.txt", "--store", "nvs", "--sector", "512", "--prove", program, "--rounds", "9", status=1)
+        printed = self.call("size", program, "list.txt", "--store", "nvs", "--sector", "512", "--prove", "--rounds", "9", status=1)
         self.assertIn("10 sets, 1 refused, the first `nospace", printed)

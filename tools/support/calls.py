@@ -5,7 +5,7 @@ import signal
 import sys
 import tempfile
 
-from .programs import ProgramFailed, look_at_program
+from .programs import BUILT, NOT_BUILT, ProgramFailed, look_at_program
 
 
 # ---- how a script ends
@@ -77,7 +77,12 @@ class Parser(argparse.ArgumentParser):
     """Reads the words of a call. A wrong call gets one line and status 2; --help begins with the text of the script."""
 
     def __init__(self, text):
-        super().__init__(description=text, usage=argparse.SUPPRESS, formatter_class=argparse.RawDescriptionHelpFormatter, allow_abbrev=False)
+        form = argparse.RawDescriptionHelpFormatter
+        super().__init__(description=text, usage=argparse.SUPPRESS, formatter_class=form, allow_abbrev=False)
+
+    def print_help(self, file=None):
+        """As that of argparse, which does not say that the text cannot be written."""
+        print(self.format_help(), end="", file=file)
 
     def refuse(self, why):
         print(f"{self.prog}: {why}".replace("\n", " "), file=sys.stderr)
@@ -115,8 +120,35 @@ positive.__name__ = natural.__name__ = "number"
 processes.__name__ = "number of processes"
 
 
-def program_in(parser, path):
-    """The whole path of a built image_tool; any other file is refused."""
+# ---- PROGRAM: the first word of a call, which may be left out
+
+def add_program(parser, wanted):
+    """Adds the words of a call, as `SPEC SCRIPT`, with PROGRAM before them, and --proved."""
+    parser.add_argument("words", nargs="*", metavar="WORD", help=f"[PROGRAM] {wanted}")
+    parser.add_argument("--proved", action="store_true", help="run the built program alone, not the second implementation")
+
+
+def is_spec(word):
+    return word.startswith(("bank=", "version="))
+
+
+def program_words(parser, words, wanted):
+    """PROGRAM, or nothing if it is left out, and the wanted words of a call. Only a SPEC begins with `bank=` or `version=`."""
+    form, names = f"[PROGRAM] {wanted}", wanted.split()
+    if not len(names) <= len(words) <= len(names) + 1:
+        parser.error(f"give {form}, not {len(words)} words")
+    program, rest = (words[0], words[1:]) if len(words) > len(names) else (None, list(words))
+    for name, word in zip(names, rest):
+        if name == "SPEC" and os.path.isfile(word) and not is_spec(word):
+            parser.error(f"give {form}: '{word}' is a file and not a SPEC")
+    return [program, *rest]
+
+
+def program_in(parser, given=None):
+    """The whole path of PROGRAM, or of the built program if the call has none; a file that is not image_tool is refused."""
+    if given is None and not os.path.exists(BUILT):
+        parser.refuse(NOT_BUILT)
+    path = BUILT if given is None else given
     try:
         look_at_program(path)
     except ProgramFailed as why:

@@ -130,6 +130,7 @@ def junit(lines, losses, call, skipped, seconds):
         cases.append((line.number, f"  <testcase classname={quoteattr(call['script'])} name={name}><skipped/></testcase>"))
     counts = f'tests="{len(cases)}" failures="{failures}" errors="0" skipped="{len(skipped)}" time="{seconds:.2f}"'
     head = ['<?xml version="1.0" encoding="UTF-8"?>', f'<testsuite name="every_cut" {counts}>']
+    head.append(f'  <properties><property name="by" value={quoteattr(call["by"])}/></properties>')
     return plain("\n".join([*head, *(text for _, text in sorted(cases)), "</testsuite>"]) + "\n")
 
 
@@ -155,7 +156,7 @@ def data_of(lines, losses, total, call):
     ]
     worst = {"units": total.worst, "line": total.worst_line, "unit": total.worst_unit} if total.worst else None
     summary = {"losses": total.losses, "again": total.again, "mounts": total.mounts, **total.results, "broken_in_all": total.broken, "worst_mount": worst}
-    said = {key: call[key] for key in ("program", "command", "spec", "image", "script", "opening")}
+    said = {key: call[key] for key in ("program", "by", "command", "spec", "image", "script", "opening")}
     return {**said, "lines": rows, "summary": summary}
 
 

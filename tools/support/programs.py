@@ -1,14 +1,22 @@
-"""Runs image_tool many times: the program itself in parallel, or examples/unproved, which makes many calls at once.
+"""Runs image_tool many times. There are three kinds of programs: the program itself, which runs in parallel; the second implementation
+in reference/, which runs in processes of the tool (second.py); and examples/unproved, which makes many calls at once.
 
 All files are in one folder of the caller. A Run carries out some lines on an image of this folder.
 """
 import concurrent.futures
 import os
 import re
+import signal
 import subprocess
 import sys
+from concurrent.futures.process import BrokenProcessPool
 from dataclasses import dataclass
 from typing import Optional
+
+TOP = os.path.dirname(os.path.dirname(os.path.dirname(os.path.abspath(__file__))))
+BUILT = os.path.join(TOP, "crates", "image_tool", "out", "image_tool")
+SECOND = os.path.join(TOP, "reference", "tool")
+NOT_BUILT = "there is no built program; (cd crates/image_tool && rt run) proves and builds it"
 
 
 class ProgramFailed(Exception):
@@ -61,6 +69,30 @@ def call(program, folder, words):
     return Ended(ended.returncode, ended.stdout.decode(errors="replace"))
 
 
+def begin_process():
+    """Begins each process of a pool. ^C ends the first process alone, which then ends these."""
+    signal.signal(signal.SIGINT, signal.SIG_IGN)
+    signal.signal(signal.SIGTERM, signal.SIG_DFL)
+
+
+def in_parallel(carry_out_one, tasks, jobs, progress):
+    """Carries out tasks in processes of their own. The results are in the order of the tasks."""
+    ended = []
+    if not tasks:
+        return ended
+    chunk = max(1, min(32, len(tasks) // (4 * jobs)))
+    with concurrent.futures.ProcessPoolExecutor(jobs, initializer=begin_process) as pool:
+        try:
+            for one in pool.map(carry_out_one, tasks, chunksize=chunk):
+                ended.append(one)
+                progress(len(ended), len(tasks))
+        except BrokenProcessPool as fault:
+            raise ProgramFailed("a process of this tool was ended from outside") from fault
+        finally:
+            pool.shutdown(cancel_futures=True)
+    return ended
+
+
 def carry_out(task):
     """Carries out one Run, in a process of the pool."""
     program, folder, run = task
@@ -74,6 +106,7 @@ class Program:
 
     def __init__(self, program, folder, jobs=None):
         self.program, self.folder, self.jobs = os.path.abspath(program), folder, jobs or os.cpu_count() or 1
+        self.by = f"the program {program}"
 
     def build(self, image, spec):
         return call(self.program, self.folder, ["build", image, spec])
@@ -84,19 +117,12 @@ class Program:
 
     def runs(self, runs, progress=lambda done, all_of_them: None):
         """Carries out runs in any order. The results are in the order of the runs."""
-        ended, tasks = [], [(self.program, self.folder, run) for run in runs]
-        if not tasks:
-            return ended
-        chunk = max(1, min(32, len(tasks) // (4 * self.jobs)))
-        with concurrent.futures.ProcessPoolExecutor(self.jobs) as pool:
-            for one in pool.map(carry_out, tasks, chunksize=chunk):
-                ended.append(one)
-                progress(len(ended), len(tasks))
-        return ended
+        return in_parallel(carry_out, [(self.program, self.folder, run) for run in runs], self.jobs, progress)
 
 
 class Unproved:
     """The program by examples/unproved: one build carries out the runs of a call one after another."""
+    by = "examples/unproved, which checks no contract"
 
     def __init__(self, program, folder):
         self.program, self.folder, self.builds = os.path.abspath(program), folder, []
@@ -161,8 +187,28 @@ def look_at_program(path):
         raise ProgramFailed(f"{path} is not image_tool: a call without words does not print its usage")
 
 
-def program_at(path, folder, jobs=None):
-    if os.path.isfile(path) and os.access(path, os.X_OK) and os.path.basename(path) == "unproved":
+def chosen(path):
+    """The path of the PROGRAM of a call; without one the built program, and without that the second implementation."""
+    return path if path is not None else os.path.relpath(BUILT if os.path.exists(BUILT) else SECOND)
+
+
+def is_second(path):
+    return os.path.exists(path) and os.path.samefile(path, SECOND)
+
+
+def is_unproved(path):
+    return os.path.isfile(path) and os.access(path, os.X_OK) and os.path.basename(path) == "unproved"
+
+
+def program_at(given, folder, jobs=None, proved=False):
+    """The program of a call, of one of the three kinds; `given` is its PROGRAM, or nothing. `proved` wants the program itself."""
+    path = chosen(given)
+    if proved and (is_second(path) or is_unproved(path)):
+        raise ProgramFailed(f"--proved: {NOT_BUILT if given is None else path + ' is not a proved program'}")
+    if is_second(path):
+        from .second import Second
+        return Second(path, folder, jobs)
+    if is_unproved(path):
         return Unproved(path, folder)
     look_at_program(path)
     return Program(path, folder, jobs)

@@ -4,6 +4,7 @@ in reference/, which runs in processes of the tool (second.py); and examples/unp
 All files are in one folder of the caller. A Run carries out some lines on an image of this folder.
 """
 import concurrent.futures
+import contextlib
 import os
 import re
 import signal
@@ -69,10 +70,29 @@ def call(program, folder, words):
     return Ended(ended.returncode, ended.stdout.decode(errors="replace"))
 
 
+ENDS = (signal.SIGINT, signal.SIGTERM)
+
+
+def hold(how):
+    """Holds signals back, or lets them through. Windows has no such call, and its processes get no signals here."""
+    if hasattr(signal, "pthread_sigmask"):
+        signal.pthread_sigmask(getattr(signal, how), ENDS)
+
+
+@contextlib.contextmanager
+def signals_held():
+    hold("SIG_BLOCK")
+    try:
+        yield
+    finally:
+        hold("SIG_UNBLOCK")
+
+
 def begin_process():
-    """Begins each process of a pool. ^C ends the first process alone, which then ends these."""
+    """Begins each process of a pool, which starts with its signals held. ^C ends the first process alone, which then ends these."""
     signal.signal(signal.SIGINT, signal.SIG_IGN)
     signal.signal(signal.SIGTERM, signal.SIG_DFL)
+    hold("SIG_UNBLOCK")
 
 
 def in_parallel(carry_out_one, tasks, jobs, progress):
@@ -83,7 +103,9 @@ def in_parallel(carry_out_one, tasks, jobs, progress):
     chunk = max(1, min(32, len(tasks) // (4 * jobs)))
     with concurrent.futures.ProcessPoolExecutor(jobs, initializer=begin_process) as pool:
         try:
-            for one in pool.map(carry_out_one, tasks, chunksize=chunk):
+            with signals_held():
+                results = pool.map(carry_out_one, tasks, chunksize=chunk)
+            for one in results:
                 ended.append(one)
                 progress(len(ended), len(tasks))
         except BrokenProcessPool as fault:
